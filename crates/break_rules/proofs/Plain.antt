@@ -1,0 +1,1 @@
+-- The plain rule's only legal list is the empty one.

@@ -1,0 +1,5 @@
+pub mod Breaks
+pub mod Sums
+pub mod Causes
+pub mod RuleFaults
+pub mod Plain
