@@ -6,3 +6,4 @@ pub mod Lists
 pub mod Once
 pub mod Ordered
 pub mod Sums
+pub mod Plain

@@ -1,13 +1,298 @@
-// A library with one function.
+//! Instances of the shift design problem, duties, and the rows of a rota.
 #![tactic(auto)]
 
-ghost use Rattle.std.specs.Prelude.{◌≡◌};
-ghost use Rattle.shift_instance.specs.Echo.{echo_of};
+mod rows;
 
-// The `ensures` clause is the contract: what `echo` returns is `echo_of` of its argument, a definition
-// in `specs/Echo.antt`, which a caller's clause can cite too.
-pub fn echo(x: usize) -> usize
-    ensures { result ≡ echo_of x }
-{
-    x
+ghost use Rattle.std.specs.Prelude.{◌≡◌, ◌<◌, ◌≤◌, length, map, slice_get, IsSomeAnd, None};
+ghost use Rattle.break_rules.specs.Causes.{first_cause};
+ghost use Rattle.break_rules.specs.RuleFaults.{rule_causes};
+ghost use Rattle.shift_instance.specs.Problem.{need_at, shift_list, slot_of, slots, day_slots};
+ghost use Rattle.shift_instance.specs.Valid.{IsValid, IsShift};
+
+use break_rules::{Breaks, Rule, RuleFault};
+pub use rows::Rows;
+use std::error::Error;
+use std::fmt;
+use std::marker::Model;
+
+/// A number above the cost of every legal rota.
+pub const TOP: u64 = 1_000_000_000_000_000;
+
+/// A shift of the shift list: the number of its type, its first slot, counted from the start of the day that a duty
+/// is on, and its length in slots.
+#[derive(Clone, Copy, Debug, PartialEq, Eq, Drop)]
+pub struct Shift {
+    pub kind: u16,
+    pub start: u16,
+    pub len: u16,
+}
+
+/// One duty of a rota: one employee works a shift, given by its number, on a day, from 0 on, with these breaks.
+#[derive(Clone, Debug, Drop)]
+pub struct Duty {
+    pub shift: u16,
+    pub day: u8,
+    pub breaks: Breaks,
+}
+
+/// Duties that are alike, with their number.
+#[derive(Clone, Debug, Drop)]
+pub struct Row {
+    pub shift: u16,
+    pub day: u8,
+    pub breaks: Breaks,
+    pub count: u16,
+}
+
+/// A shift type, before it is judged: its name, its windows for start and length in slots, and its break rule.
+#[derive(Clone, Debug, Drop)]
+pub struct TypeParts {
+    pub name: String,
+    pub start_min: u16,
+    pub start_max: u16,
+    pub len_min: u16,
+    pub len_max: u16,
+    pub rule: Rule,
+}
+
+impl Model for TypeParts {
+    ghost use Rattle.shift_instance.specs.Kind.{Kind};
+
+    ghost Value = { Kind };
+
+    ghost use Rattle.std.specs.Prelude.{string_bytes};
+
+    ghost view = { λ k. record {
+      name = string_bytes k.name;
+      start_min = k.start_min;
+      start_max = k.start_max;
+      len_min = k.len_min;
+      len_max = k.len_max;
+      rule = k.rule;
+    } };
+}
+
+/// The numbers of an instance, before they are judged.
+#[derive(Clone, Debug, Drop)]
+pub struct Parts {
+    /// The minutes of a slot.
+    pub slot_minutes: u16,
+    /// The days of the planning period.
+    pub days: u16,
+    /// The wanted employees of each slot of the planning period.
+    pub need: Vec<u32>,
+    /// The most duties of one shift on one day.
+    pub max_heads: u16,
+    /// The cost of an employee too many in a slot.
+    pub excess: u32,
+    /// The cost of an employee too few in a slot.
+    pub shortage: u32,
+    /// The cost of a shift that is used.
+    pub shift: u32,
+    /// The shift types.
+    pub types: Vec<TypeParts>,
+}
+
+impl Model for Parts {
+    ghost use Rattle.shift_instance.specs.Problem.{Problem};
+
+    ghost Value = { Problem };
+
+    ghost view = { λ i. record {
+      slot_minutes = i.slot_minutes;
+      days = i.days;
+      need = i.need.items;
+      heads = i.max_heads;
+      excess = i.excess;
+      shortage = i.shortage;
+      shift = i.shift;
+      kinds = i.types.items;
+    } };
+}
+
+/// Why numbers don't make an instance. A `kind` is the number of a type, from 0 on.
+#[derive(Clone, Copy, Debug, PartialEq, Eq, Drop)]
+pub enum InstanceFault {
+    /// The minutes of a slot aren't 5, 10, 15, 20, 30 or 60.
+    SlotMinutes,
+    /// There isn't 1 day to 7 days.
+    Days,
+    /// There are `found` needs, and the planning period has `wanted` slots.
+    NeedLength { found: u64, wanted: u64 },
+    /// The need of a slot is above 10,000.
+    NeedTooLarge { slot: u64 },
+    /// A weight is above 1,000,000.
+    Weight,
+    /// The most duties of one shift on one day aren't 1 to 200.
+    Heads,
+    /// There is no type, or more than 16.
+    Types { found: u64 },
+    /// The starts of a type aren't a range within two days.
+    StartRange { kind: u16 },
+    /// The lengths of a type aren't a range from 1 slot to a day.
+    LengthRange { kind: u16 },
+    /// The break rule of a type isn't well formed.
+    Rule { kind: u16, why: RuleFault },
+    /// The types have more than 1,024 shifts.
+    TooManyShifts { found: u64 },
+    /// The name of a type isn't 1 to 32 bytes of visible ASCII without space, or a type before has it.
+    Name { kind: u16 },
+    /// No memory was left.
+    NoMemory,
+}
+
+impl fmt::Display for InstanceFault {
+    ghost use Rattle.std.specs.Prelude.{Some};
+    ghost use Rattle.shift_instance.specs.FaultText.{instance_fault_text};
+
+    ghost output = { λ e. Some (instance_fault_text e) };
+
+    /// Writes the fault's number and its fields, separated by single spaces.
+    fn fmt<W: fmt::Write>(&self, f: &mut fmt::Formatter<W>) -> fmt::Result {
+        match self {
+            InstanceFault::SlotMinutes => f.write_str("1"),
+            InstanceFault::Days => f.write_str("2"),
+            InstanceFault::NeedLength { found, wanted } => write!(f, "3 {found} {wanted}"),
+            InstanceFault::NeedTooLarge { slot } => write!(f, "4 {slot}"),
+            InstanceFault::Weight => f.write_str("5"),
+            InstanceFault::Heads => f.write_str("6"),
+            InstanceFault::Types { found } => write!(f, "7 {found}"),
+            InstanceFault::StartRange { kind } => write!(f, "8 {kind}"),
+            InstanceFault::LengthRange { kind } => write!(f, "9 {kind}"),
+            InstanceFault::Rule { kind, why } => write!(f, "10 {kind} {why}"),
+            InstanceFault::TooManyShifts { found } => write!(f, "11 {found}"),
+            InstanceFault::Name { kind } => write!(f, "12 {kind}"),
+            InstanceFault::NoMemory => f.write_str("no memory"),
+        }
+    }
+}
+
+impl Error for InstanceFault {}
+
+/// A valid instance.
+#[derive(Debug, Drop)]
+pub struct Instance {
+    parts: Parts,
+    shifts: Vec<Shift>,
+}
+
+impl Model for Instance {
+    ghost use Rattle.shift_instance.specs.Problem.{Problem};
+
+    ghost Value = { Problem };
+
+    ghost view = { λ i. i.parts };
+
+    ghost use Rattle.shift_instance.specs.Valid.{IsInside};
+
+    ghost invariant = { λ i. IsInside i.parts i.shifts.items };
+}
+
+impl Instance {
+    /// The numbers of the instance.
+    pub fn parts(&self) -> &Parts
+        ensures parts { result.now ≡ self.now }
+        ensures valid { IsValid self.now }
+    {
+        &self.parts
+    }
+
+    /// The shift list: every shift, by type, then by start, then by length. A shift's number is its place.
+    pub fn shifts(&self) -> &[Shift]
+        ensures shifts { result.now ≡ map (λ p. p.0) (shift_list self.now) }
+        ensures valid { IsValid self.now }
+    {
+        self.shifts.as_slice()
+    }
+
+    /// The shift of a number.
+    pub fn shift(&self, shift: u16) -> Shift
+        requires { shift < length (shift_list self.now) }
+        ensures shift { IsSomeAnd (slice_get (shift_list self.now) shift) (λ x. result ≡ x.0) }
+        ensures within { IsShift self.now result }
+        ensures valid { IsValid self.now }
+    {
+        self.shifts[usize::from(shift)]
+    }
+
+    /// The break rule of a shift, which is that of its type.
+    pub fn rule_of(&self, shift: u16) -> &Rule
+        requires { shift < length (shift_list self.now) }
+        ensures rule { IsSomeAnd (slice_get (shift_list self.now) shift) (λ x. result.now ≡ x.1) }
+        ensures passes { first_cause (rule_causes result.now) ≡ None }
+        ensures valid { IsValid self.now }
+    {
+        let shift = self.shift(shift);
+        let parts = &self.parts;
+        let kind = &parts.types[usize::from(shift.kind)];
+        &kind.rule
+    }
+
+    /// The wanted employees of a slot.
+    pub fn need(&self, t: usize) -> u32
+        requires { t < slots self.now }
+        ensures need { result ≡ need_at self.now t }
+        ensures limit { result ≤ 10000 }
+        ensures valid { IsValid self.now }
+    {
+        let parts = &self.parts;
+        parts.need[t]
+    }
+
+    /// The costs of an employee too many and of an employee too few in a slot, and of a shift that is used.
+    pub fn weights(&self) -> (u32, u32, u32)
+        ensures weights { result ≡ (self.now.excess, self.now.shortage, self.now.shift) }
+        ensures valid { IsValid self.now }
+    {
+        let parts = &self.parts;
+        (parts.excess, parts.shortage, parts.shift)
+    }
+
+    /// The most duties of one shift on one day.
+    pub fn heads(&self) -> u16
+        ensures heads { result ≡ self.now.heads }
+        ensures valid { IsValid self.now }
+    {
+        let parts = &self.parts;
+        parts.max_heads
+    }
+
+    /// The days of the planning period.
+    pub fn days(&self) -> u8
+        ensures days { result ≡ self.now.days }
+        ensures valid { IsValid self.now }
+    {
+        let parts = &self.parts;
+        parts.days as u8
+    }
+
+    /// The slots of the planning period.
+    pub fn slots(&self) -> usize
+        ensures slots { result ≡ slots self.now }
+        ensures valid { IsValid self.now }
+    {
+        let parts = &self.parts;
+        parts.need.len()
+    }
+
+    /// The slots of a day.
+    fn day_slots(&self) -> u32
+        ensures day_slots { result ≡ day_slots self.now }
+        ensures few { result ≤ 288 }
+    {
+        let parts = &self.parts;
+        1440 / u32::from(parts.slot_minutes)
+    }
+
+    /// The slot of the planning period at an offset of a shift on a day, both counted from 0.
+    pub fn slot_of(&self, shift: u16, day: u8, offset: u16) -> usize
+        requires { shift < length (shift_list self.now) }
+        ensures slot { IsSomeAnd (slice_get (shift_list self.now) shift) (λ x. result ≡ slot_of self.now x.0 day offset) }
+        ensures below { result < slots self.now }
+        ensures valid { IsValid self.now }
+    {
+        let shift = self.shift(shift);
+        let at = u32::from(day) * self.day_slots() + u32::from(shift.start) + u32::from(offset);
+        (at as usize) % self.slots()
+    }
 }
