@@ -1,5 +1,5 @@
 -- A rule without a fault is within the ranges.
-use Rattle.std.proofs.Common.{◌≡◌, ℕ, ◌+◌, ◌≤◌, Bool, true, false, not, ◌&&◌, ◌||◌, List, [], ◌∷◌, length, drop, nat_le, nat_lt, None}
+use Rattle.std.proofs.Common.{◌≡◌, ℕ, ◌+◌, ◌≤◌, true, false, ◌&&◌, ◌||◌, List, [], ◌∷◌, length, drop, nat_le, nat_lt, None}
 use Rattle.std.specs.Prelude.{All}
 use Rattle.std.specs.List.{list_all, list_any, zip}
 use Rattle.std.proofs.lemmas.Bool.{and_parts, or_parts, leb-true, ltb-true, ltb-false, not-false}
@@ -7,7 +7,7 @@ use Rattle.std.proofs.lemmas.List.Elements.{All-nil, All-cons}
 use Rattle.break_rules.specs.declared.Lunch.{Lunch}
 use Rattle.break_rules.specs.declared.Rule.{Rule}
 use Rattle.break_rules.specs.Causes.{first_cause}
-use Rattle.break_rules.specs.RuleFaults.{rule_causes, is_range, rise_strictly, has_room, are_lunches_in_order, is_large_total, is_large_lunch, is_too_large}
+use Rattle.break_rules.specs.RuleFaults.{rule_causes, is_range, has_room, is_large_total, is_large_lunch}
 use Rattle.break_rules.specs.Ranges.{IsTotal, IsLunch, IsRule}
 use Rattle.break_rules.proofs.Causes.{no_cause}
 
@@ -39,6 +39,7 @@ lunches_within (l ∷ lunches) h g =
     All-cons IsLunch l lunches (record { from_len = ltb-false _ _ s.0; some_size = ltb-true _ _ r.0; room = leb-true _ _ r.1; last = ltb-false _ _ s.1 }) (lunches_within lunches p.1 q.1)
 
 pub ranges_from_none : (rule : Rule) → first_cause (rule_causes rule) ≡ None → IsRule rule
+unfolding rule_causes
 ranges_from_none rule h =
     let none = no_cause (rule_causes rule) h in
     let work = range_parts rule.work_min rule.work_max 288 (not-false _ none.0) in

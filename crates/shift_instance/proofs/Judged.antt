@@ -170,6 +170,7 @@ few_sizes i h =
 
 -- numbers without a fault are valid
 pub valid_from_none : (i : Problem) → first_cause (instance_causes i) ≡ None → IsValid i
+unfolding instance_causes
 valid_from_none i h =
     let p = period_causes i in
     let n = map need_cause (enumerate_from 0 i.need) in
@@ -233,9 +234,11 @@ causes_of_kinds p n s k a b c = first_right (p ++ n ++ s) k (first_right (p ++ n
 
 -- the last cause
 pub causes_front : (i : Problem) (e : InstanceFault) → first_cause (part_causes i) ≡ Some e → first_cause (instance_causes i) ≡ Some e
+unfolding instance_causes
 causes_front i e h = first_left (part_causes i) _ e h
 
 pub causes_last : (i : Problem) (found : ℕ) → found ≡ length (shift_list i) → first_cause (part_causes i) ≡ None → first_cause (instance_causes i) ≡ (if nat_lt 1024 found then Some (TooManyShifts found) else None)
+unfolding instance_causes
 causes_last i found e h = first_right (part_causes i) _ h ∙ ap (λ (n : ℕ). if nat_lt 1024 n then Some (TooManyShifts n) else None) (sym e)
 
 -- no cause of the numbers is want of memory
@@ -273,6 +276,7 @@ first_judged (c ∷ cs) e h g = go c.0 (first_judged cs e h.1) g
     go false rest g = rest g
 
 judged_instance : (i : Problem) → AreJudged (instance_causes i)
+unfolding instance_causes
 judged_instance i =
     let n = map need_cause (enumerate_from 0 i.need) in
     let parts =

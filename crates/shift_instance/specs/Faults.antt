@@ -54,7 +54,7 @@ abbrev pub part_causes : Problem → List (Bool × InstanceFault)
 part_causes i = period_causes i ++ map need_cause (enumerate_from 0 i.need) ++ size_causes i ++ types_causes (day_slots i) i.kinds
 
 -- the causes in the order in which they are answered
-abbrev pub instance_causes : Problem → List (Bool × InstanceFault)
+unfoldable pub instance_causes : Problem → List (Bool × InstanceFault)
 instance_causes i = part_causes i ++ (nat_lt 1024 (length (shift_list i)), TooManyShifts (length (shift_list i))) ∷ []
 
 -- whether a fault is the first cause's, or where there is none want of memory

@@ -8,6 +8,7 @@ mod rows;
 ghost use Rattle.std.specs.Prelude.{◌≡◌, ◌<◌, ◌≤◌, length, map, slice_get, IsSomeAnd, IfOk, MatchResult, None};
 ghost use Rattle.break_rules.specs.Causes.{first_cause};
 ghost use Rattle.break_rules.specs.RuleFaults.{rule_causes};
+ghost use Rattle.break_rules.specs.Ranges.{IsRule};
 ghost use Rattle.shift_instance.specs.Problem.{need_at, shift_list, slot_of, slots, day_slots};
 ghost use Rattle.shift_instance.specs.Faults.{instance_causes, Answers};
 ghost use Rattle.shift_instance.specs.Valid.{IsValid, IsShift};
@@ -240,6 +241,7 @@ impl Instance {
         requires { shift < length (shift_list self.now) }
         ensures rule { IsSomeAnd (slice_get (shift_list self.now) shift) (λ x. result.now ≡ x.1) }
         ensures passes { first_cause (rule_causes result.now) ≡ None }
+        ensures within { IsRule result.now }
         ensures valid { IsValid self.now }
     {
         let shift = self.shift(shift);
