@@ -1,12 +1,12 @@
 -- The definitions, computed on instances and rotas whose answers are known.
-use Rattle.std.proofs.Common.{◌≡◌, ℕ, ◌<◌, true, false, List, [], ◌∷◌, ◌++◌, refl, map, replicate, length, Some}
+use Rattle.std.proofs.Common.{◌≡◌, ℕ, true, false, List, [], ◌∷◌, ◌++◌, refl, map, replicate}
 use Rattle.break_rules.specs.declared.Break.{Break}
 use Rattle.break_rules.specs.Plain.{plain_rule}
 use Rattle.shift_instance.specs.declared.Shift.{Shift}
 use Rattle.shift_instance.specs.declared.Duty.{Duty}
 use Rattle.shift_instance.specs.declared.Row.{Row}
 use Rattle.shift_instance.specs.Kind.{Kind}
-use Rattle.shift_instance.specs.Problem.{Problem, shift_list, slot_of, slots, below}
+use Rattle.shift_instance.specs.Problem.{Problem, shift_list, slot_of, below}
 use Rattle.shift_instance.specs.Rota.{cost, cover, is_legal_rota, are_legal_rows, is_before, rota_of, works}
 
 -- a type of shifts without breaks
@@ -100,10 +100,10 @@ slots_of_two_days = refl
 -- a shift of 8 hours with one break of an hour, and an hour of resettling after it
 abbrev long_day : ℕ → Problem
 long_day resettle =
-  record one_morning {
-    need = replicate 8 0 ++ 1 ∷ 1 ∷ 1 ∷ 1 ∷ 0 ∷ 1 ∷ 1 ∷ 1 ∷ replicate 8 0;
-    kinds = record { name = 77 ∷ []; start_min = 8; start_max = 8; len_min = 8; len_max = 8; rule = record { lead = 2; tail = 2; work_min = 2; work_max = 5; long_work = 5; long_rest = 1; size_min = 1; size_max = 1; totals = (8, 1) ∷ []; lunches = []; resettle = resettle } } ∷ [];
-  }
+    record one_morning {
+      need = replicate 8 0 ++ 1 ∷ 1 ∷ 1 ∷ 1 ∷ 0 ∷ 1 ∷ 1 ∷ 1 ∷ replicate 8 0;
+      kinds = record { name = 77 ∷ []; start_min = 8; start_max = 8; len_min = 8; len_max = 8; rule = record { lead = 2; tail = 2; work_min = 2; work_max = 5; long_work = 5; long_rest = 1; size_min = 1; size_max = 1; totals = (8, 1) ∷ []; lunches = []; resettle = resettle } } ∷ [];
+    }
 
 abbrev break_at : ℕ → Duty
 break_at start = duty (record { start = start; len = 1 } ∷ [])
