@@ -1,7 +1,9 @@
 -- The bytes that runs of reads take and runs of writes give.
-use Rattle.std.proofs.Common.{◌≡◌, ℕ, ◌+◌, ◌<◌, ◌≤◌, List, [], ◌∷◌, ◌++◌, length, take, drop, refl, sym, ◌∙◌, ap, subst, arith, append_assoc, length-append}
-use Rattle.std.proofs.lemmas.List.{append-nil, length-take-le}
+use Rattle.std.proofs.Common.{◌≡◌, ◌⊎◌, ⊎_elim, ℕ, ◌+◌, ◌<◌, ◌≤◌, List, [], ◌∷◌, ◌++◌, length, take, drop, refl, sym, ◌∙◌, ap, subst, arith, append_assoc, length-append}
+use Rattle.std.proofs.lemmas.List.{append-nil, drop-drop, take-append-drop}
 use Rattle.std.proofs.Math.Seq.{take-add}
+use Rattle.std.proofs.Math.ListN.{drop_of_length-le}
+use Rattle.plan_base.specs.Disk.{ReadsAt}
 use Rattle.std.specs.Prelude.{Option, None, Some, IfSome, Result, Ok, Err, OnErr}
 use Rattle.std.specs.Io.KnownBytes.{Consumes, Appends, IsAtEnd, Keeps}
 
@@ -54,3 +56,11 @@ kept_appended (Some xs) (Some ys) (Some zs) bytes first kept = kept ∙ first
 pub on_err : {T E : Type 0} (result : Result T E) (P : Type 0) → P → OnErr result P
 on_err (Ok x) P p = tt
 on_err (Err e) P p = p
+
+-- a read at a place takes what stands there
+pub read_on : (file : List ℕ) (at count : ℕ) (buffer : List ℕ) → ReadsAt file at buffer count
+    → (drop at file ≡ take count buffer ++ drop (at + count) file) × (count ≡ 0 → 0 < length buffer → drop (at + count) file ≡ [])
+read_on file at count buffer is = (
+  sym (take-append-drop count (drop at file)) ∙ ap (λ (l : List ℕ). l ++ drop count (drop at file)) (sym is.bytes) ∙ ap (λ (l : List ℕ). take count buffer ++ l) (drop-drop count at file),
+  λ none some. drop_of_length-le file (⊎_elim (λ empty. absurd (omega (arith, empty, some))) (λ (past : length file ≤ at). omega (arith, past, none)) (is.end none)),
+)

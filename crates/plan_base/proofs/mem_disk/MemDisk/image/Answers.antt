@@ -9,7 +9,7 @@ use Rattle.plan_base.proofs.mem_disk.MemDisk.image.Goals as goal
 pub returns-in_default-clause-image : goal.returns-in_default-clause-image
 returns-in_default-clause-image c =
     let m = c.args.self.now in
-    let is : c.new-in_default.result.bytes.items ≡ m.bytes.items = grind (arith, common_steps, same_Some _ _ c.new-in_default.ensures.reads, c.in_ok-from_slice.ensures.items, c.deref.ensures.value) in
+    let is : c.new-in_default.result.bytes.items ≡ m.bytes.items = grind (arith, common_steps, same_Some _ _ c.new-in_default.ensures.reads, c.in_ok-bytes.ensures.items, c.deref.ensures.value) in
     subst (image_of m.first.value.items (reverse m.log.items)) (sym (is ∙ m.replayed)) (reads_image m.first.value.items (reverse m.log.items) m.in_place)
 
 pub returns-clause-image : goal.returns-clause-image
