@@ -1,0 +1,6 @@
+pub mod Causes
+pub mod Disk
+pub mod Painting
+pub mod Replay
+pub mod ReplayLaws
+pub mod Streams
