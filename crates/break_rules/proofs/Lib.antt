@@ -7,3 +7,4 @@ pub mod Once
 pub mod Ordered
 pub mod Sums
 pub mod Plain
+pub mod Ranges

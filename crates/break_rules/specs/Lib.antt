@@ -3,3 +3,4 @@ pub mod Sums
 pub mod Causes
 pub mod RuleFaults
 pub mod Plain
+pub mod Ranges

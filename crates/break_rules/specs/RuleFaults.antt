@@ -38,7 +38,7 @@ is_too_large rule =
     || nat_lt 16 (length rule.totals) || nat_lt 2 (length rule.lunches)
 
 -- the causes of a rule's faults in the order in which they are answered
-abbrev pub rule_causes : Rule → List (Bool × RuleFault)
+unfoldable pub rule_causes : Rule → List (Bool × RuleFault)
 rule_causes rule =
     (not (is_range rule.work_min rule.work_max 288), WorkRange)
     ∷ (not (is_range rule.size_min rule.size_max 48), SizeRange)

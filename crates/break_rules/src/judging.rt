@@ -103,6 +103,7 @@ fn too_large(rule: &Rule) -> bool
 }
 
 /// The first fault of a rule.
+#[tactic(auto, unfolding(crate::specs::RuleFaults::rule_causes))]
 pub(crate) fn first_fault(rule: &Rule) -> Option<RuleFault>
     ensures { result ≡ first_cause (rule_causes rule.now) }
 {

@@ -5,9 +5,11 @@
 
 mod judging;
 
-ghost use Rattle.std.specs.Prelude.{◌≡◌, length, IfOk, IsOk, IsTrue, ◌↔◌, MatchResult, Some, None};
+ghost use Rattle.std.specs.Prelude.{◌≡◌, ℕ, ◌≤◌, [], ◌∷◌, length, OnOk, IfOk, IsOk, IsTrue, ◌↔◌, MatchResult, Some, None};
 ghost use Rattle.break_rules.specs.Causes.{first_cause};
 ghost use Rattle.break_rules.specs.RuleFaults.{rule_causes};
+ghost use Rattle.break_rules.specs.Ranges.{IsRule};
+ghost use Rattle.break_rules.specs.Breaks.{legal_lists};
 ghost use Rattle.break_rules.specs.Plain.{plain_rule};
 
 use std::alloc::{AllocError, Global};
@@ -181,6 +183,7 @@ impl Rule {
     pub fn plain(alloc: Global) -> Result<Rule, NoMemory>
         ensures made { IsOk result }
         ensures plain { IfOk result (λ r. r ≡ plain_rule) }
+        ensures empty { (len : ℕ) → 1 ≤ len → len ≤ 288 → legal_lists plain_rule len ≡ [] ∷ [] }
     {
         Ok(Rule {
             lead: 0,
@@ -199,7 +202,8 @@ impl Rule {
 
     /// Whether the rule is well formed, or the first fault in the order of [`RuleFault`]. It takes no memory.
     pub fn check(&self) -> Result<(), RuleFault>
-        ensures { MatchResult result (λ _. first_cause (rule_causes self.now) ≡ None) (λ e. first_cause (rule_causes self.now) ≡ Some e) }
+        ensures first { MatchResult result (λ _. first_cause (rule_causes self.now) ≡ None) (λ e. first_cause (rule_causes self.now) ≡ Some e) }
+        ensures within { OnOk result (IsRule self.now) }
     {
         match judging::first_fault(self) {
             Some(fault) => Err(fault),

@@ -1,5 +1,5 @@
 -- Why numbers don't make an instance.
-use Rattle.std.specs.Prelude.{◌≡◌, ℕ, ◌*◌, Bool, not, ◌&&◌, ◌||◌, ◌==◌, nat_lt, nat_le, List, [], ◌∷◌, ◌++◌, map, length, Option, Some}
+use Rattle.std.specs.Prelude.{◌≡◌, ℕ, ◌*◌, Bool, not, ◌&&◌, ◌||◌, ◌==◌, nat_lt, nat_le, List, [], ◌∷◌, ◌++◌, map, length, take, Option, Some, None}
 use Rattle.std.specs.List.{flat_map, enumerate_from, list_any}
 use Rattle.break_rules.specs.declared.RuleFault.{RuleFault}
 use Rattle.break_rules.specs.RuleFaults.{rule_causes}
@@ -37,24 +37,27 @@ size_causes i =
 abbrev pub cause_of_kind : ℕ → Bool × RuleFault → Bool × InstanceFault
 cause_of_kind k c = (c.0, Rule k c.1)
 
--- the causes that concern a type, by its number
-abbrev pub kind_causes : Problem → ℕ × Kind → List (Bool × InstanceFault)
-kind_causes i k =
-    (not (is_name k.1.name) || is_taken i.kinds k.0 k.1.name, Name k.0)
-    ∷ (not (nat_le k.1.start_min k.1.start_max && nat_lt k.1.start_max (2 * day_slots i)), StartRange k.0)
-    ∷ (not (nat_le 1 k.1.len_min && nat_le k.1.len_min k.1.len_max && nat_le k.1.len_max (day_slots i)), LengthRange k.0)
+-- the causes that concern a type, by its number, where a day has that many slots and those types stand before it
+abbrev pub kind_causes : ℕ → List Kind → ℕ × Kind → List (Bool × InstanceFault)
+kind_causes per_day before k =
+    (not (is_name k.1.name) || is_taken before k.1.name, Name k.0)
+    ∷ (not (nat_le k.1.start_min k.1.start_max && nat_lt k.1.start_max (2 * per_day)), StartRange k.0)
+    ∷ (not (nat_le 1 k.1.len_min && nat_le k.1.len_min k.1.len_max && nat_le k.1.len_max per_day), LengthRange k.0)
     ∷ map (cause_of_kind k.0) (rule_causes k.1.rule)
 
--- the causes in the order in which they are answered
-abbrev pub instance_causes : Problem → List (Bool × InstanceFault)
-instance_causes i =
-    period_causes i
-    ++ map need_cause (enumerate_from 0 i.need)
-    ++ size_causes i
-    ++ flat_map (kind_causes i) (enumerate_from 0 i.kinds)
-    ++ (nat_lt 1024 (length (shift_list i)), TooManyShifts (length (shift_list i))) ∷ []
+-- the causes that concern types, one type after another
+abbrev pub types_causes : ℕ → List Kind → List (Bool × InstanceFault)
+types_causes per_day kinds = flat_map (λ k. kind_causes per_day (take k.0 kinds) k) (enumerate_from 0 kinds)
 
--- whether an answer is the first cause's, or want of memory
+-- the causes but for the number of shifts, in the order in which they are answered
+abbrev pub part_causes : Problem → List (Bool × InstanceFault)
+part_causes i = period_causes i ++ map need_cause (enumerate_from 0 i.need) ++ size_causes i ++ types_causes (day_slots i) i.kinds
+
+-- the causes in the order in which they are answered
+unfoldable pub instance_causes : Problem → List (Bool × InstanceFault)
+instance_causes i = part_causes i ++ (nat_lt 1024 (length (shift_list i)), TooManyShifts (length (shift_list i))) ∷ []
+
+-- whether a fault is the first cause's, or where there is none want of memory
 abbrev pub Answers : InstanceFault → Option InstanceFault → Type 0
-Answers NoMemory cause = Unit {0}
+Answers NoMemory cause = cause ≡ None
 Answers fault cause = cause ≡ Some fault

@@ -1,5 +1,5 @@
 -- Names of shift types.
-use Rattle.std.specs.Prelude.{ℕ, Bool, ◌&&◌, ◌==◌, nat_le, List, length, take}
+use Rattle.std.specs.Prelude.{ℕ, Bool, ◌&&◌, ◌==◌, nat_le, List, length}
 use Rattle.std.specs.List.{list_all, list_any}
 use Rattle.std.specs.Cmp.Lexicographic.{pointwise}
 use Rattle.shift_instance.specs.Kind.{Kind}
@@ -12,10 +12,10 @@ is_name_byte b = nat_le 33 b && nat_le b 126
 abbrev pub is_name : List ℕ → Bool
 is_name name = nat_le 1 (length name) && nat_le (length name) 32 && list_all is_name_byte name
 
--- whether two names are the same
-abbrev pub same_name : List ℕ → List ℕ → Bool
-same_name = pointwise ◌==◌
+-- whether a type has a name
+abbrev pub has_name : List ℕ → Kind → Bool
+has_name name k = pointwise ◌==◌ k.name name
 
--- whether one of the first types has a name
-abbrev pub is_taken : List Kind → ℕ → List ℕ → Bool
-is_taken kinds count name = list_any (λ k. same_name k.name name) (take count kinds)
+-- whether one of some types has a name
+abbrev pub is_taken : List Kind → List ℕ → Bool
+is_taken kinds name = list_any (has_name name) kinds

@@ -1,16 +1,21 @@
 //! Instances of the shift design problem, duties, and the rows of a rota.
 #![tactic(auto)]
 
+mod judging;
+mod listing;
 mod rows;
 
-ghost use Rattle.std.specs.Prelude.{◌≡◌, ◌<◌, ◌≤◌, length, map, slice_get, IsSomeAnd, None};
+ghost use Rattle.std.specs.Prelude.{◌≡◌, ◌<◌, ◌≤◌, length, map, slice_get, IsSomeAnd, IfOk, MatchResult, None};
 ghost use Rattle.break_rules.specs.Causes.{first_cause};
 ghost use Rattle.break_rules.specs.RuleFaults.{rule_causes};
+ghost use Rattle.break_rules.specs.Ranges.{IsRule};
 ghost use Rattle.shift_instance.specs.Problem.{need_at, shift_list, slot_of, slots, day_slots};
+ghost use Rattle.shift_instance.specs.Faults.{instance_causes, Answers};
 ghost use Rattle.shift_instance.specs.Valid.{IsValid, IsShift};
 
 use break_rules::{Breaks, Rule, RuleFault};
 pub use rows::Rows;
+use std::alloc::Global;
 use std::error::Error;
 use std::fmt;
 use std::marker::Model;
@@ -189,6 +194,22 @@ impl Model for Instance {
 }
 
 impl Instance {
+    /// The instance of these numbers, or their first fault: first those of the slots' length, the days, the needs, the
+    /// weights, the heads and the number of types, then of each type in order its name, its starts, its lengths and its
+    /// rule, and at last the number of shifts. Where no fault applies, only want of memory is left as a refusal.
+    pub fn new(alloc: Global, parts: Parts) -> Result<Instance, InstanceFault>
+        ensures ok { IfOk result (λ i. i ≡ parts) }
+        ensures fault { MatchResult result (λ _. first_cause (instance_causes parts) ≡ None) (λ e. Answers e (first_cause (instance_causes parts))) }
+    {
+        match judging::judge(&parts) {
+            Some(fault) => Err(fault),
+            None => match listing::list_shifts(alloc, parts.types.as_slice()) {
+                Ok(shifts) => Ok(Instance { parts, shifts }),
+                Err(_) => Err(InstanceFault::NoMemory),
+            },
+        }
+    }
+
     /// The numbers of the instance.
     pub fn parts(&self) -> &Parts
         ensures parts { result.now ≡ self.now }
@@ -220,6 +241,7 @@ impl Instance {
         requires { shift < length (shift_list self.now) }
         ensures rule { IsSomeAnd (slice_get (shift_list self.now) shift) (λ x. result.now ≡ x.1) }
         ensures passes { first_cause (rule_causes result.now) ≡ None }
+        ensures within { IsRule result.now }
         ensures valid { IsValid self.now }
     {
         let shift = self.shift(shift);

@@ -1,5 +1,6 @@
 use Rattle.std.proofs.Common.{◌≡◌, ℕ, ◌∙◌, ap, arith, get_or, subst, sym}
 use Rattle.std.specs.Prelude.{slice_get, IsSomeAnd}
+use Rattle.break_rules.proofs.Ranges.{ranges_from_none}
 use Rattle.shift_instance.specs.Kind.{Kind}
 use Rattle.shift_instance.specs.Problem.{shift_list}
 use Rattle.shift_instance.proofs.Shifts.{rule_found, found_passes}
@@ -22,3 +23,6 @@ returns-clause-rule c =
 
 pub returns-clause-passes : goal.returns-clause-passes
 returns-clause-passes c = found_passes c.args.self.now c.args.shift _ c.shift-shift.ensures.valid c.requires (returns-clause-rule c)
+
+pub returns-clause-within : goal.returns-clause-within
+returns-clause-within c = ranges_from_none _ (returns-clause-passes c)
