@@ -1,5 +1,5 @@
 -- The canonical text's value, and that it has no float.
-use Rattle.std.proofs.Common.{◌≡◌, ℕ, Bool, true, false, ◌||◌, List, [], ◌∷◌, map, refl, sym, ap, ◌∙◌}
+use Rattle.std.proofs.Common.{◌≡◌, false, List, [], ◌∷◌, map, refl, ap}
 use Rattle.break_rules.specs.declared.Rule.{Rule}
 use Rattle.shift_instance.specs.Kind.{Kind}
 use Rattle.shift_instance.specs.Problem.{Problem}

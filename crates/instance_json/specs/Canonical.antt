@@ -1,6 +1,6 @@
 -- The canonical text of a problem.
 use Rattle.std.specs.Prelude.{ℕ, codes, List, [], ◌∷◌, map}
-use Rattle.serde_json.specs.Data.{Data, number, unsigned, string, array, object, Items, no_items, item, Members, no_members, member}
+use Rattle.serde_json.specs.Data.{Data, number, unsigned, string, array, object, Items, no_items, item, no_members, member}
 use Rattle.serde_json.specs.Written.{compact_text}
 use Rattle.break_rules.specs.declared.Lunch.{Lunch}
 use Rattle.break_rules.specs.declared.Rule.{Rule}

@@ -77,23 +77,23 @@ weight_of name d = option_map_or (long_at name) (get (codes "weights") d) 0
 -- the shift type that a value states
 unfoldable pub kind_of : Data → Kind
 kind_of d = record {
-    name = text_at (codes "name") d;
-    start_min = short_at (codes "start_min") d;
-    start_max = short_at (codes "start_max") d;
-    len_min = short_at (codes "len_min") d;
-    len_max = short_at (codes "len_max") d;
-    rule = plain_rule;
-  }
+  name = text_at (codes "name") d;
+  start_min = short_at (codes "start_min") d;
+  start_max = short_at (codes "start_max") d;
+  len_min = short_at (codes "len_min") d;
+  len_max = short_at (codes "len_max") d;
+  rule = plain_rule;
+}
 
 -- the problem that a document states
 unfoldable pub problem_of : Data → Problem
 problem_of d = record {
-    slot_minutes = short_at (codes "slot_minutes") d;
-    days = short_at (codes "days") d;
-    need = map (number_up_to 4294967295) (items_at (codes "need") d);
-    heads = short_at (codes "max_heads") d;
-    excess = weight_of (codes "excess") d;
-    shortage = weight_of (codes "shortage") d;
-    shift = weight_of (codes "shift") d;
-    kinds = map kind_of (items_at (codes "types") d);
-  }
+  slot_minutes = short_at (codes "slot_minutes") d;
+  days = short_at (codes "days") d;
+  need = map (number_up_to 4294967295) (items_at (codes "need") d);
+  heads = short_at (codes "max_heads") d;
+  excess = weight_of (codes "excess") d;
+  shortage = weight_of (codes "shortage") d;
+  shift = weight_of (codes "shift") d;
+  kinds = map kind_of (items_at (codes "types") d);
+}

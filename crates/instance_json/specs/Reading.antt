@@ -1,5 +1,5 @@
 -- What a text is read as.
-use Rattle.std.specs.Prelude.{◌≡◌, ℕ, Bool, ◌&&◌, List, length, nat_lt, if◌then◌else◌, Option, None, is_none, Result, Ok, Err}
+use Rattle.std.specs.Prelude.{◌≡◌, ℕ, List, length, nat_lt, if◌then◌else◌, Option, None, Result, Ok, Err}
 use Rattle.std.specs.Option.{option_map_or}
 use Rattle.std.specs.Str.{is_utf8}
 use Rattle.break_rules.specs.Causes.{first_cause}
@@ -14,17 +14,17 @@ use Rattle.instance_json.specs.declared.ReadRefusal.{ReadRefusal}
 use Rattle.instance_json.specs.declared.ReadRefusal.TheVariants.{TooLong, NotJson, NotYet, NoMemory}
 use Rattle.instance_json.specs.Document.{is_document, problem_of}
 
--- whether a problem keeps to every range of an instance
-unfoldable pub is_instance : Problem → Bool
-is_instance p = is_none (first_cause (instance_causes p))
-
 -- the JSON value of a text: none where the bytes aren't UTF-8 or aren't JSON
 unfoldable pub value_of : List ℕ → Option Data
 value_of bytes = if is_utf8 bytes then read bytes else None
 
--- what a JSON value is read as: the problem that it states, where it is a document and the problem is an instance
+-- what a problem is read as: itself, where nothing keeps it from being an instance
+unfoldable pub problem_reading : Problem → Result Problem ReadRefusal
+problem_reading p = option_map_or (λ fault. Err (NotYet 0)) (first_cause (instance_causes p)) (Ok p)
+
+-- what a JSON value is read as: the problem that it states, where it is a document
 unfoldable pub value_reading : Data → Result Problem ReadRefusal
-value_reading d = if is_document d && is_instance (problem_of d) then Ok (problem_of d) else Err (NotYet 0)
+value_reading d = if is_document d then problem_reading (problem_of d) else Err (NotYet 0)
 
 -- what a text is read as: it is refused where it is too long, or isn't JSON, and else its value decides
 unfoldable pub reading_of : List ℕ → Result Problem ReadRefusal

@@ -66,4 +66,3 @@ impl fmt::Display for ReadRefusal {
 }
 
 impl Error for ReadRefusal {}
-

@@ -2,12 +2,12 @@
 ghost use Rattle.std.specs.Prelude.{◌≡◌, Ok, All, option_map, IfOk, MatchResult};
 ghost use Rattle.break_rules.specs.Plain.{plain_rule};
 ghost use Rattle.serde_json.specs.View.{view};
-ghost use Rattle.instance_json.specs.Reading.{value_of, value_reading, reading_of, IsAnswer};
+ghost use Rattle.instance_json.specs.Reading.{value_of, problem_reading, value_reading, reading_of, IsAnswer};
 
 use crate::document::{conforms_as_document, parts_of};
 use crate::{INSTANCE_MAX, ReadRefusal};
 use serde_json::Value;
-use shift_instance::Instance;
+use shift_instance::{Instance, Parts};
 use std::alloc::{AllocError, Global};
 use std::str::from_utf8;
 
@@ -25,6 +25,16 @@ fn parse(alloc: Global, bytes: &[u8]) -> Result<Option<Value>, AllocError>
     }
 }
 
+/// The instance that these numbers make.
+fn instance_from(alloc: Global, parts: Parts) -> Result<Instance, ReadRefusal>
+    ensures { MatchResult result (λ i. problem_reading parts ≡ Ok i) (λ e. IsAnswer e (problem_reading parts)) }
+{
+    match Instance::new(alloc, parts) {
+        Ok(instance) => Ok(instance),
+        Err(fault) => Err(ReadRefusal::from(fault)),
+    }
+}
+
 /// The instance that a JSON value states.
 fn instance_of(alloc: Global, value: &Value) -> Result<Instance, ReadRefusal>
     ensures { MatchResult result (λ i. value_reading (view value.now) ≡ Ok i)
@@ -33,11 +43,7 @@ fn instance_of(alloc: Global, value: &Value) -> Result<Instance, ReadRefusal>
     if !conforms_as_document(value) {
         return Err(ReadRefusal::NotYet { at: 0 });
     }
-    let parts = parts_of(alloc, value)?;
-    match Instance::new(alloc, parts) {
-        Ok(instance) => Ok(instance),
-        Err(fault) => Err(ReadRefusal::from(fault)),
-    }
+    instance_from(alloc, parts_of(alloc, value)?)
 }
 
 /// The instance that a text states.

@@ -14,5 +14,5 @@ returns-in-Ok-from_str c =
 pub returns-in-Err-2 : goal.returns-in-Err-2
 returns-in-Err-2 c =
     let cases = c.in-Ok.ensures.cases in
-    let refused : read c.in-Ok.text.now ≡ None = c.in-Err.ensures.err (λ m. absurd (c.if-is_memory.ensures.1 m)) in
+    let refused : read c.in-Ok.text.now ≡ None = c.in-Err.ensures.err (λ m. cc (c.if-is_memory.ensures.1 m)) in
     sym (value_of-text c.args.bytes.now cases.1 ∙ ap read (sym cases.0) ∙ refused)
