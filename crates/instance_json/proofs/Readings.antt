@@ -1,0 +1,105 @@
+-- What a text is read as, case by case.
+use Rattle.std.proofs.Common.{◌≡◌, ℕ, ◌<◌, ◌≤◌, Bool, true, false, cond, List, length, Option, Some, None, Result, Ok, Err, IfOk, MatchResult, All, IsUtf8, map, codes, refl, sym, ap, ◌∙◌, cond, arith}
+use Rattle.std.proofs.lemmas.Bool.Decides.{nat_tests}
+use Rattle.std.proofs.lemmas.List.Elements.{All-map}
+use Rattle.std.proofs.lemmas.Str.{IsUtf8-from_is_utf8, is_utf8-from_IsUtf8}
+use Rattle.std.specs.Option.{option_map_or}
+use Rattle.std.specs.Str.{is_utf8}
+use Rattle.break_rules.specs.Causes.{first_cause}
+use Rattle.break_rules.specs.Plain.{plain_rule}
+use Rattle.serde_json.specs.Data.{Data}
+use Rattle.serde_json.specs.Read.{read}
+use Rattle.shift_instance.specs.Problem.{Problem}
+use Rattle.shift_instance.specs.Faults.{instance_causes, Answers}
+use Rattle.shift_instance.specs.declared.InstanceFault.{InstanceFault}
+use Rattle.shift_instance.specs.declared.InstanceFault.TheVariants as fault
+use Rattle.instance_json.specs.declared.TheConstants.{INSTANCE_MAX}
+use Rattle.instance_json.specs.declared.ReadRefusal.{ReadRefusal}
+use Rattle.instance_json.specs.declared.ReadRefusal.TheVariants.{TooLong, NotJson, NotYet}
+use Rattle.instance_json.specs.Document.{is_document, kind_of, items_at, problem_of}
+use Rattle.instance_json.specs.Reading.{value_of, problem_reading, value_reading, reading_of, IsAnswer, refusal_of}
+
+not_chosen : (b : Bool) (o : Option Data) → (b ≡ true → ⊥) → cond b o None ≡ None
+not_chosen true o h = absurd (h refl)
+not_chosen false o h = refl
+
+-- bytes that aren't UTF-8 have no value
+pub value_of-other : (bs : List ℕ) → ¬ IsUtf8 bs → value_of bs ≡ None
+unfolding value_of
+value_of-other bs h = not_chosen (is_utf8 bs) (read bs) (λ e. h (IsUtf8-from_is_utf8 bs e))
+
+-- the value of a text
+pub value_of-text : (bs : List ℕ) → IsUtf8 bs → value_of bs ≡ read bs
+unfolding value_of
+value_of-text bs h = ap (λ b. cond b (read bs) None) (is_utf8-from_IsUtf8 bs h)
+
+-- a problem that nothing keeps from being an instance
+pub problem_reading-ok : (p i : Problem) → i ≡ p → first_cause (instance_causes p) ≡ None → problem_reading p ≡ Ok i
+unfolding problem_reading
+problem_reading-ok p i is h = ap (λ o. option_map_or (λ fault. Err (NotYet 0)) o (Ok p)) h ∙ ap Ok (sym is)
+
+faulty : (p : Problem) (e : InstanceFault) → first_cause (instance_causes p) ≡ Some e → problem_reading p ≡ Err (NotYet 0)
+unfolding problem_reading
+faulty p e h = ap (λ o. option_map_or (λ fault. Err (NotYet 0)) o (Ok p)) h
+
+-- a problem that isn't an instance is refused
+pub problem_reading-fault : (e : InstanceFault) (p : Problem) → Answers e (first_cause (instance_causes p)) → IsAnswer (refusal_of e) (problem_reading p)
+problem_reading-fault fault.NoMemory p h = tt
+problem_reading-fault fault.SlotMinutes p h = faulty p _ h
+problem_reading-fault fault.Days p h = faulty p _ h
+problem_reading-fault (fault.NeedLength found wanted) p h = faulty p _ h
+problem_reading-fault (fault.NeedTooLarge slot) p h = faulty p _ h
+problem_reading-fault fault.Weight p h = faulty p _ h
+problem_reading-fault fault.Heads p h = faulty p _ h
+problem_reading-fault (fault.Types found) p h = faulty p _ h
+problem_reading-fault (fault.StartRange kind) p h = faulty p _ h
+problem_reading-fault (fault.LengthRange kind) p h = faulty p _ h
+problem_reading-fault (fault.Rule kind why) p h = faulty p _ h
+problem_reading-fault (fault.TooManyShifts found) p h = faulty p _ h
+problem_reading-fault (fault.Name kind) p h = faulty p _ h
+
+-- a value that is no document is refused
+pub value_reading-other : (d : Data) → is_document d ≡ false → value_reading d ≡ Err (NotYet 0)
+unfolding value_reading
+value_reading-other d e = ap (λ b. cond b (problem_reading (problem_of d)) (Err (NotYet 0))) e
+
+-- a document is read as its problem
+pub value_reading-document : (d : Data) (p : Problem) → is_document d ≡ true → p ≡ problem_of d → value_reading d ≡ problem_reading p
+unfolding value_reading
+value_reading-document d p e is = ap (λ b. cond b (problem_reading (problem_of d)) (Err (NotYet 0))) e ∙ ap problem_reading (sym is)
+
+kept : (o : Option InstanceFault) (p i : Problem) → option_map_or (λ fault. Err (NotYet 0)) o (Ok p) ≡ Ok i → i ≡ p
+kept None p i h = cc
+kept (Some e) p i h = cc
+
+stated : (b : Bool) (p i : Problem) → cond b (problem_reading p) (Err (NotYet 0)) ≡ Ok i → i ≡ p
+unfolding problem_reading
+stated true p i h = kept (first_cause (instance_causes p)) p i h
+stated false p i h = cc
+
+-- what is read is what the document states
+pub value_reading-stated : (d : Data) (i : Problem) → value_reading d ≡ Ok i → i ≡ problem_of d
+unfolding value_reading
+value_reading-stated d i h = stated (is_document d) (problem_of d) i h
+
+all_plain : (ds : List Data) → All (λ k. k.rule ≡ plain_rule) (map kind_of ds)
+unfolding kind_of
+all_plain ds = All-map (λ k. k.rule ≡ plain_rule) kind_of ds (λ k d h. refl)
+
+document_plain : (d : Data) → All (λ k. k.rule ≡ plain_rule) (problem_of d).kinds
+unfolding problem_of
+document_plain d = all_plain (items_at (codes "types") d)
+
+-- every type of what is read has the plain rule
+pub plain_kinds : (r : Result Problem ReadRefusal) (d : Data) → MatchResult r (λ i. value_reading d ≡ Ok i) (λ e. IsAnswer e (value_reading d)) → IfOk r (λ i. All (λ k. k.rule ≡ plain_rule) i.kinds)
+plain_kinds (Ok i) d h = rw (value_reading-stated d i h) (document_plain d)
+plain_kinds (Err e) d h = tt
+
+pub reading_of-long : (bs : List ℕ) → INSTANCE_MAX < length bs → reading_of bs ≡ Err TooLong
+unfolding reading_of
+reading_of-long bs h = grind (arith, nat_tests)
+
+-- a text that is short enough is read as its value
+pub reading_of-short : (bs : List ℕ) → length bs ≤ INSTANCE_MAX → reading_of bs ≡ option_map_or value_reading (value_of bs) (Err NotJson)
+unfolding reading_of
+reading_of-short bs h = grind (arith, nat_tests)

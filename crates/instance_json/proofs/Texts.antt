@@ -1,0 +1,32 @@
+-- The canonical text's value, and that it has no float.
+use Rattle.std.proofs.Common.{◌≡◌, false, List, [], ◌∷◌, map, refl, ap}
+use Rattle.break_rules.specs.declared.Rule.{Rule}
+use Rattle.shift_instance.specs.Kind.{Kind}
+use Rattle.shift_instance.specs.Problem.{Problem}
+use Rattle.serde_json.specs.Data.{Data, item}
+use Rattle.serde_json.specs.View.{view, items_view}
+use Rattle.serde_json.specs.Written.{has_float, items_have_float}
+use Rattle.serde_json.specs.declared.value.Value.{Value}
+use Rattle.instance_json.specs.Canonical.{items_data, number_data, total_data, lunch_data, rule_data, kind_data, weights_data, document_data}
+
+-- the items of a list of values
+pub items_of_values : (vs : List Value) → items_view vs ≡ items_data (map view vs)
+items_of_values [] = refl
+items_of_values (v ∷ vs) = ap (item (view v)) (items_of_values vs)
+
+no_floats : {A : Type 0} (f : A → Data) → ((x : A) → has_float (f x) ≡ false) → (xs : List A) → items_have_float (items_data (map f xs)) ≡ false
+no_floats f h [] = refl
+no_floats f h (x ∷ xs) = rw (h x) (no_floats f h xs)
+
+has_float-rule : (r : Rule) → has_float (rule_data r) ≡ false
+unfolding rule_data
+has_float-rule r = rw (no_floats lunch_data (λ x. refl) r.lunches, no_floats total_data (λ x. refl) r.totals)
+
+has_float-kind : (k : Kind) → has_float (kind_data k) ≡ false
+unfolding kind_data
+has_float-kind k = rw (has_float-rule k.rule)
+
+-- no document has a float
+pub has_float-document : (p : Problem) → has_float (document_data p) ≡ false
+unfolding document_data weights_data
+has_float-document p = rw (no_floats number_data (λ x. refl) p.need, no_floats kind_data has_float-kind p.kinds)

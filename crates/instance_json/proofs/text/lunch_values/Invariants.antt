@@ -1,0 +1,7 @@
+use Rattle.std.proofs.Common.{◌≡◌, ◌++◌, map, drop}
+use Rattle.serde_json.specs.View.{view}
+use Rattle.instance_json.specs.Canonical.{lunch_data}
+use Rattle.instance_json.proofs.text.lunch_values.Given as goal
+
+abbrev pub invariant-loop-entry : goal.invariant-loop-entry
+invariant-loop-entry l = map view l.values.items ++ map lunch_data (drop l.entry-index l.list) ≡ map lunch_data l.list

@@ -1,0 +1,7 @@
+use Rattle.std.proofs.Common.{◌≡◌, ◌++◌, map, drop}
+use Rattle.serde_json.specs.View.{view}
+use Rattle.instance_json.specs.Canonical.{kind_data}
+use Rattle.instance_json.proofs.text.type_values.Given as goal
+
+abbrev pub invariant-loop-parts : goal.invariant-loop-parts
+invariant-loop-parts l = map view l.values.items ++ map kind_data (drop l.parts-index l.list) ≡ map kind_data l.list

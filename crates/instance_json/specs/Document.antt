@@ -1,0 +1,99 @@
+-- Instance documents: which JSON values are one, and which problem each states.
+use Rattle.std.specs.Prelude.{ℕ, min, codes, Bool, true, false, ◌&&◌, List, [], ◌∷◌, map, option_and_then, unwrap_or}
+use Rattle.std.specs.Option.{option_map_or}
+use Rattle.std.specs.List.{list_all}
+use Rattle.serde_json.specs.Data.{Data}
+use Rattle.serde_json.specs.Find.{get, as_str, as_array}
+use Rattle.break_rules.specs.Plain.{plain_rule}
+use Rattle.shift_instance.specs.Kind.{Kind}
+use Rattle.shift_instance.specs.Problem.{Problem}
+use Rattle.instance_json.specs.declared.fields.Shape.{Shape}
+use Rattle.instance_json.specs.declared.fields.Shape.TheVariants.{Number, Text, Array, Numbers, Object, Null}
+use Rattle.instance_json.specs.Fields.{Field, data_list, whole, has_fields}
+
+-- a field that has to be there, and one that may be missing
+abbrev pub required : List ℕ → Shape → Field
+required name shape = record { name = name; required = true; shape = shape }
+
+abbrev pub optional : List ℕ → Shape → Field
+optional name shape = record { name = name; required = false; shape = shape }
+
+-- the fields of a document
+unfoldable pub document_fields : List Field
+document_fields =
+    required (codes "slot_minutes") Number
+    ∷ required (codes "days") Number
+    ∷ required (codes "need") Numbers
+    ∷ required (codes "max_heads") Number
+    ∷ required (codes "weights") Object
+    ∷ required (codes "types") Array
+    ∷ []
+
+-- the fields of a document's weights
+unfoldable pub weights_fields : List Field
+weights_fields = required (codes "excess") Number ∷ required (codes "shortage") Number ∷ required (codes "shift") Number ∷ []
+
+-- the fields of a shift type that has the plain break rule
+unfoldable pub type_fields : List Field
+type_fields =
+    required (codes "name") Text
+    ∷ required (codes "start_min") Number
+    ∷ required (codes "start_max") Number
+    ∷ required (codes "len_min") Number
+    ∷ required (codes "len_max") Number
+    ∷ optional (codes "breaks") Null
+    ∷ []
+
+-- the items of an object's field
+abbrev pub items_at : List ℕ → Data → List Data
+items_at name d = option_map_or data_list (option_and_then as_array (get name d)) []
+
+-- whether a value is a document: it has its fields, its weights have theirs, and so has each of its types
+unfoldable pub is_document : Data → Bool
+is_document d =
+    has_fields document_fields d
+    && option_map_or (has_fields weights_fields) (get (codes "weights") d) false
+    && list_all (has_fields type_fields) (items_at (codes "types") d)
+
+-- the number that a value is, up to the greatest one that is told apart
+abbrev pub number_up_to : ℕ → Data → ℕ
+number_up_to most d = min (unwrap_or (whole d) 0) most
+
+-- the number of an object's field, up to that of 16 or of 32 bits
+abbrev pub short_at : List ℕ → Data → ℕ
+short_at name d = option_map_or (number_up_to 65535) (get name d) 0
+
+abbrev pub long_at : List ℕ → Data → ℕ
+long_at name d = option_map_or (number_up_to 4294967295) (get name d) 0
+
+-- the text of an object's field
+abbrev pub text_at : List ℕ → Data → List ℕ
+text_at name d = unwrap_or (option_and_then as_str (get name d)) []
+
+-- a weight of a document, by its name
+abbrev pub weight_of : List ℕ → Data → ℕ
+weight_of name d = option_map_or (long_at name) (get (codes "weights") d) 0
+
+-- the shift type that a value states
+unfoldable pub kind_of : Data → Kind
+kind_of d = record {
+  name = text_at (codes "name") d;
+  start_min = short_at (codes "start_min") d;
+  start_max = short_at (codes "start_max") d;
+  len_min = short_at (codes "len_min") d;
+  len_max = short_at (codes "len_max") d;
+  rule = plain_rule;
+}
+
+-- the problem that a document states
+unfoldable pub problem_of : Data → Problem
+problem_of d = record {
+  slot_minutes = short_at (codes "slot_minutes") d;
+  days = short_at (codes "days") d;
+  need = map (number_up_to 4294967295) (items_at (codes "need") d);
+  heads = short_at (codes "max_heads") d;
+  excess = weight_of (codes "excess") d;
+  shortage = weight_of (codes "shortage") d;
+  shift = weight_of (codes "shift") d;
+  kinds = map kind_of (items_at (codes "types") d);
+}

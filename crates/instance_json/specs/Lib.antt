@@ -1,0 +1,4 @@
+pub mod Fields
+pub mod Document
+pub mod Reading
+pub mod Canonical

@@ -1,0 +1,214 @@
+//! Instance documents: which JSON values are one, and what they state.
+ghost use Rattle.std.specs.Prelude.{◌≡◌, false, codes, map, IfOk, option_map, option_and_then, string_bytes};
+ghost use Rattle.std.specs.List.{list_all};
+ghost use Rattle.std.specs.Option.{option_map_or};
+ghost use Rattle.serde_json.specs.Find.{get, as_array};
+ghost use Rattle.serde_json.specs.View.{view, items_view};
+ghost use Rattle.instance_json.specs.Document.{document_fields, weights_fields, type_fields, is_document, items_at, number_up_to, short_at, long_at, text_at, weight_of, kind_of, problem_of};
+ghost use Rattle.instance_json.specs.Fields.{has_fields};
+
+use crate::fields::{Field, Shape, conforms};
+use break_rules::Rule;
+use serde_json::Value;
+use shift_instance::{Parts, TypeParts};
+use std::alloc::{AllocError, Global};
+
+#[tactic(auto, unfolding(crate::specs::Document::document_fields))]
+fn of_document() -> [Field; 6]
+    ensures { result ≡ document_fields }
+{
+    [
+        Field::required("slot_minutes", Shape::Number),
+        Field::required("days", Shape::Number),
+        Field::required("need", Shape::Numbers),
+        Field::required("max_heads", Shape::Number),
+        Field::required("weights", Shape::Object),
+        Field::required("types", Shape::Array),
+    ]
+}
+
+#[tactic(auto, unfolding(crate::specs::Document::weights_fields))]
+fn of_weights() -> [Field; 3]
+    ensures { result ≡ weights_fields }
+{
+    [
+        Field::required("excess", Shape::Number),
+        Field::required("shortage", Shape::Number),
+        Field::required("shift", Shape::Number),
+    ]
+}
+
+#[tactic(auto, unfolding(crate::specs::Document::type_fields))]
+fn of_type() -> [Field; 6]
+    ensures { result ≡ type_fields }
+{
+    [
+        Field::required("name", Shape::Text),
+        Field::required("start_min", Shape::Number),
+        Field::required("start_max", Shape::Number),
+        Field::required("len_min", Shape::Number),
+        Field::required("len_max", Shape::Number),
+        Field::optional("breaks", Shape::Null),
+    ]
+}
+
+/// The items of an object's field, where it is a list.
+fn items_of<'v>(value: &'v Value, name: &str) -> Option<&'v [Value]>
+    ensures { option_map (λ v. items_view v.now) result ≡ option_and_then as_array (get name.now (view value.now)) }
+{
+    let list = value.get(name)?.as_array()?;
+    Some(list.as_slice())
+}
+
+fn are_types(list: &[Value]) -> bool
+    ensures { result ≡ list_all (λ v. has_fields type_fields (view v)) list.now }
+{
+    let fields = of_type();
+    list.iter().all(|value| conforms(&fields, value))
+}
+
+fn has_types(value: &Value) -> bool
+    ensures { result ≡ list_all (has_fields type_fields) (items_at (codes "types") (view value.now)) }
+{
+    match items_of(value, "types") {
+        Some(list) => are_types(list),
+        None => true,
+    }
+}
+
+fn has_weights(value: &Value) -> bool
+    ensures { result ≡ option_map_or (has_fields weights_fields) (get (codes "weights") (view value.now)) false }
+{
+    match value.get("weights") {
+        Some(weights) => conforms(&of_weights(), weights),
+        None => false,
+    }
+}
+
+/// Whether a value is a document whose types have the plain break rule.
+#[tactic(auto, unfolding(crate::specs::Document::is_document))]
+pub fn conforms_as_document(value: &Value) -> bool
+    ensures { result ≡ is_document (view value.now) }
+{
+    conforms(&of_document(), value) && has_weights(value) && has_types(value)
+}
+
+fn up_to(value: &Value, most: u64) -> u64
+    ensures { result ≡ number_up_to most (view value.now) }
+{
+    value.as_u64().unwrap_or(0).min(most)
+}
+
+fn short(value: &Value) -> u16
+    ensures { result ≡ number_up_to 65535 (view value.now) }
+{
+    up_to(value, 65535) as u16
+}
+
+fn long(value: &Value) -> u32
+    ensures { result ≡ number_up_to 4294967295 (view value.now) }
+{
+    up_to(value, 4294967295) as u32
+}
+
+fn short_of(value: &Value, name: &str) -> u16
+    ensures { result ≡ short_at name.now (view value.now) }
+{
+    match value.get(name) {
+        Some(number) => short(number),
+        None => 0,
+    }
+}
+
+fn long_of(value: &Value, name: &str) -> u32
+    ensures { result ≡ long_at name.now (view value.now) }
+{
+    match value.get(name) {
+        Some(number) => long(number),
+        None => 0,
+    }
+}
+
+fn weight(value: &Value, name: &str) -> u32
+    ensures { result ≡ weight_of name.now (view value.now) }
+{
+    match value.get("weights") {
+        Some(weights) => long_of(weights, name),
+        None => 0,
+    }
+}
+
+fn text(alloc: Global, value: &Value, name: &str) -> Result<String, AllocError>
+    ensures { IfOk result (λ s. string_bytes s ≡ text_at name.now (view value.now)) }
+{
+    match value.get(name).and_then(Value::as_str) {
+        Some(text) => String::from_str(alloc, text),
+        None => Ok(String::new(alloc)),
+    }
+}
+
+fn longs(alloc: Global, list: &[Value]) -> Result<Vec<u32>, AllocError>
+    ensures { IfOk result (λ v. v.items ≡ map (λ x. number_up_to 4294967295 (view x)) list.now) }
+{
+    list.iter().map(long).collect(alloc)
+}
+
+fn longs_of(alloc: Global, value: &Value, name: &str) -> Result<Vec<u32>, AllocError>
+    ensures { IfOk result (λ v. v.items ≡ map (number_up_to 4294967295) (items_at name.now (view value.now))) }
+{
+    match items_of(value, name) {
+        Some(list) => longs(alloc, list),
+        None => Ok(Vec::new(alloc)),
+    }
+}
+
+/// The shift type that a value states.
+#[tactic(auto, unfolding(crate::specs::Document::kind_of))]
+fn type_of(alloc: Global, value: &Value) -> Result<TypeParts, AllocError>
+    ensures { IfOk result (λ k. k ≡ kind_of (view value.now)) }
+{
+    Ok(TypeParts {
+        name: text(alloc, value, "name")?,
+        start_min: short_of(value, "start_min"),
+        start_max: short_of(value, "start_max"),
+        len_min: short_of(value, "len_min"),
+        len_max: short_of(value, "len_max"),
+        rule: Rule::plain(alloc)?,
+    })
+}
+
+fn types(alloc: Global, list: &[Value]) -> Result<Vec<TypeParts>, AllocError>
+    ensures { IfOk result (λ v. v.items ≡ map (λ x. kind_of (view x)) list.now) }
+{
+    let mut types = Vec::new(alloc);
+    for value in list {
+        types.push(type_of(alloc, value)?)?;
+    }
+    Ok(types)
+}
+
+fn types_of(alloc: Global, value: &Value) -> Result<Vec<TypeParts>, AllocError>
+    ensures { IfOk result (λ v. v.items ≡ map kind_of (items_at (codes "types") (view value.now))) }
+{
+    match items_of(value, "types") {
+        Some(list) => types(alloc, list),
+        None => Ok(Vec::new(alloc)),
+    }
+}
+
+/// The numbers that a document states.
+#[tactic(auto, unfolding(crate::specs::Document::problem_of))]
+pub fn parts_of(alloc: Global, value: &Value) -> Result<Parts, AllocError>
+    ensures { IfOk result (λ p. p ≡ problem_of (view value.now)) }
+{
+    Ok(Parts {
+        slot_minutes: short_of(value, "slot_minutes"),
+        days: short_of(value, "days"),
+        need: longs_of(alloc, value, "need")?,
+        max_heads: short_of(value, "max_heads"),
+        excess: weight(value, "excess"),
+        shortage: weight(value, "shortage"),
+        shift: weight(value, "shift"),
+        types: types_of(alloc, value)?,
+    })
+}

@@ -1,0 +1,68 @@
+//! The JSON document of an instance: what is read as an instance, and the one text that an instance is written as.
+#![tactic(auto)]
+
+mod document;
+mod fields;
+mod reading;
+mod text;
+
+pub use reading::read;
+use shift_instance::InstanceFault;
+use std::alloc::AllocError;
+use std::error::Error;
+use std::fmt;
+pub use text::canonical;
+
+/// The most bytes that a document may have.
+pub const INSTANCE_MAX: usize = 1_048_576;
+
+/// Why a text isn't read as an instance.
+#[derive(Clone, Copy, Debug, PartialEq, Eq, Drop)]
+pub enum ReadRefusal {
+    /// It has more than `INSTANCE_MAX` bytes.
+    TooLong,
+    /// It isn't UTF-8, or isn't JSON.
+    NotJson,
+    /// It is JSON, but not a document of an instance whose types all have the plain break rule. `at` is 0.
+    NotYet { at: u64 },
+    /// No memory was left.
+    NoMemory,
+}
+
+impl From<AllocError> for ReadRefusal {
+    ghost use Rattle.std.specs.Prelude.{◌≡◌};
+    ghost use Rattle.instance_json.specs.declared.ReadRefusal.TheVariants.{NoMemory};
+
+    ghost from_gives = { λ _ e. e ≡ NoMemory };
+
+    fn from(_refused: AllocError) -> ReadRefusal {
+        ReadRefusal::NoMemory
+    }
+}
+
+impl From<InstanceFault> for ReadRefusal {
+    ghost use Rattle.std.specs.Prelude.{◌≡◌};
+    ghost use Rattle.instance_json.specs.Reading.{refusal_of};
+
+    ghost from_gives = { λ fault e. e ≡ refusal_of fault };
+
+    fn from(fault: InstanceFault) -> ReadRefusal {
+        match fault {
+            InstanceFault::NoMemory => ReadRefusal::NoMemory,
+            _ => ReadRefusal::NotYet { at: 0 },
+        }
+    }
+}
+
+impl fmt::Display for ReadRefusal {
+    fn fmt<W: fmt::Write>(&self, f: &mut fmt::Formatter<W>) -> fmt::Result {
+        match self {
+            ReadRefusal::TooLong => f.write_str("1"),
+            ReadRefusal::NotJson => f.write_str("2"),
+            ReadRefusal::NotYet { at } => write!(f, "7 {at}"),
+            ReadRefusal::NoMemory => f.write_str("out of memory"),
+        }
+    }
+}
+
+impl Error for ReadRefusal {}

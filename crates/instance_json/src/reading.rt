@@ -1,0 +1,66 @@
+//! From a text to an instance.
+ghost use Rattle.std.specs.Prelude.{◌≡◌, Ok, All, option_map, IfOk, MatchResult};
+ghost use Rattle.break_rules.specs.Plain.{plain_rule};
+ghost use Rattle.serde_json.specs.View.{view};
+ghost use Rattle.instance_json.specs.Reading.{value_of, problem_reading, value_reading, reading_of, IsAnswer};
+
+use crate::document::{conforms_as_document, parts_of};
+use crate::{INSTANCE_MAX, ReadRefusal};
+use serde_json::Value;
+use shift_instance::{Instance, Parts};
+use std::alloc::{AllocError, Global};
+use std::str::from_utf8;
+
+/// The JSON value of a text; none where the bytes aren't UTF-8 or aren't JSON.
+fn parse(alloc: Global, bytes: &[u8]) -> Result<Option<Value>, AllocError>
+    ensures { IfOk result (λ found. option_map view found ≡ value_of bytes.now) }
+{
+    let Ok(text) = from_utf8(bytes) else {
+        return Ok(None);
+    };
+    match Value::from_str(alloc, text) {
+        Ok(value) => Ok(Some(value)),
+        Err(fault) if fault.is_memory() => Err(AllocError),
+        Err(_) => Ok(None),
+    }
+}
+
+/// The instance that these numbers make.
+fn instance_from(alloc: Global, parts: Parts) -> Result<Instance, ReadRefusal>
+    ensures { MatchResult result (λ i. problem_reading parts ≡ Ok i) (λ e. IsAnswer e (problem_reading parts)) }
+{
+    match Instance::new(alloc, parts) {
+        Ok(instance) => Ok(instance),
+        Err(fault) => Err(ReadRefusal::from(fault)),
+    }
+}
+
+/// The instance that a JSON value states.
+fn instance_of(alloc: Global, value: &Value) -> Result<Instance, ReadRefusal>
+    ensures { MatchResult result (λ i. value_reading (view value.now) ≡ Ok i)
+        (λ e. IsAnswer e (value_reading (view value.now))) }
+{
+    if !conforms_as_document(value) {
+        return Err(ReadRefusal::NotYet { at: 0 });
+    }
+    instance_from(alloc, parts_of(alloc, value)?)
+}
+
+/// The instance that a text states.
+///
+/// The text is refused with `TooLong` where it has more than `INSTANCE_MAX` bytes; else with `NotJson` where it isn't
+/// UTF-8 or isn't JSON; else with `NotYet` where it is no document, states no instance, or gives a type a break rule.
+/// `NoMemory` may come instead, where memory runs out.
+pub fn read(alloc: Global, bytes: &[u8]) -> Result<Instance, ReadRefusal>
+    ensures reading { MatchResult result (λ i. reading_of bytes.now ≡ Ok i)
+        (λ e. IsAnswer e (reading_of bytes.now)) }
+    ensures plain { IfOk result (λ i. All (λ k. k.rule ≡ plain_rule) i.kinds) }
+{
+    if bytes.len() > INSTANCE_MAX {
+        return Err(ReadRefusal::TooLong);
+    }
+    match parse(alloc, bytes)? {
+        Some(value) => instance_of(alloc, &value),
+        None => Err(ReadRefusal::NotJson),
+    }
+}
