@@ -4,6 +4,8 @@
 mod document;
 mod fields;
 mod reading;
+#[cfg(test)]
+mod tests;
 mod text;
 
 pub use reading::read;
