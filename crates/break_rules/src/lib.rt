@@ -4,6 +4,8 @@
 #![tactic(auto)]
 
 mod judging;
+#[cfg(test)]
+mod tests;
 
 ghost use Rattle.std.specs.Prelude.{◌≡◌, ℕ, ◌≤◌, [], ◌∷◌, length, OnOk, IfOk, IsOk, IsTrue, ◌↔◌, MatchResult, Some, None};
 ghost use Rattle.break_rules.specs.Causes.{first_cause};

@@ -4,6 +4,8 @@
 mod judging;
 mod listing;
 mod rows;
+#[cfg(test)]
+mod tests;
 
 ghost use Rattle.std.specs.Prelude.{◌≡◌, ◌<◌, ◌≤◌, length, map, slice_get, IsSomeAnd, IfOk, MatchResult, None};
 ghost use Rattle.break_rules.specs.Causes.{first_cause};
@@ -221,6 +223,7 @@ impl Instance {
     /// The shift list: every shift, by type, then by start, then by length. A shift's number is its place.
     pub fn shifts(&self) -> &[Shift]
         ensures shifts { result.now ≡ map (λ p. p.0) (shift_list self.now) }
+        ensures count { length result.now ≡ length (shift_list self.now) }
         ensures valid { IsValid self.now }
     {
         self.shifts.as_slice()

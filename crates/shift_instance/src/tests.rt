@@ -1,0 +1,249 @@
+use crate::{Duty, Instance, InstanceFault, Parts, Row, Rows, Shift, TypeParts};
+use break_rules::{Break, Breaks, NoMemory, Rule, RuleFault};
+use std::alloc::Global;
+use std::test::Fail;
+
+/// A type of shifts without breaks that start at a slot and have a length.
+fn type_of(alloc: Global, name: &str, start: u16, len: u16) -> Result<TypeParts, NoMemory> {
+    Ok(TypeParts {
+        name: String::from_str(alloc, name)?,
+        start_min: start,
+        start_max: start,
+        len_min: len,
+        len_max: len,
+        rule: Rule::plain(alloc)?,
+    })
+}
+
+/// A day of hours that needs one employee from 8 to 12, with one shift from `start` on.
+fn one_morning(alloc: Global, start: u16) -> Result<Parts, NoMemory> {
+    let mut need = Vec::new(alloc);
+    for hour in 0..24u16 {
+        need.push(if 8 <= hour && hour < 12 { 1 } else { 0 })?;
+    }
+    let mut types = Vec::new(alloc);
+    types.push(type_of(alloc, "M", start, 4)?)?;
+    Ok(Parts {
+        slot_minutes: 60,
+        days: 1,
+        need,
+        max_heads: 1,
+        excess: 1,
+        shortage: 2,
+        shift: 3,
+        types,
+    })
+}
+
+#[test]
+fn an_instance_is_read(rt: HostRuntime) -> Result<(), Fail> {
+    let alloc = rt.alloc();
+    let instance = Instance::new(alloc, one_morning(alloc, 22)?)?;
+    assert_eq!(rt; instance.slots(), 24);
+    assert_eq!(rt; (instance.need(7), instance.need(8)), (0, 1));
+    assert_eq!(rt; instance.weights(), (1, 2, 3));
+    assert_eq!(rt; (instance.heads(), instance.days()), (1, 1));
+    assert_eq!(rt; instance.parts().slot_minutes, 60);
+    let shift = Shift {
+        kind: 0,
+        start: 22,
+        len: 4,
+    };
+    assert_eq!(rt; instance.shifts(), [shift].as_slice());
+    assert_eq!(rt; instance.shift(0), shift);
+    assert_eq!(rt; instance.rule_of(0).work_max, 288);
+    for (offset, slot) in [(0, 22), (1, 23), (2, 0), (3, 1)] {
+        assert_eq!(rt; instance.slot_of(0, 0, offset), slot);
+    }
+    Ok(())
+}
+
+/// The fault of numbers.
+fn fault_of(alloc: Global, parts: Parts) -> Option<InstanceFault> {
+    Instance::new(alloc, parts).err()
+}
+
+#[test]
+fn numbers_are_judged(rt: HostRuntime) -> Result<(), Fail> {
+    let alloc = rt.alloc();
+    let mut parts = one_morning(alloc, 8)?;
+    parts.slot_minutes = 45;
+    assert_eq!(rt; fault_of(alloc, parts), Some(InstanceFault::SlotMinutes));
+    let mut parts = one_morning(alloc, 8)?;
+    parts.days = 8;
+    assert_eq!(rt; fault_of(alloc, parts), Some(InstanceFault::Days));
+    let mut parts = one_morning(alloc, 8)?;
+    parts.days = 2;
+    assert_eq!(rt;
+        fault_of(alloc, parts),
+        Some(InstanceFault::NeedLength {
+            found: 24,
+            wanted: 48
+        })
+    );
+    let mut parts = one_morning(alloc, 8)?;
+    parts.max_heads = 201;
+    assert_eq!(rt; fault_of(alloc, parts), Some(InstanceFault::Heads));
+    let mut parts = one_morning(alloc, 8)?;
+    parts.shift = 1_000_001;
+    assert_eq!(rt; fault_of(alloc, parts), Some(InstanceFault::Weight));
+    let mut parts = one_morning(alloc, 8)?;
+    parts.types = Vec::new(alloc);
+    assert_eq!(rt;
+        fault_of(alloc, parts),
+        Some(InstanceFault::Types { found: 0 })
+    );
+    Ok(())
+}
+
+#[test]
+fn needs_are_judged(rt: HostRuntime) -> Result<(), Fail> {
+    let alloc = rt.alloc();
+    let mut parts = one_morning(alloc, 8)?;
+    if let Some(need) = parts.need.get_mut(5) {
+        *need = 10_001;
+    }
+    assert_eq!(rt;
+        fault_of(alloc, parts),
+        Some(InstanceFault::NeedTooLarge { slot: 5 })
+    );
+    Ok(())
+}
+
+/// The fault of a morning with a further type.
+fn fault_with(alloc: Global, kind: TypeParts) -> Result<Option<InstanceFault>, NoMemory> {
+    let mut parts = one_morning(alloc, 8)?;
+    parts.types.push(kind)?;
+    Ok(fault_of(alloc, parts))
+}
+
+#[test]
+fn types_are_judged(rt: HostRuntime) -> Result<(), Fail> {
+    let alloc = rt.alloc();
+    for name in ["", "M", "A B", "abcdefghijklmnopqrstuvwxyz0123456"] {
+        let kind = type_of(alloc, name, 8, 4)?;
+        assert_eq!(rt;
+            fault_with(alloc, kind)?,
+            Some(InstanceFault::Name { kind: 1 })
+        );
+    }
+    let kind = type_of(alloc, "N", 48, 4)?;
+    assert_eq!(rt;
+        fault_with(alloc, kind)?,
+        Some(InstanceFault::StartRange { kind: 1 })
+    );
+    let kind = type_of(alloc, "N", 47, 25)?;
+    assert_eq!(rt;
+        fault_with(alloc, kind)?,
+        Some(InstanceFault::LengthRange { kind: 1 })
+    );
+    let mut kind = type_of(alloc, "N", 47, 24)?;
+    kind.rule.work_min = 0;
+    assert_eq!(rt;
+        fault_with(alloc, kind)?,
+        Some(InstanceFault::Rule {
+            kind: 1,
+            why: RuleFault::WorkRange
+        })
+    );
+    let kind = type_of(alloc, "N", 47, 24)?;
+    assert_eq!(rt; fault_with(alloc, kind)?, None);
+    Ok(())
+}
+
+#[test]
+fn large_instances_are_made(rt: HostRuntime) -> Result<(), Fail> {
+    let alloc = rt.alloc();
+    let mut parts = one_morning(alloc, 8)?;
+    parts.slot_minutes = 5;
+    parts.days = 7;
+    parts.need = vec![in alloc; 10_000; 2016]?;
+    let mut kind = type_of(alloc, "N", 0, 1)?;
+    kind.start_max = 32;
+    kind.len_max = 31;
+    parts.types.push(kind)?;
+    let instance = Instance::new(alloc, parts)?;
+    assert_eq!(rt; (instance.slots(), instance.shifts().len()), (2016, 1024));
+    assert_eq!(rt;
+        instance.shifts().last(),
+        Some(&Shift {
+            kind: 1,
+            start: 32,
+            len: 31
+        })
+    );
+    Ok(())
+}
+
+#[test]
+fn too_many_shifts_are_refused(rt: HostRuntime) -> Result<(), Fail> {
+    let alloc = rt.alloc();
+    let mut kind = type_of(alloc, "N", 0, 1)?;
+    kind.start_max = 46;
+    kind.len_max = 22;
+    assert_eq!(rt;
+        fault_with(alloc, kind)?,
+        Some(InstanceFault::TooManyShifts { found: 1035 })
+    );
+    Ok(())
+}
+
+#[test]
+fn faults_are_shown_by_number(rt: HostRuntime) -> Result<(), Fail> {
+    let faults = [
+        (
+            InstanceFault::NeedLength {
+                found: 23,
+                wanted: 24,
+            },
+            "3 23 24",
+        ),
+        (InstanceFault::NeedTooLarge { slot: 5 }, "4 5"),
+        (InstanceFault::Heads, "6"),
+        (
+            InstanceFault::Rule {
+                kind: 0,
+                why: RuleFault::WorkRange,
+            },
+            "10 0 1",
+        ),
+        (InstanceFault::TooManyShifts { found: 1025 }, "11 1025"),
+        (InstanceFault::Name { kind: 1 }, "12 1"),
+    ];
+    for (fault, text) in faults {
+        let shown = fault.to_string(rt.alloc())?;
+        assert_eq!(rt; shown.as_str(), text);
+    }
+    Ok(())
+}
+
+#[test]
+fn rows_are_given_back(rt: HostRuntime) -> Result<(), Fail> {
+    let alloc = rt.alloc();
+    let list = [Break { start: 3, len: 1 }];
+    let breaks = Breaks::new(Vec::from_slice(alloc, &list)?);
+    let duty = Duty {
+        shift: 4,
+        day: 2,
+        breaks: breaks.clone()?,
+    };
+    let mut rows = Vec::new(alloc);
+    rows.push(Row {
+        shift: duty.shift,
+        day: duty.day,
+        breaks,
+        count: 7,
+    })?;
+    let rows = Rows::new(rows);
+    let copy = rows.clone()?;
+    assert_eq!(rt; (rows.len(), copy.is_empty()), (1, false));
+    assert_eq!(rt;
+        (rows.row(0).shift, rows.row(0).day, rows.row(0).count),
+        (4, 2, 7)
+    );
+    for row in copy.iter() {
+        assert!(rt; row.breaks.is_same(&duty.breaks));
+    }
+    assert_eq!(rt; copy.into_vec().len(), 1);
+    Ok(())
+}
