@@ -17,10 +17,11 @@ pub record Problem : Type 0 where
   pub shift : ℕ
   pub kinds : List Kind
 
--- the slots of a day, and of the planning period
+-- the slots of a day
 abbrev pub day_slots : Problem → ℕ
 day_slots i = 1440 / i.slot_minutes
 
+-- the slots of the planning period
 abbrev pub slots : Problem → ℕ
 slots i = i.days * day_slots i
 

@@ -58,55 +58,67 @@ fn an_instance_is_read(rt: HostRuntime) -> Result<(), Fail> {
     Ok(())
 }
 
-/// The fault of numbers.
-fn fault_of(alloc: Global, parts: Parts) -> Option<InstanceFault> {
-    Instance::new(alloc, parts).err()
+/// The fault of a morning with these numbers.
+fn fault_of(
+    alloc: Global,
+    slot_minutes: u16,
+    days: u16,
+    max_heads: u16,
+    shift: u32,
+) -> Result<Option<InstanceFault>, NoMemory> {
+    let parts = Parts {
+        slot_minutes,
+        days,
+        max_heads,
+        shift,
+        ..one_morning(alloc, 8)?
+    };
+    Ok(Instance::new(alloc, parts).err())
 }
 
 #[test]
 fn numbers_are_judged(rt: HostRuntime) -> Result<(), Fail> {
-    let alloc = rt.alloc();
-    let mut parts = one_morning(alloc, 8)?;
-    parts.slot_minutes = 45;
-    assert_eq!(rt; fault_of(alloc, parts), Some(InstanceFault::SlotMinutes));
-    let mut parts = one_morning(alloc, 8)?;
-    parts.days = 8;
-    assert_eq!(rt; fault_of(alloc, parts), Some(InstanceFault::Days));
-    let mut parts = one_morning(alloc, 8)?;
-    parts.days = 2;
-    assert_eq!(rt;
-        fault_of(alloc, parts),
-        Some(InstanceFault::NeedLength {
-            found: 24,
-            wanted: 48
-        })
-    );
-    let mut parts = one_morning(alloc, 8)?;
-    parts.max_heads = 201;
-    assert_eq!(rt; fault_of(alloc, parts), Some(InstanceFault::Heads));
-    let mut parts = one_morning(alloc, 8)?;
-    parts.shift = 1_000_001;
-    assert_eq!(rt; fault_of(alloc, parts), Some(InstanceFault::Weight));
-    let mut parts = one_morning(alloc, 8)?;
-    parts.types = Vec::new(alloc);
-    assert_eq!(rt;
-        fault_of(alloc, parts),
-        Some(InstanceFault::Types { found: 0 })
-    );
+    let length = InstanceFault::NeedLength {
+        found: 24,
+        wanted: 48,
+    };
+    let cases = [
+        (60, 1, 200, 1_000_000, None),
+        (45, 8, 1, 3, Some(InstanceFault::SlotMinutes)),
+        (60, 8, 1, 3, Some(InstanceFault::Days)),
+        (60, 2, 0, 3, Some(length)),
+        (60, 1, 201, 1_000_001, Some(InstanceFault::Weight)),
+        (60, 1, 201, 3, Some(InstanceFault::Heads)),
+    ];
+    for (slot_minutes, days, max_heads, shift, fault) in cases {
+        let found = fault_of(rt.alloc(), slot_minutes, days, max_heads, shift)?;
+        assert_eq!(rt; found, fault);
+    }
     Ok(())
 }
 
 #[test]
 fn needs_are_judged(rt: HostRuntime) -> Result<(), Fail> {
     let alloc = rt.alloc();
-    let mut parts = one_morning(alloc, 8)?;
-    if let Some(need) = parts.need.get_mut(5) {
-        *need = 10_001;
-    }
-    assert_eq!(rt;
-        fault_of(alloc, parts),
-        Some(InstanceFault::NeedTooLarge { slot: 5 })
-    );
+    let need = vec![in alloc; 10_001; 24]?;
+    let parts = Parts {
+        need,
+        ..one_morning(alloc, 8)?
+    };
+    let fault = Instance::new(alloc, parts).err();
+    assert_eq!(rt; fault, Some(InstanceFault::NeedTooLarge { slot: 0 }));
+    Ok(())
+}
+
+#[test]
+fn types_are_needed(rt: HostRuntime) -> Result<(), Fail> {
+    let alloc = rt.alloc();
+    let parts = Parts {
+        types: Vec::new(alloc),
+        ..one_morning(alloc, 8)?
+    };
+    let fault = Instance::new(alloc, parts).err();
+    assert_eq!(rt; fault, Some(InstanceFault::Types { found: 0 }));
     Ok(())
 }
 
@@ -114,40 +126,37 @@ fn needs_are_judged(rt: HostRuntime) -> Result<(), Fail> {
 fn fault_with(alloc: Global, kind: TypeParts) -> Result<Option<InstanceFault>, NoMemory> {
     let mut parts = one_morning(alloc, 8)?;
     parts.types.push(kind)?;
-    Ok(fault_of(alloc, parts))
+    Ok(Instance::new(alloc, parts).err())
 }
 
 #[test]
 fn types_are_judged(rt: HostRuntime) -> Result<(), Fail> {
     let alloc = rt.alloc();
-    for name in ["", "M", "A B", "abcdefghijklmnopqrstuvwxyz0123456"] {
-        let kind = type_of(alloc, name, 8, 4)?;
-        assert_eq!(rt;
-            fault_with(alloc, kind)?,
-            Some(InstanceFault::Name { kind: 1 })
-        );
+    let name = Some(InstanceFault::Name { kind: 1 });
+    let cases = [
+        ("", 48, 25, name),
+        ("M", 8, 4, name),
+        ("A B", 8, 4, name),
+        ("abcdefghijklmnopqrstuvwxyz0123456", 8, 4, name),
+        ("N", 48, 25, Some(InstanceFault::StartRange { kind: 1 })),
+        ("N", 47, 25, Some(InstanceFault::LengthRange { kind: 1 })),
+        ("abcdefghijklmnopqrstuvwxyz!~3456", 47, 24, None),
+    ];
+    for (name, start, len, fault) in cases {
+        let kind = type_of(alloc, name, start, len)?;
+        assert_eq!(rt; fault_with(alloc, kind)?, fault, "{name} {start} {len}");
     }
-    let kind = type_of(alloc, "N", 48, 4)?;
-    assert_eq!(rt;
-        fault_with(alloc, kind)?,
-        Some(InstanceFault::StartRange { kind: 1 })
-    );
-    let kind = type_of(alloc, "N", 47, 25)?;
-    assert_eq!(rt;
-        fault_with(alloc, kind)?,
-        Some(InstanceFault::LengthRange { kind: 1 })
-    );
-    let mut kind = type_of(alloc, "N", 47, 24)?;
+    Ok(())
+}
+
+#[test]
+fn rules_are_judged(rt: HostRuntime) -> Result<(), Fail> {
+    let alloc = rt.alloc();
+    let mut kind = type_of(alloc, "N", 8, 4)?;
     kind.rule.work_min = 0;
-    assert_eq!(rt;
-        fault_with(alloc, kind)?,
-        Some(InstanceFault::Rule {
-            kind: 1,
-            why: RuleFault::WorkRange
-        })
-    );
-    let kind = type_of(alloc, "N", 47, 24)?;
-    assert_eq!(rt; fault_with(alloc, kind)?, None);
+    let why = RuleFault::WorkRange;
+    let fault = Some(InstanceFault::Rule { kind: 1, why });
+    assert_eq!(rt; fault_with(alloc, kind)?, fault);
     Ok(())
 }
 
