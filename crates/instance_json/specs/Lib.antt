@@ -2,3 +2,4 @@ pub mod Fields
 pub mod Document
 pub mod Reading
 pub mod Canonical
+pub mod RefusalText

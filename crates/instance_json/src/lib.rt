@@ -4,6 +4,8 @@
 mod document;
 mod fields;
 mod reading;
+#[cfg(test)]
+mod tests;
 mod text;
 
 pub use reading::read;
@@ -55,12 +57,18 @@ impl From<InstanceFault> for ReadRefusal {
 }
 
 impl fmt::Display for ReadRefusal {
+    ghost use Rattle.std.specs.Prelude.{Some};
+    ghost use Rattle.instance_json.specs.RefusalText.{refusal_text};
+
+    ghost output = { λ e. Some (refusal_text e) };
+
+    /// Writes the refusal's number and its fields, separated by single spaces.
     fn fmt<W: fmt::Write>(&self, f: &mut fmt::Formatter<W>) -> fmt::Result {
         match self {
             ReadRefusal::TooLong => f.write_str("1"),
             ReadRefusal::NotJson => f.write_str("2"),
             ReadRefusal::NotYet { at } => write!(f, "7 {at}"),
-            ReadRefusal::NoMemory => f.write_str("out of memory"),
+            ReadRefusal::NoMemory => f.write_str("no memory"),
         }
     }
 }
