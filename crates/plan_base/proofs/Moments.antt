@@ -1,7 +1,7 @@
 -- How runs of calls go on.
-use Rattle.std.proofs.Common.{◌≡◌, ◌⊎◌, inl, inr, ⊎_elim, ℕ, ◌+◌, ◌≤◌, List, refl, sym, ◌∙◌, ap, subst, arith}
-use Rattle.std.specs.Prelude.{Option, None, Some, IfSome, OnSome}
-use Rattle.plan_base.specs.Disk.{AddsMoment, HoldsThroughout, OnlyLooks}
+use Rattle.std.proofs.Common.{inl, inr, ⊎_elim, ℕ, List, refl, ◌∙◌, subst, arith}
+use Rattle.std.specs.Prelude.{Option, None, Some, OnSome}
+use Rattle.plan_base.specs.Disk.{HoldsThroughout, OnlyLooks}
 
 pub told_all : (o : Option (List ℕ)) (A : Type 0) → A → OnSome o A
 told_all None A a = tt

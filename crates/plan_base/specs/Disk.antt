@@ -1,6 +1,5 @@
 -- A disk: what its calls make of its content, and what a crash leaves (an image) at each moment. A moment is a number of calls made so far.
-use Rattle.std.specs.Prelude.{◌≡◌, ◌⊎◌, ℕ, ◌+◌, ◌≤◌, max, min, List, [], ◌++◌, length, take, drop, Option, None, Some, ⊤, IfSome, OnSome}
-use Rattle.std.specs.Option.{option_map}
+use Rattle.std.specs.Prelude.{◌≡◌, ◌⊎◌, ℕ, ◌+◌, ◌≤◌, max, min, List, ◌++◌, length, take, drop, Option, None, Some, ⊤, IfSome, OnSome}
 
 -- the content with other bytes from a place on, which may reach past its end
 abbrev pub overwritten : ℕ → List ℕ → List ℕ → List ℕ

@@ -1,5 +1,5 @@
 -- The images of a disk in memory, from its first content and its calls, the newest call first.
-use Rattle.std.specs.Prelude.{◌≡◌, ◌⊎◌, ℕ, ◌+◌, ◌<◌, ◌≤◌, List, [], ◌∷◌, ◌++◌, length, take, drop, Bool, true, ◌&&◌, ◌==◌, nat_le, replicate, reverse, map, Option, None, Some, Vec, if◌then◌else◌}
+use Rattle.std.specs.Prelude.{◌≡◌, ◌⊎◌, ℕ, ◌<◌, List, [], ◌∷◌, length, take, Bool, true, ◌&&◌, ◌==◌, nat_le, replicate, map, Option, None, Some, Vec, if◌then◌else◌}
 use Rattle.std.specs.List.{zip}
 use Rattle.std.specs.declared.alloc.Global.{Global}
 use Rattle.plan_base.specs.Disk.{overwritten, WritesPart, CutsPart}

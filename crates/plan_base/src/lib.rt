@@ -4,19 +4,18 @@
 mod copying;
 mod disk;
 mod disk_event;
+#[cfg(test)]
+mod disk_tests;
 mod faults;
 mod file_disk;
 mod mem_disk;
 mod mem_streams;
 mod reading;
 mod real_streams;
-mod streams;
-mod writing;
-
-#[cfg(test)]
-mod disk_tests;
 #[cfg(test)]
 mod stream_tests;
+mod streams;
+mod writing;
 
 pub use disk::Disk;
 pub use disk_event::{DiskAct, DiskEvent};

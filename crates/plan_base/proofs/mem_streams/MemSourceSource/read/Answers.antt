@@ -1,4 +1,4 @@
-use Rattle.std.proofs.Common.{◌≡◌, ◌+◌, ◌++◌, ◌<◌, ℕ, List, [], length, drop, take, ap, subst, sym, ◌∙◌}
+use Rattle.std.proofs.Common.{ℕ, List, ap, subst, sym, ◌∙◌}
 use Rattle.plan_base.specs.Disk.{ReadsAt}
 use Rattle.plan_base.specs.Streams.{MemSourceView}
 use Rattle.plan_base.proofs.Taking.{read_on}
