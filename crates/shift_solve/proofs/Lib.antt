@@ -1,0 +1,10 @@
+pub mod Duties
+pub mod Leading
+pub mod Lengths
+pub mod PlainLists
+pub mod PlanRows
+pub mod Ranges
+pub mod Rounds
+pub mod Steps
+pub mod Tallied
+pub mod Windows

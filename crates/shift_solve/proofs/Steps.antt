@@ -1,0 +1,383 @@
+-- Steps of the greedy plan's loops.
+use Rattle.std.proofs.Common.{◌≡◌, inl, inr, ℕ, suc, ◌+◌, ◌-◌, ◌*◌, ◌%◌, ◌<◌, ◌≤◌, ℤ, pos, neg_ℤ, ◌+ℤ◌, ◌-ℤ◌, ◌≤ℤ◌, Option, Some, None, not, Bool, true, false, cond, ◌||◌, ◌&&◌, ◌==◌, append_assoc, length-append, List, [], ◌∷◌, ◌++◌, map, filter, length, get_or, set, take, drop, sum_by, refl, sym, ap, ◌∙◌, subst, arith, count_by, nat_lt, eq-eqb}
+use Rattle.std.proofs.lemmas.Int.{ints}
+use Rattle.std.specs.Prelude.{slice_get, IsSomeAnd, MatchBool, int_lt}
+use Rattle.std.specs.List.{list_any, flat_map}
+use Rattle.std.proofs.Math.Nat.{mul-le-mul_right}
+use Rattle.break_rules.specs.Sums.{int_sum_by}
+use Rattle.std.proofs.lemmas.Bool.{cases_lt, cases_eq, ne_eqb, lt-ltb, le-ltb}
+use Rattle.std.proofs.lemmas.List.{get_or-set_same, get_or-set_other, get_or_past, get_or_read, append-nil, drop_all, take_all, length-map}
+use Rattle.std.proofs.lemmas.List.Sums.{count_by-le-length, length-filter}
+use Rattle.std.proofs.lemmas.Nat.{mul-add-lt}
+use Rattle.std.proofs.lemmas.List.FromFn.{length-range_with_len, length-map-range_with_len, get_or-map-range_with_len}
+use Rattle.break_rules.proofs.Lists.{Has-below, any_at, from_map, from_filter, from_below}
+use Rattle.break_rules.proofs.Counts.{count_by_none, count_by-append}
+use Rattle.shift_instance.specs.declared.Shift.{Shift}
+use Rattle.shift_instance.specs.declared.Duty.{Duty}
+use Rattle.shift_instance.specs.declared.Row.{Row}
+use Rattle.shift_instance.specs.Problem.{Problem, slots, need_at, shift_list, slot_of, below}
+use Rattle.shift_instance.specs.Rota.{slot_cost, shifts_used, is_used, is_on, heads_on, cost, rota_of, are_legal_rows}
+use Rattle.shift_instance.proofs.Shifts.{some_at, is_some_and_at}
+use Rattle.shift_instance.specs.Valid.{IsValid}
+use Rattle.shift_solve.specs.Greedy.{duty, row_of, marginal_price, day_value, is_wanted, next_shift, new_duties, greedy_after, greedy_rota, greedy_rows, rows_of, first_greatest}
+use Rattle.shift_solve.specs.Plain.{ArePlain}
+use Rattle.shift_solve.specs.Sums.{IsWithin, ArePrices, window_sum}
+use Rattle.shift_solve.specs.Tally.{Tallies, IsTally, Leads, LeadsToGreedy, heads_at, is_begun, is_counted, shift_rows, tallied_gain, tallied_next, tallied_prices, tallied_cost}
+use Rattle.shift_solve.proofs.Leading.{leads_all}
+use Rattle.shift_solve.proofs.Lengths.{legal_length}
+use Rattle.shift_solve.proofs.PlanRows.{rows_legal, rows_cost}
+use Rattle.shift_solve.proofs.Rounds.{find_some, next_gains, round_legal, round_some, round_none, greedy_legal}
+use Rattle.shift_solve.proofs.PlainLists.{plain_value}
+use Rattle.shift_solve.proofs.Ranges.{count_more, sum_more, int_sum_more, any_more, map_more, map_push, filter_more}
+use Rattle.shift_solve.proofs.Tallied.{tallies_add, cover_short, tallied_prices_are, tallied_next_is, tallied_duties_are, tallied_cost_is, tallied_rows_are}
+
+-- a marginal price is no larger than a weight
+price_small : (i : Problem) (t c : ℕ) → IsValid i → IsWithin 1000000 (marginal_price i t c)
+price_small i t c valid =
+    let a : i.excess ≤ 1000000 = valid.excess in
+    let b : i.shortage ≤ 1000000 = valid.shortage in
+    elim (nat_lt c (need_at i t)) as (λ b. IsWithin 1000000 (cond b (pos i.shortage) (neg_ℤ (pos i.excess)))) [
+      | true ↦ record { above = omega (arith, ints); below = omega (arith, ints) }
+      | false ↦ record { above = omega (arith, ints); below = omega (arith, ints) }
+    ]
+
+pub tallied_prices_small : (i : Problem) (covers : List ℕ) → IsValid i → ArePrices (tallied_prices i covers)
+unfolding tallied_prices
+tallied_prices_small i covers valid =
+    let n : length (map (λ t. marginal_price i t (get_or covers t 0)) (below (slots i))) ≡ slots i = length-map-range_with_len (λ t. marginal_price i t (get_or covers t 0)) 0 (slots i) in
+    let some : 0 < slots i = valid.some_slots in
+    let few : slots i ≤ 2016 = valid.few_slots in
+    record {
+      some = omega arith;
+      few = omega arith;
+      small = λ t. elim (cases_lt t (slots i)) [
+        | inl l ↦ subst (IsWithin 1000000) (sym (get_or-map-range_with_len (λ t. marginal_price i t (get_or covers t 0)) 0 (slots i) t t (pos 0) l (omega arith))) (price_small i t (get_or covers t 0) valid)
+        | inr g ↦ subst (IsWithin 1000000) (sym (get_or_past (map (λ t. marginal_price i t (get_or covers t 0)) (below (slots i))) t (pos 0) (omega arith))) (record { above = omega (arith, ints); below = omega (arith, ints) })
+      ];
+    }
+
+pub tallied_prices_length : (i : Problem) (covers : List ℕ) → length (tallied_prices i covers) ≡ slots i
+unfolding tallied_prices
+tallied_prices_length i covers = length-map-range_with_len (λ t. marginal_price i t (get_or covers t 0)) 0 (slots i)
+
+-- one more duty in a slot of a window
+pub raise_more : (cover first : List ℕ) (start n offset v : ℕ) → length cover ≡ n → 0 < n
+    → ((t : ℕ) → t < n → get_or cover t 0 ≡ get_or first t 0 + count_by (λ o. ((start + o) % n) == t) (below offset))
+    → v ≡ get_or cover ((start + offset) % n) 0 + 1
+    → (t : ℕ) → t < n → get_or (set cover ((start + offset) % n) v) t 0 ≡ get_or first t 0 + count_by (λ o. ((start + o) % n) == t) (below (offset + 1))
+raise_more cover first start n offset v len some h e t l =
+    let at = (start + offset) % n in
+    let here : get_or cover t 0 ≡ get_or first t 0 + count_by (λ o. ((start + o) % n) == t) (below offset) = h t l in
+    let more : count_by (λ o. ((start + o) % n) == t) (below (offset + 1)) ≡ count_by (λ o. ((start + o) % n) == t) (below offset) + cond (at == t) 1 0 = count_more (λ o. ((start + o) % n) == t) offset in
+    elim (cases_eq t at) [
+      | inl s ↦
+          let one : ◌≡◌ {A = ℕ} (cond (at == t) 1 0) 1 = ap (λ b. cond b 1 0) (eq-eqb at t (sym s)) in
+          let same : get_or cover at 0 ≡ get_or cover t 0 = ap (λ j. get_or cover j 0) (sym s) in
+          ap (λ j. get_or (set cover at v) j 0) s ∙ get_or-set_same cover at v 0 (omega arith) ∙ (let z : v ≡ get_or first t 0 + count_by (λ o. ((start + o) % n) == t) (below (offset + 1)) = omega arith in z)
+      | inr ne ↦
+          let none : ◌≡◌ {A = ℕ} (cond (at == t) 1 0) 0 = ap (λ b. cond b 1 0) (ne_eqb at t (λ q. ne (sym q))) in
+          get_or-set_other cover at t v 0 ne ∙ (let z : get_or cover t 0 ≡ get_or first t 0 + count_by (λ o. ((start + o) % n) == t) (below (offset + 1)) = omega arith in z)
+    ]
+
+pub raise_fits : (cover first : List ℕ) (start n offset at : ℕ) → at < n → offset ≤ 2016
+    → ((t : ℕ) → t < n → get_or cover t 0 ≡ get_or first t 0 + count_by (λ o. ((start + o) % n) == t) (below offset))
+    → ((t : ℕ) → get_or first t 0 ≤ 2000000)
+    → get_or cover at 0 ≤ 2002016
+raise_fits cover first start n offset at small few h room =
+    let e : get_or cover at 0 ≡ get_or first at 0 + count_by (λ o. ((start + o) % n) == at) (below offset) = h at small in
+    let c : count_by (λ o. ((start + o) % n) == at) (below offset) ≤ length (below offset) = count_by-le-length (λ o. ((start + o) % n) == at) (below offset) in
+    let l : length (below offset) ≡ offset = length-range_with_len 0 offset in
+    let r : get_or first at 0 ≤ 2000000 = room at in
+    omega arith
+
+-- a whole list that is written back
+pub written_back : (new old : List ℕ) (n : ℕ) → length new ≡ n → length old ≡ n → take n (new ++ drop (length new) old) ≡ new
+written_back new old n a b =
+    ap (λ zs. take n (new ++ zs)) (drop_all (length new) old (omega arith)) ∙ ap (take n) (append-nil new) ∙ ap (λ k. take k new) (sym a) ∙ take_all (length new) new (omega arith)
+
+-- adding a duty
+pub add_step : (i : Problem) (rota : List Duty) (covers heads old raised : List ℕ) (s day at v start len : ℕ) (y : Shift)
+    → IsValid i → ArePlain i.kinds → s < length (shift_list i) → day < i.days
+    → Tallies i rota covers heads
+    → IsSomeAnd (slice_get (shift_list i) s) (λ x. start ≡ slot_of i x.0 day 0)
+    → IsSomeAnd (slice_get (shift_list i) s) (λ x. y ≡ x.0)
+    → len ≡ y.len → old ≡ covers → length raised ≡ length old
+    → ((t : ℕ) → t < length old → get_or raised t 0 ≡ get_or old t 0 + count_by (λ o. ((start + o) % length old) == t) (below len))
+    → at ≡ s * i.days + day → v ≡ get_or heads at v
+    → Tallies i (rota ++ duty s day [] ∷ []) raised (set heads at (v + 1))
+add_step i rota covers heads old raised s day at v start len y valid plain hs hd h first shift e_len e_old r_len up e_at e_v =
+    let x = some_at (shift_list i) s hs in
+    let ea : start ≡ slot_of i x.0.0 day 0 = is_some_and_at _ (λ x. start ≡ slot_of i x.0 day 0) x.0 x.1 first in
+    let ey : y ≡ x.0.0 = is_some_and_at _ (λ x. y ≡ x.0) x.0 x.1 shift in
+    let el : len ≡ x.0.0.len = e_len ∙ ap (λ (z : Shift). z.len) ey in
+    let small : s * i.days + day < i.days * length (shift_list i) = mul-add-lt s i.days day (length (shift_list i)) hs hd in
+    let all : length heads ≡ length (shift_list i) * i.days = h.all_shifts in
+    let value : v ≡ heads_at i heads s day = get_or_read heads at v (omega arith) e_v 0 ∙ ap (λ j. get_or heads j 0) e_at in
+    tallies_add i rota covers heads raised (set heads at (v + 1)) s day start x.0 valid plain x.1 hs hd h ea (r_len ∙ ap (λ (xs : List ℕ). length xs) e_old)
+    (λ t l.
+    up t (subst (λ (xs : List ℕ). t < length xs) (sym e_old) l)
+    ∙ ap (λ xs. get_or xs t 0 + count_by (λ o. ((start + o) % length xs) == t) (below len)) e_old
+    ∙ ap (λ k. get_or covers t 0 + count_by (λ o. ((start + o) % length covers) == t) (below k)) el)
+    (ap (λ j. set heads j (v + 1)) e_at ∙ ap (λ n. set heads (s * i.days + day) (n + 1)) value)
+
+-- whether a shift is begun, day by day
+pub begun_here : (i : Problem) (heads : List ℕ) (s day n : ℕ) → day < i.days → n ≡ heads_at i heads s day → 0 < n → true ≡ is_begun i heads s
+begun_here i heads s day n h e some =
+    sym (any_at (λ day. nat_lt 0 (heads_at i heads s day)) (below i.days) day (Has-below i.days day h) (lt-ltb 0 _ (omega arith)))
+
+pub begun_not : (i : Problem) (heads : List ℕ) (s day n : ℕ) → list_any (λ day. nat_lt 0 (heads_at i heads s day)) (below day) ≡ false → n ≡ heads_at i heads s day → n ≤ 0
+    → list_any (λ day. nat_lt 0 (heads_at i heads s day)) (below (day + 1)) ≡ false
+begun_not i heads s day n h e none =
+    any_more (λ day. nat_lt 0 (heads_at i heads s day)) day ∙ ap (λ b. b || nat_lt 0 (heads_at i heads s day)) h ∙ le-ltb 0 (heads_at i heads s day) (omega arith)
+
+-- a sum over slots, and a count, with one more
+pub total_more : (f : ℕ → ℕ) (t total v : ℕ) → total ≡ sum_by f (below t) → v ≡ f t → total + v ≡ sum_by f (below (t + 1))
+total_more f t total v h e = ap (λ n. n + v) h ∙ ap (λ n. sum_by f (below t) + n) e ∙ sym (sum_more f t)
+
+-- the plan with no duties costs its shortage
+pub opening_is : (i : Problem) (total n : ℕ) → total ≡ sum_by (λ t. slot_cost i t 0) (below n) → n ≡ slots i → total ≡ cost i []
+opening_is i total n h e =
+    let none : shifts_used i [] ≡ 0 = count_by_none (is_used []) (below (length (shift_list i))) (λ s m. refl) in
+    h ∙ ap (λ k. sum_by (λ t. slot_cost i t 0) (below k)) e
+    ∙ (let z : sum_by (λ t. slot_cost i t 0) (below (slots i)) ≡ sum_by (λ t. slot_cost i t 0) (below (slots i)) + i.shift * 0 = omega arith in z)
+    ∙ ap (λ k. sum_by (λ t. slot_cost i t 0) (below (slots i)) + i.shift * k) (sym none)
+
+-- no slot's number is large
+pub index_short : (i : Problem) (most : ℕ) (covers heads : List ℕ) (t c : ℕ) → IsTally i most covers heads → t < slots i → c ≡ get_or covers t c → (c ≡ get_or covers t 0) × (c ≤ most)
+index_short i most covers heads t c h l e =
+    let n : length covers ≡ slots i = h.tallies.all_slots in
+    let read : c ≡ get_or covers t 0 = get_or_read covers t c (omega arith) e 0 in
+    let short : get_or covers t 0 ≤ length h.rota = cover_short i h.rota covers heads t h.tallies in
+    let few : length h.rota ≤ most = h.short in
+    (read, omega arith)
+
+-- the value of a shift on a day, by its window
+pub value_step : (i : Problem) (prices : List ℤ) (s day start len : ℕ) (y : Shift) (v : ℤ)
+    → IsValid i → ArePlain i.kinds → s < length (shift_list i) → length prices ≡ slots i
+    → IsSomeAnd (slice_get (shift_list i) s) (λ x. start ≡ slot_of i x.0 day 0)
+    → IsSomeAnd (slice_get (shift_list i) s) (λ x. y ≡ x.0)
+    → len ≡ y.len → v ≡ window_sum prices start len
+    → v ≡ day_value i prices s day
+value_step i prices s day start len y v valid plain hs n first shift e_len e =
+    let x = some_at (shift_list i) s hs in
+    let ea : start ≡ slot_of i x.0.0 day 0 = is_some_and_at _ (λ x. start ≡ slot_of i x.0 day 0) x.0 x.1 first in
+    let ey : y ≡ x.0.0 = is_some_and_at _ (λ x. y ≡ x.0) x.0 x.1 shift in
+    e ∙ ap (λ k. window_sum prices k len) ea
+    ∙ ap (window_sum prices (slot_of i x.0.0 day 0)) (e_len ∙ ap (λ (z : Shift). z.len) ey)
+    ∙ sym (plain_value i prices s day x.0 valid plain x.1 n)
+
+-- the prices so far, with one more
+pub prices_more : (i : Problem) (covers : List ℕ) (t c : ℕ) (prices more : List ℤ) (v : ℤ) → prices ≡ map (λ t. marginal_price i t (get_or covers t 0)) (below t) → more ≡ prices ++ v ∷ [] → v ≡ marginal_price i t c → c ≡ get_or covers t 0
+    → more ≡ map (λ t. marginal_price i t (get_or covers t 0)) (below (t + 1))
+prices_more i covers t c prices more v h e price read =
+    e ∙ ap (λ zs. zs ++ v ∷ []) h
+    ∙ ap (λ z. map (λ t. marginal_price i t (get_or covers t 0)) (below t) ++ z ∷ []) (price ∙ ap (marginal_price i t) read)
+    ∙ sym (map_more (λ t. marginal_price i t (get_or covers t 0)) t)
+
+pub prices_all : (i : Problem) (covers : List ℕ) (t : ℕ) (prices : List ℤ) → prices ≡ map (λ t. marginal_price i t (get_or covers t 0)) (below t) → t ≡ slots i → prices ≡ tallied_prices i covers
+unfolding tallied_prices
+prices_all i covers t prices h e = h ∙ ap (λ k. map (λ t. marginal_price i t (get_or covers t 0)) (below k)) e
+
+-- a day counts where it is wanted
+pub counted_is : (i : Problem) (prices : List ℤ) (heads : List ℕ) (s day n : ℕ) (v : ℤ) (b : Bool) → b ≡ is_wanted i n v → n ≡ heads_at i heads s day → v ≡ day_value i prices s day → is_counted i prices heads s day ≡ b
+counted_is i prices heads s day n v b h en ev = sym (h ∙ ap (λ k. is_wanted i k v) en ∙ ap (is_wanted i (heads_at i heads s day)) ev)
+
+-- the duties of the days so far, with one more day
+pub duties_more : (i : Problem) (prices : List ℤ) (heads : List ℕ) (s day : ℕ) → is_counted i prices heads s day ≡ true
+    → map (λ day. duty s day []) (filter (is_counted i prices heads s) (below (day + 1))) ≡ map (λ day. duty s day []) (filter (is_counted i prices heads s) (below day)) ++ duty s day [] ∷ []
+duties_more i prices heads s day h =
+    ap (map (λ day. duty s day [])) (filter_more (is_counted i prices heads s) day ∙ ap (λ b. filter (is_counted i prices heads s) (below day) ++ cond b (day ∷ []) []) h)
+    ∙ map_push (λ day. duty s day []) (filter (is_counted i prices heads s) (below day)) day
+
+pub duties_same : (i : Problem) (prices : List ℤ) (heads : List ℕ) (s day : ℕ) → is_counted i prices heads s day ≡ false
+    → map (λ day. duty s day []) (filter (is_counted i prices heads s) (below (day + 1))) ≡ map (λ day. duty s day []) (filter (is_counted i prices heads s) (below day))
+duties_same i prices heads s day h =
+    ap (map (λ day. duty s day [])) (filter_more (is_counted i prices heads s) day ∙ ap (λ b. filter (is_counted i prices heads s) (below day) ++ cond b (day ∷ []) []) h ∙ append-nil (filter (is_counted i prices heads s) (below day)))
+
+-- the numbers while duties are added: of a plan with at most one more duty for each day
+pub adding_short : (i : Problem) (covers heads covers' heads' : List ℕ) (s day : ℕ) (p : ℕ → Bool) → IsTally i 1433600 covers heads → day ≤ 7
+    → ((rota : List Duty) → Tallies i rota covers heads → Tallies i (rota ++ map (λ day. duty s day []) (filter p (below day))) covers' heads')
+    → IsTally i 2000000 covers' heads'
+adding_short i covers heads covers' heads' s day p h few step =
+    let new = map (λ day. duty s day []) (filter p (below day)) in
+    let short : length h.rota ≤ 1433600 = h.short in
+    let a : length (h.rota ++ new) ≡ length h.rota + length new = length-append h.rota new in
+    let b : length new ≡ length (filter p (below day)) = length-map (filter p (below day)) (λ day. duty s day []) in
+    let c : length (filter p (below day)) ≡ count_by p (below day) = length-filter p (below day) in
+    let d : count_by p (below day) ≤ length (below day) = count_by-le-length p (below day) in
+    let e : length (below day) ≡ day = length-range_with_len 0 day in
+    record { rota = h.rota ++ new; tallies = step h.rota h.tallies; short = omega arith }
+
+-- the rows of the days so far, with one more day
+pub rows_more : (i : Problem) (heads : List ℕ) (s day n : ℕ) (first rows more : List Row) → rows ≡ first ++ map (λ day. row_of (duty s day []) (heads_at i heads s day)) (filter (λ day. nat_lt 0 (heads_at i heads s day)) (below day))
+    → n ≡ heads_at i heads s day → 0 < n → more ≡ rows ++ row_of (duty s day []) n ∷ []
+    → more ≡ first ++ map (λ day. row_of (duty s day []) (heads_at i heads s day)) (filter (λ day. nat_lt 0 (heads_at i heads s day)) (below (day + 1)))
+rows_more i heads s day n first rows more h en some e =
+    let p : ℕ → Bool = λ day. nat_lt 0 (heads_at i heads s day) in
+    let g : ℕ → Row = λ day. row_of (duty s day []) (heads_at i heads s day) in
+    e ∙ ap (λ zs. zs ++ row_of (duty s day []) n ∷ []) h ∙ append_assoc first (map g (filter p (below day))) (row_of (duty s day []) n ∷ [])
+    ∙ ap (λ zs. first ++ zs)
+    (ap (λ k. map g (filter p (below day)) ++ row_of (duty s day []) k ∷ []) en
+    ∙ sym (map_push g (filter p (below day)) day)
+    ∙ ap (map g) (ap (λ b. filter p (below day) ++ cond b (day ∷ []) []) (sym (lt-ltb 0 (heads_at i heads s day) (omega arith))) ∙ sym (filter_more p day)))
+
+pub rows_same : (i : Problem) (heads : List ℕ) (s day n : ℕ) (first rows : List Row) → rows ≡ first ++ map (λ day. row_of (duty s day []) (heads_at i heads s day)) (filter (λ day. nat_lt 0 (heads_at i heads s day)) (below day))
+    → n ≡ heads_at i heads s day → n ≤ 0
+    → rows ≡ first ++ map (λ day. row_of (duty s day []) (heads_at i heads s day)) (filter (λ day. nat_lt 0 (heads_at i heads s day)) (below (day + 1)))
+rows_same i heads s day n first rows h en none =
+    let p : ℕ → Bool = λ day. nat_lt 0 (heads_at i heads s day) in
+    let g : ℕ → Row = λ day. row_of (duty s day []) (heads_at i heads s day) in
+    h ∙ ap (λ zs. first ++ map g zs) (sym (filter_more p day ∙ ap (λ b. filter p (below day) ++ cond b (day ∷ []) []) (le-ltb 0 (heads_at i heads s day) (omega arith)) ∙ append-nil (filter p (below day))))
+
+pub rows_all : (i : Problem) (heads : List ℕ) (s day : ℕ) (first rows : List Row) → rows ≡ first ++ map (λ day. row_of (duty s day []) (heads_at i heads s day)) (filter (λ day. nat_lt 0 (heads_at i heads s day)) (below day))
+    → day ≡ i.days → rows ≡ first ++ shift_rows i heads s
+unfolding shift_rows
+rows_all i heads s day first rows h e = h ∙ ap (λ n. first ++ map (λ day. row_of (duty s day []) (heads_at i heads s day)) (filter (λ day. nat_lt 0 (heads_at i heads s day)) (below n))) e
+
+-- the days before a day have no duty on it
+pub heads_before : (i : Problem) (rota : List Duty) (covers heads covers' heads' : List ℕ) (s day : ℕ) (p : ℕ → Bool) → s < length (shift_list i) → day < i.days
+    → Tallies i rota covers heads → Tallies i (rota ++ map (λ day. duty s day []) (filter p (below day))) covers' heads'
+    → heads_at i heads' s day ≡ heads_at i heads s day
+heads_before i rota covers heads covers' heads' s day p hs hd h g =
+    let new = map (λ day. duty s day []) (filter p (below day)) in
+    let none : heads_on new s day ≡ 0 = count_by_none (is_on s day) new (λ d m.
+    let a = from_map {X = ℕ} {Y = Duty} (λ day. duty s day []) (filter p (below day)) d m in
+    let l : a.0 < day = from_below day a.0 (from_filter p (below day) a.0 a.1).0 in
+    ap (is_on s day) (sym a.2) ∙ ap (λ b. (s == s) && b) (ne_eqb a.0 day (λ e. absurd (omega arith))) ∙ and_no (s == s)) in
+    let both : heads_on (rota ++ new) s day ≡ heads_on rota s day + heads_on new s day = count_by-append (is_on s day) rota new in
+    let one : heads_at i heads' s day ≡ heads_on (rota ++ new) s day = g.headed s day hs hd in
+    let two : heads_at i heads s day ≡ heads_on rota s day = h.headed s day hs hd in
+    omega arith
+  where
+    and_no : (b : Bool) → (b && false) ≡ false
+    and_no true = refl
+    and_no false = refl
+
+-- the gain over the days so far, with one more day
+pub gain_more : (i : Problem) (prices : List ℤ) (heads : List ℕ) (s day : ℕ) (gain v w : ℤ) (b : Bool)
+    → gain ≡ int_sum_by (λ day. cond (is_counted i prices heads s day) (day_value i prices s day) (pos 0)) (below day)
+    → is_counted i prices heads s day ≡ b → v ≡ day_value i prices s day → w ≡ gain +ℤ cond b v (pos 0)
+    → w ≡ int_sum_by (λ day. cond (is_counted i prices heads s day) (day_value i prices s day) (pos 0)) (below (day + 1))
+gain_more i prices heads s day gain v w b h eb ev ew =
+    let f : ℕ → ℤ = λ day. cond (is_counted i prices heads s day) (day_value i prices s day) (pos 0) in
+    ew ∙ ap (λ z. z +ℤ cond b v (pos 0)) h ∙ ap (λ z. int_sum_by f (below day) +ℤ cond b z (pos 0)) ev
+    ∙ ap (λ c. int_sum_by f (below day) +ℤ cond c (day_value i prices s day) (pos 0)) (sym eb) ∙ sym (int_sum_more f day)
+
+pub within_more : (k day b : ℕ) (gain v : ℤ) → IsWithin (day * b) gain → IsWithin b v → IsWithin ((day + 1) * b) (gain +ℤ v)
+within_more k day b gain v g w =
+    let a : neg_ℤ (pos (day * b)) ≤ℤ gain = g.above in
+    let c : gain ≤ℤ pos (day * b) = g.below in
+    let d : neg_ℤ (pos b) ≤ℤ v = w.above in
+    let e : v ≤ℤ pos b = w.below in
+    let m : (day + 1) * b ≡ day * b + b = omega arith in
+    record { above = omega (arith, ints); below = omega (arith, ints) }
+
+pub within_same : (day b : ℕ) (gain : ℤ) → IsWithin (day * b) gain → IsWithin ((day + 1) * b) gain
+within_same day b gain g =
+    let a : neg_ℤ (pos (day * b)) ≤ℤ gain = g.above in
+    let c : gain ≤ℤ pos (day * b) = g.below in
+    let m : (day + 1) * b ≡ day * b + b = omega arith in
+    record { above = omega (arith, ints); below = omega (arith, ints) }
+
+-- the gain over all days
+pub gain_all : (i : Problem) (prices : List ℤ) (heads : List ℕ) (s n : ℕ) (gain w : ℤ) (b : Bool)
+    → gain ≡ int_sum_by (λ day. cond (is_counted i prices heads s day) (day_value i prices s day) (pos 0)) (below n) → n ≡ i.days
+    → b ≡ is_begun i heads s → w ≡ gain -ℤ cond b (pos 0) (pos i.shift)
+    → w ≡ tallied_gain i prices heads s
+unfolding tallied_gain
+gain_all i prices heads s n gain w b h en eb ew =
+    let f : ℕ → ℤ = λ day. cond (is_counted i prices heads s day) (day_value i prices s day) (pos 0) in
+    ew ∙ ap (λ z. z -ℤ cond b (pos 0) (pos i.shift)) (h ∙ ap (λ k. int_sum_by f (below k)) en)
+    ∙ ap (λ c. int_sum_by f (below i.days) -ℤ cond c (pos 0) (pos i.shift)) eb
+
+-- what leads all shifts is the next shift
+pub next_all : (i : Problem) (prices : List ℤ) (heads : List ℕ) (n : ℕ) (best : Option ℕ) (top : ℤ) → Leads (tallied_gain i prices heads) n best top → n ≡ length (shift_list i) → best ≡ tallied_next i prices heads
+unfolding tallied_next
+next_all i prices heads n best top h e = leads_all (tallied_gain i prices heads) n best top h ∙ ap (first_greatest (tallied_gain i prices heads)) e
+
+-- ---- rounds
+
+-- a legal plan has few duties
+pub legal_tally : (i : Problem) (rounds : ℕ) (covers heads : List ℕ) → LeadsToGreedy i rounds covers heads → IsTally i 1433600 covers heads
+legal_tally i rounds covers heads h =
+    let most : length h.rota ≤ length (shift_list i) * i.days * i.heads = legal_length i h.rota h.legal in
+    let b : length (shift_list i) * i.days ≤ 1024 * i.days = mul-le-mul_right i.days h.valid.shifts in
+    let days : i.days ≤ 7 = h.valid.days in
+    let c : length (shift_list i) * i.days ≤ 7168 = omega arith in
+    let d : length (shift_list i) * i.days * i.heads ≤ 7168 * i.heads = mul-le-mul_right i.heads c in
+    let few : i.heads ≤ 200 = h.valid.heads in
+    record { rota = h.rota; tallies = h.tallies; short = omega arith }
+
+pub more_tally : (i : Problem) (covers heads : List ℕ) → IsTally i 1433600 covers heads → IsTally i 2000000 covers heads
+more_tally i covers heads h = let l : length h.rota ≤ 1433600 = h.short in record { rota = h.rota; tallies = h.tallies; short = omega arith }
+
+-- at first there are no duties, and all rounds are ahead
+pub opening_leads : (i : Problem) (n : ℕ) (covers heads : List ℕ) → IsValid i → Tallies i [] covers heads → n ≡ length (shift_list i) * i.days * i.heads → LeadsToGreedy i n covers heads
+unfolding greedy_rota
+opening_leads i n covers heads valid h e = record { valid = valid; rota = []; tallies = h; legal = refl; ahead = ap (λ k. greedy_after i k []) e }
+
+next_is : (i : Problem) (rounds : ℕ) (covers heads : List ℕ) (prices : List ℤ) (o : Option ℕ) (h : LeadsToGreedy i rounds covers heads) → prices ≡ tallied_prices i covers → o ≡ tallied_next i prices heads → next_shift i h.rota ≡ o
+next_is i rounds covers heads prices o h ep eo =
+    sym (eo ∙ tallied_next_is i h.rota prices covers heads h.tallies h.legal (ep ∙ tallied_prices_are i h.rota covers heads h.tallies))
+
+-- a round that finds no shift to take leaves the greedy plan
+pub round_ends : (i : Problem) (rounds : ℕ) (covers heads : List ℕ) (prices : List ℤ) → prices ≡ tallied_prices i covers → None ≡ tallied_next i prices heads → LeadsToGreedy i (rounds + 1) covers heads → LeadsToGreedy i 0 covers heads
+unfolding greedy_after
+round_ends i rounds covers heads prices ep eo h = record {
+  valid = h.valid;
+  rota = h.rota;
+  tallies = h.tallies;
+  legal = h.legal;
+  ahead = sym (round_none i (rounds + 1) h.rota (next_is i (rounds + 1) covers heads prices None h ep eo)) ∙ h.ahead;
+}
+
+-- a round that takes a shift leaves one round less
+pub round_goes_on : (i : Problem) (rounds s : ℕ) (covers heads covers' heads' : List ℕ) (prices : List ℤ) → ArePlain i.kinds → prices ≡ tallied_prices i covers → Some s ≡ tallied_next i prices heads
+    → ((rota : List Duty) → Tallies i rota covers heads → Tallies i (rota ++ map (λ day. duty s day []) (filter (is_counted i prices heads s) (below i.days))) covers' heads')
+    → LeadsToGreedy i (rounds + 1) covers heads → LeadsToGreedy i rounds covers' heads'
+round_goes_on i rounds s covers heads covers' heads' prices plain ep eo step h =
+    let next = next_is i (rounds + 1) covers heads prices (Some s) h ep eo in
+    let hs = (next_gains i h.rota s next).0 in
+    let same = tallied_duties_are i h.rota prices covers heads s h.valid plain h.tallies (ep ∙ tallied_prices_are i h.rota covers heads h.tallies) hs in
+    let one : rounds + 1 ≡ suc rounds = omega arith in
+    record {
+      valid = h.valid;
+      rota = h.rota ++ new_duties i h.rota s;
+      tallies = subst (λ (zs : List Duty). Tallies i (h.rota ++ zs) covers' heads') same (step h.rota h.tallies);
+      legal = round_legal i h.rota s h.legal;
+      ahead = sym (round_some i rounds h.rota s next) ∙ ap (λ k. greedy_after i k h.rota) (sym one) ∙ h.ahead;
+    }
+
+-- the shift that a round takes is in the shift list
+pub taken_below : (i : Problem) (s : ℕ) (prices : List ℤ) (heads : List ℕ) → Some s ≡ tallied_next i prices heads → s < length (shift_list i)
+unfolding tallied_next
+taken_below i s prices heads e =
+    let f = tallied_gain i prices heads in
+    let n = length (shift_list i) in
+    from_below n s (find_some (λ s. int_lt (pos 0) (f s) && not (list_any (λ k. int_lt (f s) (f k)) (below n))) (below n) s (sym e)).0
+
+-- ---- the plan
+
+pub plan_rows : (i : Problem) (covers heads : List ℕ) (rows : List Row) → ArePlain i.kinds → LeadsToGreedy i 0 covers heads → rows ≡ flat_map (shift_rows i heads) (below (length (shift_list i))) → rows ≡ greedy_rows i
+unfolding greedy_rows greedy_after
+plan_rows i covers heads rows plain h e =
+    e ∙ tallied_rows_are i h.rota covers heads h.valid plain h.tallies h.legal ∙ ap (rows_of i) h.ahead
+
+pub plan_legal : (i : Problem) (rows : List Row) → rows ≡ greedy_rows i → are_legal_rows i rows ≡ true
+unfolding greedy_rows
+plan_legal i rows e = ap (are_legal_rows i) e ∙ rows_legal i (greedy_rota i) (greedy_legal i)
+
+pub plan_cost : (i : Problem) (covers heads : List ℕ) (rows : List Row) (n : ℕ) → LeadsToGreedy i 0 covers heads → rows ≡ greedy_rows i → n ≡ tallied_cost i covers heads → n ≡ cost i (rota_of rows)
+unfolding greedy_rows greedy_after
+plan_cost i covers heads rows n h er en =
+    en ∙ tallied_cost_is i h.rota covers heads h.tallies h.legal ∙ ap (cost i) h.ahead
+    ∙ sym (rows_cost i (greedy_rota i) (greedy_legal i)) ∙ ap (λ zs. cost i (rota_of zs)) (sym er)
+
+-- the round that finds no shift to take
+pub last_round : (i : Problem) (n k : ℕ) (covers heads covers' heads' : List ℕ) (more : Bool) → k < n → more ≡ false
+    → ((rounds : ℕ) → LeadsToGreedy i (rounds + 1) covers heads → MatchBool more (LeadsToGreedy i rounds covers' heads') (LeadsToGreedy i 0 covers' heads'))
+    → LeadsToGreedy i (n - k) covers heads → LeadsToGreedy i 0 covers' heads'
+last_round i n k covers heads covers' heads' more l e step h =
+    let one : n - k ≡ n - k - 1 + 1 = omega arith in
+    subst (λ b. MatchBool b (LeadsToGreedy i (n - k - 1) covers' heads') (LeadsToGreedy i 0 covers' heads')) e
+    (step (n - k - 1) (subst (λ (r : ℕ). LeadsToGreedy i r covers heads) one h))

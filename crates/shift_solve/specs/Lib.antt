@@ -1,0 +1,4 @@
+pub mod Greedy
+pub mod Plain
+pub mod Sums
+pub mod Tally

@@ -1,0 +1,223 @@
+//! The greedy plan: shift by shift, always the one that lowers the cost most.
+ghost use Rattle.std.specs.Prelude.{◌≡◌, ◌<◌, ◌≤◌, ◌*◌, ◌+◌, ◌++◌, [], ℕ, List, length, map, IfOk, IsTrue, MatchBool};
+ghost use Rattle.std.specs.List.{flat_map, filter};
+ghost use Rattle.shift_instance.specs.declared.Duty.{Duty};
+ghost use Rattle.shift_instance.specs.Problem.{shift_list, slots, below};
+ghost use Rattle.shift_instance.specs.Rota.{are_legal_rows, cost, rota_of};
+ghost use Rattle.shift_solve.specs.Greedy.{duty, day_value, greedy_rows, is_wanted, marginal_price};
+ghost use Rattle.shift_solve.specs.Plain.{ArePlain};
+ghost use Rattle.shift_solve.specs.Sums.{ArePrices, IsWithin};
+ghost use Rattle.shift_solve.specs.Tally.{IsTally, LeadsToGreedy, Tallies, is_counted, shift_rows, tallied_gain, tallied_next, tallied_prices};
+
+use crate::plan_cost::{opening_cost, tally_cost};
+use crate::price_sums::PriceSums;
+use crate::tally::Tally;
+use break_rules::{Breaks, NoMemory};
+use shift_instance::{Instance, Row, Rows};
+use std::alloc::Global;
+
+/// The greedy plan of an instance.
+#[derive(Drop)]
+pub(crate) struct GreedyPlan {
+    /// The plan's rows, by shift, then by day, then by break list.
+    pub(crate) rows: Rows,
+    /// What the plan costs.
+    pub(crate) cost: u64,
+    /// What the plan with no duties costs.
+    pub(crate) opening: u64,
+}
+
+/// The marginal price of a slot where that many duties work.
+fn marginal_price(instance: &Instance, t: usize, cover: u32) -> i64
+    requires { t < slots instance.now }
+    ensures price { result ≡ marginal_price instance.now t cover }
+    ensures small { IsWithin 1000000 result }
+{
+    let (excess, shortage, _) = instance.weights();
+    if cover < instance.need(t) {
+        i64::from(shortage)
+    } else {
+        -i64::from(excess)
+    }
+}
+
+/// The marginal prices of all slots.
+fn marginal_prices(alloc: Global, instance: &Instance, tally: &Tally) -> Result<PriceSums, NoMemory>
+    requires { IsTally instance.now 2000000 tally.now.cover.items tally.now.heads.items }
+    ensures { IfOk result (λ prices. prices ≡ tallied_prices instance.now tally.now.cover.items) }
+{
+    let mut prices = Vec::new(alloc);
+    for t in 0..instance.slots() {
+        prices.push(marginal_price(instance, t, tally.cover[t]))?;
+    }
+    PriceSums::of(alloc, prices)
+}
+
+/// The greatest reduced value of a shift on a day.
+fn day_value(instance: &Instance, prices: &PriceSums, shift: u16, day: u8) -> i64
+    requires plain { ArePlain instance.now.kinds }
+    requires prices { length prices.now ≡ slots instance.now }
+    requires shift { shift < length (shift_list instance.now) }
+    ensures value { result ≡ day_value instance.now prices.now shift day }
+    ensures small { IsWithin (2016 * 1000000) result }
+{
+    let start = instance.slot_of(shift, day, 0);
+    prices.window(start, usize::from(instance.shift(shift).len))
+}
+
+/// Whether there is room for one more duty beside that many, and it has a value above 0.
+fn is_wanted(instance: &Instance, heads: u16, value: i64) -> bool
+    ensures { result ≡ is_wanted instance.now heads value }
+{
+    heads < instance.heads() && 0 < value
+}
+
+/// The gain of a shift.
+fn gain(instance: &Instance, tally: &Tally, prices: &PriceSums, shift: u16) -> i64
+    requires plain { ArePlain instance.now.kinds }
+    requires tally { IsTally instance.now 2000000 tally.now.cover.items tally.now.heads.items }
+    requires prices { length prices.now ≡ slots instance.now }
+    requires shift { shift < length (shift_list instance.now) }
+    ensures { result ≡ tallied_gain instance.now prices.now tally.now.heads.items shift }
+{
+    let mut gain = 0;
+    for day in 0..instance.days() {
+        let value = day_value(instance, prices, shift, day);
+        if is_wanted(instance, tally.heads_on(instance, shift, day), value) {
+            gain += value;
+        }
+    }
+    if tally.is_begun(instance, shift) {
+        return gain;
+    }
+    let (_, _, weight) = instance.weights();
+    gain - i64::from(weight)
+}
+
+/// The shift to take next: that of greatest gain, and of least number among equals, where its gain is above 0.
+fn best_shift(instance: &Instance, tally: &Tally, prices: &PriceSums) -> Option<u16>
+    requires plain { ArePlain instance.now.kinds }
+    requires tally { IsTally instance.now 2000000 tally.now.cover.items tally.now.heads.items }
+    requires prices { length prices.now ≡ slots instance.now }
+    ensures { result ≡ tallied_next instance.now prices.now tally.now.heads.items }
+{
+    let mut best = None;
+    let mut best_gain = 0;
+    for shift in 0..instance.shifts().len() as u16 {
+        let gain = gain(instance, tally, prices, shift);
+        if best_gain < gain {
+            best = Some(shift);
+            best_gain = gain;
+        }
+    }
+    best
+}
+
+/// Adds a duty of a shift on each day that counts.
+fn add_duties(instance: &Instance, tally: &mut Tally, prices: &PriceSums, shift: u16)
+    requires plain { ArePlain instance.now.kinds }
+    requires tally { IsTally instance.now 1433600 tally.old.cover.items tally.old.heads.items }
+    requires prices { length prices.now ≡ slots instance.now }
+    requires shift { shift < length (shift_list instance.now) }
+    ensures { (rota : List Duty) → Tallies instance.now rota tally.old.cover.items tally.old.heads.items
+        → Tallies instance.now (rota ++ map (λ day. duty shift day []) (filter (is_counted instance.now prices.now tally.old.heads.items shift) (below instance.now.days)))
+        tally.new.cover.items tally.new.heads.items }
+{
+    for day in 0..instance.days() {
+        let value = day_value(instance, prices, shift, day);
+        if is_wanted(instance, tally.heads_on(instance, shift, day), value) {
+            tally.add(instance, shift, day);
+        }
+    }
+}
+
+/// One round: takes the shift of greatest gain, and says whether there was one.
+fn round(alloc: Global, instance: &Instance, tally: &mut Tally) -> Result<bool, NoMemory>
+    requires plain { ArePlain instance.now.kinds }
+    requires tally { IsTally instance.now 1433600 tally.old.cover.items tally.old.heads.items }
+    ensures { IfOk result (λ more. (rounds : ℕ) → LeadsToGreedy instance.now (rounds + 1) tally.old.cover.items tally.old.heads.items
+        → MatchBool more
+        (LeadsToGreedy instance.now rounds tally.new.cover.items tally.new.heads.items)
+        (LeadsToGreedy instance.now 0 tally.new.cover.items tally.new.heads.items)) }
+{
+    let prices = marginal_prices(alloc, instance, tally)?;
+    match best_shift(instance, tally, &prices) {
+        Some(shift) => {
+            add_duties(instance, tally, &prices, shift);
+            Ok(true)
+        }
+        None => Ok(false),
+    }
+}
+
+/// The numbers of the greedy plan.
+fn greedy_tally(alloc: Global, instance: &Instance) -> Result<Tally, NoMemory>
+    requires plain { ArePlain instance.now.kinds }
+    ensures { IfOk result (λ t. LeadsToGreedy instance.now 0 t.cover.items t.heads.items) }
+{
+    let mut tally = Tally::empty(alloc, instance)?;
+    let most = instance.shifts().len()
+        * usize::from(instance.days())
+        * usize::from(instance.heads());
+    'rounds: for _round in 0..most {
+        if !round(alloc, instance, &mut tally)? {
+            return Ok(tally);
+        }
+    }
+    Ok(tally)
+}
+
+/// Appends the rows of a shift.
+fn push_rows(
+    alloc: Global,
+    instance: &Instance,
+    tally: &Tally,
+    shift: u16,
+    rows: &mut Vec<Row>,
+) -> Result<(), NoMemory>
+    requires tally { IsTally instance.now 2000000 tally.now.cover.items tally.now.heads.items }
+    requires shift { shift < length (shift_list instance.now) }
+    ensures { IfOk result (λ _. rows.new.items ≡ rows.old.items ++ shift_rows instance.now tally.now.heads.items shift) }
+{
+    for day in 0..instance.days() {
+        let count = tally.heads_on(instance, shift, day);
+        if 0 < count {
+            rows.push(Row {
+                shift,
+                day,
+                breaks: Breaks::new(Vec::new(alloc)),
+                count,
+            })?;
+        }
+    }
+    Ok(())
+}
+
+/// The rows of all shifts.
+fn all_rows(alloc: Global, instance: &Instance, tally: &Tally) -> Result<Rows, NoMemory>
+    requires { IsTally instance.now 2000000 tally.now.cover.items tally.now.heads.items }
+    ensures { IfOk result (λ rows. rows ≡ flat_map (shift_rows instance.now tally.now.heads.items) (below (length (shift_list instance.now)))) }
+{
+    let mut rows = Vec::new(alloc);
+    for shift in 0..instance.shifts().len() as u16 {
+        push_rows(alloc, instance, tally, shift, &mut rows)?;
+    }
+    Ok(Rows::new(rows))
+}
+
+/// The greedy plan of an instance without breaks: from no duties, in each round a duty of the shift that gains most at
+/// the marginal prices of the slots, on each day where it gains.
+pub(crate) fn greedy_plan(alloc: Global, instance: &Instance) -> Result<GreedyPlan, NoMemory>
+    requires plain { ArePlain instance.now.kinds }
+    ensures rows { IfOk result (λ p. p.rows ≡ greedy_rows instance.now) }
+    ensures cost { IfOk result (λ p. p.cost ≡ cost instance.now (rota_of p.rows)) }
+    ensures legal { IfOk result (λ p. IsTrue (are_legal_rows instance.now p.rows)) }
+    ensures opening { IfOk result (λ p. p.opening ≡ cost instance.now []) }
+{
+    let tally = greedy_tally(alloc, instance)?;
+    Ok(GreedyPlan {
+        rows: all_rows(alloc, instance, &tally)?,
+        cost: tally_cost(instance, &tally),
+        opening: opening_cost(instance),
+    })
+}
