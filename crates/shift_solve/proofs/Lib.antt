@@ -3,8 +3,10 @@ pub mod Leading
 pub mod Lengths
 pub mod PlainLists
 pub mod PlanRows
+pub mod Plans
 pub mod Ranges
 pub mod Rounds
 pub mod Steps
 pub mod Tallied
+pub mod Texts
 pub mod Windows

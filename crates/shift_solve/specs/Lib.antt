@@ -1,4 +1,9 @@
 pub mod Greedy
 pub mod Plain
+pub mod Reading
+pub mod Report
+pub mod Run
+pub mod Status
 pub mod Sums
 pub mod Tally
+pub mod Words

@@ -1,0 +1,47 @@
+#!/usr/bin/env python3
+"""Measures `shift_solve solve` on the week of week.py: seconds and peak memory of the whole process, the best of some runs.
+Build the program first, by `./run shift_solve` with any words."""
+import os
+import subprocess
+import sys
+import tempfile
+import time
+import json
+
+sys.path.insert(0, os.path.dirname(os.path.abspath(__file__)))
+import week
+
+TOP = os.path.dirname(os.path.dirname(os.path.abspath(__file__)))
+PROGRAM = os.path.join(TOP, "crates", "shift_solve", "out", "shift_solve")
+
+
+def run(document, folder):
+    """Seconds, peak memory in MB, status and report of one run in a process of its own."""
+    with open(document, "rb") as source, open(os.path.join(folder, "report"), "wb") as report:
+        begin = time.perf_counter()
+        child = subprocess.Popen([PROGRAM, "solve", os.path.join(folder, "week.journal")], stdin=source, stdout=report)
+        _, status, usage = os.wait4(child.pid, 0)
+        seconds = time.perf_counter() - begin
+    with open(os.path.join(folder, "report")) as report:
+        lines = report.read().split("\n")
+    return seconds, usage.ru_maxrss / 1024, os.waitstatus_to_exitcode(status), lines
+
+
+def main():
+    with tempfile.TemporaryDirectory() as folder:
+        document = os.path.join(folder, "week.json")
+        with open(document, "w") as out:
+            json.dump(week.instance(), out)
+        runs = []
+        for _ in range(5):
+            for old in ("week.journal",):
+                if os.path.exists(os.path.join(folder, old)):
+                    os.remove(os.path.join(folder, old))
+            runs.append(run(document, folder))
+        seconds, memory, status, lines = min(runs)
+        print("document of %d bytes, status %d, %s, %s" % (os.path.getsize(document), status, lines[2], lines[4]))
+        print("solve: %.3f s, %.1f MB at its peak (best of %d runs, %d processors)" % (seconds, memory, len(runs), os.cpu_count()))
+
+
+if __name__ == "__main__":
+    main()

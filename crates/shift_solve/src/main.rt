@@ -1,0 +1,71 @@
+//! The shift planner: `shift_solve solve JOURNAL` reads an instance document from the standard input, makes the greedy plan
+//! and prints its report.
+#![tactic(auto)]
+
+mod greedy;
+mod plan_cost;
+mod price_sums;
+mod report;
+mod run;
+mod status;
+mod tally;
+mod words;
+
+#[cfg(test)]
+mod greedy_tests;
+#[cfg(test)]
+mod run_tests;
+
+pub use run::solve_run;
+pub use status::{Status, status_line};
+pub use words::journal_path;
+
+use plan_base::{FileDisk, StdSink, StdSource};
+use std::env;
+use std::io;
+use std::process::ExitCode;
+
+/// The words of the command line, without the program's name. Words that aren't UTF-8 are no command.
+fn command_words(rt: &HostRuntime) -> Result<Vec<String>, Status> {
+    let args = match env::args(rt) {
+        Ok(args) => args,
+        Err(fault) if fault.kind() == io::ErrorKind::OutOfMemory => return Err(Status::NoMemory),
+        Err(_) => return Err(Status::Usage),
+    };
+    args.skip(1)
+        .collect(rt.alloc())
+        .map_err(|_| Status::NoMemory)
+}
+
+/// The run of these words over the standard streams, and over a disk on the JOURNAL word's path.
+fn solve(rt: HostRuntime, words: &[String]) -> Status {
+    let path = match journal_path(words) {
+        Ok(Some(path)) => path,
+        Ok(None) => String::new(rt.alloc()),
+        Err(_) => return Status::NoMemory,
+    };
+    let mut input = StdSource::new(rt);
+    let mut out = StdSink::new(rt);
+    let disk = FileDisk::new(rt, path);
+    let (status, _disk, _opened) = solve_run(rt.alloc(), words, &mut input, &mut out, disk);
+    status
+}
+
+/// Says a status on standard error, unless it is that of an optimal plan.
+fn tell(rt: &HostRuntime, status: &Status) {
+    if matches!(status, Status::Optimal) {
+        return;
+    }
+    if let Ok(line) = status_line(rt.alloc(), status) {
+        let _ = eprintln!(rt; "shift_solve: {line}");
+    }
+}
+
+fn main(rt: HostRuntime) -> ExitCode {
+    let status = match command_words(&rt) {
+        Ok(words) => solve(rt, words.as_slice()),
+        Err(status) => status,
+    };
+    tell(&rt, &status);
+    ExitCode::from(status.number())
+}

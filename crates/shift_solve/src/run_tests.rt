@@ -1,0 +1,160 @@
+//! Runs of `solve` over sources, sinks and disks in memory.
+
+use crate::{Status, solve_run, status_line};
+use instance_json::ReadRefusal;
+use plan_base::{MemDisk, MemSink, MemSource};
+use std::alloc::{AllocError, Global};
+use std::test::Fail;
+
+/// One type `M` of one shift, 8:00 to 12:00, and the hours of one day; the needs and the breaks of `M` are filled in.
+fn document(alloc: Global, needs: &str, breaks: &str) -> Result<String, AllocError> {
+    format!(in alloc; "{{\"slot_minutes\":60,\"days\":1,\"need\":[{needs}],\"max_heads\":1,\"weights\":{{\"excess\":1,\"shortage\":2,\"shift\":3}},\"types\":[{{\"name\":\"M\",\"start_min\":8,\"start_max\":8,\"len_min\":4,\"len_max\":4,\"breaks\":{breaks}}}]}}")
+}
+
+const MORNING: &str = "0,0,0,0,0,0,0,0,1,1,1,1,0,0,0,0,0,0,0,0,0,0,0,0";
+const NOTHING: &str = "0,0,0,0,0,0,0,0,0,0,0,0,0,0,0,0,0,0,0,0,0,0,0,0";
+const TOO_FEW: &str = "0,0,0,0,0,0,0,0,1,1,1,1,0,0,0,0,0,0,0,0,0,0,0";
+
+const MORNING_REPORT: &str = "shift-report 1\nstatus stopped\ncost 3\nbound 0\nrows 1\nrow 0 0 1 -\nproof 0\nend\n";
+const NOTHING_REPORT: &str =
+    "shift-report 1\nstatus optimal\ncost 0\nbound 0\nrows 0\nproof 0\nend\n";
+
+/// The words of a command line, given with blanks between them.
+fn words_of(alloc: Global, line: &str) -> Result<Vec<String>, AllocError> {
+    let mut words = Vec::new(alloc);
+    for word in line.split_whitespace() {
+        words.push(String::from_str(alloc, word)?)?;
+    }
+    Ok(words)
+}
+
+/// The status of a run, and what the sink then holds. The source gives `most` bytes a read and the sink takes as many; the
+/// reads and writes of the given numbers fail.
+fn run(
+    alloc: Global,
+    line: &str,
+    input: &[u8],
+    most: usize,
+    bad_read: u64,
+    bad_write: u64,
+) -> Result<(Status, Vec<u8>), AllocError>
+    requires { 0 < most }
+{
+    let words = words_of(alloc, line)?;
+    let mut source = MemSource::new(
+        alloc,
+        Vec::from_slice(alloc, input)?,
+        vec![in alloc; bad_read]?,
+        most,
+    );
+    let mut sink = MemSink::new(alloc, vec![in alloc; bad_write]?, most);
+    let disk = MemDisk::new(alloc, Vec::new(alloc), Vec::new(alloc));
+    let (status, _disk, _opened) = solve_run(alloc, words.as_slice(), &mut source, &mut sink, disk);
+    Ok((status, Vec::from_slice(alloc, sink.bytes())?))
+}
+
+#[test]
+fn a_plan_is_printed(rt: HostRuntime) -> Result<(), Fail> {
+    let alloc = rt.alloc();
+    for most in [1usize, 7, 100000] {
+        let text = document(alloc, MORNING, "null")?;
+        let (status, written) = run(alloc, "solve J", text.as_bytes(), most, 0, 0)?;
+        assert_eq!(rt; status, Status::Budget);
+        assert_eq!(rt; written.as_slice(), MORNING_REPORT.as_bytes());
+    }
+    let text = document(alloc, NOTHING, "null")?;
+    let (status, written) = run(alloc, "solve J", text.as_bytes(), 100000, 0, 0)?;
+    assert_eq!(rt; status, Status::Optimal);
+    assert_eq!(rt; written.as_slice(), NOTHING_REPORT.as_bytes());
+    Ok(())
+}
+
+#[test]
+fn other_words_are_usage(rt: HostRuntime) -> Result<(), Fail> {
+    let alloc = rt.alloc();
+    let text = document(alloc, MORNING, "null")?;
+    for line in ["", "solve", "plan J", "solve -J", "solve J K", "solve J --steps 1", "solve J --"] {
+        let (status, written) = run(alloc, line, text.as_bytes(), 100000, 0, 0)?;
+        assert_eq!(rt; status, Status::Usage, "{line}");
+        assert!(rt; written.is_empty());
+    }
+    let words = vec![in alloc; String::from_str(alloc, "solve")?, String::new(alloc)]?;
+    let mut source = MemSource::new(alloc, Vec::new(alloc), Vec::new(alloc), 1);
+    let mut sink = MemSink::new(alloc, Vec::new(alloc), 1);
+    let disk = MemDisk::new(alloc, Vec::new(alloc), Vec::new(alloc));
+    let (status, _disk, opened) = solve_run(alloc, words.as_slice(), &mut source, &mut sink, disk);
+    assert_eq!(rt; status, Status::Usage);
+    assert!(rt; !opened);
+    Ok(())
+}
+
+/// The refusal of an input, if the run ends with one and writes nothing.
+fn refusal(alloc: Global, input: &[u8]) -> Result<Option<ReadRefusal>, AllocError> {
+    let (status, written) = run(alloc, "solve J", input, 100000, 0, 0)?;
+    match status {
+        Status::Input(why) if written.is_empty() => Ok(Some(why)),
+        _ => Ok(None),
+    }
+}
+
+#[test]
+fn other_documents_are_refused(rt: HostRuntime) -> Result<(), Fail> {
+    let alloc = rt.alloc();
+    assert_eq!(rt; refusal(alloc, b"")?, Some(ReadRefusal::NotJson));
+    assert_eq!(rt; refusal(alloc, b"solve")?, Some(ReadRefusal::NotJson));
+    let blanks = vec![in alloc; b' '; 1048577]?;
+    assert_eq!(rt; refusal(alloc, blanks.as_slice())?, Some(ReadRefusal::TooLong));
+    let not_yet = Some(ReadRefusal::NotYet { at: 0 });
+    assert_eq!(rt; refusal(alloc, b"[]")?, not_yet);
+    assert_eq!(rt; refusal(alloc, b"{\"days\":1}")?, not_yet);
+    assert_eq!(rt; refusal(alloc, document(alloc, MORNING, "{}")?.as_bytes())?, not_yet);
+    assert_eq!(rt; refusal(alloc, document(alloc, TOO_FEW, "null")?.as_bytes())?, not_yet);
+    Ok(())
+}
+
+#[test]
+fn a_failing_read_prints_nothing(rt: HostRuntime) -> Result<(), Fail> {
+    let alloc = rt.alloc();
+    let text = document(alloc, MORNING, "null")?;
+    // the document has more than 200 bytes: the reads 1 to 3 of 100 bytes give some, and the next one the end
+    for call in [1u64, 2, 3, 4] {
+        let (status, written) = run(alloc, "solve J", text.as_bytes(), 100, call, 0)?;
+        assert_eq!(rt; status, Status::ReadFault, "at read {call}");
+        assert!(rt; written.is_empty());
+    }
+    Ok(())
+}
+
+#[test]
+fn a_failing_write_leaves_the_beginning(rt: HostRuntime) -> Result<(), Fail> {
+    let alloc = rt.alloc();
+    let text = document(alloc, MORNING, "null")?;
+    for (most, call, held) in [(100000usize, 1u64, 0usize), (1, 21, 20), (20, 2, 20)] {
+        let (status, written) = run(alloc, "solve J", text.as_bytes(), most, 0, call)?;
+        assert_eq!(rt; status, Status::WriteFault, "at write {call}");
+        assert_eq!(rt; written.len(), held);
+        assert!(rt; MORNING_REPORT.as_bytes().starts_with(written.as_slice()));
+    }
+    Ok(())
+}
+
+#[test]
+fn each_status_has_its_number_and_line(rt: HostRuntime) -> Result<(), Fail> {
+    let alloc = rt.alloc();
+    let usage = "usage: solve JOURNAL [--workers W] [--steps B] [--table] or solve --demo N [--steps B]";
+    for (status, number, line) in [
+        (Status::Optimal, 0u8, ""),
+        (Status::Budget, 10, "stopped: step budget spent"),
+        (Status::Usage, 2, usage),
+        (Status::Input(ReadRefusal::TooLong), 3, "instance refused: 1"),
+        (Status::Input(ReadRefusal::NotJson), 3, "instance refused: 2"),
+        (Status::Input(ReadRefusal::NotYet { at: 0 }), 3, "instance refused: 7 0"),
+        (Status::ReadFault, 5, "read fault"),
+        (Status::WriteFault, 6, "write fault"),
+        (Status::NoMemory, 8, "no memory"),
+    ] {
+        assert_eq!(rt; status.number(), number);
+        assert_eq!(rt; status_line(alloc, &status)?.as_str(), line);
+    }
+    Ok(())
+}

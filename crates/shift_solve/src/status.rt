@@ -1,0 +1,62 @@
+//! How a run ends, and what is said of it.
+
+ghost use Rattle.std.specs.Prelude.{◌≡◌, IfOk, string_bytes};
+ghost use Rattle.shift_solve.specs.Status.{status_number, status_text};
+
+use instance_json::ReadRefusal;
+use std::alloc::{AllocError, Global};
+
+/// The words of the command line, as they are shown to whoever gave others.
+const USAGE: &str =
+    "usage: solve JOURNAL [--workers W] [--steps B] [--table] or solve --demo N [--steps B]";
+
+/// How a run of `solve` ends.
+#[derive(Debug, PartialEq, Eq, Drop)]
+pub enum Status {
+    /// The report was written, and no legal plan costs less than the printed one.
+    Optimal,
+    /// The report was written, and the search for a better plan isn't finished.
+    Budget,
+    /// The words aren't `solve JOURNAL`, with a JOURNAL that isn't empty and doesn't begin with `-`.
+    Usage,
+    /// The document that was read is refused.
+    Input(ReadRefusal),
+    /// A read of the document failed.
+    ReadFault,
+    /// A write of the report failed. What was written is the beginning of the report.
+    WriteFault,
+    /// There was no memory.
+    NoMemory,
+}
+
+impl Status {
+    /// The number with which the program ends.
+    pub fn number(&self) -> u8
+        ensures { result ≡ status_number self.now }
+    {
+        match self {
+            Status::Optimal => 0,
+            Status::Budget => 10,
+            Status::Usage => 2,
+            Status::Input(_) => 3,
+            Status::ReadFault => 5,
+            Status::WriteFault => 6,
+            Status::NoMemory => 8,
+        }
+    }
+}
+
+/// The line that is said of a status on standard error, without its line feed; the empty text of an optimal plan.
+pub fn status_line(alloc: Global, status: &Status) -> Result<String, AllocError>
+    ensures { IfOk result (λ line. string_bytes line ≡ status_text status.now) }
+{
+    match status {
+        Status::Optimal => Ok(String::new(alloc)),
+        Status::Budget => String::from_str(alloc, "stopped: step budget spent"),
+        Status::Usage => String::from_str(alloc, USAGE),
+        Status::Input(why) => format!(in alloc; "instance refused: {why}"),
+        Status::ReadFault => String::from_str(alloc, "read fault"),
+        Status::WriteFault => String::from_str(alloc, "write fault"),
+        Status::NoMemory => String::from_str(alloc, "no memory"),
+    }
+}
