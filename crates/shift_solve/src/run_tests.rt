@@ -1,5 +1,7 @@
 //! Runs of `solve` over sources, sinks and disks in memory.
 
+ghost use Rattle.std.specs.Prelude.{◌<◌};
+
 use crate::{Status, solve_run, status_line};
 use instance_json::ReadRefusal;
 use plan_base::{MemDisk, MemSink, MemSource};
