@@ -143,12 +143,12 @@ opening_is i total n h e =
     ∙ ap (λ k. sum_by (λ t. slot_cost i t 0) (below (slots i)) + i.shift * k) (sym none)
 
 -- no slot's number is large
-pub index_short : (i : Problem) (most : ℕ) (covers heads : List ℕ) (t c : ℕ) → IsTally i most covers heads → t < slots i → c ≡ get_or covers t c → (c ≡ get_or covers t 0) × (c ≤ most)
-index_short i most covers heads t c h l e =
+pub index_short : (i : Problem) (spare : ℕ) (covers heads : List ℕ) (t c : ℕ) → IsTally i spare covers heads → t < slots i → c ≡ get_or covers t c → (c ≡ get_or covers t 0) × (c ≤ 2000000)
+index_short i spare covers heads t c h l e =
     let n : length covers ≡ slots i = h.tallies.all_slots in
     let read : c ≡ get_or covers t 0 = get_or_read covers t c (omega arith) e 0 in
     let short : get_or covers t 0 ≤ length h.rota = cover_short i h.rota covers heads t h.tallies in
-    let few : length h.rota ≤ most = h.short in
+    let few : length h.rota + spare ≤ 2000000 = h.room in
     (read, omega arith)
 
 -- the value of a shift on a day, by its window
@@ -195,18 +195,18 @@ duties_same i prices heads s day h =
     ap (map (λ day. duty s day [])) (filter_more (is_counted i prices heads s) day ∙ ap (λ b. filter (is_counted i prices heads s) (below day) ++ cond b (day ∷ []) []) h ∙ append-nil (filter (is_counted i prices heads s) (below day)))
 
 -- the numbers while duties are added: of a plan with at most one more duty for each day
-pub adding_short : (i : Problem) (covers heads covers' heads' : List ℕ) (s day : ℕ) (p : ℕ → Bool) → IsTally i 1433600 covers heads → day ≤ 7
+pub adding_short : (i : Problem) (covers heads covers' heads' : List ℕ) (s day : ℕ) (p : ℕ → Bool) → IsTally i 7 covers heads → day ≤ 7
     → ((rota : List Duty) → Tallies i rota covers heads → Tallies i (rota ++ map (λ day. duty s day []) (filter p (below day))) covers' heads')
-    → IsTally i 2000000 covers' heads'
+    → IsTally i 0 covers' heads'
 adding_short i covers heads covers' heads' s day p h few step =
     let new = map (λ day. duty s day []) (filter p (below day)) in
-    let short : length h.rota ≤ 1433600 = h.short in
+    let short : length h.rota + 7 ≤ 2000000 = h.room in
     let a : length (h.rota ++ new) ≡ length h.rota + length new = length-append h.rota new in
     let b : length new ≡ length (filter p (below day)) = length-map (filter p (below day)) (λ day. duty s day []) in
     let c : length (filter p (below day)) ≡ count_by p (below day) = length-filter p (below day) in
     let d : count_by p (below day) ≤ length (below day) = count_by-le-length p (below day) in
     let e : length (below day) ≡ day = length-range_with_len 0 day in
-    record { rota = h.rota ++ new; tallies = step h.rota h.tallies; short = omega arith }
+    record { rota = h.rota ++ new; tallies = step h.rota h.tallies; room = omega arith }
 
 -- the rows of the days so far, with one more day
 pub rows_more : (i : Problem) (heads : List ℕ) (s day n : ℕ) (first rows more : List Row) → rows ≡ first ++ map (λ day. row_of (duty s day []) (heads_at i heads s day)) (filter (λ day. nat_lt 0 (heads_at i heads s day)) (below day))
@@ -298,7 +298,7 @@ next_all i prices heads n best top h e = leads_all (tallied_gain i prices heads)
 -- ---- rounds
 
 -- a legal plan has few duties
-pub legal_tally : (i : Problem) (rounds : ℕ) (covers heads : List ℕ) → LeadsToGreedy i rounds covers heads → IsTally i 1433600 covers heads
+pub legal_tally : (i : Problem) (rounds : ℕ) (covers heads : List ℕ) → LeadsToGreedy i rounds covers heads → IsTally i 7 covers heads
 legal_tally i rounds covers heads h =
     let most : length h.rota ≤ length (shift_list i) * i.days * i.heads = legal_length i h.rota h.legal in
     let b : length (shift_list i) * i.days ≤ 1024 * i.days = mul-le-mul_right i.days h.valid.shifts in
@@ -306,10 +306,10 @@ legal_tally i rounds covers heads h =
     let c : length (shift_list i) * i.days ≤ 7168 = omega arith in
     let d : length (shift_list i) * i.days * i.heads ≤ 7168 * i.heads = mul-le-mul_right i.heads c in
     let few : i.heads ≤ 200 = h.valid.heads in
-    record { rota = h.rota; tallies = h.tallies; short = omega arith }
+    record { rota = h.rota; tallies = h.tallies; room = omega arith }
 
-pub more_tally : (i : Problem) (covers heads : List ℕ) → IsTally i 1433600 covers heads → IsTally i 2000000 covers heads
-more_tally i covers heads h = let l : length h.rota ≤ 1433600 = h.short in record { rota = h.rota; tallies = h.tallies; short = omega arith }
+pub more_tally : (i : Problem) (covers heads : List ℕ) → IsTally i 7 covers heads → IsTally i 0 covers heads
+more_tally i covers heads h = let l : length h.rota + 7 ≤ 2000000 = h.room in record { rota = h.rota; tallies = h.tallies; room = omega arith }
 
 -- at first there are no duties, and all rounds are ahead
 pub opening_leads : (i : Problem) (n : ℕ) (covers heads : List ℕ) → IsValid i → Tallies i [] covers heads → n ≡ length (shift_list i) * i.days * i.heads → LeadsToGreedy i n covers heads

@@ -20,11 +20,11 @@ pub record Tallies (i : Problem) (rota : List Duty) (covers heads : List ℕ) : 
   pub covered : (t : ℕ) → t < slots i → slice_index covers t ≡ cover i rota t
   pub headed : (s day : ℕ) → s < length (shift_list i) → day < i.days → heads_at i heads s day ≡ heads_on rota s day
 
--- the numbers are those of a plan of at most so many duties
-pub record IsTally (i : Problem) (most : ℕ) (covers heads : List ℕ) : Type 0 where
+-- the numbers are those of a plan that has room for that many more duties, of the two million that can be counted
+pub record IsTally (i : Problem) (spare : ℕ) (covers heads : List ℕ) : Type 0 where
   pub rota : List Duty
   pub tallies : Tallies i rota covers heads
-  pub short : length rota ≤ most
+  pub room : length rota + spare ≤ 2000000
 
 -- whether a shift has a duty, by its numbers
 abbrev pub is_begun : Problem → List ℕ → ℕ → Bool

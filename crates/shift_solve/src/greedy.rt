@@ -1,10 +1,10 @@
 //! The greedy plan: shift by shift, always the one that lowers the cost most.
-ghost use Rattle.std.specs.Prelude.{◌≡◌, ◌<◌, ◌≤◌, ◌*◌, ◌+◌, ◌++◌, [], ℕ, List, length, map, IfOk, IsTrue, MatchBool};
+ghost use Rattle.std.specs.Prelude.{◌≡◌, ◌<◌, ◌≤◌, ◌*◌, ◌+◌, ◌++◌, [], ℕ, List, length, map, None, IfOk, IsTrue, MatchBool};
 ghost use Rattle.std.specs.List.{flat_map, filter};
 ghost use Rattle.shift_instance.specs.declared.Duty.{Duty};
 ghost use Rattle.shift_instance.specs.Problem.{shift_list, slots, below};
 ghost use Rattle.shift_instance.specs.Rota.{are_legal_rows, cost, rota_of};
-ghost use Rattle.shift_solve.specs.Greedy.{duty, day_value, greedy_rows, is_wanted, marginal_price};
+ghost use Rattle.shift_solve.specs.Greedy.{duty, day_value, greedy_rota, greedy_rows, is_wanted, marginal_price, next_shift};
 ghost use Rattle.shift_solve.specs.Plain.{ArePlain};
 ghost use Rattle.shift_solve.specs.Sums.{ArePrices, IsWithin};
 ghost use Rattle.shift_solve.specs.Tally.{IsTally, LeadsToGreedy, Tallies, is_counted, shift_rows, tallied_gain, tallied_next, tallied_prices};
@@ -43,7 +43,7 @@ fn marginal_price(instance: &Instance, t: usize, cover: u32) -> i64
 
 /// The marginal prices of all slots.
 fn marginal_prices(alloc: Global, instance: &Instance, tally: &Tally) -> Result<PriceSums, NoMemory>
-    requires { IsTally instance.now 2000000 tally.now.cover.items tally.now.heads.items }
+    requires { IsTally instance.now 0 tally.now.cover.items tally.now.heads.items }
     ensures { IfOk result (λ prices. prices ≡ tallied_prices instance.now tally.now.cover.items) }
 {
     let mut prices = Vec::new(alloc);
@@ -75,7 +75,7 @@ fn is_wanted(instance: &Instance, heads: u16, value: i64) -> bool
 /// The gain of a shift.
 fn gain(instance: &Instance, tally: &Tally, prices: &PriceSums, shift: u16) -> i64
     requires plain { ArePlain instance.now.kinds }
-    requires tally { IsTally instance.now 2000000 tally.now.cover.items tally.now.heads.items }
+    requires tally { IsTally instance.now 0 tally.now.cover.items tally.now.heads.items }
     requires prices { length prices.now ≡ slots instance.now }
     requires shift { shift < length (shift_list instance.now) }
     ensures { result ≡ tallied_gain instance.now prices.now tally.now.heads.items shift }
@@ -97,7 +97,7 @@ fn gain(instance: &Instance, tally: &Tally, prices: &PriceSums, shift: u16) -> i
 /// The shift to take next: that of greatest gain, and of least number among equals, where its gain is above 0.
 fn best_shift(instance: &Instance, tally: &Tally, prices: &PriceSums) -> Option<u16>
     requires plain { ArePlain instance.now.kinds }
-    requires tally { IsTally instance.now 2000000 tally.now.cover.items tally.now.heads.items }
+    requires tally { IsTally instance.now 0 tally.now.cover.items tally.now.heads.items }
     requires prices { length prices.now ≡ slots instance.now }
     ensures { result ≡ tallied_next instance.now prices.now tally.now.heads.items }
 {
@@ -116,7 +116,7 @@ fn best_shift(instance: &Instance, tally: &Tally, prices: &PriceSums) -> Option<
 /// Adds a duty of a shift on each day that counts.
 fn add_duties(instance: &Instance, tally: &mut Tally, prices: &PriceSums, shift: u16)
     requires plain { ArePlain instance.now.kinds }
-    requires tally { IsTally instance.now 1433600 tally.old.cover.items tally.old.heads.items }
+    requires tally { IsTally instance.now 7 tally.old.cover.items tally.old.heads.items }
     requires prices { length prices.now ≡ slots instance.now }
     requires shift { shift < length (shift_list instance.now) }
     ensures { (rota : List Duty) → Tallies instance.now rota tally.old.cover.items tally.old.heads.items
@@ -134,7 +134,7 @@ fn add_duties(instance: &Instance, tally: &mut Tally, prices: &PriceSums, shift:
 /// One round: takes the shift of greatest gain, and says whether there was one.
 fn round(alloc: Global, instance: &Instance, tally: &mut Tally) -> Result<bool, NoMemory>
     requires plain { ArePlain instance.now.kinds }
-    requires tally { IsTally instance.now 1433600 tally.old.cover.items tally.old.heads.items }
+    requires tally { IsTally instance.now 7 tally.old.cover.items tally.old.heads.items }
     ensures { IfOk result (λ more. (rounds : ℕ) → LeadsToGreedy instance.now (rounds + 1) tally.old.cover.items tally.old.heads.items
         → MatchBool more
         (LeadsToGreedy instance.now rounds tally.new.cover.items tally.new.heads.items)
@@ -175,7 +175,7 @@ fn push_rows(
     shift: u16,
     rows: &mut Vec<Row>,
 ) -> Result<(), NoMemory>
-    requires tally { IsTally instance.now 2000000 tally.now.cover.items tally.now.heads.items }
+    requires tally { IsTally instance.now 0 tally.now.cover.items tally.now.heads.items }
     requires shift { shift < length (shift_list instance.now) }
     ensures { IfOk result (λ _. rows.new.items ≡ rows.old.items ++ shift_rows instance.now tally.now.heads.items shift) }
 {
@@ -195,7 +195,7 @@ fn push_rows(
 
 /// The rows of all shifts.
 fn all_rows(alloc: Global, instance: &Instance, tally: &Tally) -> Result<Rows, NoMemory>
-    requires { IsTally instance.now 2000000 tally.now.cover.items tally.now.heads.items }
+    requires { IsTally instance.now 0 tally.now.cover.items tally.now.heads.items }
     ensures { IfOk result (λ rows. rows ≡ flat_map (shift_rows instance.now tally.now.heads.items) (below (length (shift_list instance.now)))) }
 {
     let mut rows = Vec::new(alloc);
@@ -213,6 +213,7 @@ pub(crate) fn greedy_plan(alloc: Global, instance: &Instance) -> Result<GreedyPl
     ensures cost { IfOk result (λ p. p.cost ≡ cost instance.now (rota_of p.rows)) }
     ensures legal { IfOk result (λ p. IsTrue (are_legal_rows instance.now p.rows)) }
     ensures opening { IfOk result (λ p. p.opening ≡ cost instance.now []) }
+    ensures ready { next_shift instance.now (greedy_rota instance.now) ≡ None }
 {
     let tally = greedy_tally(alloc, instance)?;
     Ok(GreedyPlan {

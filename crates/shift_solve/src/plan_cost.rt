@@ -33,7 +33,7 @@ pub(crate) fn opening_cost(instance: &Instance) -> u64
 
 /// What excess and shortage cost in all slots.
 fn slots_cost(instance: &Instance, tally: &Tally) -> u64
-    requires { IsTally instance.now 2000000 tally.now.cover.items tally.now.heads.items }
+    requires { IsTally instance.now 0 tally.now.cover.items tally.now.heads.items }
     ensures cost { result ≡ sum_by (λ t. slot_cost instance.now t (slice_index tally.now.cover.items t)) (below (slots instance.now)) }
     ensures small { result ≤ 10 ^ 16 }
 {
@@ -46,7 +46,7 @@ fn slots_cost(instance: &Instance, tally: &Tally) -> u64
 
 /// How many shifts have a duty.
 fn shifts_begun(instance: &Instance, tally: &Tally) -> u16
-    requires { IsTally instance.now 2000000 tally.now.cover.items tally.now.heads.items }
+    requires { IsTally instance.now 0 tally.now.cover.items tally.now.heads.items }
     ensures begun { result ≡ count_by (is_begun instance.now tally.now.heads.items) (below (length (shift_list instance.now))) }
     ensures few { result ≤ 1024 }
 {
@@ -61,7 +61,7 @@ fn shifts_begun(instance: &Instance, tally: &Tally) -> u16
 
 /// What the plan of these numbers costs.
 pub(crate) fn tally_cost(instance: &Instance, tally: &Tally) -> u64
-    requires { IsTally instance.now 2000000 tally.now.cover.items tally.now.heads.items }
+    requires { IsTally instance.now 0 tally.now.cover.items tally.now.heads.items }
     ensures { result ≡ tallied_cost instance.now tally.now.cover.items tally.now.heads.items }
 {
     let (_, _, weight) = instance.weights();

@@ -46,7 +46,7 @@ impl Tally {
 
     /// The duties of a shift on a day.
     pub(crate) fn heads_on(&self, instance: &Instance, shift: u16, day: u8) -> u16
-        requires tally { IsTally instance.now 2000000 self.now.cover.items self.now.heads.items }
+        requires tally { IsTally instance.now 0 self.now.cover.items self.now.heads.items }
         requires shift { shift < length (shift_list instance.now) }
         requires day { day < instance.now.days }
         ensures { result ≡ heads_at instance.now self.now.heads.items shift day }
@@ -56,7 +56,7 @@ impl Tally {
 
     /// Whether a shift has a duty.
     pub(crate) fn is_begun(&self, instance: &Instance, shift: u16) -> bool
-        requires tally { IsTally instance.now 2000000 self.now.cover.items self.now.heads.items }
+        requires tally { IsTally instance.now 0 self.now.cover.items self.now.heads.items }
         requires shift { shift < length (shift_list instance.now) }
         ensures { result ≡ is_begun instance.now self.now.heads.items shift }
     {
@@ -71,7 +71,7 @@ impl Tally {
     /// Adds a duty without breaks.
     pub(crate) fn add(&mut self, instance: &Instance, shift: u16, day: u8)
         requires plain { ArePlain instance.now.kinds }
-        requires tally { IsTally instance.now 2000000 self.old.cover.items self.old.heads.items }
+        requires tally { IsTally instance.now 0 self.old.cover.items self.old.heads.items }
         requires shift { shift < length (shift_list instance.now) }
         requires day { day < instance.now.days }
         requires room { heads_at instance.now self.old.heads.items shift day < instance.now.heads }

@@ -5,7 +5,7 @@ use Rattle.shift_solve.proofs.greedy.marginal_prices.Goals as goal
 
 pub loop-t-preserved : goal.loop-t-preserved
 loop-t-preserved c =
-    let read = (index_short c.args.instance.now 2000000 c.args.tally.now.cover.items c.args.tally.now.heads.items c.loop-t.t c.index.result.now c.requires (omega (arith, c.slots-t-end.ensures.slots)) c.index.ensures).0 in
+    let read = (index_short c.args.instance.now 0 c.args.tally.now.cover.items c.args.tally.now.heads.items c.loop-t.t c.index.result.now c.requires (omega (arith, c.slots-t-end.ensures.slots)) c.index.ensures).0 in
     prices_more c.args.instance.now c.args.tally.now.cover.items c.loop-t.t c.index.result.now c.loop-t.prices.items c.push.new.self.items c.marginal_price.result
     c.loop-t.invariant (search rules) c.marginal_price.ensures.price read
 
