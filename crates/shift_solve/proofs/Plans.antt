@@ -1,9 +1,6 @@
 -- The plan of a run, and what a run reports.
-use Rattle.std.proofs.Common.{◌≡◌, ◌∙◌, sym, ap, subst, refl, ℕ, ◌<◌, ◌≤◌, List, [], length, Ok, Err, nat_lt, Bool, true, false, IsTrue, IsSome, Option, if◌then◌else◌, arith}
+use Rattle.std.proofs.Common.{◌≡◌, ◌∙◌, sym, ap, subst, refl, ℕ, ◌<◌, ◌≤◌, List, [], length, Ok, Err, Bool, IsTrue, IsSome, if◌then◌else◌, arith}
 use Rattle.std.proofs.lemmas.Bool.{lt-ltb, le-ltb}
-use Rattle.std.specs.Io.KnownBytes.{Appends}
-use Rattle.plan_base.specs.Streams.{AppendsPart}
-use Rattle.shift_instance.specs.declared.Duty.{Duty}
 use Rattle.shift_instance.specs.declared.Row.{Row}
 use Rattle.shift_instance.specs.Problem.{Problem}
 use Rattle.shift_instance.specs.Rota.{cost, rota_of, are_legal_rows}
@@ -47,12 +44,12 @@ pub planned : (met : Met) (i : Problem) (rows : List Row)
     → IsSome (journal_of met.words) → ((bytes : List ℕ) × IsAllOf met.left bytes × (reading_of bytes ≡ Ok i))
     → rows ≡ plan_of i → IsTrue (are_legal_rows i rows) → Plans met i
 planned met i rows command read are legal = record {
-    command = command;
-    bytes = read.0;
-    all = read.1;
-    reads = read.2;
-    legal = subst (λ (r : List Row). IsTrue (are_legal_rows i r)) are legal;
-  }
+  command = command;
+  bytes = read.0;
+  all = read.1;
+  reads = read.2;
+  legal = subst (λ (r : List Row). IsTrue (are_legal_rows i r)) are legal;
+}
 
 -- the text of the report
 pub report_is : (i : Problem) (rows : List Row) (n : ℕ) (text : List ℕ) → rows ≡ plan_of i → n ≡ plan_cost i → text ≡ report_text rows n 0 → text ≡ report_of i

@@ -3,27 +3,24 @@
 #![tactic(auto)]
 
 mod greedy;
+#[cfg(test)]
+mod greedy_tests;
 mod plan_cost;
 mod price_sums;
 mod report;
 mod run;
+#[cfg(test)]
+mod run_tests;
 mod status;
 mod tally;
 mod words;
 
-#[cfg(test)]
-mod greedy_tests;
-#[cfg(test)]
-mod run_tests;
-
+use plan_base::{FileDisk, StdSink, StdSource};
 pub use run::solve_run;
 pub use status::{Status, status_line};
-pub use words::journal_path;
-
-use plan_base::{FileDisk, StdSink, StdSource};
-use std::env;
-use std::io;
 use std::process::ExitCode;
+use std::{env, io};
+pub use words::journal_path;
 
 /// The words of the command line, without the program's name. Words that aren't UTF-8 are no command.
 fn command_words(rt: &HostRuntime) -> Result<Vec<String>, Status> {

@@ -76,7 +76,10 @@ fn add_head(text: &mut String, count: usize, cost: u64, bound: u64) -> Result<()
     ensures { OnOk result (string_bytes text.new ≡ string_bytes text.old ++ flat_map line_text (head_lines count cost bound)) }
 {
     let status = status_word(cost, bound);
-    write!(text, "shift-report 1\nstatus {status}\ncost {cost}\nbound {bound}\nrows {count}\n")
+    write!(
+        text,
+        "shift-report 1\nstatus {status}\ncost {cost}\nbound {bound}\nrows {count}\n"
+    )
 }
 
 #[tactic(auto, using(crate::proofs::Texts::report_parts))]

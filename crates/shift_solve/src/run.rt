@@ -66,12 +66,7 @@ fn first_plan(alloc: Global, instance: &Instance) -> Result<Plan, AllocError>
 }
 
 /// Reads the instance, plans, and writes the report.
-fn run<S: Source, K: Sink>(
-    alloc: Global,
-    words: &[String],
-    input: &mut S,
-    out: &mut K,
-) -> Status
+fn run<S: Source, K: Sink>(alloc: Global, words: &[String], input: &mut S, out: &mut K) -> Status
     ensures status { Explains
         (record {
           words = map string_bytes words.now;

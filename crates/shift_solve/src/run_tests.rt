@@ -10,14 +10,20 @@ use std::test::Fail;
 
 /// One type `M` of one shift, 8:00 to 12:00, and the hours of one day; the needs and the breaks of `M` are filled in.
 fn document(alloc: Global, needs: &str, breaks: &str) -> Result<String, AllocError> {
-    format!(in alloc; "{{\"slot_minutes\":60,\"days\":1,\"need\":[{needs}],\"max_heads\":1,\"weights\":{{\"excess\":1,\"shortage\":2,\"shift\":3}},\"types\":[{{\"name\":\"M\",\"start_min\":8,\"start_max\":8,\"len_min\":4,\"len_max\":4,\"breaks\":{breaks}}}]}}")
+    format!(in alloc;
+        "{{\"slot_minutes\":60,\"days\":1,\"need\":[{needs}],\"max_heads\":1,\"weights\":{{\"excess\":1,\"shortage\":2,\"shift\":3}},\"types\":[{{\"name\":\"M\",\"start_min\":8,\"start_max\":8,\"len_min\":4,\"len_max\":4,\"breaks\":{breaks}}}]}}"
+    )
 }
 
 const MORNING: &str = "0,0,0,0,0,0,0,0,1,1,1,1,0,0,0,0,0,0,0,0,0,0,0,0";
+
 const NOTHING: &str = "0,0,0,0,0,0,0,0,0,0,0,0,0,0,0,0,0,0,0,0,0,0,0,0";
+
 const TOO_FEW: &str = "0,0,0,0,0,0,0,0,1,1,1,1,0,0,0,0,0,0,0,0,0,0,0";
 
-const MORNING_REPORT: &str = "shift-report 1\nstatus stopped\ncost 3\nbound 0\nrows 1\nrow 0 0 1 -\nproof 0\nend\n";
+const MORNING_REPORT: &str =
+    "shift-report 1\nstatus stopped\ncost 3\nbound 0\nrows 1\nrow 0 0 1 -\nproof 0\nend\n";
+
 const NOTHING_REPORT: &str =
     "shift-report 1\nstatus optimal\ncost 0\nbound 0\nrows 0\nproof 0\nend\n";
 
@@ -75,7 +81,15 @@ fn a_plan_is_printed(rt: HostRuntime) -> Result<(), Fail> {
 fn other_words_are_usage(rt: HostRuntime) -> Result<(), Fail> {
     let alloc = rt.alloc();
     let text = document(alloc, MORNING, "null")?;
-    for line in ["", "solve", "plan J", "solve -J", "solve J K", "solve J --steps 1", "solve J --"] {
+    for line in [
+        "",
+        "solve",
+        "plan J",
+        "solve -J",
+        "solve J K",
+        "solve J --steps 1",
+        "solve J --",
+    ] {
         let (status, written) = run(alloc, line, text.as_bytes(), 100000, 0, 0)?;
         assert_eq!(rt; status, Status::Usage, "{line}");
         assert!(rt; written.is_empty());
@@ -105,12 +119,21 @@ fn other_documents_are_refused(rt: HostRuntime) -> Result<(), Fail> {
     assert_eq!(rt; refusal(alloc, b"")?, Some(ReadRefusal::NotJson));
     assert_eq!(rt; refusal(alloc, b"solve")?, Some(ReadRefusal::NotJson));
     let blanks = vec![in alloc; b' '; 1048577]?;
-    assert_eq!(rt; refusal(alloc, blanks.as_slice())?, Some(ReadRefusal::TooLong));
+    assert_eq!(rt;
+        refusal(alloc, blanks.as_slice())?,
+        Some(ReadRefusal::TooLong)
+    );
     let not_yet = Some(ReadRefusal::NotYet { at: 0 });
     assert_eq!(rt; refusal(alloc, b"[]")?, not_yet);
     assert_eq!(rt; refusal(alloc, b"{\"days\":1}")?, not_yet);
-    assert_eq!(rt; refusal(alloc, document(alloc, MORNING, "{}")?.as_bytes())?, not_yet);
-    assert_eq!(rt; refusal(alloc, document(alloc, TOO_FEW, "null")?.as_bytes())?, not_yet);
+    assert_eq!(rt;
+        refusal(alloc, document(alloc, MORNING, "{}")?.as_bytes())?,
+        not_yet
+    );
+    assert_eq!(rt;
+        refusal(alloc, document(alloc, TOO_FEW, "null")?.as_bytes())?,
+        not_yet
+    );
     Ok(())
 }
 
@@ -143,14 +166,27 @@ fn a_failing_write_leaves_the_beginning(rt: HostRuntime) -> Result<(), Fail> {
 #[test]
 fn each_status_has_its_number_and_line(rt: HostRuntime) -> Result<(), Fail> {
     let alloc = rt.alloc();
-    let usage = "usage: solve JOURNAL [--workers W] [--steps B] [--table] or solve --demo N [--steps B]";
+    let usage =
+        "usage: solve JOURNAL [--workers W] [--steps B] [--table] or solve --demo N [--steps B]";
     for (status, number, line) in [
         (Status::Optimal, 0u8, ""),
         (Status::Budget, 10, "stopped: step budget spent"),
         (Status::Usage, 2, usage),
-        (Status::Input(ReadRefusal::TooLong), 3, "instance refused: 1"),
-        (Status::Input(ReadRefusal::NotJson), 3, "instance refused: 2"),
-        (Status::Input(ReadRefusal::NotYet { at: 0 }), 3, "instance refused: 7 0"),
+        (
+            Status::Input(ReadRefusal::TooLong),
+            3,
+            "instance refused: 1",
+        ),
+        (
+            Status::Input(ReadRefusal::NotJson),
+            3,
+            "instance refused: 2",
+        ),
+        (
+            Status::Input(ReadRefusal::NotYet { at: 0 }),
+            3,
+            "instance refused: 7 0",
+        ),
         (Status::ReadFault, 5, "read fault"),
         (Status::WriteFault, 6, "write fault"),
         (Status::NoMemory, 8, "no memory"),

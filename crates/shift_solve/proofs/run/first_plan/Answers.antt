@@ -1,4 +1,4 @@
-use Rattle.std.proofs.Common.{◌≡◌, ◌∙◌, [], refl}
+use Rattle.std.proofs.Common.{◌∙◌, []}
 use Rattle.shift_solve.proofs.Plans.{plan_is_greedy, plan_is_empty, plan_costs}
 use Rattle.shift_solve.proofs.run.first_plan.Goals as goal
 

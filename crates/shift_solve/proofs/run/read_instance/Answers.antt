@@ -1,6 +1,6 @@
-use Rattle.std.proofs.Common.{◌≡◌, ◌<◌, ℕ, List, Option, Some, None, IfSome, Err, length, refl, ap}
+use Rattle.std.proofs.Common.{◌≡◌, ◌<◌, ℕ, List, Option, Some, None, IfSome, Err, length, ap}
 use Rattle.instance_json.specs.declared.TheConstants.{INSTANCE_MAX}
-use Rattle.instance_json.specs.declared.ReadRefusal.TheVariants.{TooLong, NoMemory}
+use Rattle.instance_json.specs.declared.ReadRefusal.TheVariants.{TooLong}
 use Rattle.instance_json.specs.Reading.{reading_of}
 use Rattle.shift_solve.proofs.Plans.{reads_too_long}
 use Rattle.shift_solve.proofs.run.read_instance.Goals as goal
