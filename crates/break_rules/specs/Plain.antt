@@ -1,4 +1,4 @@
--- The plain rule.
+-- The plain rule. Source: this project's profile.
 use Rattle.std.specs.Prelude.{[]}
 use Rattle.break_rules.specs.declared.Rule.{Rule}
 

@@ -1,4 +1,4 @@
--- Which rules are well formed, and the faults of the others.
+-- Which rules are well formed, and the faults of the others. Source: this project's profile.
 use Rattle.std.specs.Prelude.{ℕ, ◌+◌, Bool, not, ◌&&◌, ◌||◌, nat_lt, nat_le, List, [], ◌∷◌, length, drop, codes}
 use Rattle.std.specs.List.{list_all, list_any, zip}
 use Rattle.break_rules.specs.declared.Lunch.{Lunch}

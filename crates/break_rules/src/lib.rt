@@ -25,7 +25,9 @@ pub type NoMemory = AllocError;
 /// A break inside a shift: its first slot and its length, in slots from the shift's start.
 #[derive(Clone, Copy, Debug, PartialEq, Eq, PartialOrd, Ord, Drop)]
 pub struct Break {
+    /// Its first slot.
     pub start: u16,
+    /// Its length.
     pub len: u16,
 }
 
@@ -33,9 +35,13 @@ pub struct Break {
 /// or later and ends at `last` or earlier.
 #[derive(Clone, Copy, Debug, PartialEq, Eq, Drop)]
 pub struct Lunch {
+    /// The least length of a shift that needs it.
     pub from_len: u16,
+    /// The length of the break.
     pub size: u16,
+    /// The earliest slot at which the break begins.
     pub first: u16,
+    /// The latest slot at which it ends.
     pub last: u16,
 }
 

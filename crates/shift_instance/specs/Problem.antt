@@ -1,4 +1,6 @@
 -- What an instance of the shift design problem is.
+-- Source: Musliu, Schaerf and Slany 2004, without their fourth criterion (the average number of duties); with three weighted criteria the problem
+-- is known as Minimum Shift Design (Di Gaspero and others 2007). The cap on duties of one shift and day and the break rules are this project's profile.
 use Rattle.std.specs.Prelude.{ℕ, ◌+◌, ◌-◌, ◌*◌, ◌/◌, ◌%◌, List, map, slice_index}
 use Rattle.std.specs.List.{flat_map, range_with_len, enumerate_from}
 use Rattle.break_rules.specs.declared.Rule.{Rule}

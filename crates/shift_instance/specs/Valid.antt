@@ -1,4 +1,4 @@
--- Which numbers make an instance.
+-- Which numbers make an instance. Source: this project's profile.
 use Rattle.std.specs.Prelude.{◌≡◌, ℕ, ◌≤◌, ◌<◌, ◌*◌, List, length, map, All, IsTrue, None, Some, slice_get}
 use Rattle.break_rules.specs.Causes.{first_cause}
 use Rattle.break_rules.specs.RuleFaults.{rule_causes}

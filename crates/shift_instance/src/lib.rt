@@ -22,43 +22,59 @@ use std::error::Error;
 use std::fmt;
 use std::marker::Model;
 
-/// A number above the cost of every legal rota.
+/// The number that stands for the cost of a rota where there is none to be had. It is meant to lie above every legal rota's cost.
 pub const TOP: u64 = 1_000_000_000_000_000;
 
 /// A shift of the shift list: the number of its type, its first slot, counted from the start of the day that a duty
 /// is on, and its length in slots.
 #[derive(Clone, Copy, Debug, PartialEq, Eq, Drop)]
 pub struct Shift {
+    /// The number of its type, from 0 on.
     pub kind: u16,
+    /// Its first slot, counted from the start of the day that a duty is on.
     pub start: u16,
+    /// Its length in slots.
     pub len: u16,
 }
 
 /// One duty of a rota: one employee works a shift, given by its number, on a day, from 0 on, with these breaks.
 #[derive(Clone, Debug, Drop)]
 pub struct Duty {
+    /// The number of its shift, its place in the shift list.
     pub shift: u16,
+    /// Its day, from 0 on.
     pub day: u8,
+    /// Its breaks.
     pub breaks: Breaks,
 }
 
 /// Duties that are alike, with their number.
 #[derive(Clone, Debug, Drop)]
 pub struct Row {
+    /// The number of their shift, its place in the shift list.
     pub shift: u16,
+    /// Their day, from 0 on.
     pub day: u8,
+    /// The breaks of each of them.
     pub breaks: Breaks,
+    /// How many duties there are.
     pub count: u16,
 }
 
 /// A shift type, before it is judged: its name, its windows for start and length in slots, and its break rule.
 #[derive(Clone, Debug, Drop)]
 pub struct TypeParts {
+    /// Its name.
     pub name: String,
+    /// The earliest slot at which its shifts start, counted from the start of a day.
     pub start_min: u16,
+    /// The latest slot at which they start.
     pub start_max: u16,
+    /// Their least length in slots.
     pub len_min: u16,
+    /// Their greatest length in slots.
     pub len_max: u16,
+    /// Their break rule.
     pub rule: Rule,
 }
 
@@ -176,7 +192,7 @@ impl fmt::Display for InstanceFault {
 
 impl Error for InstanceFault {}
 
-/// A valid instance.
+/// An instance of the shift design problem: numbers within all limits, with their shift list.
 #[derive(Debug, Drop)]
 pub struct Instance {
     parts: Parts,

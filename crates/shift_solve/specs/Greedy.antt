@@ -1,4 +1,4 @@
--- The greedy plan: it takes shifts one after another, always that which lowers the cost most.
+-- The greedy plan: it takes shifts one after another, always that which lowers the cost most. Source: this project's profile.
 use Rattle.std.specs.Prelude.{ℕ, zero, suc, ◌*◌, ℤ, pos, ◌-ℤ◌, neg_ℤ, Bool, not, ◌&&◌, nat_lt, int_lt, List, [], ◌++◌, map, length, Option, unwrap_or, if◌then◌else◌}
 use Rattle.std.specs.Ordering.{int_eq}
 use Rattle.std.specs.Option.{option_map_or}
