@@ -1,4 +1,5 @@
 pub mod Duties
+pub mod Falls
 pub mod Leading
 pub mod Lengths
 pub mod PlainLists

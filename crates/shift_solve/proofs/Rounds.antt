@@ -50,7 +50,7 @@ find_has p (y ∷ ys) x m h =
     ]
 
 -- a list of the greatest value, where that is above 0
-best_among : (f : List Break → ℤ) (lists : List (List Break)) (v : ℤ) → v ≡ greatest (map f lists) → int_lt (pos 0) v ≡ true → Has lists (unwrap_or (find (λ list. int_eq (f list) v) lists) [])
+pub best_among : (f : List Break → ℤ) (lists : List (List Break)) (v : ℤ) → v ≡ greatest (map f lists) → int_lt (pos 0) v ≡ true → Has lists (unwrap_or (find (λ list. int_eq (f list) v) lists) [])
 best_among f [] v e h = absurd (false≢true (ap (int_lt (pos 0)) (sym e) ∙ h))
 best_among f (list ∷ lists) v e h =
     let r = from_map f (list ∷ lists) (greatest (map f (list ∷ lists))) (greatest_reached (f list) (map f lists)) in
@@ -106,7 +106,7 @@ count_new i rota s p =
     ∙ count_by-filter_and (λ day. p (duty s day (best_list i (marginal_prices i rota) s day))) (counts i rota s) (below i.days)
 
 -- of one number below n that passes
-count_one : (q : ℕ → Bool) (x n : ℕ) → count_by (λ k. q k && (k == x)) (below n) ≡ cond (nat_lt x n && q x) 1 0
+pub count_one : (q : ℕ → Bool) (x n : ℕ) → count_by (λ k. q k && (k == x)) (below n) ≡ cond (nat_lt x n && q x) 1 0
 count_one q x n =
     count_by_same (λ k. q k && (k == x)) (λ k. q x && (x == k)) (below n) (λ k m.
     elim (cases_eq k x) [
@@ -172,7 +172,7 @@ round_legal i rota s legal =
         omega arith
 
 -- a shift that is taken gains, so some day counts
-gains_some : (c : ℕ → Bool) (v : ℕ → ℤ) (w : Bool) (g n : ℕ) → int_lt (pos 0) (int_sum_by (λ day. cond (c day) (v day) (pos 0)) (below n) -ℤ cond w (pos 0) (pos g)) ≡ true → list_any c (below n) ≡ true
+pub gains_some : (c : ℕ → Bool) (v : ℕ → ℤ) (w : Bool) (g n : ℕ) → int_lt (pos 0) (int_sum_by (λ day. cond (c day) (v day) (pos 0)) (below n) -ℤ cond w (pos 0) (pos g)) ≡ true → list_any c (below n) ≡ true
 gains_some c v w g n h =
     elim (cases_Bool (list_any c (below n))) [
       | inl t ↦ t
@@ -217,7 +217,7 @@ unfolding greedy_after
 round_none i zero rota e = refl
 round_none i (suc n) rota e = ap (λ o. option_map_or (λ s. greedy_after i n (rota ++ new_duties i rota s)) o rota) e
 
-next_cases : (i : Problem) (rota : List Duty) → (next_shift i rota ≡ None) ⊎ ((s : ℕ) × (next_shift i rota ≡ Some s))
+pub next_cases : (i : Problem) (rota : List Duty) → (next_shift i rota ≡ None) ⊎ ((s : ℕ) × (next_shift i rota ≡ Some s))
 next_cases i rota = elim (next_shift i rota) as (λ o. (o ≡ None) ⊎ ((s : ℕ) × (o ≡ Some s))) [ None ↦ inl refl | Some s ↦ inr (s, refl) ]
 
 pub greedy_after_legal : (i : Problem) (n : ℕ) (rota : List Duty) → is_legal_rota i rota ≡ true → is_legal_rota i (greedy_after i n rota) ≡ true

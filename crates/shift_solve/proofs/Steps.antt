@@ -23,6 +23,7 @@ use Rattle.shift_solve.specs.Greedy.{duty, row_of, marginal_price, day_value, is
 use Rattle.shift_solve.specs.Plain.{ArePlain}
 use Rattle.shift_solve.specs.Sums.{IsWithin, ArePrices, window_sum}
 use Rattle.shift_solve.specs.Tally.{Tallies, IsTally, Leads, LeadsToGreedy, heads_at, is_begun, is_counted, shift_rows, tallied_gain, tallied_next, tallied_prices, tallied_cost}
+use Rattle.shift_solve.proofs.Falls.{greedy_cheaper}
 use Rattle.shift_solve.proofs.Leading.{leads_all}
 use Rattle.shift_solve.proofs.Lengths.{legal_length}
 use Rattle.shift_solve.proofs.PlanRows.{rows_legal, rows_cost}
@@ -381,3 +382,10 @@ last_round i n k covers heads covers' heads' more l e step h =
     let one : n - k ≡ n - k - 1 + 1 = omega arith in
     subst (λ b. MatchBool b (LeadsToGreedy i (n - k - 1) covers' heads') (LeadsToGreedy i 0 covers' heads')) e
     (step (n - k - 1) (subst (λ (r : ℕ). LeadsToGreedy i r covers heads) one h))
+
+pub plan_cheaper : (i : Problem) (covers heads : List ℕ) (n opening : ℕ) → LeadsToGreedy i 0 covers heads → n ≡ tallied_cost i covers heads → opening ≡ cost i [] → n ≤ opening
+unfolding greedy_after
+plan_cheaper i covers heads n opening h en eo =
+    let e : n ≡ cost i (greedy_rota i) = en ∙ tallied_cost_is i h.rota covers heads h.tallies h.legal ∙ ap (cost i) h.ahead in
+    let l : cost i (greedy_rota i) ≤ cost i [] = greedy_cheaper i h.valid in
+    omega arith

@@ -27,7 +27,7 @@ marginal_prices i rota = map (λ t. marginal_price i t (cover i rota t)) (below 
 unfoldable pub day_value : Problem → List ℤ → ℕ → ℕ → ℤ
 day_value i prices s day = greatest (map (λ list. earned i prices (duty s day list)) (lists_of i s))
 
--- the least legal list of that value
+-- the least legal list of that value, or the empty one where no list is legal
 unfoldable pub best_list : Problem → List ℤ → ℕ → ℕ → List Break
 best_list i prices s day = unwrap_or (find (λ list. int_eq (earned i prices (duty s day list)) (day_value i prices s day)) (lists_of i s)) []
 

@@ -1,10 +1,10 @@
 //! The greedy plan: shift by shift, always the one that lowers the cost most.
-ghost use Rattle.std.specs.Prelude.{◌≡◌, ◌<◌, ◌≤◌, ◌*◌, ◌+◌, ◌++◌, [], ℕ, List, length, map, None, IfOk, IsTrue, MatchBool};
+ghost use Rattle.std.specs.Prelude.{◌≡◌, ◌<◌, ◌≤◌, ◌*◌, ◌+◌, ◌++◌, [], ℕ, List, length, map, IfOk, IsTrue, MatchBool};
 ghost use Rattle.std.specs.List.{flat_map, filter};
 ghost use Rattle.shift_instance.specs.declared.Duty.{Duty};
 ghost use Rattle.shift_instance.specs.Problem.{shift_list, slots, below};
 ghost use Rattle.shift_instance.specs.Rota.{are_legal_rows, cost, rota_of};
-ghost use Rattle.shift_solve.specs.Greedy.{duty, day_value, greedy_rota, greedy_rows, is_wanted, marginal_price, next_shift};
+ghost use Rattle.shift_solve.specs.Greedy.{duty, day_value, greedy_rows, is_wanted, marginal_price};
 ghost use Rattle.shift_solve.specs.Plain.{ArePlain};
 ghost use Rattle.shift_solve.specs.Sums.{ArePrices, IsWithin};
 ghost use Rattle.shift_solve.specs.Tally.{IsTally, LeadsToGreedy, Tallies, is_counted, shift_rows, tallied_gain, tallied_next, tallied_prices};
@@ -213,7 +213,7 @@ pub(crate) fn greedy_plan(alloc: Global, instance: &Instance) -> Result<GreedyPl
     ensures cost { IfOk result (λ p. p.cost ≡ cost instance.now (rota_of p.rows)) }
     ensures legal { IfOk result (λ p. IsTrue (are_legal_rows instance.now p.rows)) }
     ensures opening { IfOk result (λ p. p.opening ≡ cost instance.now []) }
-    ensures ready { next_shift instance.now (greedy_rota instance.now) ≡ None }
+    ensures cheaper { IfOk result (λ p. p.cost ≤ p.opening) }
 {
     let tally = greedy_tally(alloc, instance)?;
     Ok(GreedyPlan {

@@ -3,6 +3,7 @@
 #![tactic(auto)]
 
 mod greedy;
+pub mod greedy_laws;
 #[cfg(test)]
 mod greedy_tests;
 mod plan_cost;

@@ -1,5 +1,4 @@
-use Rattle.shift_solve.proofs.Steps.{legal_tally, more_tally, plan_rows, plan_legal, plan_cost}
-use Rattle.shift_solve.proofs.Rounds.{greedy_ready}
+use Rattle.shift_solve.proofs.Steps.{legal_tally, more_tally, plan_rows, plan_legal, plan_cost, plan_cheaper}
 use Rattle.shift_solve.proofs.greedy.greedy_plan.Goals as goal
 
 pub all_rows-requires : goal.all_rows-requires
@@ -27,11 +26,6 @@ returns-clause-legal c =
     plan_legal c.args.instance.now c.in_ok-all_rows.field-0
     (plan_rows c.args.instance.now c.in_ok-tally.tally.cover.items c.in_ok-tally.tally.heads.items c.in_ok-all_rows.field-0 c.requires.plain c.in_ok-tally.ensures c.in_ok-all_rows.ensures)
 
-pub returns-in_err-tally-clause-ready : goal.returns-in_err-tally-clause-ready
-returns-in_err-tally-clause-ready c = greedy_ready c.args.instance.now
-
-pub returns-in_err-all_rows-clause-ready : goal.returns-in_err-all_rows-clause-ready
-returns-in_err-all_rows-clause-ready c = greedy_ready c.args.instance.now
-
-pub returns-clause-ready : goal.returns-clause-ready
-returns-clause-ready c = greedy_ready c.args.instance.now
+pub returns-clause-cheaper : goal.returns-clause-cheaper
+returns-clause-cheaper c =
+    plan_cheaper c.args.instance.now c.in_ok-tally.tally.cover.items c.in_ok-tally.tally.heads.items c.tally_cost.result c.opening_cost.result c.in_ok-tally.ensures c.tally_cost.ensures c.opening_cost.ensures
