@@ -9,7 +9,7 @@ use Rattle.serde_json.specs.Data.{Data}
 use Rattle.serde_json.specs.View.{view, items_view, members_view}
 use Rattle.serde_json.specs.declared.value.Value.{Value}
 use Rattle.instance_json.specs.Document.{items_at}
-use Rattle.instance_json.specs.Fields.{Field, data_list, member_names, whole, are_numbers, names_of}
+use Rattle.instance_json.specs.Fields.{data_list, member_names, whole, are_numbers, names_of}
 
 -- the items of a list of values
 pub data_list-items_view : (vs : List Value) → data_list (items_view vs) ≡ map view vs

@@ -1,5 +1,5 @@
 -- How a JSON value departs from an instance document.
-use Rattle.std.specs.Prelude.{ℕ, codes, Bool, not, List, [], ◌∷◌, map, find, take, if◌then◌else◌, Option, Some, None, is_some, option_map, option_and_then}
+use Rattle.std.specs.Prelude.{ℕ, codes, not, List, [], ◌∷◌, map, find, take, if◌then◌else◌, Option, Some, None, is_some, option_map, option_and_then}
 use Rattle.std.specs.List.{enumerate_from}
 use Rattle.std.specs.Str.Lossy.{utf8_valid_len}
 use Rattle.serde_json.specs.Data.{Data}
