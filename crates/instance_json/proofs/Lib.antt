@@ -1,3 +1,4 @@
 pub mod Lists
+pub mod Names
 pub mod Readings
 pub mod Texts

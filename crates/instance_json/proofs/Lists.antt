@@ -1,15 +1,15 @@
 -- Lists of values beside lists of data.
-use Rattle.std.proofs.Common.{◌≡◌, ℕ, Bool, false, ◌&&◌, List, [], ◌∷◌, map, String, BTreeMap, Global, string_bytes, Some, is_some, option_and_then, refl, sym, ap, ◌∙◌}
+use Rattle.std.proofs.Common.{true, false, Bor, Option, None, option_map, find, cond, ◌≡◌, ℕ, Bool, false, ◌&&◌, List, [], ◌∷◌, map, String, BTreeMap, Global, string_bytes, Some, is_some, option_and_then, refl, sym, ap, ◌∙◌}
 use Rattle.std.specs.List.{list_all}
 use Rattle.std.specs.BTreeMap.{keys}
 use Rattle.std.specs.Map.{keys_of}
-use Rattle.std.specs.Option.{option_map_or}
+use Rattle.std.specs.Option.{option_map_or, option_copied}
 use Rattle.serde_json.specs.Find.{get, as_array, as_object}
 use Rattle.serde_json.specs.Data.{Data}
 use Rattle.serde_json.specs.View.{view, items_view, members_view}
 use Rattle.serde_json.specs.declared.value.Value.{Value}
 use Rattle.instance_json.specs.Document.{items_at}
-use Rattle.instance_json.specs.Fields.{Field, data_list, member_names, whole, are_numbers, is_known, has_only}
+use Rattle.instance_json.specs.Fields.{data_list, member_names, whole, are_numbers, names_of}
 
 -- the items of a list of values
 pub data_list-items_view : (vs : List Value) → data_list (items_view vs) ≡ map view vs
@@ -21,22 +21,22 @@ pub list_all-items_view : (p : Data → Bool) (vs : List Value) → list_all p (
 list_all-items_view p [] = refl
 list_all-items_view p (v ∷ vs) = ap (λ b. p (view v) && b) (list_all-items_view p vs)
 
--- a test of each member's name
-pub list_all-member_names : (p : List ℕ → Bool) (es : List (String Global × Value)) → list_all p (member_names (members_view es)) ≡ list_all (λ k. p (string_bytes k)) (keys_of es)
-list_all-member_names p [] = refl
-list_all-member_names p (e ∷ es) = ap (λ b. p (string_bytes e.0) && b) (list_all-member_names p es)
+-- the names of an object of values
+pub member_names-members_view : (es : List (String Global × Value)) → member_names (members_view es) ≡ map string_bytes (keys_of es)
+member_names-members_view [] = refl
+member_names-members_view (e ∷ es) = ap (λ names. string_bytes e.0 ∷ names) (member_names-members_view es)
 
 -- whether the items of a list of values are whole numbers
 pub are_numbers_of_list : (d : Data) (vs : List Value) → Some (items_view vs) ≡ as_array d → list_all (λ v. is_some (whole (view v))) vs ≡ are_numbers d
 are_numbers_of_list d vs e = sym (list_all-items_view (λ x. is_some (whole x)) vs) ∙ ap (λ o. option_map_or (λ ds. list_all (λ x. is_some (whole x)) (data_list ds)) o false) e
 
--- whether the keys of an object of values are known
-pub are_known : (fields : List Field) (d : Data) (m : BTreeMap (String Global) Value) → Some (members_view m.entries) ≡ as_object d → list_all (λ name. is_known fields (string_bytes name)) (keys m) ≡ has_only fields d
-are_known fields d m e = sym (list_all-member_names (is_known fields) m.entries) ∙ ap (λ o. option_map_or (λ ms. list_all (is_known fields) (member_names ms)) o false) e
+-- the names of what is an object
+pub names_of_object : (d : Data) (m : BTreeMap (String Global) Value) → Some (members_view m.entries) ≡ as_object d → map string_bytes (keys m) ≡ names_of d
+names_of_object d m e = sym (member_names-members_view m.entries) ∙ ap (λ o. option_map_or member_names o []) e
 
--- a test of each item of an object's field
-pub all_items_at : (p : Data → Bool) (name : List ℕ) (d : Data) (vs : List Value) → Some (items_view vs) ≡ option_and_then as_array (get name d) → list_all (λ v. p (view v)) vs ≡ list_all p (items_at name d)
-all_items_at p name d vs e = sym (list_all-items_view p vs) ∙ ap (λ o. list_all p (option_map_or data_list o [])) e
+-- the items of an object's field
+pub views_at : (name : List ℕ) (d : Data) (vs : List Value) → Some (items_view vs) ≡ option_and_then as_array (get name d) → map view vs ≡ items_at name d
+views_at name d vs e = sym (data_list-items_view vs) ∙ ap (λ o. option_map_or data_list o []) e
 
 mapped : {A : Type 0} (f : Data → A) (vs : List Value) → map (λ v. f (view v)) vs ≡ map f (data_list (items_view vs))
 mapped f [] = refl
@@ -45,3 +45,20 @@ mapped f (v ∷ vs) = ap (λ ys. f (view v) ∷ ys) (mapped f vs)
 -- a function of each item of an object's field
 pub map_items_at : {A : Type 0} (f : Data → A) (name : List ℕ) (d : Data) (vs : List Value) → Some (items_view vs) ≡ option_and_then as_array (get name d) → map (λ v. f (view v)) vs ≡ map f (items_at name d)
 map_items_at f name d vs e = mapped f vs ∙ ap (λ o. map f (option_map_or data_list o [])) e
+
+found_first : (b : Bool) (k : String Global) (o : Option (String Global)) (q : Option (List ℕ)) → option_map string_bytes o ≡ q → option_map string_bytes (cond b (Some k) o) ≡ cond b (Some (string_bytes k)) q
+found_first true k o q e = refl
+found_first false k o q e = e
+
+found_among : (p : List ℕ → Bool) (ks : List (String Global)) → option_map string_bytes (find (λ k. p (string_bytes k)) ks) ≡ find p (map string_bytes ks)
+found_among p [] = refl
+found_among p (k ∷ ks) = found_first (p (string_bytes k)) k _ _ (found_among p ks)
+
+of_ref : (o : Option (Bor (String Global))) → option_map (λ s. string_bytes s.now) o ≡ option_map string_bytes (option_copied o)
+of_ref None = refl
+of_ref (Some s) = refl
+
+-- the first of an object's names that passes a test
+pub found_name : (p : List ℕ → Bool) (d : Data) (m : BTreeMap (String Global) Value) (o : Option (Bor (String Global))) → Some (members_view m.entries) ≡ as_object d
+    → option_copied o ≡ find (λ k. p (string_bytes k)) (keys m) → option_map (λ s. string_bytes s.now) o ≡ find p (names_of d)
+found_name p d m o e h = of_ref o ∙ ap (option_map string_bytes) h ∙ found_among p (keys m) ∙ ap (find p) (names_of_object d m e)

@@ -15,8 +15,9 @@ use Rattle.shift_instance.specs.declared.InstanceFault.{InstanceFault}
 use Rattle.shift_instance.specs.declared.InstanceFault.TheVariants as fault
 use Rattle.instance_json.specs.declared.TheConstants.{INSTANCE_MAX}
 use Rattle.instance_json.specs.declared.ReadRefusal.{ReadRefusal}
-use Rattle.instance_json.specs.declared.ReadRefusal.TheVariants.{TooLong, NotJson, NotYet}
-use Rattle.instance_json.specs.Document.{is_document, kind_of, items_at, problem_of}
+use Rattle.instance_json.specs.declared.ReadRefusal.TheVariants.{TooLong, NotJson, Missing, UnknownField, WrongKind, Invalid, NotYet, NoMemory}
+use Rattle.instance_json.specs.Departures.{document_departure}
+use Rattle.instance_json.specs.Document.{kind_of, items_at, problem_of}
 use Rattle.instance_json.specs.Reading.{value_of, problem_reading, value_reading, reading_of, IsAnswer, refusal_of}
 
 not_chosen : (b : Bool) (o : Option Data) → (b ≡ true → ⊥) → cond b o None ≡ None
@@ -36,11 +37,11 @@ value_of-text bs h = ap (λ b. cond b (read bs) None) (is_utf8-from_IsUtf8 bs h)
 -- a problem that nothing keeps from being an instance
 pub problem_reading-ok : (p i : Problem) → i ≡ p → first_cause (instance_causes p) ≡ None → problem_reading p ≡ Ok i
 unfolding problem_reading
-problem_reading-ok p i is h = ap (λ o. option_map_or (λ fault. Err (NotYet 0)) o (Ok p)) h ∙ ap Ok (sym is)
+problem_reading-ok p i is h = ap (λ o. option_map_or (λ fault. Err (Invalid fault)) o (Ok p)) h ∙ ap Ok (sym is)
 
-faulty : (p : Problem) (e : InstanceFault) → first_cause (instance_causes p) ≡ Some e → problem_reading p ≡ Err (NotYet 0)
+faulty : (p : Problem) (e : InstanceFault) → first_cause (instance_causes p) ≡ Some e → problem_reading p ≡ Err (Invalid e)
 unfolding problem_reading
-faulty p e h = ap (λ o. option_map_or (λ fault. Err (NotYet 0)) o (Ok p)) h
+faulty p e h = ap (λ o. option_map_or (λ fault. Err (Invalid fault)) o (Ok p)) h
 
 -- a problem that isn't an instance is refused
 pub problem_reading-fault : (e : InstanceFault) (p : Problem) → Answers e (first_cause (instance_causes p)) → IsAnswer (refusal_of e) (problem_reading p)
@@ -58,29 +59,40 @@ problem_reading-fault (fault.Rule kind why) p h = faulty p _ h
 problem_reading-fault (fault.TooManyShifts found) p h = faulty p _ h
 problem_reading-fault (fault.Name kind) p h = faulty p _ h
 
--- a value that is no document is refused
-pub value_reading-other : (d : Data) → is_document d ≡ false → value_reading d ≡ Err (NotYet 0)
+-- a value that departs from a document is refused, with its departure
+pub value_reading-refused : (d : Data) (e : ReadRefusal) → Some e ≡ document_departure d → value_reading d ≡ Err e
 unfolding value_reading
-value_reading-other d e = ap (λ b. cond b (problem_reading (problem_of d)) (Err (NotYet 0))) e
+value_reading-refused d e h = ap (λ o. option_map_or Err o (problem_reading (problem_of d))) (sym h)
+
+-- a refusal is the answer to what it is the reading of
+pub answers_itself : (e : ReadRefusal) (reading : Result Problem ReadRefusal) → reading ≡ Err e → IsAnswer e reading
+answers_itself NoMemory reading h = tt
+answers_itself TooLong reading h = h
+answers_itself NotJson reading h = h
+answers_itself (Missing at field) reading h = h
+answers_itself (UnknownField at field) reading h = h
+answers_itself (WrongKind at field) reading h = h
+answers_itself (Invalid fault) reading h = h
+answers_itself (NotYet at) reading h = h
 
 -- a document is read as its problem
-pub value_reading-document : (d : Data) (p : Problem) → is_document d ≡ true → p ≡ problem_of d → value_reading d ≡ problem_reading p
+pub value_reading-document : (d : Data) → None ≡ document_departure d → value_reading d ≡ problem_reading (problem_of d)
 unfolding value_reading
-value_reading-document d p e is = ap (λ b. cond b (problem_reading (problem_of d)) (Err (NotYet 0))) e ∙ ap problem_reading (sym is)
+value_reading-document d e = ap (λ o. option_map_or Err o (problem_reading (problem_of d))) (sym e)
 
-kept : (o : Option InstanceFault) (p i : Problem) → option_map_or (λ fault. Err (NotYet 0)) o (Ok p) ≡ Ok i → i ≡ p
+kept : (o : Option InstanceFault) (p i : Problem) → option_map_or (λ fault. Err (Invalid fault)) o (Ok p) ≡ Ok i → i ≡ p
 kept None p i h = cc
 kept (Some e) p i h = cc
 
-stated : (b : Bool) (p i : Problem) → cond b (problem_reading p) (Err (NotYet 0)) ≡ Ok i → i ≡ p
+stated : (o : Option ReadRefusal) (p i : Problem) → option_map_or Err o (problem_reading p) ≡ Ok i → i ≡ p
 unfolding problem_reading
-stated true p i h = kept (first_cause (instance_causes p)) p i h
-stated false p i h = cc
+stated None p i h = kept (first_cause (instance_causes p)) p i h
+stated (Some e) p i h = cc
 
 -- what is read is what the document states
 pub value_reading-stated : (d : Data) (i : Problem) → value_reading d ≡ Ok i → i ≡ problem_of d
 unfolding value_reading
-value_reading-stated d i h = stated (is_document d) (problem_of d) i h
+value_reading-stated d i h = stated (document_departure d) (problem_of d) i h
 
 all_plain : (ds : List Data) → All (λ k. k.rule ≡ plain_rule) (map kind_of ds)
 unfolding kind_of

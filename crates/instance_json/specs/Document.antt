@@ -1,15 +1,14 @@
--- Instance documents: which JSON values are one, and which problem each states.
-use Rattle.std.specs.Prelude.{ℕ, min, codes, Bool, true, false, ◌&&◌, List, [], ◌∷◌, map, option_and_then, unwrap_or}
+-- Instance documents: the fields of their objects, and which problem each states.
+use Rattle.std.specs.Prelude.{ℕ, min, codes, true, false, List, [], ◌∷◌, map, option_and_then, unwrap_or}
 use Rattle.std.specs.Option.{option_map_or}
-use Rattle.std.specs.List.{list_all}
 use Rattle.serde_json.specs.Data.{Data}
 use Rattle.serde_json.specs.Find.{get, as_str, as_array}
 use Rattle.break_rules.specs.Plain.{plain_rule}
 use Rattle.shift_instance.specs.Kind.{Kind}
 use Rattle.shift_instance.specs.Problem.{Problem}
 use Rattle.instance_json.specs.declared.fields.Shape.{Shape}
-use Rattle.instance_json.specs.declared.fields.Shape.TheVariants.{Number, Text, Array, Numbers, Object, Null}
-use Rattle.instance_json.specs.Fields.{Field, data_list, whole, has_fields}
+use Rattle.instance_json.specs.declared.fields.Shape.TheVariants.{Number, Text, Array, Numbers, Object, NullOrObject}
+use Rattle.instance_json.specs.Fields.{Field, data_list, whole}
 
 -- a field that has to be there, and one that may be missing
 abbrev pub required : List ℕ → Shape → Field
@@ -33,7 +32,7 @@ document_fields =
 unfoldable pub weights_fields : List Field
 weights_fields = required (codes "excess") Number ∷ required (codes "shortage") Number ∷ required (codes "shift") Number ∷ []
 
--- the fields of a shift type that has the plain break rule
+-- the fields of a shift type
 unfoldable pub type_fields : List Field
 type_fields =
     required (codes "name") Text
@@ -41,19 +40,12 @@ type_fields =
     ∷ required (codes "start_max") Number
     ∷ required (codes "len_min") Number
     ∷ required (codes "len_max") Number
-    ∷ optional (codes "breaks") Null
+    ∷ optional (codes "breaks") NullOrObject
     ∷ []
 
 -- the items of an object's field
 abbrev pub items_at : List ℕ → Data → List Data
 items_at name d = option_map_or data_list (option_and_then as_array (get name d)) []
-
--- whether a value is a document: it has its fields, its weights have theirs, and so has each of its types
-unfoldable pub is_document : Data → Bool
-is_document d =
-    has_fields document_fields d
-    && option_map_or (has_fields weights_fields) (get (codes "weights") d) false
-    && list_all (has_fields type_fields) (items_at (codes "types") d)
 
 -- the number that a value is, up to the greatest one that is told apart
 abbrev pub number_up_to : ℕ → Data → ℕ

@@ -1,5 +1,6 @@
 pub mod Fields
 pub mod Document
+pub mod Departures
 pub mod Reading
 pub mod Canonical
 pub mod RefusalText

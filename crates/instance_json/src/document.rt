@@ -1,20 +1,17 @@
-//! Instance documents: which JSON values are one, and what they state.
-ghost use Rattle.std.specs.Prelude.{◌≡◌, false, codes, map, IfOk, option_map, option_and_then, string_bytes};
-ghost use Rattle.std.specs.List.{list_all};
-ghost use Rattle.std.specs.Option.{option_map_or};
+//! Instance documents: the fields of their objects, and what they state.
+ghost use Rattle.std.specs.Prelude.{◌≡◌, codes, map, IfOk, option_map, option_and_then, string_bytes};
 ghost use Rattle.serde_json.specs.Find.{get, as_array};
 ghost use Rattle.serde_json.specs.View.{view, items_view};
-ghost use Rattle.instance_json.specs.Document.{document_fields, weights_fields, type_fields, is_document, items_at, number_up_to, short_at, long_at, text_at, weight_of, kind_of, problem_of};
-ghost use Rattle.instance_json.specs.Fields.{has_fields};
+ghost use Rattle.instance_json.specs.Document.{document_fields, weights_fields, type_fields, items_at, number_up_to, short_at, long_at, text_at, weight_of, kind_of, problem_of};
 
-use crate::fields::{Field, Shape, conforms};
+use crate::fields::{Field, Shape};
 use break_rules::Rule;
 use serde_json::Value;
 use shift_instance::{Parts, TypeParts};
 use std::alloc::{AllocError, Global};
 
 #[tactic(auto, unfolding(crate::specs::Document::document_fields))]
-fn of_document() -> [Field; 6]
+pub fn of_document() -> [Field; 6]
     ensures { result ≡ document_fields }
 {
     [
@@ -28,7 +25,7 @@ fn of_document() -> [Field; 6]
 }
 
 #[tactic(auto, unfolding(crate::specs::Document::weights_fields))]
-fn of_weights() -> [Field; 3]
+pub fn of_weights() -> [Field; 3]
     ensures { result ≡ weights_fields }
 {
     [
@@ -39,7 +36,7 @@ fn of_weights() -> [Field; 3]
 }
 
 #[tactic(auto, unfolding(crate::specs::Document::type_fields))]
-fn of_type() -> [Field; 6]
+pub fn of_type() -> [Field; 6]
     ensures { result ≡ type_fields }
 {
     [
@@ -48,49 +45,16 @@ fn of_type() -> [Field; 6]
         Field::required("start_max", Shape::Number),
         Field::required("len_min", Shape::Number),
         Field::required("len_max", Shape::Number),
-        Field::optional("breaks", Shape::Null),
+        Field::optional("breaks", Shape::NullOrObject),
     ]
 }
 
 /// The items of an object's field, where it is a list.
-fn items_of<'v>(value: &'v Value, name: &str) -> Option<&'v [Value]>
+pub fn items_of<'v>(value: &'v Value, name: &str) -> Option<&'v [Value]>
     ensures { option_map (λ v. items_view v.now) result ≡ option_and_then as_array (get name.now (view value.now)) }
 {
     let list = value.get(name)?.as_array()?;
     Some(list.as_slice())
-}
-
-fn are_types(list: &[Value]) -> bool
-    ensures { result ≡ list_all (λ v. has_fields type_fields (view v)) list.now }
-{
-    let fields = of_type();
-    list.iter().all(|value| conforms(&fields, value))
-}
-
-fn has_types(value: &Value) -> bool
-    ensures { result ≡ list_all (has_fields type_fields) (items_at (codes "types") (view value.now)) }
-{
-    match items_of(value, "types") {
-        Some(list) => are_types(list),
-        None => true,
-    }
-}
-
-fn has_weights(value: &Value) -> bool
-    ensures { result ≡ option_map_or (has_fields weights_fields) (get (codes "weights") (view value.now)) false }
-{
-    match value.get("weights") {
-        Some(weights) => conforms(&of_weights(), weights),
-        None => false,
-    }
-}
-
-/// Whether a value is a document whose types have the plain break rule.
-#[tactic(auto, unfolding(crate::specs::Document::is_document))]
-pub fn conforms_as_document(value: &Value) -> bool
-    ensures { result ≡ is_document (view value.now) }
-{
-    conforms(&of_document(), value) && has_weights(value) && has_types(value)
 }
 
 fn up_to(value: &Value, most: u64) -> u64

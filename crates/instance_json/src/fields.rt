@@ -1,10 +1,10 @@
 //! The fields of a JSON object: which it has, and of which kind.
-ghost use Rattle.std.specs.Prelude.{◌≡◌, is_some, option_and_then, string_bytes};
+ghost use Rattle.std.specs.Prelude.{◌≡◌, not, find, is_some, option_map, option_and_then, string_bytes};
 ghost use Rattle.std.specs.BTreeMap.{keys};
-ghost use Rattle.std.specs.Option.{option_map_or};
+ghost use Rattle.std.specs.Option.{option_copied};
 ghost use Rattle.std.specs.List.{list_all, list_any};
 ghost use Rattle.serde_json.specs.View.{view};
-ghost use Rattle.instance_json.specs.Fields.{whole, are_numbers, has_shape, has_field, is_known, has_only, has_fields};
+ghost use Rattle.instance_json.specs.Fields.{whole, are_numbers, has_shape, names_of, is_known, is_missing, is_misshapen};
 
 use serde_json::{Map, Value};
 use std::marker::Model;
@@ -19,7 +19,7 @@ pub enum Shape {
     /// A list of whole numbers.
     Numbers,
     Object,
-    Null,
+    NullOrObject,
 }
 
 /// A field of an object.
@@ -44,6 +44,12 @@ impl Model for Field {
 
 impl Field {
     ghost use Rattle.instance_json.specs.Document.{required, optional};
+
+    pub fn name(&self) -> &'static str
+        ensures { result.now ≡ self.now.name }
+    {
+        self.name
+    }
 
     /// A field that has to be there.
     pub fn required(name: &'static str, shape: Shape) -> Field
@@ -100,17 +106,7 @@ fn is_shaped(shape: Shape, value: &Value) -> bool
         Shape::Array => value.is_array(),
         Shape::Numbers => are_whole(value),
         Shape::Object => value.is_object(),
-        Shape::Null => value.is_null(),
-    }
-}
-
-/// Whether a field of an object is there with its kind, or may be missing and is.
-fn fits(value: &Value, field: &Field) -> bool
-    ensures { result ≡ has_field (view value.now) field.now }
-{
-    match value.get(field.name) {
-        Some(found) => is_shaped(field.shape, found),
-        None => !field.required,
+        Shape::NullOrObject => value.is_null() || value.is_object(),
     }
 }
 
@@ -120,30 +116,45 @@ fn knows(fields: &[Field], name: &str) -> bool
     fields.iter().any(|field| field.name == name)
 }
 
-fn knows_all(fields: &[Field], members: &Map<String, Value>) -> bool
-    ensures { result ≡ list_all (λ name. is_known fields.now (string_bytes name)) (keys members.now) }
+fn first_unknown_of<'v>(fields: &[Field], members: &'v Map<String, Value>) -> Option<&'v String>
+    ensures { option_copied result ≡ find (λ name. not (is_known fields.now (string_bytes name))) (keys members.now) }
 {
-    members.keys().all(|name| knows(fields, name.as_str()))
+    members.keys().find(|name| !knows(fields, name.as_str()))
 }
 
-fn only_has(fields: &[Field], value: &Value) -> bool
-    ensures { result ≡ has_only fields.now (view value.now) }
+/// The first name of an object's members, in byte order, that is none of these fields.
+pub fn first_unknown<'v>(fields: &[Field], value: &'v Value) -> Option<&'v str>
+    ensures { option_map (λ s. s.now) result ≡ find (λ name. not (is_known fields.now name)) (names_of (view value.now)) }
 {
-    match value.as_object() {
-        Some(members) => knows_all(fields, members),
+    let name = first_unknown_of(fields, value.as_object()?)?;
+    Some(name.as_str())
+}
+
+fn lacks(value: &Value, field: &Field) -> bool
+    ensures { result ≡ is_missing (view value.now) field.now }
+{
+    field.required && value.get(field.name).is_none()
+}
+
+fn misfits(value: &Value, field: &Field) -> bool
+    ensures { result ≡ is_misshapen (view value.now) field.now }
+{
+    match value.get(field.name) {
+        Some(found) => !is_shaped(field.shape, found),
         None => false,
     }
 }
 
-fn all_fit(fields: &[Field], value: &Value) -> bool
-    ensures { result ≡ list_all (has_field (view value.now)) fields.now }
+/// The first required field that an object lacks.
+pub fn first_missing<'f>(fields: &'f [Field], value: &Value) -> Option<&'f Field>
+    ensures { option_copied result ≡ find (is_missing (view value.now)) fields.now }
 {
-    fields.iter().all(|field| fits(value, field))
+    fields.iter().find(|field| lacks(value, field))
 }
 
-/// Whether a value is an object that has these fields and no other.
-pub fn conforms(fields: &[Field], value: &Value) -> bool
-    ensures { result ≡ has_fields fields.now (view value.now) }
+/// The first field whose value is of another kind.
+pub fn first_misshapen<'f>(fields: &'f [Field], value: &Value) -> Option<&'f Field>
+    ensures { option_copied result ≡ find (is_misshapen (view value.now)) fields.now }
 {
-    only_has(fields, value) && all_fit(fields, value)
+    fields.iter().find(|field| misfits(value, field))
 }

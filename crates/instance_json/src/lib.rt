@@ -1,13 +1,16 @@
 //! The JSON document of an instance: what is read as an instance, and the one text that an instance is written as.
 #![tactic(auto)]
 
+mod departures;
 mod document;
 mod fields;
+mod name;
 mod reading;
 #[cfg(test)]
 mod tests;
 mod text;
 
+pub use name::FieldName;
 pub use reading::read;
 use shift_instance::InstanceFault;
 use std::alloc::AllocError;
@@ -18,14 +21,23 @@ pub use text::canonical;
 /// The most bytes that a document may have.
 pub const INSTANCE_MAX: usize = 1_048_576;
 
-/// Why a text isn't read as an instance.
-#[derive(Clone, Copy, Debug, PartialEq, Eq, Drop)]
+/// Why a text isn't read as an instance. `at` is 0 for the document and its weights, and 1 more than a type's place in
+/// `types`, from 0 on, for that type.
+#[derive(Debug, Drop)]
 pub enum ReadRefusal {
     /// It has more than `INSTANCE_MAX` bytes.
     TooLong,
     /// It isn't UTF-8, or isn't JSON.
     NotJson,
-    /// It is JSON, but not a document of an instance whose types all have the plain break rule. `at` is 0.
+    /// A required field is missing.
+    Missing { at: u64, field: FieldName },
+    /// There is a field of a name that no field has; `field` is its first 64 bytes at most.
+    UnknownField { at: u64, field: FieldName },
+    /// The value of a field is of another kind.
+    WrongKind { at: u64, field: FieldName },
+    /// The numbers of the document make no instance. Never holds `NoMemory`.
+    Invalid(InstanceFault),
+    /// A type has a break rule.
     NotYet { at: u64 },
     /// No memory was left.
     NoMemory,
@@ -51,7 +63,7 @@ impl From<InstanceFault> for ReadRefusal {
     fn from(fault: InstanceFault) -> ReadRefusal {
         match fault {
             InstanceFault::NoMemory => ReadRefusal::NoMemory,
-            _ => ReadRefusal::NotYet { at: 0 },
+            fault => ReadRefusal::Invalid(fault),
         }
     }
 }
@@ -67,6 +79,10 @@ impl fmt::Display for ReadRefusal {
         match self {
             ReadRefusal::TooLong => f.write_str("1"),
             ReadRefusal::NotJson => f.write_str("2"),
+            ReadRefusal::Missing { at, field } => write!(f, "3 {at} {field}"),
+            ReadRefusal::UnknownField { at, field } => write!(f, "4 {at} {field}"),
+            ReadRefusal::WrongKind { at, field } => write!(f, "5 {at} {field}"),
+            ReadRefusal::Invalid(fault) => write!(f, "6 {fault}"),
             ReadRefusal::NotYet { at } => write!(f, "7 {at}"),
             ReadRefusal::NoMemory => f.write_str("no memory"),
         }

@@ -2,9 +2,11 @@
 ghost use Rattle.std.specs.Prelude.{◌≡◌, Ok, All, option_map, IfOk, MatchResult};
 ghost use Rattle.break_rules.specs.Plain.{plain_rule};
 ghost use Rattle.serde_json.specs.View.{view};
+ghost use Rattle.instance_json.specs.Document.{problem_of};
 ghost use Rattle.instance_json.specs.Reading.{value_of, problem_reading, value_reading, reading_of, IsAnswer};
 
-use crate::document::{conforms_as_document, parts_of};
+use crate::departures::in_document;
+use crate::document::parts_of;
 use crate::{INSTANCE_MAX, ReadRefusal};
 use serde_json::Value;
 use shift_instance::{Instance, Parts};
@@ -35,22 +37,33 @@ fn instance_from(alloc: Global, parts: Parts) -> Result<Instance, ReadRefusal>
     }
 }
 
+fn instance_stated(alloc: Global, value: &Value) -> Result<Instance, ReadRefusal>
+    ensures { MatchResult result (λ i. problem_reading (problem_of (view value.now)) ≡ Ok i)
+        (λ e. IsAnswer e (problem_reading (problem_of (view value.now)))) }
+{
+    instance_from(alloc, parts_of(alloc, value)?)
+}
+
 /// The instance that a JSON value states.
 fn instance_of(alloc: Global, value: &Value) -> Result<Instance, ReadRefusal>
     ensures { MatchResult result (λ i. value_reading (view value.now) ≡ Ok i)
         (λ e. IsAnswer e (value_reading (view value.now))) }
 {
-    if !conforms_as_document(value) {
-        return Err(ReadRefusal::NotYet { at: 0 });
+    match in_document(alloc, value)? {
+        Some(refusal) => Err(refusal),
+        None => instance_stated(alloc, value),
     }
-    instance_from(alloc, parts_of(alloc, value)?)
 }
 
 /// The instance that a text states.
 ///
 /// The text is refused with `TooLong` where it has more than `INSTANCE_MAX` bytes; else with `NotJson` where it isn't
-/// UTF-8 or isn't JSON; else with `NotYet` where it is no document, states no instance, or gives a type a break rule.
-/// `NoMemory` may come instead, where memory runs out.
+/// UTF-8 or isn't JSON. Else its objects are judged in turn: the document, its weights, and each type. In each the
+/// first field in byte order that the object may not have is `UnknownField`, then the first that it lacks is `Missing`,
+/// and then the first with a value of another kind is `WrongKind`. A document that is no object is `WrongKind` of
+/// `document`, and a type that is none `WrongKind` of `types`. A type that departs in none of these ways, and has a break
+/// rule, is `NotYet`. A document whose numbers make no instance is `Invalid`. `NoMemory` may come instead, where memory
+/// runs out.
 pub fn read(alloc: Global, bytes: &[u8]) -> Result<Instance, ReadRefusal>
     ensures reading { MatchResult result (λ i. reading_of bytes.now ≡ Ok i)
         (λ e. IsAnswer e (reading_of bytes.now)) }

@@ -1,6 +1,6 @@
 //! Texts that are read, texts that are refused, and the text that is written.
-use crate::{INSTANCE_MAX, ReadRefusal, canonical, read};
-use std::alloc::Global;
+use crate::{INSTANCE_MAX, canonical, read};
+use std::alloc::{AllocError, Global};
 use std::test::Fail;
 
 const MORNING: &str =
@@ -9,11 +9,12 @@ const MORNING: &str =
 const WRITTEN: &str =
     "{\"days\":1,\"max_heads\":1,\"need\":[0,0,0,0,0,0,0,0,1,1,1,1,0,0,0,0,0,0,0,0,0,0,0,0],\"slot_minutes\":60,\"types\":[{\"breaks\":{\"lead\":0,\"long_rest\":1,\"long_work\":288,\"lunches\":[],\"resettle\":0,\"size_max\":48,\"size_min\":1,\"tail\":0,\"totals\":[],\"work_max\":288,\"work_min\":1},\"len_max\":4,\"len_min\":4,\"name\":\"M\",\"start_max\":8,\"start_min\":8}],\"weights\":{\"excess\":1,\"shift\":3,\"shortage\":2}}";
 
-const NOT_YET: Option<ReadRefusal> = Some(ReadRefusal::NotYet { at: 0 });
-
-/// How a text is refused, if it is.
-fn refusal(alloc: Global, text: &str) -> Option<ReadRefusal> {
-    read(alloc, text.as_bytes()).err()
+/// What becomes of a text: `read`, or its refusal as it is shown.
+fn outcome(alloc: Global, text: &[u8]) -> Result<String, AllocError> {
+    match read(alloc, text) {
+        Ok(_) => String::from_str(alloc, "read"),
+        Err(refusal) => refusal.to_string(alloc),
+    }
 }
 
 #[test]
@@ -29,93 +30,87 @@ fn writes_what_it_reads(rt: HostRuntime) -> Result<(), Fail> {
     assert!(rt; text.as_slice() == WRITTEN.as_bytes());
     assert_eq!(rt; text.len(), 372);
     assert_eq!(rt; text.get(356).copied(), Some(b'3'));
-    assert_eq!(rt; refusal(rt.alloc(), WRITTEN), NOT_YET);
+    let again = outcome(rt.alloc(), WRITTEN.as_bytes())?;
+    assert_eq!(rt; again.as_str(), "7 1");
     Ok(())
 }
 
 #[test]
-fn refuses_what_is_no_document(rt: HostRuntime) -> Result<(), Fail> {
-    for (from, to) in [
-        ("\"days\":1", "\"days\":-1"),
-        ("\"days\":1", "\"days\":1.0"),
-        ("\"days\":1", "\"days\":1e0"),
-        ("\"days\":1", "\"days\":65537"),
-        ("\"days\":1,", ""),
-        ("\"shift\":3", "\"shift\":18446744073709551616"),
-        ("\"shift\":3", "\"shift\":4294967295"),
-        ("\"shift\":3", "\"rest\":3"),
-        ("\"shift\":3", "\"shift\":3,\"rest\":3"),
-        ("{\"slot", "{\"site\":1,\"slot"),
-        ("[0,", "[-0,"),
-        ("[0,", "["),
-        ("[{", "[{},{"),
-        ("\"M\"", "null"),
-        ("\"M\"", "\"\""),
-        ("null", "{}"),
-        ("\"max_heads\":1", "\"max_heads\":1,\"days\":8"),
+fn judges_in_order(rt: HostRuntime) -> Result<(), Fail> {
+    for (from, to, shown) in [
+        ("\"days\":1", "\"days\":-1", "5 0 days"),
+        ("\"days\":1", "\"days\":1.0", "5 0 days"),
+        ("\"days\":1", "\"days\":1e0", "5 0 days"),
+        ("\"days\":1", "\"days\":65537", "6 2"),
+        ("\"days\":1,", "", "3 0 days"),
+        ("\"days\":1", "\"day\":1", "4 0 day"),
+        ("\"days\":1,\"need\":[", "\"need\":[-1,", "3 0 days"),
+        (
+            "\"max_heads\":1",
+            "\"max_heads\":1,\"days\":7,\"days\":1",
+            "read",
+        ),
+        (
+            "\"max_heads\":1",
+            "\"max_heads\":18446744073709551615",
+            "6 6",
+        ),
+        (
+            "\"max_heads\":1",
+            "\"max_heads\":18446744073709551616",
+            "5 0 max_heads",
+        ),
+        ("\"shift\":3", "\"shift\":4294967295", "6 5"),
+        ("\"shift\":3", "\"rest\":3", "4 0 rest"),
+        ("\"shift\":3", "\"shift\":null", "5 0 shift"),
+        ("{\"slot", "{\"zone\":1,\"area\":1,\"slot", "4 0 area"),
+        ("[0,", "[-0,", "5 0 need"),
+        ("[0,", "[", "6 3 23 24"),
+        ("[{", "[{},{", "3 1 name"),
+        ("[{", "[0,{", "5 1 types"),
+        ("}]", "},[]]", "5 2 types"),
+        ("\"M\"", "null", "5 1 name"),
+        ("\"M\"", "\"\"", "6 12 0"),
+        ("null", "0", "5 1 breaks"),
+        ("null", "{}", "7 1"),
+        (",\"breaks\":null", "", "read"),
+        ("\"days\"", " \"\\u0064ays\"\n", "read"),
     ] {
         let text = MORNING.replacen(rt.alloc(), from, to, 1)?;
-        assert_eq!(rt; refusal(rt.alloc(), text.as_str()), NOT_YET, "{to}");
-    }
-    assert_eq!(rt; refusal(rt.alloc(), "[]"), NOT_YET);
-    Ok(())
-}
-
-#[test]
-fn reads_other_spellings(rt: HostRuntime) -> Result<(), Fail> {
-    for (from, to) in [
-        ("\"days\":1", "\"days\":7,\"days\":1"),
-        ("\"days\"", " \"\\u0064ays\"\n"),
-        (",\"breaks\":null", ""),
-        ("\"shift\":3", "\"shift\":1000000"),
-    ] {
-        let text = MORNING.replacen(rt.alloc(), from, to, 1)?;
-        assert_eq!(rt; refusal(rt.alloc(), text.as_str()), None, "{to}");
+        let found = outcome(rt.alloc(), text.as_bytes())?;
+        assert_eq!(rt; found.as_str(), shown, "{to}");
     }
     Ok(())
 }
 
 #[test]
-fn refuses_what_is_no_json(rt: HostRuntime) -> Result<(), Fail> {
+fn shows_the_beginning_of_a_long_name(rt: HostRuntime) -> Result<(), Fail> {
+    let front = "x".repeat(rt.alloc(), 63)?;
+    let text = format!(in rt.alloc(); "{{\"{front}\u{e9}\":0}}")?;
+    let shown = format!(in rt.alloc(); "4 0 {front}")?;
+    let found = outcome(rt.alloc(), text.as_bytes())?;
+    assert_eq!(rt; found.as_str(), shown.as_str());
+    Ok(())
+}
+
+#[test]
+fn refuses_other_texts(rt: HostRuntime) -> Result<(), Fail> {
     let deep = "[".repeat(rt.alloc(), 200)?;
-    for text in ["", "{", "{} {}", "01", "1e999", deep.as_str()] {
-        assert_eq!(rt;
-            refusal(rt.alloc(), text),
-            Some(ReadRefusal::NotJson),
-            "{text}"
-        );
-    }
-    assert_eq!(rt;
-        read(rt.alloc(), b"\"\xff\"").err(),
-        Some(ReadRefusal::NotJson)
-    );
-    Ok(())
-}
-
-#[test]
-fn refuses_what_is_too_long(rt: HostRuntime) -> Result<(), Fail> {
     let most = " ".repeat(rt.alloc(), INSTANCE_MAX)?;
-    assert_eq!(rt;
-        refusal(rt.alloc(), most.as_str()),
-        Some(ReadRefusal::NotJson)
-    );
     let more = " ".repeat(rt.alloc(), INSTANCE_MAX + 1)?;
-    assert_eq!(rt;
-        refusal(rt.alloc(), more.as_str()),
-        Some(ReadRefusal::TooLong)
-    );
-    Ok(())
-}
-
-#[test]
-fn shows_its_number(rt: HostRuntime) -> Result<(), Fail> {
-    for (refusal, text) in [
-        (ReadRefusal::TooLong, "1"),
-        (ReadRefusal::NotJson, "2"),
-        (ReadRefusal::NotYet { at: 0 }, "7 0"),
+    for (text, shown) in [
+        ("", "2"),
+        ("{} {}", "2"),
+        ("1e999", "2"),
+        (deep.as_str(), "2"),
+        (most.as_str(), "2"),
+        (more.as_str(), "1"),
+        ("[]", "5 0 document"),
     ] {
-        let shown = refusal.to_string(rt.alloc())?;
-        assert_eq!(rt; shown.as_str(), text);
+        let found = outcome(rt.alloc(), text.as_bytes())?;
+        assert_eq!(rt; found.as_str(), shown);
     }
+    let found = outcome(rt.alloc(), b"\"\xff\"")?;
+    assert_eq!(rt; found.as_str(), "2");
     Ok(())
 }

@@ -1,0 +1,12 @@
+use Rattle.std.proofs.Common.{map, codes, ap, ◌∙◌}
+use Rattle.std.proofs.lemmas.Result.{IfOk-weaker}
+use Rattle.std.specs.List.{enumerate_from}
+use Rattle.serde_json.specs.View.{view}
+use Rattle.instance_json.specs.Departures.{first_some, type_departure}
+use Rattle.instance_json.proofs.Lists.{views_at}
+use Rattle.instance_json.proofs.departures.in_types.Goals as goal
+
+pub returns-in-Some : goal.returns-in-Some
+returns-in-Some c =
+    let items = views_at (codes "types") (view c.args.value.now) c.in-Some.list.now c.in-Some.ensures in
+    IfOk-weaker c.in_list.result _ _ (λ found e. e ∙ ap (λ ds. first_some (map type_departure (enumerate_from 1 ds))) items) c.in_list.ensures
