@@ -36,7 +36,7 @@ fn words_of(alloc: Global, line: &str) -> Result<Vec<String>, AllocError> {
     Ok(words)
 }
 
-/// The status of a run, and what the sink then holds. The source gives `most` bytes a read and the sink takes as many; the
+/// What a run says: the number of its status and its line on standard error, and what the sink then holds. The source gives `most` bytes a read and the sink takes as many; the
 /// reads and writes of the given numbers fail.
 fn run(
     alloc: Global,
@@ -45,7 +45,7 @@ fn run(
     most: usize,
     bad_read: u64,
     bad_write: u64,
-) -> Result<(Status, Vec<u8>), AllocError>
+) -> Result<(u8, String, Vec<u8>), AllocError>
     requires { 0 < most }
 {
     let words = words_of(alloc, line)?;
@@ -58,7 +58,11 @@ fn run(
     let mut sink = MemSink::new(alloc, vec![in alloc; bad_write]?, most);
     let disk = MemDisk::new(alloc, Vec::new(alloc), Vec::new(alloc));
     let (status, _disk, _opened) = solve_run(alloc, words.as_slice(), &mut source, &mut sink, disk);
-    Ok((status, Vec::from_slice(alloc, sink.bytes())?))
+    Ok((
+        status.number(),
+        status_line(alloc, &status)?,
+        Vec::from_slice(alloc, sink.bytes())?,
+    ))
 }
 
 #[test]
@@ -66,13 +70,15 @@ fn a_plan_is_printed(rt: HostRuntime) -> Result<(), Fail> {
     let alloc = rt.alloc();
     for most in [1usize, 7, 100000] {
         let text = document(alloc, MORNING, "null")?;
-        let (status, written) = run(alloc, "solve J", text.as_bytes(), most, 0, 0)?;
-        assert_eq!(rt; status, Status::Budget);
+        let (number, line, written) = run(alloc, "solve J", text.as_bytes(), most, 0, 0)?;
+        assert_eq!(rt; number, 10);
+        assert_eq!(rt; line.as_str(), "stopped: step budget spent");
         assert_eq!(rt; written.as_slice(), MORNING_REPORT.as_bytes());
     }
     let text = document(alloc, NOTHING, "null")?;
-    let (status, written) = run(alloc, "solve J", text.as_bytes(), 100000, 0, 0)?;
-    assert_eq!(rt; status, Status::Optimal);
+    let (number, line, written) = run(alloc, "solve J", text.as_bytes(), 100000, 0, 0)?;
+    assert_eq!(rt; number, 0);
+    assert_eq!(rt; line.as_str(), "");
     assert_eq!(rt; written.as_slice(), NOTHING_REPORT.as_bytes());
     Ok(())
 }
@@ -81,7 +87,7 @@ fn a_plan_is_printed(rt: HostRuntime) -> Result<(), Fail> {
 fn other_words_are_usage(rt: HostRuntime) -> Result<(), Fail> {
     let alloc = rt.alloc();
     let text = document(alloc, MORNING, "null")?;
-    for line in [
+    for words in [
         "",
         "solve",
         "plan J",
@@ -90,8 +96,9 @@ fn other_words_are_usage(rt: HostRuntime) -> Result<(), Fail> {
         "solve J --steps 1",
         "solve J --",
     ] {
-        let (status, written) = run(alloc, line, text.as_bytes(), 100000, 0, 0)?;
-        assert_eq!(rt; status, Status::Usage, "{line}");
+        let (number, line, written) = run(alloc, words, text.as_bytes(), 100000, 0, 0)?;
+        assert_eq!(rt; number, 2, "{words}");
+        assert!(rt; line.as_str().starts_with("usage: solve JOURNAL "));
         assert!(rt; written.is_empty());
     }
     let words = vec![in alloc; String::from_str(alloc, "solve")?, String::new(alloc)]?;
@@ -99,41 +106,36 @@ fn other_words_are_usage(rt: HostRuntime) -> Result<(), Fail> {
     let mut sink = MemSink::new(alloc, Vec::new(alloc), 1);
     let disk = MemDisk::new(alloc, Vec::new(alloc), Vec::new(alloc));
     let (status, _disk, opened) = solve_run(alloc, words.as_slice(), &mut source, &mut sink, disk);
-    assert_eq!(rt; status, Status::Usage);
+    assert_eq!(rt; status.number(), 2);
     assert!(rt; !opened);
     Ok(())
 }
 
-/// The refusal of an input, if the run ends with one and writes nothing.
-fn refusal(alloc: Global, input: &[u8]) -> Result<Option<ReadRefusal>, AllocError> {
-    let (status, written) = run(alloc, "solve J", input, 100000, 0, 0)?;
-    match status {
-        Status::Input(why) if written.is_empty() => Ok(Some(why)),
-        _ => Ok(None),
-    }
-}
-
 #[test]
-fn other_documents_are_refused(rt: HostRuntime) -> Result<(), Fail> {
+fn other_documents_are_refused_by_name(rt: HostRuntime) -> Result<(), Fail> {
     let alloc = rt.alloc();
-    assert_eq!(rt; refusal(alloc, b"")?, Some(ReadRefusal::NotJson));
-    assert_eq!(rt; refusal(alloc, b"solve")?, Some(ReadRefusal::NotJson));
-    let blanks = vec![in alloc; b' '; 1048577]?;
-    assert_eq!(rt;
-        refusal(alloc, blanks.as_slice())?,
-        Some(ReadRefusal::TooLong)
-    );
-    let not_yet = Some(ReadRefusal::NotYet { at: 0 });
-    assert_eq!(rt; refusal(alloc, b"[]")?, not_yet);
-    assert_eq!(rt; refusal(alloc, b"{\"days\":1}")?, not_yet);
-    assert_eq!(rt;
-        refusal(alloc, document(alloc, MORNING, "{}")?.as_bytes())?,
-        not_yet
-    );
-    assert_eq!(rt;
-        refusal(alloc, document(alloc, TOO_FEW, "null")?.as_bytes())?,
-        not_yet
-    );
+    let blanks = String::from_utf8(vec![in alloc; b' '; 1048577]?).ok().ok_or("blanks")?;
+    let breaks = document(alloc, MORNING, "{}")?;
+    let count = document(alloc, MORNING, "7")?;
+    let needs = document(alloc, TOO_FEW, "null")?;
+    let part = document(alloc, "0.5", "null")?;
+    for (text, wanted) in [
+        ("", "instance refused: 2"),
+        ("solve", "instance refused: 2"),
+        (blanks.as_str(), "instance refused: 1"),
+        ("[]", "instance refused: 5 0 document"),
+        ("{\"needs\":1}", "instance refused: 4 0 needs"),
+        ("{\"slot_minutes\":60}", "instance refused: 3 0 days"),
+        (part.as_str(), "instance refused: 5 0 need"),
+        (needs.as_str(), "instance refused: 6 3 23 24"),
+        (count.as_str(), "instance refused: 5 1 breaks"),
+        (breaks.as_str(), "instance refused: 7 1"),
+    ] {
+        let (number, line, written) = run(alloc, "solve J", text.as_bytes(), 100000, 0, 0)?;
+        assert_eq!(rt; number, 3);
+        assert_eq!(rt; line.as_str(), wanted);
+        assert!(rt; written.is_empty());
+    }
     Ok(())
 }
 
@@ -143,8 +145,9 @@ fn a_failing_read_prints_nothing(rt: HostRuntime) -> Result<(), Fail> {
     let text = document(alloc, MORNING, "null")?;
     // the document has more than 200 bytes: the reads 1 to 3 of 100 bytes give some, and the next one the end
     for call in [1u64, 2, 3, 4] {
-        let (status, written) = run(alloc, "solve J", text.as_bytes(), 100, call, 0)?;
-        assert_eq!(rt; status, Status::ReadFault, "at read {call}");
+        let (number, line, written) = run(alloc, "solve J", text.as_bytes(), 100, call, 0)?;
+        assert_eq!(rt; number, 5, "at read {call}");
+        assert_eq!(rt; line.as_str(), "read fault");
         assert!(rt; written.is_empty());
     }
     Ok(())
@@ -155,8 +158,9 @@ fn a_failing_write_leaves_the_beginning(rt: HostRuntime) -> Result<(), Fail> {
     let alloc = rt.alloc();
     let text = document(alloc, MORNING, "null")?;
     for (most, call, held) in [(100000usize, 1u64, 0usize), (1, 21, 20), (20, 2, 20)] {
-        let (status, written) = run(alloc, "solve J", text.as_bytes(), most, 0, call)?;
-        assert_eq!(rt; status, Status::WriteFault, "at write {call}");
+        let (number, line, written) = run(alloc, "solve J", text.as_bytes(), most, 0, call)?;
+        assert_eq!(rt; number, 6, "at write {call}");
+        assert_eq!(rt; line.as_str(), "write fault");
         assert_eq!(rt; written.len(), held);
         assert!(rt; MORNING_REPORT.as_bytes().starts_with(written.as_slice()));
     }
@@ -172,21 +176,7 @@ fn each_status_has_its_number_and_line(rt: HostRuntime) -> Result<(), Fail> {
         (Status::Optimal, 0u8, ""),
         (Status::Budget, 10, "stopped: step budget spent"),
         (Status::Usage, 2, usage),
-        (
-            Status::Input(ReadRefusal::TooLong),
-            3,
-            "instance refused: 1",
-        ),
-        (
-            Status::Input(ReadRefusal::NotJson),
-            3,
-            "instance refused: 2",
-        ),
-        (
-            Status::Input(ReadRefusal::NotYet { at: 0 }),
-            3,
-            "instance refused: 7 0",
-        ),
+        (Status::Input(ReadRefusal::TooLong), 3, "instance refused: 1"),
         (Status::ReadFault, 5, "read fault"),
         (Status::WriteFault, 6, "write fault"),
         (Status::NoMemory, 8, "no memory"),

@@ -11,7 +11,7 @@ const USAGE: &str =
     "usage: solve JOURNAL [--workers W] [--steps B] [--table] or solve --demo N [--steps B]";
 
 /// How a run of `solve` ends.
-#[derive(Debug, PartialEq, Eq, Drop)]
+#[derive(Debug, Drop)]
 pub enum Status {
     /// The report was written, and no legal plan costs less than the printed one.
     Optimal,
