@@ -1,12 +1,12 @@
 #!/usr/bin/env python3
 """Measures `shift_solve solve` on the week of week.py: seconds and peak memory of the whole process, the best of some runs.
 Build the program first, by `./run shift_solve` with any words."""
+import json
 import os
 import subprocess
 import sys
 import tempfile
 import time
-import json
 
 sys.path.insert(0, os.path.dirname(os.path.abspath(__file__)))
 import week
@@ -17,9 +17,12 @@ PROGRAM = os.path.join(TOP, "crates", "shift_solve", "out", "shift_solve")
 
 def run(document, folder):
     """Seconds, peak memory in MB, status and report of one run in a process of its own."""
+    journal = os.path.join(folder, "week.journal")
+    if os.path.exists(journal):
+        os.remove(journal)
     with open(document, "rb") as source, open(os.path.join(folder, "report"), "wb") as report:
         begin = time.perf_counter()
-        child = subprocess.Popen([PROGRAM, "solve", os.path.join(folder, "week.journal")], stdin=source, stdout=report)
+        child = subprocess.Popen([PROGRAM, "solve", journal], stdin=source, stdout=report, stderr=subprocess.DEVNULL)
         _, status, usage = os.wait4(child.pid, 0)
         seconds = time.perf_counter() - begin
     with open(os.path.join(folder, "report")) as report:
@@ -34,9 +37,6 @@ def main():
             json.dump(week.instance(), out)
         runs = []
         for _ in range(5):
-            for old in ("week.journal",):
-                if os.path.exists(os.path.join(folder, old)):
-                    os.remove(os.path.join(folder, old))
             runs.append(run(document, folder))
         seconds, memory, status, lines = min(runs)
         print("document of %d bytes, status %d, %s, %s" % (os.path.getsize(document), status, lines[2], lines[4]))

@@ -114,7 +114,9 @@ fn other_words_are_usage(rt: HostRuntime) -> Result<(), Fail> {
 #[test]
 fn other_documents_are_refused_by_name(rt: HostRuntime) -> Result<(), Fail> {
     let alloc = rt.alloc();
-    let blanks = String::from_utf8(vec![in alloc; b' '; 1048577]?).ok().ok_or("blanks")?;
+    let blanks = String::from_utf8(vec![in alloc; b' '; 1048577]?)
+        .ok()
+        .ok_or("blanks")?;
     let breaks = document(alloc, MORNING, "{}")?;
     let count = document(alloc, MORNING, "7")?;
     let needs = document(alloc, TOO_FEW, "null")?;
@@ -176,7 +178,11 @@ fn each_status_has_its_number_and_line(rt: HostRuntime) -> Result<(), Fail> {
         (Status::Optimal, 0u8, ""),
         (Status::Budget, 10, "stopped: step budget spent"),
         (Status::Usage, 2, usage),
-        (Status::Input(ReadRefusal::TooLong), 3, "instance refused: 1"),
+        (
+            Status::Input(ReadRefusal::TooLong),
+            3,
+            "instance refused: 1",
+        ),
         (Status::ReadFault, 5, "read fault"),
         (Status::WriteFault, 6, "write fault"),
         (Status::NoMemory, 8, "no memory"),

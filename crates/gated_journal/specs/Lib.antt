@@ -1,0 +1,5 @@
+pub mod Format
+pub mod View
+pub mod Faults
+pub mod Inside
+pub mod Cuts

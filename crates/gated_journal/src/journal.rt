@@ -1,0 +1,214 @@
+// Records behind gates. A record is written behind a closed gate, and only when a sync has made sure of it its gate is opened.
+ghost use Rattle.std.specs.Prelude.{◌≡◌, ◌+◌, ◌-◌, ◌^◌, ◌<◌, ◌≤◌, ◌↔◌, List, ℕ, [], ◌∷◌, ◌++◌, length, OnOk, OnErr, IfOk, IfErr, IfSome, OnSome, IsErrOf, IsTrue, MatchResult, vec_capacity, vec_len, max, map, sum_by};
+ghost use Rattle.plan_base.specs.Causes.{Rose};
+ghost use Rattle.plan_base.specs.Disk.{TellsAlike, IsSynced, HoldsThroughout, OnlyLooks};
+ghost use Rattle.gated_journal.specs.Format.{framed, fresh, end_after, IsBeforeOrAfter, IsNoLonger};
+ghost use Rattle.gated_journal.specs.View.{IsSettled};
+ghost use Rattle.gated_journal.specs.Faults.{PutFails, CreateFails, OpenFails};
+
+use crate::fault::JournalFault;
+use crate::open_file::load;
+use crate::parse::{read_records, split_head};
+use crate::stored::write_synced;
+use crate::told::Told;
+use plan_base::{Disk, Failed};
+use std::alloc::{AllocError, Global};
+use std::marker::Model;
+
+const MARK: [u8; 8] = [b'S', b'H', b'I', b'F', b'T', b'J', b'1', b'\n'];
+
+/// A head and records in a file, each record behind a gate byte: 1 is open, and every other byte is closed and ends
+/// the journal. The disk is handed in at each call.
+///
+/// Contracts see the head, the records in order, the limit of the file's length, and `spare`, the length of the
+/// longest record that can be put. All lengths are in bytes.
+#[derive(Drop)]
+pub struct Journal {
+    // the head and the records, for clauses alone
+    told: Told,
+    // a record's length, its bytes and the next gate, as they are written
+    buffer: Vec<u8>,
+    spare: usize,
+    // the place of the closed gate
+    gate: u64,
+    limit: u32,
+}
+
+impl Model for Journal {
+    ghost use Rattle.gated_journal.specs.View.{JournalView};
+
+    ghost Value = { JournalView };
+
+    ghost use Rattle.gated_journal.specs.Inside.{view_of, IsJournal};
+
+    ghost view = { view_of };
+
+    ghost invariant = { IsJournal };
+}
+
+// A record's length, its bytes and the next closed gate.
+fn join(buffer: &mut Vec<u8>, bytes: &[u8])
+    requires room { length bytes.now + 5 ≤ vec_capacity buffer.old }
+    requires short { length bytes.now < 2 ^ 32 }
+    ensures joined { buffer.new.items ≡ framed bytes.now ++ 0 ∷ [] }
+    ensures capacity { vec_capacity buffer.old ≤ vec_capacity buffer.new }
+{
+    buffer.clear();
+    let size = bytes.len() as u32;
+    buffer.extend_from_slice(&size.to_le_bytes()).unwrap();
+    buffer.extend_from_slice(bytes).unwrap();
+    buffer.push(0).unwrap();
+}
+
+// The bytes of a journal without records.
+fn first_file(alloc: Global, head: &[u8]) -> Result<Vec<u8>, AllocError>
+    requires { length head.now < 2 ^ 32 }
+    ensures { IfOk result (λ bytes. bytes.items ≡ fresh head.now) }
+{
+    let mut bytes = Vec::from_slice(alloc, &MARK)?;
+    let size = head.len() as u32;
+    bytes.extend_from_slice(&size.to_le_bytes())?;
+    bytes.extend_from_slice(head)?;
+    bytes.push(0)?;
+    Ok(bytes)
+}
+
+impl Journal {
+    ghost use Rattle.gated_journal.specs.View.{JournalView};
+
+    /// Writes a journal without records to an empty file, by one write and one sync, and its spare is 0.
+    ///
+    /// `DiskFault` comes only where the disk failed, and `NoMemory` before the first call on the disk.
+    pub fn create<D: Disk>(
+        alloc: Global,
+        disk: &mut D,
+        head: &[u8],
+        limit: u32,
+    ) -> Result<Journal, JournalFault>
+        requires count { D.calls disk.old < 2 ^ 62 + 2 ^ 40 }
+        requires empty { IfSome (D.reads disk.old) (λ file. file ≡ []) }
+        requires room { 13 + length head.now ≤ limit }
+        requires most { limit ≤ 2 ^ 26 }
+        ensures ok { IfOk result (λ journal. (journal.head ≡ head.now) × (journal.records ≡ []) × (journal.limit ≡ limit) × (journal.spare ≡ 0)) }
+        ensures settled { IfOk result (λ journal. IsSettled journal (D.reads disk.new) (D.images disk.new)) }
+        ensures file { OnOk result (IfSome (D.reads disk.new) (λ file. file ≡ fresh head.now)) }
+
+        // Each image during the call is no longer than the new file.
+        ensures any_moment { IsSynced (D.reads disk.old) (D.images disk.old) → OnSome (D.reads disk.old) (HoldsThroughout D.calls D.images_since disk.old disk.new (IsNoLonger (13 + length head.now))) }
+        ensures two { OnOk result (D.calls disk.new ≡ D.calls disk.old + 2) }
+        ensures most { D.calls disk.new ≤ D.calls disk.old + 2 }
+        ensures telling { TellsAlike (D.reads disk.old) (D.reads disk.new) }
+        ensures cause { IfErr result (CreateFails (D.faults disk.old) (D.faults disk.new)) }
+        ensures faults { D.faults disk.old ≤ D.faults disk.new }
+        ensures no_memory { IsErrOf result JournalFault.NoMemory → disk.new ≡ disk.old }
+    {
+        let buffer = first_file(alloc, head)?;
+        write_synced(disk, 0, &buffer)?;
+        Ok(Journal {
+            told: Told::of_head(head),
+            gate: buffer.len() as u64 - 1,
+            buffer,
+            spare: 0,
+            limit,
+        })
+    }
+
+    /// Opens whatever stands in a disk's file: it syncs, then only reads, and answers the journal with its head and
+    /// its records, or why there is none. The journal's spare is 0.
+    ///
+    /// A file that is no journal is `NotAJournal`, also where it is longer than the limit; a journal that is longer
+    /// than the limit or cut off is `Damaged`. `DiskFault` comes only where the disk failed. After `NoMemory` the disk
+    /// reads as before.
+    pub fn open<D: Disk>(
+        alloc: Global,
+        disk: &mut D,
+        limit: u32,
+    ) -> Result<(Journal, Vec<u8>, Vec<Vec<u8>>), JournalFault>
+        requires { D.calls disk.old < 2 ^ 62 + 2 ^ 40 }
+        ensures view { IfOk result (λ r. (r.0.head ≡ r.1.items) × (r.0.records ≡ map (λ v. v.items) r.2.items) × (r.0.limit ≡ limit) × (r.0.spare ≡ 0)) }
+        ensures settled { IfOk result (λ r. IsSettled r.0 (D.reads disk.new) (D.images disk.new)) }
+
+        // What it answers is never longer than the limit, whatever the disk is.
+        ensures total { IfOk result (λ r. length r.0.head + sum_by length r.0.records ≤ limit) }
+        ensures looks { OnlyLooks D.reads D.images D.images_since D.calls disk.old disk.new }
+        ensures most { D.calls disk.new ≤ D.calls disk.old + 2 ^ 33 }
+        ensures cause { IfErr result (OpenFails limit (D.reads disk.old) (D.faults disk.old) (D.faults disk.new)) }
+        ensures faults { D.faults disk.old ≤ D.faults disk.new }
+    {
+        let bytes = load(alloc, disk, limit)?;
+        let Some((head, after)) = split_head(&bytes) else {
+            return Err(JournalFault::NotAJournal);
+        };
+        let (records, told, gate) = read_records(alloc, &bytes, head, after)?;
+        let head = Vec::from_slice(alloc, head)?;
+        let journal = Journal {
+            told,
+            buffer: Vec::with_capacity(alloc, 5)?,
+            spare: 0,
+            gate,
+            limit,
+        };
+        Ok((journal, head, records))
+    }
+
+    /// Whether the file stays within the limit with one more record of this length.
+    pub fn fits(&self, bytes: usize) -> bool
+        ensures { IsTrue result ↔ (end_after self.now.head self.now.records bytes ≤ self.now.limit) }
+    {
+        bytes as u64 <= u64::from(self.limit)
+            && self.gate + 6 + bytes as u64 <= u64::from(self.limit)
+    }
+
+    /// Makes room for a record of this length. It never lowers the spare.
+    pub fn reserve(&mut self, bytes: usize) -> Result<(), AllocError>
+        ensures ok { OnOk result (self.new ≡ record self.old { spare = max self.old.spare bytes }) }
+        ensures err { OnErr result (self.new ≡ self.old) }
+    {
+        if bytes <= self.spare {
+            return Ok(());
+        }
+        let Some(wanted) = bytes.checked_add(5) else {
+            return Err(AllocError);
+        };
+        self.buffer.clear();
+        self.buffer.reserve(wanted)?;
+        self.spare = bytes;
+        Ok(())
+    }
+
+    /// Adds a record, by two writes with a sync after each. It takes no memory.
+    ///
+    /// `Full` comes exactly where the file would pass the limit; then no call on the disk was made. `DiskFault` comes
+    /// only where the disk failed; then open the file again, and don't put on this journal.
+    pub fn put<D: Disk>(&mut self, disk: &mut D, bytes: &[u8]) -> Result<(), JournalFault>
+        requires count { D.calls disk.old < 2 ^ 62 + 2 ^ 40 }
+        requires room { length bytes.now ≤ self.old.spare }
+        requires settled { IsSettled self.old (D.reads disk.old) (D.images disk.old) }
+        ensures ok { OnOk result (self.new ≡ record self.old { records = self.old.records ++ bytes.now ∷ [] }) }
+        ensures settled { OnOk result (IsSettled self.new (D.reads disk.new) (D.images disk.new)) }
+        ensures err { OnErr result (self.new ≡ self.old) }
+
+        // Each image during the call stands for the records from before it, or for those with the new one.
+        ensures any_moment { OnSome (D.reads disk.old) (HoldsThroughout D.calls D.images_since disk.old disk.new (IsBeforeOrAfter self.old.limit self.old.head self.old.records bytes.now)) }
+        ensures four { OnOk result (D.calls disk.new ≡ D.calls disk.old + 4) }
+        ensures most { D.calls disk.new ≤ D.calls disk.old + 4 }
+        ensures telling { TellsAlike (D.reads disk.old) (D.reads disk.new) }
+        ensures cause { MatchResult result (λ _. end_after self.old.head self.old.records (length bytes.now) ≤ self.old.limit) (PutFails (D.faults disk.old) (D.faults disk.new) (end_after self.old.head self.old.records (length bytes.now)) self.old.limit) }
+        ensures faults { D.faults disk.old ≤ D.faults disk.new }
+        ensures untouched { self.old.limit < end_after self.old.head self.old.records (length bytes.now) → disk.new ≡ disk.old }
+    {
+        let end = self.gate + 6 + bytes.len() as u64;
+        if end > u64::from(self.limit) {
+            return Err(JournalFault::Full {
+                end,
+                limit: self.limit,
+            });
+        }
+        join(&mut self.buffer, bytes);
+        write_synced(disk, self.gate + 1, &self.buffer)?;
+        write_synced(disk, self.gate, &[1])?;
+        self.told = Told::with(&self.told, bytes);
+        self.gate = end - 1;
+        Ok(())
+    }
+}

@@ -1,0 +1,19 @@
+//! A journal: a head and records in a file, so written that a crash at any moment leaves whole records, and every one that was put.
+#![tactic(auto)]
+
+mod fault;
+mod journal;
+mod laws;
+mod open_file;
+mod parse;
+mod reads;
+mod settling;
+mod stored;
+#[cfg(test)]
+mod tests;
+mod told;
+
+pub use fault::JournalFault;
+pub use journal::Journal;
+pub use laws::one_reading;
+pub use settling::settle;

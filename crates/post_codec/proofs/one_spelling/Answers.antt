@@ -1,0 +1,9 @@
+use Rattle.std.proofs.Common.{sym, ◌∙◌}
+use Rattle.post_codec.proofs.Formats.{one_list}
+use Rattle.post_codec.proofs.one_spelling.Goals as goal
+
+pub returns-clause-lists : goal.returns-clause-lists
+returns-clause-lists c = one_list
+
+pub returns-clause-spellings : goal.returns-clause-spellings
+returns-clause-spellings c = λ one other ps a b. a.is ∙ sym b.is

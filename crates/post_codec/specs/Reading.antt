@@ -1,0 +1,132 @@
+-- The same format read from left to right, with the first fault that is met.
+use Rattle.std.specs.Prelude.{◌≡◌, ℕ, zero, suc, ◌-◌, ◌≤◌, List, [], ◌∷◌, length, take, drop, Result, Ok, Err, Vec, nat_lt, ◌==◌, if◌then◌else◌}
+use Rattle.std.specs.declared.alloc.Global.{Global}
+use Rattle.std.specs.Int.{Width, w16, w32, w64, byte_len, from_le_bytes}
+use Rattle.break_rules.specs.declared.Break.{Break}
+use Rattle.shift_instance.specs.declared.Row.{Row}
+use Rattle.post_codec.specs.declared.post.Post.{Post}
+use Rattle.post_codec.specs.declared.post.Post.TheVariants.{Plan}
+use Rattle.post_codec.specs.declared.fault.CodecFault.{CodecFault}
+use Rattle.post_codec.specs.declared.fault.CodecFault.TheVariants.{Departs, NoMemory}
+use Rattle.post_codec.specs.declared.fault.Stop.{Stop}
+use Rattle.post_codec.specs.declared.fault.Stop.TheVariants.{Memory, Left}
+
+-- the value at the front and the bytes after it, or the number of bytes from the faulty place to the end
+abbrev pub Reader : Type 0 → Type 0
+Reader A = List ℕ → Result (A × List ℕ) ℕ
+
+-- the next step, where this one met no fault
+infixl 10 ◌>>=◌
+abbrev pub ◌>>=◌ : {A B : Type 0} → Result A ℕ → (A → Result B ℕ) → Result B ℕ
+(Ok x) >>= f = f x
+(Err e) >>= f = Err e
+
+-- one value and then another
+infixr 12 ◌then◌
+abbrev pub ◌then◌ : {A B : Type 0} → Reader A → Reader B → Reader (A × B)
+(f then g) bytes = f bytes >>= λ a. g a.1 >>= λ b. Ok ((a.0, b.0), b.1)
+
+-- a value that is made of what is read
+abbrev pub made : {A B : Type 0} → (A → B) → Reader A → Reader B
+made f read bytes = read bytes >>= λ a. Ok (f a.0, a.1)
+
+-- so many values
+unfoldable pub times : {A : Type 0} → Reader A → ℕ → Reader (List A)
+times read zero bytes = Ok ([], bytes)
+times read (suc n) bytes = read bytes >>= λ first. times read n first.1 >>= λ others. Ok (first.0 ∷ others.0, others.1)
+
+-- a number, and so many values
+abbrev pub counted : {A : Type 0} → Reader ℕ → Reader A → Reader (List A)
+counted number read bytes = number bytes >>= λ n. times read n.0 n.1
+
+-- one byte
+abbrev pub byte_at : Reader ℕ
+byte_at [] = Err 0
+byte_at (b ∷ rest) = Ok (b, rest)
+
+-- a number of that width, the least byte first; the fault is at its first byte
+abbrev pub number_at : Width → Reader ℕ
+number_at w bytes = if nat_lt (length bytes) (byte_len w) then Err (length bytes) else Ok (from_le_bytes w (take (byte_len w) bytes), drop (byte_len w) bytes)
+
+-- the break of a start and a length
+abbrev pub to_break : ℕ × ℕ → Break
+to_break x = record { start = x.0; len = x.1 }
+
+-- a break
+unfoldable pub break_at : Reader Break
+break_at bytes = made to_break (number_at w16 then number_at w16) bytes
+
+-- breaks
+unfoldable pub breaks_at : Reader (List Break)
+breaks_at bytes = counted byte_at break_at bytes
+
+-- the row of a shift, a day, a count and breaks
+abbrev pub to_row : ℕ × (ℕ × (ℕ × List Break)) → Row
+to_row x = record { shift = x.0; day = x.1.0; breaks = x.1.1.1; count = x.1.1.0 }
+
+-- a row
+unfoldable pub row_at : Reader Row
+row_at bytes = made to_row (number_at w16 then (byte_at then (number_at w16 then breaks_at))) bytes
+
+-- rows
+unfoldable pub rows_at : Reader (List Row)
+rows_at bytes = counted (number_at w32) row_at bytes
+
+-- the plan of a worker, a cost and rows
+abbrev pub to_plan : ℕ × (ℕ × List Row) → Post
+to_plan x = Plan x.0 x.1.1 x.1.0
+
+-- a plan behind its tag
+unfoldable pub plan_at : Reader Post
+plan_at bytes = made to_plan (number_at w16 then (number_at w64 then rows_at)) bytes
+
+-- a tag, and the post of that tag; the fault of an unknown tag is at the tag
+unfoldable pub post_at : Reader Post
+post_at bytes = byte_at bytes >>= λ tag. if tag.0 == 1 then plan_at tag.1 else Err (length bytes)
+
+-- posts
+unfoldable pub posts_at : Reader (List Post)
+posts_at bytes = counted (number_at w16) post_at bytes
+
+-- nothing may follow
+abbrev pub ended : {A : Type 0} → A × List ℕ → Result A ℕ
+ended (x, []) = Ok x
+ended (x, b ∷ rest) = Err (length (b ∷ rest))
+
+-- a fault by its offset from the beginning
+abbrev pub by_offset : {A : Type 0} → ℕ → Result A ℕ → Result A ℕ
+by_offset len (Ok x) = Ok x
+by_offset len (Err left) = Err (len - left)
+
+-- the posts of all of the bytes, or the number of bytes from the first fault to the end
+abbrev pub whole : List ℕ → Result (List Post) ℕ
+whole bytes = posts_at bytes >>= ended
+
+-- the posts of all of the bytes, or the offset of the first fault
+abbrev pub reading : List ℕ → Result (List Post) ℕ
+reading bytes = by_offset (length bytes) (whole bytes)
+
+-- a reason to stop is the fault that was met, or want of memory
+abbrev pub Stops : {Y : Type 0} → Stop → Result Y ℕ → Type 0
+Stops Memory read = Unit {0}
+Stops (Left n) read = read ≡ Err n
+
+-- what a function returned, seen by view, is what was to be read, unless memory ran out
+abbrev pub Gives : {X Y : Type 0} → (X → Y) → Result X Stop → Result Y ℕ → Type 0
+Gives view (Ok x) read = read ≡ Ok (view x)
+Gives view (Err e) read = Stops e read
+
+-- a fault is the one that was met, or want of memory
+abbrev pub Tells : CodecFault → Result (List Post) ℕ → Type 0
+Tells (Departs at) read = read ≡ Err at
+Tells NoMemory read = Unit {0}
+
+-- the answer is what was to be read, unless memory ran out
+abbrev pub IsRead : Result (Vec Post Global) CodecFault → Result (List Post) ℕ → Type 0
+IsRead (Ok v) read = read ≡ Ok v.items
+IsRead (Err e) read = Tells e read
+
+-- a fault's offset is one of bytes of that length, or their end
+abbrev pub IsWithin : ℕ → CodecFault → Type 0
+IsWithin len (Departs at) = at ≤ len
+IsWithin len NoMemory = Unit {0}

@@ -1,0 +1,223 @@
+//! Bytes read as posts.
+ghost use Rattle.std.specs.Prelude.{◌≡◌, List, Ok, IfOk, IfErr, length};
+ghost use Rattle.std.specs.Int.{w16, w32, w64};
+ghost use Rattle.post_codec.specs.declared.post.Post.{Post as APost};
+ghost use Rattle.post_codec.specs.Spelling.{Spells};
+ghost use Rattle.post_codec.specs.Reading.{Gives, IsRead, IsWithin, byte_at, number_at, break_at, breaks_at, row_at, rows_at, times, plan_at, post_at, posts_at, whole, reading};
+
+use crate::fault::{CodecFault, Stop};
+use crate::post::Post;
+use break_rules::{Break, Breaks};
+use shift_instance::{Row, Rows};
+use std::alloc::Global;
+
+/// A byte, and the bytes after it.
+fn byte_of(bytes: &[u8]) -> Result<(u8, &[u8]), Stop>
+    ensures { Gives (λ x. (x.0, x.1.now)) result (byte_at bytes.now) }
+{
+    match bytes {
+        [] => Err(Stop::Left(0)),
+        [byte, rest @ ..] => Ok((*byte, rest)),
+    }
+}
+
+/// A number of two bytes, and the bytes after it.
+fn u16_of(bytes: &[u8]) -> Result<(u16, &[u8]), Stop>
+    ensures { Gives (λ x. (x.0, x.1.now)) result (number_at w16 bytes.now) }
+{
+    if bytes.len() < 2 {
+        return Err(Stop::Left(bytes.len()));
+    }
+    let (front, rest) = bytes.split_at(2);
+    let number = u16::from_le_bytes([front[0], front[1]]);
+    Ok((number, rest))
+}
+
+/// A number of four bytes, and the bytes after it.
+fn u32_of(bytes: &[u8]) -> Result<(u32, &[u8]), Stop>
+    ensures { Gives (λ x. (x.0, x.1.now)) result (number_at w32 bytes.now) }
+{
+    if bytes.len() < 4 {
+        return Err(Stop::Left(bytes.len()));
+    }
+    let (front, rest) = bytes.split_at(4);
+    let number = u32::from_le_bytes([front[0], front[1], front[2], front[3]]);
+    Ok((number, rest))
+}
+
+/// A number of eight bytes, and the bytes after it.
+fn u64_of(bytes: &[u8]) -> Result<(u64, &[u8]), Stop>
+    ensures { Gives (λ x. (x.0, x.1.now)) result (number_at w64 bytes.now) }
+{
+    if bytes.len() < 8 {
+        return Err(Stop::Left(bytes.len()));
+    }
+    let (front, rest) = bytes.split_at(8);
+    let number = u64::from_le_bytes([
+        front[0], front[1], front[2], front[3], front[4], front[5], front[6], front[7],
+    ]);
+    Ok((number, rest))
+}
+
+/// A break, and the bytes after it.
+#[tactic(auto, unfolding(crate::specs::Reading::break_at))]
+fn break_of(bytes: &[u8]) -> Result<(Break, &[u8]), Stop>
+    ensures { Gives (λ x. (x.0, x.1.now)) result (break_at bytes.now) }
+{
+    let (start, rest) = u16_of(bytes)?;
+    let (len, rest) = u16_of(rest)?;
+    Ok((Break { start, len }, rest))
+}
+
+/// So many breaks, and the bytes after them.
+fn break_list(alloc: Global, count: u8, bytes: &[u8]) -> Result<(Vec<Break>, &[u8]), Stop>
+    ensures { Gives (λ x. (x.0.items, x.1.now)) result (times break_at count bytes.now) }
+{
+    let mut list = Vec::new(alloc);
+    let mut rest = bytes;
+    for _ in 0..count {
+        let (item, after) = break_of(rest)?;
+        list.push(item)?;
+        rest = after;
+    }
+    Ok((list, rest))
+}
+
+/// The breaks of a row, and the bytes after them.
+#[tactic(auto, unfolding(crate::specs::Reading::breaks_at))]
+fn breaks_of(alloc: Global, bytes: &[u8]) -> Result<(Breaks, &[u8]), Stop>
+    ensures { Gives (λ x. (x.0, x.1.now)) result (breaks_at bytes.now) }
+{
+    let (count, rest) = byte_of(bytes)?;
+    let (list, rest) = break_list(alloc, count, rest)?;
+    Ok((Breaks::new(list), rest))
+}
+
+/// A row, and the bytes after it.
+#[tactic(auto, unfolding(crate::specs::Reading::row_at))]
+fn row_of(alloc: Global, bytes: &[u8]) -> Result<(Row, &[u8]), Stop>
+    ensures { Gives (λ x. (x.0, x.1.now)) result (row_at bytes.now) }
+{
+    let (shift, rest) = u16_of(bytes)?;
+    let (day, rest) = byte_of(rest)?;
+    let (count, rest) = u16_of(rest)?;
+    let (breaks, rest) = breaks_of(alloc, rest)?;
+    let row = Row {
+        shift,
+        day,
+        breaks,
+        count,
+    };
+    Ok((row, rest))
+}
+
+/// So many rows, and the bytes after them.
+fn row_list(alloc: Global, count: u32, bytes: &[u8]) -> Result<(Vec<Row>, &[u8]), Stop>
+    ensures { Gives (λ x. (x.0.items, x.1.now)) result (times row_at count bytes.now) }
+{
+    let mut list = Vec::new(alloc);
+    let mut rest = bytes;
+    for _ in 0..count {
+        let (item, after) = row_of(alloc, rest)?;
+        list.push(item)?;
+        rest = after;
+    }
+    Ok((list, rest))
+}
+
+/// The rows of a plan, and the bytes after them.
+#[tactic(auto, unfolding(crate::specs::Reading::rows_at))]
+fn rows_of(alloc: Global, bytes: &[u8]) -> Result<(Rows, &[u8]), Stop>
+    ensures { Gives (λ x. (x.0, x.1.now)) result (rows_at bytes.now) }
+{
+    let (count, rest) = u32_of(bytes)?;
+    let (list, rest) = row_list(alloc, count, rest)?;
+    Ok((Rows::new(list), rest))
+}
+
+/// A plan behind its tag, and the bytes after it.
+#[tactic(auto, unfolding(crate::specs::Reading::plan_at))]
+fn plan_of(alloc: Global, bytes: &[u8]) -> Result<(Post, &[u8]), Stop>
+    ensures { Gives (λ x. (x.0, x.1.now)) result (plan_at bytes.now) }
+{
+    let (worker, rest) = u16_of(bytes)?;
+    let (cost, rest) = u64_of(rest)?;
+    let (rows, rest) = rows_of(alloc, rest)?;
+    Ok((Post::Plan { worker, rows, cost }, rest))
+}
+
+/// A post, and the bytes after it.
+#[tactic(auto, unfolding(crate::specs::Reading::post_at))]
+fn post_of(alloc: Global, bytes: &[u8]) -> Result<(Post, &[u8]), Stop>
+    ensures { Gives (λ x. (x.0, x.1.now)) result (post_at bytes.now) }
+{
+    let (tag, rest) = byte_of(bytes)?;
+    match tag {
+        1 => plan_of(alloc, rest),
+        _ => Err(Stop::Left(bytes.len())),
+    }
+}
+
+/// So many posts, and the bytes after them.
+fn post_list(alloc: Global, count: u16, bytes: &[u8]) -> Result<(Vec<Post>, &[u8]), Stop>
+    ensures { Gives (λ x. (x.0.items, x.1.now)) result (times post_at count bytes.now) }
+{
+    let mut list = Vec::new(alloc);
+    let mut rest = bytes;
+    for _ in 0..count {
+        let (item, after) = post_of(alloc, rest)?;
+        list.push(item)?;
+        rest = after;
+    }
+    Ok((list, rest))
+}
+
+/// A number of posts and the posts, and the bytes after them.
+#[tactic(auto, unfolding(crate::specs::Reading::posts_at))]
+fn posts_of(alloc: Global, bytes: &[u8]) -> Result<(Vec<Post>, &[u8]), Stop>
+    ensures { Gives (λ x. (x.0.items, x.1.now)) result (posts_at bytes.now) }
+{
+    let (count, rest) = u16_of(bytes)?;
+    post_list(alloc, count, rest)
+}
+
+/// The posts that all of the bytes spell.
+fn all_of(alloc: Global, bytes: &[u8]) -> Result<Vec<Post>, Stop>
+    ensures { Gives (λ x. x.items) result (whole bytes.now) }
+{
+    let (posts, rest) = posts_of(alloc, bytes)?;
+    if !rest.is_empty() {
+        return Err(Stop::Left(rest.len()));
+    }
+    Ok(posts)
+}
+
+/// The posts that all of the bytes spell, or where the bytes depart from every spelling.
+fn posts_or_offset(alloc: Global, bytes: &[u8]) -> Result<Vec<Post>, CodecFault>
+    ensures { IsRead result (reading bytes.now) }
+{
+    match all_of(alloc, bytes) {
+        Ok(posts) => Ok(posts),
+        Err(Stop::Memory) => Err(CodecFault::NoMemory),
+        Err(Stop::Left(left)) => Err(CodecFault::Departs {
+            at: bytes.len().saturating_sub(left) as u64,
+        }),
+    }
+}
+
+/// The posts that the bytes spell, all of the bytes, in their order.
+///
+/// `Departs` comes exactly where the bytes spell no posts, with the offset of the first fault, unless memory runs out before.
+/// Whether the numbers of a post make sense isn't judged. The work grows with the number of bytes.
+pub fn read(alloc: Global, bytes: &[u8]) -> Result<Vec<Post>, CodecFault>
+    // What is read is spelled so.
+    ensures found { IfOk result (λ posts. Spells bytes.now posts.items) }
+    // What is spelled so is read, unless memory runs out.
+    ensures only { (posts : List APost) → Spells bytes.now posts → IsRead result (Ok posts) }
+    // Else it is the first fault that is met from left to right,
+    ensures fault { IsRead result (reading bytes.now) }
+    // and that lies within the bytes, or at their end.
+    ensures within { IfErr result (λ e. IsWithin (length bytes.now) e) }
+{
+    posts_or_offset(alloc, bytes)
+}

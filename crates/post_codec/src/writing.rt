@@ -1,0 +1,127 @@
+//! Posts as bytes.
+ghost use Rattle.std.specs.Prelude.{◌≡◌, ◌<◌, ◌^◌, ◌++◌, ◌∷◌, length, OnOk, IfOk};
+ghost use Rattle.post_codec.specs.Spelling.{u16_bytes, u32_bytes, u64_bytes, break_bytes, breaks_bytes, row_bytes, rows_bytes, plan_bytes, post_bytes, FitsBreak, FitsBreaks, FitsRow, FitsRows, FitsPost, CountsFitRow, CountsFitRows, CountsFitPost, CountsFit, Spells};
+
+use crate::post::Post;
+use break_rules::{Break, NoMemory};
+use shift_instance::Row;
+use std::alloc::Global;
+
+/// Appends a number as two bytes.
+#[tactic(auto, unfolding(crate::specs::Spelling::u16_bytes))]
+fn put_u16(out: &mut Vec<u8>, n: u16) -> Result<(), NoMemory>
+    ensures { OnOk result (out.new.items ≡ out.old.items ++ u16_bytes n) }
+{
+    out.extend_from_slice(&n.to_le_bytes())?;
+    Ok(())
+}
+
+/// Appends a number as four bytes.
+#[tactic(auto, unfolding(crate::specs::Spelling::u32_bytes))]
+fn put_u32(out: &mut Vec<u8>, n: u32) -> Result<(), NoMemory>
+    ensures { OnOk result (out.new.items ≡ out.old.items ++ u32_bytes n) }
+{
+    out.extend_from_slice(&n.to_le_bytes())?;
+    Ok(())
+}
+
+/// Appends a number as eight bytes.
+#[tactic(auto, unfolding(crate::specs::Spelling::u64_bytes))]
+fn put_u64(out: &mut Vec<u8>, n: u64) -> Result<(), NoMemory>
+    ensures { OnOk result (out.new.items ≡ out.old.items ++ u64_bytes n) }
+{
+    out.extend_from_slice(&n.to_le_bytes())?;
+    Ok(())
+}
+
+/// Appends a break.
+fn put_break(out: &mut Vec<u8>, item: &Break) -> Result<(), NoMemory>
+    ensures fits { FitsBreak item.now }
+    ensures put { OnOk result (out.new.items ≡ out.old.items ++ break_bytes item.now) }
+{
+    let start = item.start;
+    let len = item.len;
+    put_u16(out, start)?;
+    put_u16(out, len)?;
+    Ok(())
+}
+
+/// Appends the number of breaks, and the breaks.
+fn put_breaks(out: &mut Vec<u8>, list: &[Break]) -> Result<(), NoMemory>
+    requires { length list.now < 2 ^ 8 }
+    ensures fits { OnOk result (FitsBreaks list.now) }
+    ensures put { OnOk result (out.new.items ≡ out.old.items ++ breaks_bytes list.now) }
+{
+    out.push(list.len() as u8)?;
+    for item in list {
+        put_break(out, item)?;
+    }
+    Ok(())
+}
+
+/// Appends a row.
+fn put_row(out: &mut Vec<u8>, item: &Row) -> Result<(), NoMemory>
+    requires { CountsFitRow item.now }
+    ensures fits { OnOk result (FitsRow item.now) }
+    ensures put { OnOk result (out.new.items ≡ out.old.items ++ row_bytes item.now) }
+{
+    let shift = item.shift;
+    let day = item.day;
+    let count = item.count;
+    put_u16(out, shift)?;
+    out.push(day)?;
+    put_u16(out, count)?;
+    put_breaks(out, item.breaks.as_slice())?;
+    Ok(())
+}
+
+/// Appends the number of rows, and the rows.
+fn put_rows(out: &mut Vec<u8>, list: &[Row]) -> Result<(), NoMemory>
+    requires { CountsFitRows list.now }
+    ensures fits { OnOk result (FitsRows list.now) }
+    ensures put { OnOk result (out.new.items ≡ out.old.items ++ rows_bytes list.now) }
+{
+    put_u32(out, list.len() as u32)?;
+    for item in list {
+        put_row(out, item)?;
+    }
+    Ok(())
+}
+
+/// Appends a plan.
+fn put_plan(out: &mut Vec<u8>, worker: u16, cost: u64, rows: &[Row]) -> Result<(), NoMemory>
+    requires { CountsFitRows rows.now }
+    ensures fits { OnOk result (FitsRows rows.now) }
+    ensures put { OnOk result (out.new.items ≡ out.old.items ++ plan_bytes worker cost rows.now) }
+{
+    out.push(1)?;
+    put_u16(out, worker)?;
+    put_u64(out, cost)?;
+    put_rows(out, rows)?;
+    Ok(())
+}
+
+/// Appends a post.
+fn put_post(out: &mut Vec<u8>, item: &Post) -> Result<(), NoMemory>
+    requires { CountsFitPost item.now }
+    ensures fits { OnOk result (FitsPost item.now) }
+    ensures put { OnOk result (out.new.items ≡ out.old.items ++ post_bytes item.now) }
+{
+    match item {
+        Post::Plan { worker, rows, cost } => put_plan(out, *worker, *cost, rows.as_slice()),
+    }
+}
+
+/// The one spelling of the posts, in their order. There are at most 65,535 posts, each plan has fewer than 2^32 rows, and each
+/// row has at most 255 breaks. The only refusal is want of memory. The work grows with the number of bytes.
+pub fn write(alloc: Global, posts: &[Post]) -> Result<Vec<u8>, NoMemory>
+    requires { CountsFit posts.now }
+    ensures { IfOk result (λ bytes. Spells bytes.items posts.now) }
+{
+    let mut out = Vec::new(alloc);
+    put_u16(&mut out, posts.len() as u16)?;
+    for item in posts {
+        put_post(&mut out, item)?;
+    }
+    Ok(out)
+}
