@@ -111,32 +111,65 @@ fn other_words_are_usage(rt: HostRuntime) -> Result<(), Fail> {
     Ok(())
 }
 
+/// What a run says on standard error of a document that it refuses, and that it then prints nothing.
+fn refusal(alloc: Global, text: &str) -> Result<Option<String>, AllocError> {
+    let (number, line, written) = run(alloc, "solve J", text.as_bytes(), 100000, 0, 0)?;
+    if number == 3 && written.is_empty() {
+        return Ok(Some(line));
+    }
+    Ok(None)
+}
+
 #[test]
 fn other_documents_are_refused_by_name(rt: HostRuntime) -> Result<(), Fail> {
     let alloc = rt.alloc();
-    let blanks = String::from_utf8(vec![in alloc; b' '; 1048577]?)
-        .ok()
-        .ok_or("blanks")?;
-    let breaks = document(alloc, MORNING, "{}")?;
-    let count = document(alloc, MORNING, "7")?;
-    let needs = document(alloc, TOO_FEW, "null")?;
+    let blanks = " ".repeat(alloc, 1048577)?;
     let part = document(alloc, "0.5", "null")?;
+    let needs = document(alloc, TOO_FEW, "null")?;
     for (text, wanted) in [
         ("", "instance refused: 2"),
         ("solve", "instance refused: 2"),
         (blanks.as_str(), "instance refused: 1"),
         ("[]", "instance refused: 5 0 document"),
         ("{\"needs\":1}", "instance refused: 4 0 needs"),
+        (
+            "{\"\u{43d}\u{430}\":1}",
+            "instance refused: 4 0 \u{43d}\u{430}",
+        ),
         ("{\"slot_minutes\":60}", "instance refused: 3 0 days"),
         (part.as_str(), "instance refused: 5 0 need"),
         (needs.as_str(), "instance refused: 6 3 23 24"),
-        (count.as_str(), "instance refused: 5 1 breaks"),
-        (breaks.as_str(), "instance refused: 7 1"),
     ] {
-        let (number, line, written) = run(alloc, "solve J", text.as_bytes(), 100000, 0, 0)?;
-        assert_eq!(rt; number, 3);
+        let line = refusal(alloc, text)?.ok_or("not refused")?;
         assert_eq!(rt; line.as_str(), wanted);
-        assert!(rt; written.is_empty());
+    }
+    Ok(())
+}
+
+#[test]
+fn other_types_are_refused_by_place(rt: HostRuntime) -> Result<(), Fail> {
+    let alloc = rt.alloc();
+    let text = document(alloc, MORNING, "null")?;
+    for (from, to, wanted) in [
+        ("null", "{}", "instance refused: 7 1"),
+        ("null", "7", "instance refused: 5 1 breaks"),
+        (
+            "\"start_max\":8",
+            "\"start_max\":48",
+            "instance refused: 6 8 0",
+        ),
+        ("\"len_max\":4", "\"len_max\":25", "instance refused: 6 9 0"),
+        ("\"M\"", "\"M \\\"M\"", "instance refused: 6 12 0"),
+        (
+            "\"M\"",
+            "\"123456789012345678901234567890123\"",
+            "instance refused: 6 12 0",
+        ),
+        ("\"M\"", "\"\u{e9}\"", "instance refused: 6 12 0"),
+    ] {
+        let text = text.as_str().replacen(alloc, from, to, 1)?;
+        let line = refusal(alloc, text.as_str())?.ok_or("not refused")?;
+        assert_eq!(rt; line.as_str(), wanted);
     }
     Ok(())
 }
