@@ -1,0 +1,5 @@
+pub mod RowFaults
+pub mod FaultText
+pub mod Run
+pub mod Working
+pub mod Costed
