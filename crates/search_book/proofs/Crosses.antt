@@ -1,0 +1,14 @@
+-- A book may go to another thread where its disk may.
+use denote.RattleType.{RattleType}
+use denote.Param.Send.{IsSend, sendable}
+use Rattle.plan_base.specs.declared.disk.Disk.{Ghosts}
+use Rattle.gated_journal.proofs.journal.Journal.TheSendSync as journal
+use Rattle.std.proofs.Crossing.{crosses}
+use Rattle.search_book.specs.contracts.record_log.RecordLog.{the_row as log_row}
+use Rattle.search_book.specs.contracts.book.Book.{the_row}
+
+log_send : (T : RattleType) (g : Ghosts T.Denot) → IsSend T → IsSend (log_row T g)
+log_send T g s = search (journal.the_send, crosses, sendable) depth 60 fits 20000
+
+pub book_send : (T : RattleType) (g : Ghosts T.Denot) → IsSend T → IsSend (the_row T g)
+book_send T g s = search (log_send, crosses, sendable) depth 60 fits 20000

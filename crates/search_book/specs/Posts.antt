@@ -1,0 +1,34 @@
+-- A file that stands for an instance and posts.
+use Rattle.std.specs.Prelude.{◌≡◌, ℕ, ◌+◌, List, length}
+use Rattle.std.specs.List.{AllZip, flat_map}
+use Rattle.gated_journal.specs.Format.{spelled, StandsFor}
+use Rattle.instance_json.specs.Canonical.{canonical_text}
+use Rattle.post_codec.specs.declared.post.Post.{Post}
+use Rattle.post_codec.specs.Spelling.{Spells}
+use Rattle.shift_instance.specs.Problem.{Problem}
+
+-- batches of posts, joined
+abbrev pub joined : List (List Post) → List Post
+joined batches = flat_map (λ batch. batch) batches
+
+-- each record is the spelling of a batch, and the batches joined are the posts
+pub record SpellPosts (records : List (List ℕ)) (posts : List Post) : Type 0 where
+  pub batches : List (List Post)
+  pub spelled : AllZip Spells records batches
+  pub all : joined batches ≡ posts
+
+-- the bytes of a journal up to its closed gate, that one included
+unfoldable pub bytes_used : List ℕ → List (List ℕ) → ℕ
+bytes_used head records = length (spelled head records) + 1
+
+-- a journal's file whose head is the instance's canonical text and whose records spell the posts, with the bytes that it uses
+pub record IsJournalOf (limit : ℕ) (i : Problem) (posts : List Post) (used : ℕ) (file : List ℕ) : Type 0 where
+  pub records : List (List ℕ)
+  pub spells : SpellPosts records posts
+  pub stands : StandsFor limit (canonical_text i) records file
+  pub ends : used ≡ bytes_used (canonical_text i) records
+
+-- the file is such a journal's
+pub record StandsForPosts (limit : ℕ) (i : Problem) (posts : List Post) (file : List ℕ) : Type 0 where
+  pub used : ℕ
+  pub journal : IsJournalOf limit i posts used file

@@ -1,0 +1,21 @@
+//! The book of a search: its posts on a disk, and the best plan that they make. After a crash at any moment the disk opens
+//! to a book of the same posts, or of a front of them with all that were acknowledged.
+#![tactic(auto)]
+
+mod book;
+mod copying;
+mod fault;
+mod folding;
+mod laws;
+mod opening;
+mod reading;
+mod record_log;
+mod sends;
+mod spelling;
+#[cfg(test)]
+mod tests;
+
+pub use book::{Book, Unopened};
+pub use fault::{BookFault, CommitFault, Kept, Shutting};
+pub use laws::{fold_is_sound, one_history};
+pub use sends::sent;
