@@ -1,10 +1,9 @@
 -- What is known of a book.
-use Rattle.std.proofs.Common.{◌≡◌, ℕ, ◌+◌, ◌-◌, ◌<◌, ◌≤◌, suc, Bool, true, false, cond, ◌&&◌, ◌==◌, List, [], ◌∷◌, ◌++◌, length, refl, sym, ◌∙◌, ap, subst, arith, nat_lt, eq-eqb}
+use Rattle.std.proofs.Common.{◌≡◌, ℕ, ◌-◌, ◌<◌, suc, Bool, true, false, cond, ◌&&◌, ◌==◌, List, [], ◌∷◌, length, refl, sym, ◌∙◌, ap, subst, arith, nat_lt, eq-eqb}
 use Rattle.std.specs.Prelude.{Option, None, Some, IfSome, IsTrue, slice_get}
 use Rattle.std.specs.Option.{option_and_then}
 use Rattle.std.proofs.lemmas.Bool.{and_parts, and_from, eqb-true, lt-ltb}
-use Rattle.plan_base.specs.Disk.{IsOnlyImage}
-use Rattle.gated_journal.specs.Format.{StandsFor, fresh}
+use Rattle.gated_journal.specs.Format.{StandsFor}
 use Rattle.gated_journal.specs.View.{IsStored, JournalView}
 use Rattle.instance_json.specs.Canonical.{canonical_text}
 use Rattle.post_codec.specs.declared.post.Post.{Post}
@@ -17,7 +16,7 @@ use Rattle.search_book.specs.Fold.{Book, opening, is_better, step, cost_after, b
 use Rattle.search_book.specs.Front.{IsKept}
 use Rattle.search_book.specs.Opening.{IsFound, IsOpenedFrom}
 use Rattle.search_book.specs.Posting.{rows_cost, rows_in}
-use Rattle.search_book.specs.Posts.{bytes_used, SpellPosts, IsJournalOf}
+use Rattle.search_book.specs.Posts.{bytes_used, SpellPosts}
 use Rattle.search_book.specs.View.{BookView}
 use Rattle.search_book.specs.Written.{IsWritten}
 use Rattle.search_book.proofs.Batches.{posts_once, none_spelled}

@@ -1,5 +1,5 @@
 -- What an opening finds, and why it finds nothing.
-use Rattle.std.proofs.Common.{◌≡◌, ◌≢◌, ◌⊎◌, inl, inr, ℕ, ◌+◌, ◌<◌, ◌≤◌, ◌^◌, List, [], ◌∷◌, length, refl, sym, ◌∙◌, ap, subst, arith}
+use Rattle.std.proofs.Common.{◌≡◌, ◌≢◌, ◌⊎◌, inl, inr, ℕ, ◌<◌, ◌≤◌, ◌^◌, List, [], ◌∷◌, length, refl, sym, ◌∙◌, ap, subst, arith}
 use Rattle.std.specs.Prelude.{Option, None, Some, IfSome, OnSome}
 use Rattle.plan_base.specs.Causes.{Rose}
 use Rattle.plan_base.specs.Disk.{HoldsThroughout, TellsAlike}
@@ -19,7 +19,7 @@ use Rattle.search_book.specs.declared.fault.BookFault.TheVariants.{DiskFault, No
 use Rattle.search_book.specs.Faults.{fault_of}
 use Rattle.search_book.specs.Fold.{Book, opening, book_of}
 use Rattle.search_book.specs.Opening.{IsFound, LacksHead, LacksBook, HeadFails, OpenFails, KeepsContent, IsOldOrShort}
-use Rattle.search_book.specs.Posts.{SpellPosts, StandsForPosts}
+use Rattle.search_book.specs.Posts.{SpellPosts}
 use Rattle.search_book.specs.Reading.{ReadFails}
 use Rattle.search_book.proofs.Batches.{posts_once, none_spelled}
 

@@ -11,7 +11,7 @@ use Rattle.search_book.specs.declared.fault.Kept.{Kept}
 use Rattle.search_book.specs.declared.fault.Shutting.{Shutting}
 use Rattle.search_book.specs.declared.fault.Shutting.TheVariants.{DiskFault as ByDisk, Full as ByLimit}
 use Rattle.search_book.specs.declared.fault.CommitFault.TheVariants.{DiskFault, Full}
-use Rattle.search_book.specs.Posting.{PostFails, Posts, rows_cost, end_with, plan_of, with_plan}
+use Rattle.search_book.specs.Posting.{PostFails, Posts, rows_cost, with_plan}
 use Rattle.search_book.specs.Posts.{bytes_used}
 use Rattle.search_book.specs.Records.{LogView}
 use Rattle.search_book.specs.View.{BookView}

@@ -1,7 +1,6 @@
 -- The bytes that a journal uses.
-use Rattle.std.proofs.Common.{◌≡◌, ℕ, ◌+◌, List, [], ◌∷◌, ◌++◌, length, sym, ◌∙◌, ap, arith, length-append}
-use Rattle.std.proofs.lemmas.List.{append_assoc, append-nil}
-use Rattle.gated_journal.specs.Format.{framed, gated, spelled, fresh, end_after}
+use Rattle.std.proofs.Common.{◌≡◌, ℕ, ◌+◌, List, [], ◌∷◌, ◌++◌, length, arith, length-append}
+use Rattle.gated_journal.specs.Format.{gated, fresh, end_after}
 use Rattle.search_book.specs.Posts.{bytes_used}
 
 gated_more : (records : List (List ℕ)) (bytes : List ℕ) → length (gated (records ++ bytes ∷ [])) ≡ length (gated records) + 5 + length bytes

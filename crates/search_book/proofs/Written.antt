@@ -1,7 +1,7 @@
 -- A book's posts and its journal's records, as they grow.
-use Rattle.std.proofs.Common.{◌≡◌, ◌⊎◌, ⊎_elim, ℕ, ◌+◌, ◌-◌, ◌*◌, ◌<◌, ◌≤◌, List, [], ◌∷◌, ◌++◌, length, map, take, refl, sym, ◌∙◌, ap, subst, arith, length-append}
-use Rattle.std.specs.List.{AllZip, flat_map}
-use Rattle.std.specs.Prelude.{Option, None, Some, IfSome, OnSome}
+use Rattle.std.proofs.Common.{◌≡◌, ⊎_elim, ℕ, ◌+◌, ◌-◌, ◌*◌, ◌≤◌, List, [], ◌∷◌, ◌++◌, length, map, take, refl, sym, ◌∙◌, ap, subst, arith, length-append}
+use Rattle.std.specs.List.{AllZip}
+use Rattle.std.specs.Prelude.{Option, None, Some, OnSome}
 use Rattle.std.proofs.lemmas.List.{take_all, take-append-le, append-nil, append_assoc}
 use Rattle.std.proofs.lemmas.List.Concat.{flat_map-append}
 use Rattle.std.proofs.lemmas.Bool.{cases_lt}
@@ -10,9 +10,9 @@ use Rattle.instance_json.specs.Canonical.{canonical_text}
 use Rattle.post_codec.specs.declared.post.Post.{Post}
 use Rattle.post_codec.specs.Spelling.{Spells}
 use Rattle.shift_instance.specs.Problem.{Problem}
-use Rattle.search_book.specs.Fold.{Book, book_of, IsFoldAt}
+use Rattle.search_book.specs.Fold.{IsFoldAt}
 use Rattle.search_book.specs.Front.{HoldsFront}
-use Rattle.search_book.specs.Posts.{joined, bytes_used, SpellPosts, IsJournalOf, StandsForPosts}
+use Rattle.search_book.specs.Posts.{joined, bytes_used, SpellPosts}
 use Rattle.search_book.specs.Prefix.{HoldsPrefix}
 use Rattle.search_book.specs.Written.{IsWritten}
 use Rattle.search_book.proofs.Batches.{zip_push, zip_length, zip_take}

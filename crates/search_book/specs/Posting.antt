@@ -1,5 +1,5 @@
 -- What a posted plan does to a book.
-use Rattle.std.specs.Prelude.{◌≡◌, ℕ, ◌+◌, ◌≤◌, ◌<◌, true, false, List, [], ◌∷◌, ◌++◌, length, Option, Some, None, IsSome, ◌⊎◌}
+use Rattle.std.specs.Prelude.{◌≡◌, ℕ, ◌+◌, ◌≤◌, ◌<◌, true, false, List, [], ◌∷◌, ◌++◌, length, Some, None, IsSome, ◌⊎◌}
 use Rattle.plan_base.specs.Causes.{Rose}
 use Rattle.post_codec.specs.declared.post.Post.{Post}
 use Rattle.post_codec.specs.declared.post.Post.TheVariants.{Plan}
@@ -9,7 +9,6 @@ use Rattle.shift_instance.specs.Problem.{Problem}
 use Rattle.shift_instance.specs.Rota.{cost, rota_of}
 use Rattle.search_book.specs.declared.fault.CommitFault.{CommitFault}
 use Rattle.search_book.specs.declared.fault.CommitFault.TheVariants.{DiskFault, Full, Shut, NoMemory}
-use Rattle.search_book.specs.declared.fault.Shutting.{Shutting}
 use Rattle.search_book.specs.declared.fault.Shutting.TheVariants.{DiskFault as ByDisk, Full as ByLimit}
 use Rattle.search_book.specs.declared.fault.Kept.{Kept}
 use Rattle.search_book.specs.View.{BookView}

@@ -4,7 +4,7 @@ use Rattle.std.specs.declared.snapshot.Snapshot.{Snapshot}
 use Rattle.std.specs.declared.alloc.Global.{Global}
 use Rattle.plan_base.specs.Causes.{Rose}
 use Rattle.gated_journal.specs.Format.{end_after}
-use Rattle.gated_journal.specs.View.{JournalView, IsSettled, IsStored}
+use Rattle.gated_journal.specs.View.{JournalView, IsStored}
 use Rattle.gated_journal.specs.declared.fault.JournalFault.{JournalFault}
 use Rattle.gated_journal.specs.declared.fault.JournalFault.TheVariants.{DiskFault, NoMemory, NotAJournal, Damaged, Full}
 use Rattle.search_book.specs.Prefix.{HoldsPrefix}

@@ -1,7 +1,7 @@
 //! Books on disks in memory.
 ghost use Rattle.std.specs.Prelude.{◌≡◌, ◌^◌, ◌<◌, IfOk};
 
-use crate::{Book, BookFault, CommitFault, Kept, Unopened, sent};
+use crate::{Book, BookFault, CommitFault, Kept, Unopened};
 use break_rules::{Breaks, Rule};
 use instance_json::canonical;
 use plan_base::{Disk, MemDisk};
@@ -95,47 +95,25 @@ const KEPT: Kept = Kept {
     floor: 0,
 };
 
-const LEFT: Kept = Kept {
-    plan: false,
-    records: 0,
-    best: 3,
-    floor: 0,
-};
+/// A disk with the journal of one plan.
+fn one_plan(rt: &impl Abort, alloc: Global, instance: &Instance) -> Result<MemDisk, Fail> {
+    let disk = MemDisk::new(alloc, Vec::new(alloc), Vec::new(alloc));
+    let Ok(mut book) = open(rt, alloc, instance, disk, LIMIT)? else {
+        assert!(rt; false);
+        return Ok(MemDisk::new(alloc, Vec::new(alloc), Vec::new(alloc)));
+    };
+    let answer = post(rt, instance, &mut book, one_duty(alloc)?);
+    assert_eq!(rt; answer, Ok(KEPT));
+    Ok(book.into_disk())
+}
 
 #[test]
-fn a_plan_is_posted_and_found_again(rt: HostRuntime) -> Result<(), Fail> {
+fn a_plan_is_posted(rt: HostRuntime) -> Result<(), Fail> {
     let alloc = rt.alloc();
     let instance = one_shift(alloc, 3)?;
-    let disk = MemDisk::new(alloc, Vec::new(alloc), Vec::new(alloc));
-    let Ok(mut book) = open(&rt, alloc, &instance, disk, LIMIT)? else {
-        assert!(rt; false);
-        return Ok(());
-    };
-    assert_eq!(rt;
-        (book.best_cost(), book.floor(), book.posts(), book.batches()),
-        (8, 0, 0, 0)
-    );
-    assert!(rt; book.best().is_empty());
-    assert_eq!(rt; post(&rt, &instance, &mut book, one_duty(alloc)?), Ok(KEPT));
-    assert_eq!(rt; post(&rt, &instance, &mut book, one_duty(alloc)?), Ok(LEFT));
-    assert_eq!(rt;
-        (book.best_cost(), book.floor(), book.posts(), book.batches()),
-        (3, 0, 1, 1)
-    );
-    assert_eq!(rt; book.best().len(), 1);
-    let disk = book.into_disk();
-    assert_eq!(rt; (disk.bytes().len(), disk.calls()), (413, 8));
-    let disk = disk.image(None)?;
-    let Ok(book) = open(&rt, alloc, &instance, disk, LIMIT)? else {
-        assert!(rt; false);
-        return Ok(());
-    };
-    assert_eq!(rt;
-        (book.best_cost(), book.floor(), book.posts(), book.batches()),
-        (3, 0, 1, 0)
-    );
-    assert_eq!(rt; (book.best().len(), book.history().len()), (1, 1));
-    assert_eq!(rt; sent(book).into_disk().bytes().len(), 413);
+    let disk = one_plan(&rt, alloc, &instance)?;
+    assert_eq!(rt; disk.bytes().len(), 413);
+    assert_eq!(rt; disk.calls(), 8);
     Ok(())
 }
 
@@ -156,46 +134,6 @@ fn a_new_journal_takes_four_calls(rt: HostRuntime) -> Result<(), Fail> {
         match open(&rt, alloc, &instance, disk, LIMIT)? {
             Ok(_) => assert!(rt; false),
             Err(unopened) => assert_eq!(rt; unopened.fault, BookFault::DiskFault),
-        }
-    }
-    Ok(())
-}
-
-/// The cost and the number of posts of the book that a disk's image opens to.
-fn reopened(
-    rt: &impl Abort,
-    alloc: Global,
-    instance: &Instance,
-    disk: &MemDisk,
-    fill: Option<u8>,
-) -> Result<(u64, u64), Fail> {
-    match open(rt, alloc, instance, disk.image(fill)?, LIMIT)? {
-        Ok(book) => Ok((book.best_cost(), book.posts())),
-        Err(_) => Ok((0, 0)),
-    }
-}
-
-#[test]
-fn each_image_of_a_failed_post_opens(rt: HostRuntime) -> Result<(), Fail> {
-    let alloc = rt.alloc();
-    let instance = one_shift(alloc, 3)?;
-    for call in [5u64, 6, 7, 8] {
-        let disk = MemDisk::new(alloc, Vec::new(alloc), vec![in alloc; call; 1]?);
-        let Ok(mut book) = open(&rt, alloc, &instance, disk, LIMIT)? else {
-            assert!(rt; false);
-            return Ok(());
-        };
-        let answer = post(&rt, &instance, &mut book, one_duty(alloc)?);
-        assert_eq!(rt; answer, Err(CommitFault::DiskFault), "at {call}");
-        assert_eq!(rt; (book.best_cost(), book.posts(), book.batches()), (8, 0, 0));
-        let answer = post(&rt, &instance, &mut book, one_duty(alloc)?);
-        assert_eq!(rt; answer, Err(CommitFault::Shut), "at {call}");
-        let disk = book.into_disk();
-        for fill in [None, Some(0u8), Some(1), Some(255)] {
-            let (cost, posts) = reopened(&rt, alloc, &instance, &disk, fill)?;
-            let before = cost == 8 && posts == 0;
-            let after = call > 6 && cost == 3 && posts == 1;
-            assert!(rt; before || after, "at {call}");
         }
     }
     Ok(())
@@ -249,55 +187,5 @@ fn a_full_journal_shuts_the_book(rt: HostRuntime) -> Result<(), Fail> {
     assert_eq!(rt; (book.best_cost(), book.posts(), book.batches()), (8, 0, 0));
     let disk = book.into_disk();
     assert_eq!(rt; (disk.bytes().len(), disk.calls()), (385, 4));
-    Ok(())
-}
-
-/// The fault of opening these bytes.
-fn fault_of(
-    rt: &impl Abort,
-    alloc: Global,
-    instance: &Instance,
-    bytes: Vec<u8>,
-) -> Result<Option<BookFault>, Fail> {
-    let disk = MemDisk::new(alloc, bytes, Vec::new(alloc));
-    match open(rt, alloc, instance, disk, LIMIT)? {
-        Ok(_) => Ok(None),
-        Err(unopened) => Ok(Some(unopened.fault)),
-    }
-}
-
-#[test]
-fn other_files_are_no_book(rt: HostRuntime) -> Result<(), Fail> {
-    let alloc = rt.alloc();
-    let instance = one_shift(alloc, 3)?;
-    let disk = MemDisk::new(alloc, Vec::new(alloc), Vec::new(alloc));
-    let Ok(mut book) = open(&rt, alloc, &instance, disk, LIMIT)? else {
-        assert!(rt; false);
-        return Ok(());
-    };
-    assert_eq!(rt; post(&rt, &instance, &mut book, one_duty(alloc)?), Ok(KEPT));
-    let disk = book.into_disk();
-    let whole = Vec::from_slice(alloc, disk.bytes())?;
-    assert_eq!(rt; fault_of(&rt, alloc, &instance, whole)?, None);
-    let whole = Vec::from_slice(alloc, disk.bytes())?;
-    let other = one_shift(alloc, 9)?;
-    assert_eq!(rt;
-        fault_of(&rt, alloc, &other, whole)?,
-        Some(BookFault::NotYet)
-    );
-    let cut = Vec::from_slice(alloc, &disk.bytes()[..disk.bytes().len().min(412)])?;
-    assert_eq!(rt;
-        fault_of(&rt, alloc, &instance, cut)?,
-        Some(BookFault::NotYet)
-    );
-    // a cost that isn't the rows'
-    let mut dearer = Vec::from_slice(alloc, disk.bytes())?;
-    if let Some(cost) = dearer.get_mut(394) {
-        *cost = 4;
-    }
-    assert_eq!(rt;
-        fault_of(&rt, alloc, &instance, dearer)?,
-        Some(BookFault::NotYet)
-    );
     Ok(())
 }

@@ -1,5 +1,4 @@
-use Rattle.std.proofs.Common.{◌≡◌, ◌<◌, length, ◌∙◌, sym, subst, arith}
-use Rattle.search_book.specs.Fold.{IsFoldAt}
+use Rattle.std.proofs.Common.{sym, arith}
 use Rattle.search_book.proofs.Folds.{fold_start, fold_next, fold_none}
 use Rattle.search_book.proofs.folding.fold_cost.Goals as goal
 

@@ -1,7 +1,6 @@
-use Rattle.std.proofs.Common.{◌≡◌, ◌==◌, ◌&&◌, Bool, true, false, cond, nat_lt, refl, sym, ap, ◌∙◌}
+use Rattle.std.proofs.Common.{◌≡◌, ◌&&◌, Bool, true, false, refl, sym, ◌∙◌}
 use Rattle.std.proofs.lemmas.Bool.{false≢true}
 use Rattle.std.specs.Prelude.{Result, Ok, Err, IsOk, IsTrue, ◌↔◌, is_err}
-use Rattle.shift_instance.specs.Rota.{are_legal_rows}
 use Rattle.search_book.specs.Fold.{is_better}
 use Rattle.search_book.proofs.folding.is_better.Goals as goal
 

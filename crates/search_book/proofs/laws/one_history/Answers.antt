@@ -1,4 +1,4 @@
-use Rattle.std.proofs.Common.{List, ℕ, sym, subst}
+use Rattle.std.proofs.Common.{List, ℕ, subst}
 use Rattle.gated_journal.proofs.Once.{stands_once}
 use Rattle.instance_json.specs.Canonical.{canonical_text}
 use Rattle.post_codec.proofs.Formats.{one_list}

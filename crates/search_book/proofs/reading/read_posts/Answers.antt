@@ -1,5 +1,4 @@
-use Rattle.std.proofs.Common.{◌≡◌, ◌<◌, ◌++◌, List, ℕ, [], length, map, ap, cond, sym, ◌∙◌, subst, arith, Vec, Global}
-use Rattle.std.specs.Prelude.{is_ok, true}
+use Rattle.std.proofs.Common.{List, ℕ, subst, arith, Vec, Global}
 use Rattle.std.proofs.lemmas.Result.{err_from_is_err_and}
 use Rattle.post_codec.specs.declared.post.Post.{Post}
 use Rattle.post_codec.specs.Spelling.{Spells}

@@ -1,13 +1,10 @@
-use Rattle.std.proofs.Common.{◌≡◌, ℕ, ◌+◌, ◌<◌, ◌≤◌, List, [], ◌∷◌, ◌++◌, length, map, ap, sym, ◌∙◌, subst, refl, inl, arith, Some, None, true}
+use Rattle.std.proofs.Common.{◌≡◌, ◌+◌, List, [], ◌∷◌, ◌++◌, map, ap, sym, ◌∙◌, subst}
 use Rattle.std.specs.List.{AllZip}
 use Rattle.std.proofs.lemmas.List.{append-nil}
 use Rattle.post_codec.specs.declared.post.Post.{Post}
 use Rattle.post_codec.specs.declared.post.Post.TheVariants.{Plan}
-use Rattle.post_codec.specs.Spelling.{Spells, spelling}
-use Rattle.shift_instance.specs.Problem.{Problem}
-use Rattle.search_book.specs.declared.fault.Kept.{Kept}
+use Rattle.post_codec.specs.Spelling.{Spells}
 use Rattle.search_book.specs.Fold.{IsFoldAt}
-use Rattle.search_book.specs.Posting.{Posts, rows_cost}
 use Rattle.search_book.specs.Records.{LogView, AddFails}
 use Rattle.search_book.specs.View.{BookView}
 use Rattle.search_book.specs.Written.{IsWritten, posts_in}

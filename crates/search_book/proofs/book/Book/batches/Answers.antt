@@ -1,4 +1,4 @@
-use Rattle.std.proofs.Common.{◌≡◌, ℕ, List, [], ap, sym, ◌∙◌, subst, refl}
+use Rattle.std.proofs.Common.{◌≡◌, [], subst, refl}
 use Rattle.search_book.specs.Front.{Lasts, IsRunning}
 use Rattle.search_book.specs.Records.{journal_of}
 use Rattle.search_book.specs.View.{BookView}

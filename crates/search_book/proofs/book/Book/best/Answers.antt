@@ -1,8 +1,8 @@
-use Rattle.std.proofs.Common.{◌≡◌, ℕ, ◌-◌, List, length, ap, sym, ◌∙◌, subst, refl, Some, None, Option}
+use Rattle.std.proofs.Common.{◌≡◌, ◌-◌, List, length, ap, sym, ◌∙◌, subst, Some, None, Option}
 use Rattle.std.specs.Prelude.{slice_get}
 use Rattle.post_codec.specs.declared.post.Post.{Post}
 use Rattle.shift_instance.specs.declared.Row.{Row}
-use Rattle.search_book.specs.Fold.{book_of, IsSound}
+use Rattle.search_book.specs.Fold.{book_of}
 use Rattle.search_book.specs.View.{BookView}
 use Rattle.search_book.proofs.Books.{best_is, best_none, fold_sound}
 use Rattle.search_book.proofs.Folds.{book_with}

@@ -1,4 +1,4 @@
-use Rattle.std.proofs.Common.{◌≡◌, ℕ, List, ap, sym, ◌∙◌, subst}
+use Rattle.std.proofs.Common.{ℕ, List, ap, sym, subst}
 use Rattle.std.specs.Prelude.{IfSome}
 use Rattle.post_codec.proofs.Formats.{one_list}
 use Rattle.search_book.specs.Opening.{IsOpenedFrom}

@@ -1,4 +1,4 @@
-use Rattle.std.proofs.Common.{◌≡◌, ℕ, List, [], ◌∷◌, map, ap, sym, ◌∙◌, subst, refl}
+use Rattle.std.proofs.Common.{List, [], ◌∷◌, map, ap, sym, ◌∙◌, subst, refl}
 use Rattle.std.specs.List.{AllZip}
 use Rattle.std.proofs.lemmas.List.{append-nil}
 use Rattle.post_codec.specs.declared.post.Post.{Post}

@@ -1,7 +1,6 @@
-use Rattle.std.proofs.Common.{◌≡◌, ℕ, ◌≤◌, ap, sym, ◌∙◌, subst, refl, inr, arith, false}
+use Rattle.std.proofs.Common.{◌≡◌, ℕ, ap, ◌∙◌, refl, inr, arith, false}
 use Rattle.shift_instance.specs.Problem.{Problem}
-use Rattle.shift_instance.specs.Rota.{cost, rota_of}
-use Rattle.search_book.specs.Posting.{Posts, rows_cost}
+use Rattle.search_book.specs.Posting.{rows_cost}
 use Rattle.search_book.specs.declared.fault.Kept.{Kept}
 use Rattle.search_book.specs.View.{BookView}
 use Rattle.search_book.proofs.book.Book.post.Goals as goal
