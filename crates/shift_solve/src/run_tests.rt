@@ -111,6 +111,12 @@ fn other_words_are_usage(rt: HostRuntime) -> Result<(), Fail> {
     Ok(())
 }
 
+const ONE_TYPE: &str =
+    "[{\"name\":\"M\",\"start_min\":8,\"start_max\":8,\"len_min\":4,\"len_max\":4,\"breaks\":null}]";
+
+const TWICE: &str =
+    "[{\"name\":\"M\",\"start_min\":8,\"start_max\":8,\"len_min\":4,\"len_max\":4},{\"name\":\"M\",\"start_min\":9,\"start_max\":9,\"len_min\":4,\"len_max\":4}]";
+
 /// What a run says on standard error of a document that it refuses, and that it then prints nothing.
 fn refusal(alloc: Global, text: &str) -> Result<Option<String>, AllocError> {
     let (number, line, written) = run(alloc, "solve J", text.as_bytes(), 100000, 0, 0)?;
@@ -151,6 +157,9 @@ fn other_types_are_refused_by_place(rt: HostRuntime) -> Result<(), Fail> {
     let alloc = rt.alloc();
     let text = document(alloc, MORNING, "null")?;
     for (from, to, wanted) in [
+        (ONE_TYPE, "[]", "instance refused: 6 7 0"),
+        (ONE_TYPE, TWICE, "instance refused: 6 12 1"),
+        ("\"len_max\":4", "\"len_max\":1e400", "instance refused: 2"),
         ("null", "{}", "instance refused: 7 1"),
         ("null", "7", "instance refused: 5 1 breaks"),
         (
