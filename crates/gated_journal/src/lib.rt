@@ -17,3 +17,6 @@ pub use fault::JournalFault;
 pub use journal::Journal;
 pub use laws::one_reading;
 pub use settling::settle;
+
+/// The most bytes that the file of a search's journal may have.
+pub const JOURNAL_MAX: u32 = 67_108_864;

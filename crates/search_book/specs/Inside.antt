@@ -1,6 +1,7 @@
 -- What a log and a book keep.
 use Rattle.std.specs.Prelude.{◌≡◌, ◌≢◌, ℕ, ◌+◌, ◌*◌, ◌≤◌, ◌<◌, ◌^◌, List, [], length, Option}
 use Rattle.plan_base.specs.Causes.{Rose}
+use Rattle.plan_base.specs.Disk.{TellsAlike}
 use Rattle.gated_journal.specs.View.{JournalView, IsSettled}
 use Rattle.search_book.specs.Records.{LogView, RecordsLast}
 
@@ -15,6 +16,7 @@ pub record IsLogInside {D : Type 0} (reads : D → Option (List ℕ)) (images : 
   pub early : calls log.opened < 2 ^ 62 + 2 ^ 34
   pub few : log.added ≤ log.limit
   pub small : log.limit ≤ 2 ^ 26
+  pub telling : TellsAlike (reads log.opened) (reads log.disk)
   pub later : faults log.opened ≤ faults log.disk
   pub cause : log.in_flight ≢ [] → Rose (faults log.opened) (faults log.disk)
   pub lasts : RecordsLast reads images_since calls log

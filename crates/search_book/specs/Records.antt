@@ -3,6 +3,7 @@ use Rattle.std.specs.Prelude.{◌≡◌, ◌≢◌, ℕ, ◌+◌, ◌*◌, ◌�
 use Rattle.std.specs.declared.snapshot.Snapshot.{Snapshot}
 use Rattle.std.specs.declared.alloc.Global.{Global}
 use Rattle.plan_base.specs.Causes.{Rose}
+use Rattle.plan_base.specs.Disk.{TellsAlike}
 use Rattle.gated_journal.specs.Format.{end_after}
 use Rattle.gated_journal.specs.View.{JournalView, IsStored}
 use Rattle.gated_journal.specs.declared.fault.JournalFault.{JournalFault}
@@ -46,6 +47,7 @@ pub record IsLog {D : Type 0} (reads : D → Option (List ℕ)) (images : D → 
   pub early : calls log.opened < 2 ^ 62 + 2 ^ 34
   pub few : log.added ≤ log.limit
   pub small : log.limit ≤ 2 ^ 26
+  pub telling : TellsAlike (reads log.opened) (reads log.disk)
   pub later : faults log.opened ≤ faults log.disk
   pub cause : log.in_flight ≢ [] → Rose (faults log.opened) (faults log.disk)
   pub lasts : RecordsLast reads images_since calls log

@@ -1,6 +1,6 @@
 //! The book.
 ghost use Rattle.std.specs.Prelude.{◌≡◌, ◌+◌, ◌^◌, ◌<◌, ◌≤◌, [], ◌∷◌, length, Some, None, IsTrue, IfOk, IfErr, IfSome, OnSome, MatchResult};
-ghost use Rattle.plan_base.specs.Disk.{HoldsThroughout};
+ghost use Rattle.plan_base.specs.Disk.{HoldsThroughout, TellsAlike};
 ghost use Rattle.gated_journal.specs.View.{IsSettled};
 ghost use Rattle.instance_json.specs.Canonical.{canonical_text};
 ghost use Rattle.shift_instance.specs.Rota.{are_legal_rows};
@@ -183,6 +183,7 @@ impl<D: Disk> Book<D> {
         ensures counted { length self.now.history ≡ self.now.opening + self.now.made }
         ensures lasts { Lasts D.reads D.images_since D.calls self.now }
         ensures running { self.now.in_flight ≡ [] → IsRunning D.reads D.images D.calls self.now }
+        ensures telling { TellsAlike (D.reads self.now.opened) (D.reads self.now.disk) }
         ensures faults { D.faults self.now.opened ≤ D.faults self.now.disk }
     {
         self.log.added()

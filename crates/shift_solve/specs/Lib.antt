@@ -3,6 +3,8 @@ pub mod Plain
 pub mod Reading
 pub mod Report
 pub mod Run
+pub mod Search
+pub mod Session
 pub mod Status
 pub mod Sums
 pub mod Tally

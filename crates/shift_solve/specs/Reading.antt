@@ -4,7 +4,7 @@ use Rattle.plan_base.specs.Causes.{Rose}
 use Rattle.instance_json.specs.Reading.{reading_of}
 use Rattle.instance_json.specs.declared.ReadRefusal.TheVariants.{NoMemory as NoMemoryToRead}
 use Rattle.shift_solve.specs.declared.status.Status.{Status}
-use Rattle.shift_solve.specs.declared.status.Status.TheVariants.{Optimal, Budget, Usage, Input, ReadFault, WriteFault, NoMemory}
+use Rattle.shift_solve.specs.declared.status.Status.TheVariants.{Optimal, Budget, Full, Usage, Input, ReadFault, WriteFault, DiskFault, NoMemory, Journal}
 
 -- these are all the bytes that a source had left, where it tells
 abbrev pub IsAllOf : Option (List ℕ) → List ℕ → Type 0
@@ -19,3 +19,6 @@ Unread left before now Optimal = ⊥
 Unread left before now Budget = ⊥
 Unread left before now Usage = ⊥
 Unread left before now WriteFault = ⊥
+Unread left before now (Full end limit) = ⊥
+Unread left before now DiskFault = ⊥
+Unread left before now (Journal why) = ⊥

@@ -12,6 +12,7 @@ mod report;
 mod run;
 #[cfg(test)]
 mod run_tests;
+mod search;
 mod status;
 mod tally;
 mod words;

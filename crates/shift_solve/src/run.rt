@@ -1,23 +1,25 @@
 //! The run of `solve`.
 
-ghost use Rattle.std.specs.Prelude.{◌≡◌, ◌≢◌, ◌<◌, ◌≤◌, List, ℕ, [], map, string_bytes, IfOk, IfErr, IfSome, Ok, All, IsTrue, IsSome, false};
-ghost use Rattle.plan_base.specs.Causes.{Rose};
-ghost use Rattle.shift_instance.specs.Rota.{are_legal_rows};
+ghost use Rattle.std.specs.Prelude.{◌≡◌, ◌<◌, ◌≤◌, ◌+◌, ◌^◌, List, ℕ, length, map, string_bytes, IfOk, IfErr, Ok, All};
 ghost use Rattle.instance_json.specs.Reading.{reading_of};
+ghost use Rattle.instance_json.specs.Canonical.{canonical_text};
 ghost use Rattle.break_rules.specs.Plain.{plain_rule};
-ghost use Rattle.shift_solve.specs.Words.{journal_of};
-ghost use Rattle.shift_solve.specs.Run.{Explains, Met, plan_of, plan_cost};
+ghost use Rattle.shift_solve.specs.Plain.{ArePlain};
 ghost use Rattle.shift_solve.specs.Reading.{IsAllOf, Unread};
-ghost use Rattle.shift_solve.specs.Status.{EndsEarly};
+ghost use Rattle.shift_solve.specs.Run.{Explains, OverDisk, status_of};
+ghost use Rattle.shift_solve.specs.Session.{met_of};
+ghost use Rattle.shift_solve.specs.Status.{EndsEarly, EndsUnwritten};
 
-use crate::greedy::greedy_plan;
-use crate::report::report;
+use crate::search::search;
 use crate::status::Status;
 use crate::words::journal_word;
+use gated_journal::JOURNAL_MAX;
+//TODO use instance_json::laws::canonical_text_is_short;
 use instance_json::{INSTANCE_MAX, ReadRefusal, read};
-use plan_base::{Disk, Failed, ReadEnd, Sink, Source, read_all, write_all};
-use shift_instance::{Instance, Rows};
-use std::alloc::{AllocError, Global};
+use plan_base::{Disk, ReadEnd, Sink, Source, read_all};
+use search_book::{Book, BookFault};
+use shift_instance::Instance;
+use std::alloc::Global;
 
 /// Reads a source to its end and makes the instance of its document, or says how the run ends.
 fn read_instance<S: Source>(alloc: Global, input: &mut S) -> Result<Instance, Status>
@@ -38,75 +40,59 @@ fn read_instance<S: Source>(alloc: Global, input: &mut S) -> Result<Instance, St
     }
 }
 
-/// A plan and its cost.
-#[derive(Drop)]
-struct Plan {
-    rows: Rows,
-    cost: u64,
-}
-
-/// The plan of an instance whose types have no break rules.
-fn first_plan(alloc: Global, instance: &Instance) -> Result<Plan, AllocError>
-    requires plain { All (λ k. k.rule ≡ plain_rule) instance.now.kinds }
-    ensures rows { IfOk result (λ p. p.rows ≡ plan_of instance.now) }
-    ensures cost { IfOk result (λ p. p.cost ≡ plan_cost instance.now) }
-    ensures legal { IfOk result (λ p. IsTrue (are_legal_rows instance.now p.rows)) }
+/// How a run ends whose book isn't opened.
+fn unopened(fault: BookFault) -> Status
+    ensures { result ≡ status_of fault }
 {
-    let greedy = greedy_plan(alloc, instance)?;
-    if greedy.cost < greedy.opening {
-        return Ok(Plan {
-            rows: greedy.rows,
-            cost: greedy.cost,
-        });
+    match fault {
+        BookFault::DiskFault => Status::DiskFault,
+        BookFault::NoMemory => Status::NoMemory,
+        why => Status::Journal(why),
     }
-    Ok(Plan {
-        rows: Rows::new(Vec::new(alloc)),
-        cost: greedy.opening,
-    })
 }
 
-/// Reads the instance, plans, and writes the report.
-fn run<S: Source, K: Sink>(alloc: Global, words: &[String], input: &mut S, out: &mut K) -> Status
-    ensures status { Explains
-        (record {
-          words = map string_bytes words.now;
-          left = S.left input.old;
-          held = K.held out.old;
-          holds = K.held out.new;
-          read_faults = (S.faults input.old, S.faults input.new);
-          write_faults = (K.faults out.old, K.faults out.new);
-        })
-        result }
-    ensures unread { result ≡ Status.Usage → input.new ≡ input.old }
-    ensures unwritten { EndsEarly result → out.new ≡ out.old }
+/// Opens the book of an instance on the disk and searches; says whether the book was opened.
+fn run_book<K: Sink, D: Disk>(
+    alloc: Global,
+    instance: &Instance,
+    out: &mut K,
+    disk: D,
+) -> (Status, D, bool)
+    requires plain { ArePlain instance.now.kinds }
+    requires room { 13 + length (canonical_text instance.now) ≤ 2 ^ 26 }
+    requires count { D.calls disk < 2 ^ 62 }
+    ensures status { OverDisk
+        (met_of D.reads D.images D.images_since D.calls D.faults disk result.1)
+        (record { held = K.held out.old; held_after = K.held out.new; faults = (K.faults out.old, K.faults out.new) })
+        instance.now result.2 result.0 }
+    ensures unwritten { EndsUnwritten result.0 → out.new ≡ out.old }
 {
-    if journal_word(words).is_none() {
-        return Status::Usage;
-    }
-    let instance = match read_instance(alloc, input) {
-        Ok(instance) => instance,
-        Err(status) => return status,
-    };
-    let Ok(plan) = first_plan(alloc, &instance) else {
-        return Status::NoMemory;
-    };
-    let Ok(text) = report(alloc, &plan.rows, plan.cost, 0) else {
-        return Status::NoMemory;
-    };
-    match write_all(out, text.as_bytes()) {
-        Ok(()) if plan.cost == 0 => Status::Optimal,
-        Ok(()) => Status::Budget,
-        Err(Failed) => Status::WriteFault,
+    //TODO canonical_text_is_short(instance);
+    match Book::open(alloc, instance, disk, 0, JOURNAL_MAX) {
+        Err(unopened_book) => (unopened(unopened_book.fault), unopened_book.disk, false),
+        Ok(mut book) => {
+            // what these answers say is what is known of the book
+            let _best = book.best_cost();
+            let status = search(alloc, instance, &mut book, out);
+            let (_best, _made) = (book.best_cost(), book.batches());
+            (status, book.into_disk(), true)
+        }
     }
 }
 
-/// The run of `solve JOURNAL`: reads the instance document from `input` to its end, makes the greedy plan and writes its
-/// report to `out`. The disk isn't called yet; it is handed back, and the last part of the answer says that no book was
-/// opened on it.
+/// The run of `solve JOURNAL`: reads the instance document from `input` to its end, opens the book of its search on the
+/// disk, posts the greedy plan where it is cheaper than the best plan there, and writes the report of the book to `out`. The
+/// disk is handed back, with whether a book was opened on it.
 ///
-/// The status is `Optimal` where the plan costs nothing and `Budget` where it costs more, both where the whole report was
-/// written; `Usage` where the words aren't `solve JOURNAL`; `Input` where the document is refused; `ReadFault` and
-/// `WriteFault` only where a fault of the source or the sink was counted. `NoMemory` may come at any step after the words.
+/// The book may have `JOURNAL_MAX` bytes. The status is `Optimal` where the best plan costs nothing and `Budget` where it
+/// costs more, both where the whole report was written; `Full` where there was no room for the greedy plan, and the report
+/// was written; `Usage` where the words aren't `solve JOURNAL`; `Input` where the document is refused; `Journal` where
+/// the disk's file isn't empty and doesn't hold the posts of a search for this instance; `ReadFault`, `WriteFault` and
+/// `DiskFault` only where a fault of the source, the sink or the disk was counted. `NoMemory` may come at any step after
+/// the words. Nothing is written before the report, and the disk isn't called before the document is read.
+///
+/// After a crash at any moment once the book is opened the disk opens again to a book with all posts that were in it and
+/// each that was acknowledged.
 pub fn solve_run<S: Source, K: Sink, D: Disk>(
     alloc: Global,
     words: &[String],
@@ -114,21 +100,26 @@ pub fn solve_run<S: Source, K: Sink, D: Disk>(
     out: &mut K,
     disk: D,
 ) -> (Status, D, bool)
+    requires count { D.calls disk < 2 ^ 62 }
     ensures status { Explains
         (record {
           words = map string_bytes words.now;
           left = S.left input.old;
-          held = K.held out.old;
-          holds = K.held out.new;
           read_faults = (S.faults input.old, S.faults input.new);
-          write_faults = (K.faults out.old, K.faults out.new);
+          sink = record { held = K.held out.old; held_after = K.held out.new; faults = (K.faults out.old, K.faults out.new) };
+          disk = met_of D.reads D.images D.images_since D.calls D.faults disk result.1;
+          opened = result.2;
         })
         result.0 }
     ensures unread { result.0 ≡ Status.Usage → input.new ≡ input.old }
-    ensures unwritten { EndsEarly result.0 → out.new ≡ out.old }
-    ensures disk { result.1 ≡ disk }
-    ensures unopened { result.2 ≡ false }
+    ensures unwritten { EndsUnwritten result.0 → out.new ≡ out.old }
+    ensures untouched { EndsEarly result.0 → result.1 ≡ disk }
 {
-    let status = run(alloc, words, input, out);
-    (status, disk, false)
+    if journal_word(words).is_none() {
+        return (Status::Usage, disk, false);
+    }
+    match read_instance(alloc, input) {
+        Ok(instance) => run_book(alloc, &instance, out, disk),
+        Err(status) => (status, disk, false),
+    }
 }

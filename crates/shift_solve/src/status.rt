@@ -4,6 +4,7 @@ ghost use Rattle.std.specs.Prelude.{◌≡◌, IfOk, string_bytes};
 ghost use Rattle.shift_solve.specs.Status.{status_number, status_text};
 
 use instance_json::ReadRefusal;
+use search_book::BookFault;
 use std::alloc::{AllocError, Global};
 
 /// The words of the command line, as they are shown to whoever gave others.
@@ -17,6 +18,9 @@ pub enum Status {
     Optimal,
     /// The report was written, and the search for a better plan isn't finished.
     Budget,
+    /// The report was written, and the journal had no room for a better plan: with it the file would have ended at `end`,
+    /// which is past `limit`. Both are lengths in bytes.
+    Full { end: u64, limit: u32 },
     /// The words aren't `solve JOURNAL`, with a JOURNAL that isn't empty and doesn't begin with `-`.
     Usage,
     /// The document that was read is refused.
@@ -25,8 +29,12 @@ pub enum Status {
     ReadFault,
     /// A write of the report failed. What was written is the beginning of the report.
     WriteFault,
+    /// A call on the journal's file failed.
+    DiskFault,
     /// There was no memory.
     NoMemory,
+    /// The journal's file isn't empty and doesn't hold the posts of a search for this instance. Never holds another fault.
+    Journal(BookFault),
 }
 
 impl Status {
@@ -37,11 +45,14 @@ impl Status {
         match self {
             Status::Optimal => 0,
             Status::Budget => 10,
+            Status::Full { end: _, limit: _ } => 11,
             Status::Usage => 2,
             Status::Input(_) => 3,
             Status::ReadFault => 5,
             Status::WriteFault => 6,
+            Status::DiskFault => 7,
             Status::NoMemory => 8,
+            Status::Journal(_) => 9,
         }
     }
 }
@@ -53,10 +64,15 @@ pub fn status_line(alloc: Global, status: &Status) -> Result<String, AllocError>
     match status {
         Status::Optimal => Ok(String::new(alloc)),
         Status::Budget => String::from_str(alloc, "stopped: step budget spent"),
+        Status::Full { end, limit } => {
+            format!(in alloc; "stopped: journal full, {end} of {limit} bytes")
+        }
         Status::Usage => String::from_str(alloc, USAGE),
         Status::Input(why) => format!(in alloc; "instance refused: {why}"),
         Status::ReadFault => String::from_str(alloc, "read fault"),
         Status::WriteFault => String::from_str(alloc, "write fault"),
+        Status::DiskFault => String::from_str(alloc, "disk fault"),
         Status::NoMemory => String::from_str(alloc, "no memory"),
+        Status::Journal(why) => format!(in alloc; "journal refused: {why}"),
     }
 }

@@ -6,6 +6,7 @@ use Rattle.search_book.specs.Records.{LogView}
 use Rattle.search_book.specs.Records.{flight_of}
 use Rattle.search_book.proofs.Adds.{Each, faulted, acknowledged}
 use Rattle.search_book.proofs.Sizes.{few_records}
+use Rattle.search_book.proofs.Telling.{tells_on}
 use Rattle.search_book.proofs.record_log.RecordLog.add.Goals as goal
 
 pub invariant_of-self-in-Ok : goal.invariant_of-self-in-Ok
@@ -25,6 +26,7 @@ invariant_of-self-in-Ok g c =
       counted = omega (arith, ap (λ (v : JournalView). length v.records) c.in-Ok.ensures.ok, length-append c.reserve.new.self.records (c.deref.result.now ∷ []), counted);
       early = c.self.invariant.early;
       few = omega (arith, few_records c.reserve.new.self.head c.reserve.new.self.records, c.in-Ok.ensures.cause, counted, ap (λ (v : JournalView). v.limit) c.in-Ok.ensures.ok);
+      telling = tells_on (K.reads b.opened.value) (K.reads b.disk) (K.reads c.put.new.disk) c.self.invariant.telling c.in-Ok.ensures.telling;
       later = omega (arith, c.in-Ok.ensures.faults, c.self.invariant.later);
       cause = λ shut. absurd (shut none);
       small = omega (arith, c.self.invariant.small, ap (λ (v : JournalView). v.limit) c.in-Ok.ensures.ok, ap (λ (v : JournalView). v.limit) c.in_ok-reserve.ensures.ok);
@@ -50,6 +52,7 @@ invariant_of-self-in-Err-DiskFault g c =
       counted = ap (λ (v : JournalView). length v.records) c.in-Err-DiskFault.ensures.err ∙ counted;
       early = c.self.invariant.early;
       few = omega (arith, c.self.invariant.few, ap (λ (v : JournalView). v.limit) c.in-Err-DiskFault.ensures.err, ap (λ (v : JournalView). v.limit) c.in_ok-reserve.ensures.ok);
+      telling = tells_on (K.reads b.opened.value) (K.reads b.disk) (K.reads c.put.new.disk) c.self.invariant.telling c.in-Err-DiskFault.ensures.telling;
       later = omega (arith, c.in-Err-DiskFault.ensures.faults, c.self.invariant.later);
       cause = λ _. let rose : Rose (K.faults b.disk) (K.faults c.put.new.disk) = search rules in omega (arith, rose, c.self.invariant.later);
       small = omega (arith, c.self.invariant.small, ap (λ (v : JournalView). v.limit) c.in-Err-DiskFault.ensures.err, ap (λ (v : JournalView). v.limit) c.in_ok-reserve.ensures.ok);

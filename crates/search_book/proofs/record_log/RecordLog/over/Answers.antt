@@ -1,5 +1,7 @@
-use Rattle.std.proofs.Common.{refl, ap, arith}
+use Rattle.std.proofs.Common.{refl, ap, arith, subst, sym}
+use Rattle.plan_base.specs.Disk.{TellsAlike}
 use Rattle.search_book.proofs.Adds.{started}
+use Rattle.search_book.proofs.Telling.{tells_like_itself}
 use Rattle.search_book.proofs.record_log.RecordLog.over.Goals as goal
 
 pub invariant_of-result : goal.invariant_of-result
@@ -8,6 +10,7 @@ invariant_of-result g c = record {
   counted = omega (arith, c.requires.opening);
   early = omega (arith, c.requires.count, ap g.D.Disk.calls c.of-opened.ensures);
   few = omega arith;
+  telling = subst (λ (d : g.row.D.Denot). TellsAlike (g.D.Disk.reads d) (g.D.Disk.reads c.args.disk)) (sym c.of-opened.ensures) (tells_like_itself (g.D.Disk.reads c.args.disk));
   later = omega (arith, ap g.D.Disk.faults c.of-opened.ensures);
   cause = λ shut. absurd (shut refl);
   small = c.requires.small;

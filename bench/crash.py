@@ -1,0 +1,89 @@
+#!/usr/bin/env python3
+"""Kills `shift_solve solve` (`kill -9`) at random moments, some hundred times, each time over a journal file of its own, looks at what
+the file holds, and opens it again with the program. Prints how many files were left how, and with which cost each opened again.
+Build the program first, by `./run shift_solve` with any words. Words: the number of runs (400 where none is given)."""
+import collections
+import json
+import os
+import random
+import signal
+import struct
+import subprocess
+import sys
+import tempfile
+import time
+
+sys.path.insert(0, os.path.dirname(os.path.abspath(__file__)))
+import week
+
+TOP = os.path.dirname(os.path.dirname(os.path.abspath(__file__)))
+PROGRAM = os.path.join(TOP, "crates", "shift_solve", "out", "shift_solve")
+MARK = b"SHIFTJ1\n"
+
+
+def command(journal, document):
+    """A run of the program over that journal, in a process of its own."""
+    with open(document, "rb") as source:
+        return subprocess.Popen([PROGRAM, "solve", journal], stdin=source, stdout=subprocess.PIPE, stderr=subprocess.PIPE)
+
+
+def held(path):
+    """What a journal's file holds: a word, or the cost of its last plan."""
+    if not os.path.exists(path):
+        return "no file"
+    with open(path, "rb") as file:
+        content = file.read()
+    if not content:
+        return "an empty file"
+    if len(content) < 12 or content[:8] != MARK:
+        return "a torn first write"
+    at = 12 + struct.unpack_from("<I", content, 8)[0]
+    if len(content) <= at:
+        return "a torn first write"
+    cost = None
+    while content[at] == 1:
+        size = struct.unpack_from("<I", content, at + 1)[0]
+        cost = struct.unpack_from("<Q", content, at + 10)[0]  # behind the length, the number of posts, the tag and the worker
+        at += 5 + size
+    return "a journal without posts" if cost is None else "a plan of cost %d" % cost
+
+
+def opened_again(journal, document):
+    """The status of a further run over a journal, and the cost that it prints."""
+    child = command(journal, document)
+    out, _ = child.communicate()
+    lines = out.decode().split("\n")
+    return child.returncode, lines[2] if len(lines) > 2 else "no report"
+
+
+def main():
+    runs = int(sys.argv[1]) if len(sys.argv) > 1 else 400
+    left, again = collections.Counter(), collections.Counter()
+    with tempfile.TemporaryDirectory() as folder:
+        document = os.path.join(folder, "week.json")
+        with open(document, "w") as out:
+            json.dump(week.instance(), out)
+        whole = os.path.join(folder, "whole.journal")
+        begin = time.perf_counter()
+        command(whole, document).communicate()
+        seconds = time.perf_counter() - begin
+        killed = 0
+        for number in range(runs):
+            journal = os.path.join(folder, "run%d.journal" % number)
+            child = command(journal, document)
+            time.sleep(random.uniform(0, 1.2 * seconds))
+            child.send_signal(signal.SIGKILL)
+            child.communicate()
+            killed += child.returncode == -signal.SIGKILL
+            state = held(journal)
+            left[state] += 1
+            again["%s, then status %d and %s" % ((state,) + opened_again(journal, document))] += 1
+    print("%d runs of a run of %.3f s, %d of them killed before their end" % (runs, seconds, killed))
+    for state, count in sorted(left.items()):
+        print("%5d left %s" % (count, state))
+    for state, count in sorted(again.items()):
+        print("%5d opened again: %s" % (count, state))
+
+
+if __name__ == "__main__":
+    main()

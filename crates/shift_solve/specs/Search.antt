@@ -1,0 +1,95 @@
+-- What a run does to the book that it opened, step by step.
+use Rattle.std.specs.Prelude.{◌≡◌, ◌×◌, ◌⊎◌, ℕ, ◌+◌, ◌<◌, ◌≤◌, List, [], ◌∷◌, ◌++◌, length, Option, Some}
+use Rattle.std.specs.Io.KnownBytes.{Appends}
+use Rattle.plan_base.specs.Causes.{Rose}
+use Rattle.plan_base.specs.Streams.{AppendsPart}
+use Rattle.post_codec.specs.declared.post.Post.{Post}
+use Rattle.shift_instance.specs.declared.Row.{Row}
+use Rattle.shift_instance.specs.Problem.{Problem}
+use Rattle.search_book.specs.declared.fault.CommitFault.{CommitFault}
+use Rattle.search_book.specs.declared.fault.CommitFault.TheVariants as commit
+use Rattle.search_book.specs.Fold.{book_of, IsSound}
+use Rattle.search_book.specs.Posting.{PostFails, end_with}
+use Rattle.search_book.specs.View.{BookView}
+use Rattle.shift_solve.specs.declared.status.Status.{Status}
+use Rattle.shift_solve.specs.declared.status.Status.TheVariants.{Optimal, Budget, Full, Usage, Input, ReadFault, WriteFault, DiskFault, NoMemory, Journal}
+use Rattle.shift_solve.specs.Greedy.{greedy_rows}
+use Rattle.shift_solve.specs.Report.{report_text}
+use Rattle.shift_solve.specs.Session.{greedy_post, greedy_cost, posts_over}
+
+-- why the greedy plan isn't posted: no memory is left for it, or the book refuses it
+abbrev pub GreedyFails : {D : Type 0} → (D → ℕ) → BookView D → BookView D → Problem → CommitFault → Type 0
+GreedyFails faults old new i commit.NoMemory = new ≡ old
+GreedyFails faults old new i why = PostFails faults old new (greedy_rows i) why
+
+-- a book as it was opened, with more posts in it, each a record, and those of a record that ended in a disk fault; its disk, its cost,
+-- its size and what shut it are as they are now
+abbrev pub grown : {D : Type 0} → BookView D → BookView D → List Post → List Post → BookView D
+grown old new added in_flight = record old {
+  disk = new.disk;
+  history = old.history ++ added;
+  cost = new.cost;
+  made = length added;
+  used = new.used;
+  in_flight = in_flight;
+  shut = new.shut;
+}
+
+-- a book has these posts beside those with which it was opened
+abbrev pub Grows : {D : Type 0} → BookView D → BookView D → List Post → List Post → Type 0
+Grows old new added in_flight = new ≡ grown old new added in_flight
+
+-- the text of the report of a book's best plan
+pub record IsReportOf {D : Type 0} (book : BookView D) (text : List ℕ) : Type 0 where
+  pub best : List Row
+  pub folds : book_of book.instance book.history ≡ Some (record { best = best; cost = book.cost })
+  pub sound : IsSound book.instance (record { best = best; cost = book.cost })
+  pub is : text ≡ report_text best book.cost 0
+
+-- the report of a book was written
+abbrev pub IsReported : {D : Type 0} → BookView D → Option (List ℕ) → Option (List ℕ) → Type 0
+IsReported book held holds = (text : List ℕ) × IsReportOf book text × Appends held holds text
+
+-- why the report of a book wasn't written, or not whole: a fault of the sink, or want of memory
+abbrev pub Unwritten : {D : Type 0} → BookView D → Option (List ℕ) → Option (List ℕ) → ℕ × ℕ → Status → Type 0
+Unwritten book held holds faults WriteFault = (text : List ℕ) × IsReportOf book text × AppendsPart held holds text × Rose faults.0 faults.1
+Unwritten book held holds faults NoMemory = Unit {0}
+Unwritten book held holds faults Optimal = ⊥
+Unwritten book held holds faults Budget = ⊥
+Unwritten book held holds faults (Full end limit) = ⊥
+Unwritten book held holds faults Usage = ⊥
+Unwritten book held holds faults (Input why) = ⊥
+Unwritten book held holds faults ReadFault = ⊥
+Unwritten book held holds faults DiskFault = ⊥
+Unwritten book held holds faults (Journal why) = ⊥
+
+-- the greedy plan is in the book where it is cheaper than the best before it
+abbrev pub IsPosted : {D : Type 0} → BookView D → BookView D → Problem → Type 0
+IsPosted old new i = Grows old new (posts_over i old.cost) []
+
+-- the greedy plan is cheaper, and there is no room for it
+pub record Overflows {D : Type 0} (old new : BookView D) (i : Problem) (end limit : ℕ) : Type 0 where
+  pub grown : Grows old new [] []
+  pub cheaper : greedy_cost i < old.cost
+  pub ends : end ≡ end_with old (greedy_post i)
+  pub most : limit ≡ old.limit
+  pub over : limit < end
+
+-- the greedy plan is cheaper, and its record ended in a disk fault
+pub record Tears {D : Type 0} (faults : D → ℕ) (old new : BookView D) (i : Problem) : Type 0 where
+  pub grown : Grows old new [] (greedy_post i ∷ [])
+  pub cheaper : greedy_cost i < old.cost
+  pub cause : Rose (faults old.disk) (faults new.disk)
+
+-- how a search over a book ends
+abbrev pub SearchEnds : {D : Type 0} → (D → ℕ) → BookView D → BookView D → Problem → Option (List ℕ) → Option (List ℕ) → ℕ × ℕ → Status → Type 0
+SearchEnds faults old new i held holds writes Optimal = IsPosted old new i × IsReported new held holds × (new.cost ≡ 0)
+SearchEnds faults old new i held holds writes Budget = IsPosted old new i × IsReported new held holds × (0 < new.cost)
+SearchEnds faults old new i held holds writes (Full end limit) = Overflows old new i end limit × IsReported new held holds
+SearchEnds faults old new i held holds writes WriteFault = (IsPosted old new i ⊎ ((end : ℕ) × (limit : ℕ) × Overflows old new i end limit)) × Unwritten new held holds writes WriteFault
+SearchEnds faults old new i held holds writes DiskFault = Tears faults old new i
+SearchEnds faults old new i held holds writes NoMemory = Grows old new [] [] ⊎ IsPosted old new i
+SearchEnds faults old new i held holds writes Usage = ⊥
+SearchEnds faults old new i held holds writes (Input why) = ⊥
+SearchEnds faults old new i held holds writes ReadFault = ⊥
+SearchEnds faults old new i held holds writes (Journal why) = ⊥

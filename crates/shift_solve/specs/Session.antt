@@ -1,0 +1,76 @@
+-- What a run makes of the book that it opens on its disk.
+use Rattle.std.specs.Prelude.{◌≡◌, ◌×◌, ℕ, ◌+◌, ◌*◌, ◌≤◌, Bool, nat_lt, if◌then◌else◌, List, [], ◌∷◌, ◌++◌, length, Option, Some, IfSome, OnSome}
+use Rattle.plan_base.specs.Disk.{IsOnlyImage}
+use Rattle.gated_journal.specs.declared.TheConstants.{JOURNAL_MAX}
+use Rattle.post_codec.specs.declared.post.Post.{Post}
+use Rattle.shift_instance.specs.Problem.{Problem}
+use Rattle.search_book.specs.Fold.{Book, book_of}
+use Rattle.search_book.specs.Front.{HoldsFront}
+use Rattle.search_book.specs.Opening.{IsOpenedFrom}
+use Rattle.search_book.specs.Posting.{plan_of, rows_cost}
+use Rattle.search_book.specs.Posts.{StandsForPosts}
+use Rattle.shift_solve.specs.Greedy.{greedy_rows}
+
+-- what shows of a run's disk: its content before and after the run (none where it doesn't tell), what a crash may leave before
+-- and after it and since a moment, and the numbers of its calls and of its faults before and after
+pub record DiskMet : Type 1 where
+  pub file : Option (List ℕ)
+  pub file_after : Option (List ℕ)
+  pub images : List ℕ → Type 0
+  pub images_after : List ℕ → Type 0
+  pub images_since : ℕ → List ℕ → Type 0
+  pub calls : ℕ × ℕ
+  pub faults : ℕ × ℕ
+
+-- what shows of a disk from one of its states to a later one
+abbrev pub met_of : {D : Type 0} → (D → Option (List ℕ)) → (D → List ℕ → Type 0) → (D → ℕ → List ℕ → Type 0) → (D → ℕ) → (D → ℕ) → D → D → DiskMet
+met_of reads images images_since calls faults old new = record {
+  file = reads old;
+  file_after = reads new;
+  images = images old;
+  images_after = images new;
+  images_since = images_since new;
+  calls = (calls old, calls new);
+  faults = (faults old, faults new);
+}
+
+-- the greedy plan as a post of worker 0
+abbrev pub greedy_post : Problem → Post
+greedy_post i = plan_of i (greedy_rows i)
+
+-- what the greedy plan costs
+abbrev pub greedy_cost : Problem → ℕ
+greedy_cost i = rows_cost i (greedy_rows i)
+
+-- the posts of a run over a book whose best plan costs that much: the greedy plan where it is cheaper, and else none
+unfoldable pub posts_over : Problem → ℕ → List Post
+posts_over i best = if nat_lt (greedy_cost i) best then greedy_post i ∷ [] else []
+
+-- the disk's content is the only image, and it stands for the posts
+pub record IsOnlyJournal (met : DiskMet) (i : Problem) (posts : List Post) (file : List ℕ) : Type 0 where
+  pub only : IsOnlyImage file met.images_after
+  pub stands : StandsForPosts JOURNAL_MAX i posts file
+
+-- A run over a book that it opened. The posts of its session are those that were acknowledged, and that of a record which
+-- ended in a disk fault.
+pub record Session (met : DiskMet) (i : Problem) : Type 0 where
+  -- the posts of the file before it, the book that they make, and the bytes of its journal; an empty file becomes the new one
+  pub opening : List Post
+  pub first : Book
+  pub opens : book_of i opening ≡ Some first
+  pub used : ℕ
+  pub opened_as : Option (List ℕ)
+  pub found : IfSome met.file (IsOpenedFrom JOURNAL_MAX i opening used opened_as)
+  -- the posts of the session, and the book that those acknowledged make
+  pub added : List Post
+  pub in_flight : List Post
+  pub last : Book
+  pub ends : book_of i (opening ++ added) ≡ Some last
+  -- the moment of the opening; each record takes four calls
+  pub since : ℕ
+  -- each image since the b-th record was acknowledged holds a front of all posts with the opening ones and those b in it
+  pub lasts : OnSome met.file_after ((b : ℕ) (image : List ℕ) → b ≤ length added → met.images_since (since + 4 * b) image
+    → HoldsFront JOURNAL_MAX i ((opening ++ added) ++ in_flight) (length opening + b) image)
+  -- where no record ended in a disk fault, the disk holds these posts and nothing else
+  pub kept : in_flight ≡ [] → IfSome met.file_after (IsOnlyJournal met i (opening ++ added))
+  pub time : in_flight ≡ [] → met.calls.1 ≡ since + 4 * length added
