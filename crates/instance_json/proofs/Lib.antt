@@ -2,3 +2,4 @@ pub mod Lists
 pub mod Names
 pub mod Readings
 pub mod Texts
+pub mod Sizes

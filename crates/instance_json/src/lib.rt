@@ -4,6 +4,7 @@
 mod departures;
 mod document;
 mod fields;
+pub mod laws;
 mod name;
 mod reading;
 #[cfg(test)]
