@@ -7,7 +7,7 @@ use Rattle.plan_base.specs.Replay.{acted, content, images_after, image_of, fits,
 use Rattle.plan_base.specs.ReplayLaws.{whole_write, whole_cut, le_true, both}
 use Rattle.plan_base.specs.declared.disk_event.DiskEvent.{DiskEvent}
 use Rattle.plan_base.specs.declared.disk_event.DiskAct.{DiskAct}
-use Rattle.plan_base.specs.declared.disk_event.DiskAct.TheVariants.{Write, Shorten, Sync, Look}
+use Rattle.plan_base.specs.declared.disk_event.DiskAct.TheVariants.{Write, Shorten, Sync}
 
 length_over : (at : ℕ) (bs bs' old old' : List ℕ) → length bs ≡ length bs' → length old ≡ length old' → length (overwritten at bs old) ≡ length (overwritten at bs' old')
 length_over at bs bs' old old' same alike =
@@ -27,7 +27,6 @@ length_masked : (act : DiskAct) (reads mask : List ℕ) → length mask ≡ leng
 length_masked (Write at bytes) reads mask alike = length_over at (replicate (length bytes.items) 1) bytes.items mask reads (length-replicate (length bytes.items) 1) alike
 length_masked (Shorten len) reads mask alike = omega (arith, length-take len mask, length-take len reads)
 length_masked Sync reads mask alike = length-replicate (length reads) 0
-length_masked Look reads mask alike = alike
 
 pub length_mask : (first : List ℕ) (log : List DiskEvent) → length (mask_of first log) ≡ length (content first log)
 length_mask first [] = length-replicate (length first) 0
@@ -98,7 +97,6 @@ module _ (b : ℕ) where
       let d = painted b reads mask in
       (d, now, subst (λ (l : List ℕ). CutsPart len d l) (sym (take_painted len reads mask)) (whole_cut len d (omega (arith, le_true len (length reads) fit, length_painted reads mask alike))))
   painted_act Sync reads mask images fit alike now = zeros_painted reads
-  painted_act Look reads mask images fit alike now = now
 
   pub painted_image : (first : List ℕ) (log : List DiskEvent) → all_fit first log ≡ true → image_of first log (painted b (content first log) (mask_of first log))
   painted_image first [] fit = zeros_painted first

@@ -5,14 +5,13 @@ use Rattle.std.specs.declared.alloc.Global.{Global}
 use Rattle.plan_base.specs.Disk.{overwritten, WritesPart, CutsPart}
 use Rattle.plan_base.specs.declared.disk_event.DiskEvent.{DiskEvent}
 use Rattle.plan_base.specs.declared.disk_event.DiskAct.{DiskAct}
-use Rattle.plan_base.specs.declared.disk_event.DiskAct.TheVariants.{Write, Shorten, Sync, Look}
+use Rattle.plan_base.specs.declared.disk_event.DiskAct.TheVariants.{Write, Shorten, Sync}
 
 -- what an act makes of the content
 abbrev pub acted : DiskAct → List ℕ → List ℕ
 acted (Write at bytes) old = overwritten at bytes.items old
 acted (Shorten len) old = take len old
 acted Sync old = old
-acted Look old = old
 
 -- what the disk reads
 abbrev pub content : List ℕ → List DiskEvent → List ℕ
@@ -24,7 +23,6 @@ abbrev pub images_after : DiskAct → List ℕ → (List ℕ → Type 0) → Lis
 images_after (Write at bytes) reads images c = (d : List ℕ) × images d × WritesPart at (length bytes.items) d c
 images_after (Shorten len) reads images c = (d : List ℕ) × images d × CutsPart len d c
 images_after Sync reads images c = c ≡ reads
-images_after Look reads images c = images c
 
 -- what a crash may leave
 abbrev pub image_of : List ℕ → List DiskEvent → List ℕ → Type 0
@@ -41,7 +39,6 @@ abbrev pub fits : DiskAct → List ℕ → Bool
 fits (Write at bytes) old = nat_le at (length old)
 fits (Shorten len) old = nat_le len (length old)
 fits Sync old = true
-fits Look old = true
 
 abbrev pub all_fit : List ℕ → List DiskEvent → Bool
 all_fit first [] = true
@@ -57,7 +54,6 @@ abbrev pub masked : DiskAct → ℕ → List ℕ → List ℕ
 masked (Write at bytes) n mask = overwritten at (replicate (length bytes.items) 1) mask
 masked (Shorten len) n mask = take len mask
 masked Sync n mask = replicate n 0
-masked Look n mask = mask
 
 abbrev pub mask_of : List ℕ → List DiskEvent → List ℕ
 mask_of first [] = replicate (length first) 0

@@ -7,7 +7,7 @@ use Rattle.plan_base.specs.Disk.{overwritten, WritesPart, CutsPart}
 use Rattle.plan_base.specs.Replay.{content, image_of, image_since, all_fit, newest, fits, acted, images_after}
 use Rattle.plan_base.specs.declared.disk_event.DiskEvent.{DiskEvent}
 use Rattle.plan_base.specs.declared.disk_event.DiskAct.{DiskAct}
-use Rattle.plan_base.specs.declared.disk_event.DiskAct.TheVariants.{Write, Shorten, Sync, Look}
+use Rattle.plan_base.specs.declared.disk_event.DiskAct.TheVariants.{Write, Shorten, Sync}
 
 pub length-overwritten : (at : ℕ) (bytes old : List ℕ) → at ≤ length old → length (take at old ++ bytes) ≡ at + length bytes
 length-overwritten at bytes old le = length-append (take at old) bytes ∙ ap (λ (n : ℕ). n + length bytes) (length-take-le at old le)
@@ -36,7 +36,6 @@ acted_image : (act : DiskAct) (reads : List ℕ) (images : List ℕ → Type 0) 
 acted_image (Write at bytes) reads images fit now = (reads, now, whole_write at bytes.items reads (le_true at (length reads) fit))
 acted_image (Shorten len) reads images fit now = (reads, now, whole_cut len reads (le_true len (length reads) fit))
 acted_image Sync reads images fit now = refl
-acted_image Look reads images fit now = now
 
 pub both : (a b : Bool) → (a && b) ≡ true → (a ≡ true) × (b ≡ true)
 both a b h = grind arith

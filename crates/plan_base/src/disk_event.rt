@@ -1,4 +1,4 @@
-// What a disk in memory keeps of its calls.
+// What a disk in memory keeps of its calls. Those that only look aren't kept: their numbers are the ones that are missing.
 
 /// What a call did to the content.
 #[derive(Drop)]
@@ -9,8 +9,6 @@ pub enum DiskAct {
     Shorten(u64),
     /// A sync that succeeded.
     Sync,
-    /// Nothing.
-    Look,
 }
 
 /// What a call did, and its number, from 1.

@@ -1,6 +1,8 @@
-// A disk in memory. It keeps its first content and every call, and so knows the images since each moment.
-ghost use Rattle.std.specs.Prelude.{◌≡◌, ◌+◌, ◌-◌, ◌^◌, ◌<◌, ◌≤◌, [], ◌∷◌, ◌++◌, length, reverse, take, replicate, true, None, Some, IfOk, IfSome, IfNone, OnOk, OnErr};
-ghost use Rattle.plan_base.specs.Disk.{overwritten, IsOnlyImage};
+// A disk in memory. It keeps its first content and what each call did, and so knows the images since each moment.
+ghost use Rattle.std.specs.Prelude.{◌≡◌, ◌+◌, ◌-◌, ◌^◌, ◌<◌, ◌≤◌, ◌↔◌, List, ℕ, [], ◌∷◌, ◌++◌, length, reverse, take, replicate, true, None, Some, IfOk, IfSome, IfNone, OnOk, OnErr, IsErr, OnSome, Contains};
+ghost use Rattle.std.specs.Option.{option_map};
+ghost use Rattle.plan_base.specs.Causes.{CountsFaults};
+ghost use Rattle.plan_base.specs.Disk.{overwritten, WritesPart, CutsPart, StepsFrom, IsOnlyImage, TellsAlike, AddsMoment, ReadsAt};
 ghost use Rattle.std.proofs.Common.{subst, sym, ◌∙◌};
 ghost use Rattle.std.proofs.lemmas.Option.{same_Some};
 ghost use Rattle.plan_base.specs.Replay.{content, image_of, image_since, all_fit, newest, mask_of, mask_kept, painted};
@@ -12,13 +14,14 @@ use crate::{Disk, DiskAct, DiskEvent, Failed};
 use std::alloc::{AllocError, Global};
 use std::snapshot::Snapshot;
 
-/// A disk in memory. It tells its content, and fails at chosen calls and where no memory is left.
+/// A disk in memory. It tells its content, and fails at chosen calls. A write, a cut or a sync also fails where no
+/// memory is left; then it did nothing.
 #[derive(Drop)]
 pub struct MemDisk {
     alloc: Global,
     // what it read when it was made, for clauses alone
     first: Snapshot<Vec<u8>>,
-    // the calls for which there was memory, oldest first
+    // the calls that did something, oldest first
     log: Vec<DiskEvent>,
     bytes: Vec<u8>,
     // 1 where a byte was written since the last sync, else 0; none where there is no such byte
@@ -45,12 +48,15 @@ fn overwrite(alloc: Global, old: &[u8], at: usize, bytes: &[u8]) -> Result<Vec<u
     Ok(next)
 }
 
-// Notes an act that leaves the bytes as they are.
-fn keep(log: &mut Vec<DiskEvent>, call: u64, act: DiskAct) -> Result<(), AllocError>
-    ensures noted { OnOk result (log.new.items ≡ log.old.items ++ record { call = call; act = act } ∷ []) }
+// Notes a sync.
+fn keep_sync(log: &mut Vec<DiskEvent>, call: u64) -> Result<(), AllocError>
+    ensures noted { OnOk result (log.new.items ≡ log.old.items ++ record { call = call; act = DiskAct.Sync } ∷ []) }
     ensures not_noted { OnErr result (log.new.items ≡ log.old.items) }
 {
-    log.push(DiskEvent { call, act })?;
+    log.push(DiskEvent {
+        call,
+        act: DiskAct::Sync,
+    })?;
     Ok(())
 }
 
@@ -154,6 +160,7 @@ fn paint(alloc: Global, bytes: &[u8], mask: &[u8], byte: u8) -> Result<Vec<u8>, 
 }
 
 impl MemDisk {
+    ghost use Rattle.plan_base.specs.Failing.{listed_calls};
     ghost use Rattle.plan_base.specs.Painting.{filled};
 
     /// A synced disk with this content. `fails` lists the numbers, from 1, of the calls that are to fail. A write or a
@@ -163,6 +170,7 @@ impl MemDisk {
         ensures synced { IsOnlyImage bytes.items (⟦<MemDisk as Disk>⟧.images result) }
         ensures calls { ⟦<MemDisk as Disk>⟧.calls result ≡ 0 }
         ensures faults { ⟦<MemDisk as Disk>⟧.faults result ≡ 0 }
+        ensures listed { listed_calls result ≡ fails.items }
     {
         MemDisk {
             alloc,
@@ -185,6 +193,7 @@ impl MemDisk {
         ensures synced { IfOk result (λ disk. IfSome (⟦<MemDisk as Disk>⟧.reads disk) (λ file. IsOnlyImage file (⟦<MemDisk as Disk>⟧.images disk))) }
         ensures calls { IfOk result (λ disk. ⟦<MemDisk as Disk>⟧.calls disk ≡ 0) }
         ensures faults { IfOk result (λ disk. ⟦<MemDisk as Disk>⟧.faults disk ≡ 0) }
+        ensures listed { IfOk result (λ disk. listed_calls disk ≡ []) }
     {
         let alloc = self.alloc;
         let Some(byte) = fill else {
@@ -219,6 +228,8 @@ impl MemDisk {
 }
 
 impl Disk for MemDisk {
+    ghost use Rattle.plan_base.specs.Failing.{listed_calls};
+
     ghost reads = { λ m. Some m.bytes.items };
 
     ghost images = { λ m. image_of m.first.value.items (reverse m.log.items) };
@@ -235,25 +246,54 @@ impl Disk for MemDisk {
 
     ghost only_now = { λ m c left. since_now m.first.value.items (reverse m.log.items) m.calls c m.numbered left };
 
-    fn len(&mut self) -> Result<u64, Failed> {
+    fn len(&mut self) -> Result<u64, Failed>
+        requires { ⟦<MemDisk as Disk>⟧.calls self.old < 2 ^ 63 }
+        ensures length { IfOk result (λ n. IfSome (⟦<MemDisk as Disk>⟧.reads self.old) (λ file. n ≡ length file)) }
+        ensures reads { ⟦<MemDisk as Disk>⟧.reads self.new ≡ ⟦<MemDisk as Disk>⟧.reads self.old }
+        ensures crash { OnSome (⟦<MemDisk as Disk>⟧.reads self.old) ((image : List ℕ) → ⟦<MemDisk as Disk>⟧.images self.new image → ⟦<MemDisk as Disk>⟧.images self.old image) }
+        ensures time { OnSome (⟦<MemDisk as Disk>⟧.reads self.old) (AddsMoment (⟦<MemDisk as Disk>⟧.calls self.old) (⟦<MemDisk as Disk>⟧.images_since self.old) (⟦<MemDisk as Disk>⟧.images_since self.new) (⟦<MemDisk as Disk>⟧.images self.new)) }
+        ensures count { ⟦<MemDisk as Disk>⟧.calls self.new ≡ ⟦<MemDisk as Disk>⟧.calls self.old + 1 }
+        ensures cause { CountsFaults (⟦<MemDisk as Disk>⟧.faults self.old) (⟦<MemDisk as Disk>⟧.faults self.new) result }
+
+        ensures listed { IsErr result ↔ Contains (listed_calls self.old) (⟦<MemDisk as Disk>⟧.calls self.old + 1) }
+        ensures same_list { listed_calls self.new ≡ listed_calls self.old }
+    {
         self.calls += 1;
-        if keep(&mut self.log, self.calls, DiskAct::Look).is_err() {
-            return Err(count_fault(&mut self.faults));
-        }
         answer(&self.fails, self.calls, &mut self.faults)?;
         Ok(self.bytes.len() as u64)
     }
 
-    fn read_at(&mut self, at: u64, into: &mut [u8]) -> Result<usize, Failed> {
+    fn read_at(&mut self, at: u64, into: &mut [u8]) -> Result<usize, Failed>
+        requires { ⟦<MemDisk as Disk>⟧.calls self.old < 2 ^ 63 }
+        ensures bound { IfOk result (λ n. n ≤ length into.new) }
+        ensures bytes { IfOk result (λ n. IfSome (⟦<MemDisk as Disk>⟧.reads self.old) (λ file. ReadsAt file at into.new n)) }
+        ensures reads { ⟦<MemDisk as Disk>⟧.reads self.new ≡ ⟦<MemDisk as Disk>⟧.reads self.old }
+        ensures crash { OnSome (⟦<MemDisk as Disk>⟧.reads self.old) ((image : List ℕ) → ⟦<MemDisk as Disk>⟧.images self.new image → ⟦<MemDisk as Disk>⟧.images self.old image) }
+        ensures time { OnSome (⟦<MemDisk as Disk>⟧.reads self.old) (AddsMoment (⟦<MemDisk as Disk>⟧.calls self.old) (⟦<MemDisk as Disk>⟧.images_since self.old) (⟦<MemDisk as Disk>⟧.images_since self.new) (⟦<MemDisk as Disk>⟧.images self.new)) }
+        ensures count { ⟦<MemDisk as Disk>⟧.calls self.new ≡ ⟦<MemDisk as Disk>⟧.calls self.old + 1 }
+        ensures cause { CountsFaults (⟦<MemDisk as Disk>⟧.faults self.old) (⟦<MemDisk as Disk>⟧.faults self.new) result }
+
+        ensures listed { IsErr result ↔ Contains (listed_calls self.old) (⟦<MemDisk as Disk>⟧.calls self.old + 1) }
+        ensures same_list { listed_calls self.new ≡ listed_calls self.old }
+    {
         self.calls += 1;
-        if keep(&mut self.log, self.calls, DiskAct::Look).is_err() {
-            return Err(count_fault(&mut self.faults));
-        }
         answer(&self.fails, self.calls, &mut self.faults)?;
         Ok(copy_from(&self.bytes, at as usize, usize::MAX, into))
     }
 
-    fn write_at(&mut self, at: u64, bytes: &[u8]) -> Result<(), Failed> {
+    fn write_at(&mut self, at: u64, bytes: &[u8]) -> Result<(), Failed>
+        requires count { ⟦<MemDisk as Disk>⟧.calls self.old < 2 ^ 63 }
+        requires place { IfSome (⟦<MemDisk as Disk>⟧.reads self.old) (λ file. at ≤ length file) }
+        ensures written { OnOk result (⟦<MemDisk as Disk>⟧.reads self.new ≡ option_map (overwritten at bytes.now) (⟦<MemDisk as Disk>⟧.reads self.old)) }
+        ensures telling { TellsAlike (⟦<MemDisk as Disk>⟧.reads self.old) (⟦<MemDisk as Disk>⟧.reads self.new) }
+        ensures crash { OnSome (⟦<MemDisk as Disk>⟧.reads self.old) (StepsFrom (WritesPart at (length bytes.now)) (⟦<MemDisk as Disk>⟧.images self.old) (⟦<MemDisk as Disk>⟧.images self.new)) }
+        ensures time { OnSome (⟦<MemDisk as Disk>⟧.reads self.old) (AddsMoment (⟦<MemDisk as Disk>⟧.calls self.old) (⟦<MemDisk as Disk>⟧.images_since self.old) (⟦<MemDisk as Disk>⟧.images_since self.new) (⟦<MemDisk as Disk>⟧.images self.new)) }
+        ensures count { ⟦<MemDisk as Disk>⟧.calls self.new ≡ ⟦<MemDisk as Disk>⟧.calls self.old + 1 }
+        ensures cause { CountsFaults (⟦<MemDisk as Disk>⟧.faults self.old) (⟦<MemDisk as Disk>⟧.faults self.new) result }
+
+        ensures listed { Contains (listed_calls self.old) (⟦<MemDisk as Disk>⟧.calls self.old + 1) → IsErr result }
+        ensures same_list { listed_calls self.new ≡ listed_calls self.old }
+    {
         self.calls += 1;
         match keep_write(
             self.alloc,
@@ -269,7 +309,19 @@ impl Disk for MemDisk {
         }
     }
 
-    fn cut(&mut self, len: u64) -> Result<(), Failed> {
+    fn cut(&mut self, len: u64) -> Result<(), Failed>
+        requires count { ⟦<MemDisk as Disk>⟧.calls self.old < 2 ^ 63 }
+        requires place { IfSome (⟦<MemDisk as Disk>⟧.reads self.old) (λ file. len ≤ length file) }
+        ensures cut { OnOk result (⟦<MemDisk as Disk>⟧.reads self.new ≡ option_map (take len) (⟦<MemDisk as Disk>⟧.reads self.old)) }
+        ensures telling { TellsAlike (⟦<MemDisk as Disk>⟧.reads self.old) (⟦<MemDisk as Disk>⟧.reads self.new) }
+        ensures crash { OnSome (⟦<MemDisk as Disk>⟧.reads self.old) (StepsFrom (CutsPart len) (⟦<MemDisk as Disk>⟧.images self.old) (⟦<MemDisk as Disk>⟧.images self.new)) }
+        ensures time { OnSome (⟦<MemDisk as Disk>⟧.reads self.old) (AddsMoment (⟦<MemDisk as Disk>⟧.calls self.old) (⟦<MemDisk as Disk>⟧.images_since self.old) (⟦<MemDisk as Disk>⟧.images_since self.new) (⟦<MemDisk as Disk>⟧.images self.new)) }
+        ensures count { ⟦<MemDisk as Disk>⟧.calls self.new ≡ ⟦<MemDisk as Disk>⟧.calls self.old + 1 }
+        ensures cause { CountsFaults (⟦<MemDisk as Disk>⟧.faults self.old) (⟦<MemDisk as Disk>⟧.faults self.new) result }
+
+        ensures listed { Contains (listed_calls self.old) (⟦<MemDisk as Disk>⟧.calls self.old + 1) → IsErr result }
+        ensures same_list { listed_calls self.new ≡ listed_calls self.old }
+    {
         self.calls += 1;
         match keep_cut(
             self.alloc,
@@ -284,10 +336,21 @@ impl Disk for MemDisk {
         }
     }
 
-    fn sync(&mut self) -> Result<(), Failed> {
+    fn sync(&mut self) -> Result<(), Failed>
+        requires { ⟦<MemDisk as Disk>⟧.calls self.old < 2 ^ 63 }
+        ensures durable { OnOk result (IfSome (⟦<MemDisk as Disk>⟧.reads self.old) (λ file. IsOnlyImage file (⟦<MemDisk as Disk>⟧.images self.new))) }
+        ensures reads { ⟦<MemDisk as Disk>⟧.reads self.new ≡ ⟦<MemDisk as Disk>⟧.reads self.old }
+        ensures crash { OnSome (⟦<MemDisk as Disk>⟧.reads self.old) ((image : List ℕ) → ⟦<MemDisk as Disk>⟧.images self.new image → ⟦<MemDisk as Disk>⟧.images self.old image) }
+        ensures time { OnSome (⟦<MemDisk as Disk>⟧.reads self.old) (AddsMoment (⟦<MemDisk as Disk>⟧.calls self.old) (⟦<MemDisk as Disk>⟧.images_since self.old) (⟦<MemDisk as Disk>⟧.images_since self.new) (⟦<MemDisk as Disk>⟧.images self.new)) }
+        ensures count { ⟦<MemDisk as Disk>⟧.calls self.new ≡ ⟦<MemDisk as Disk>⟧.calls self.old + 1 }
+        ensures cause { CountsFaults (⟦<MemDisk as Disk>⟧.faults self.old) (⟦<MemDisk as Disk>⟧.faults self.new) result }
+
+        ensures listed { Contains (listed_calls self.old) (⟦<MemDisk as Disk>⟧.calls self.old + 1) → IsErr result }
+        ensures same_list { listed_calls self.new ≡ listed_calls self.old }
+    {
         self.calls += 1;
         answer(&self.fails, self.calls, &mut self.faults)?;
-        match keep(&mut self.log, self.calls, DiskAct::Sync) {
+        match keep_sync(&mut self.log, self.calls) {
             Ok(()) => {
                 self.mask = None;
                 Ok(())
