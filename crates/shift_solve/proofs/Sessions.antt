@@ -1,10 +1,11 @@
 -- From a search over a book to what a run says of it.
 use Rattle.std.proofs.Common.{◌≡◌, ◌×◌, ⊎_elim, inl, inr, ◌∙◌, sym, ap, subst, refl, ℕ, ◌+◌, ◌*◌, ◌<◌, ◌≤◌, List, [], ◌∷◌, ◌++◌, length, arith}
-use Rattle.std.specs.Prelude.{Option, Some, None, OnSome, IfSome, Bool, true, false, if◌then◌else◌}
+use Rattle.std.specs.Prelude.{Option, Some, None, OnSome, IfSome, IsSome, Bool, true, false, if◌then◌else◌}
 use Rattle.std.proofs.lemmas.Bool.{lt-ltb, le-ltb}
 use Rattle.std.proofs.lemmas.List.{append-nil}
 use Rattle.std.specs.Io.KnownBytes.{Appends}
 use Rattle.plan_base.specs.Causes.{Rose}
+use Rattle.plan_base.specs.Disk.{TellsAlike}
 use Rattle.plan_base.specs.Streams.{AppendsPart}
 use Rattle.gated_journal.specs.declared.TheConstants.{JOURNAL_MAX}
 use Rattle.post_codec.specs.declared.post.Post.{Post}
@@ -68,8 +69,21 @@ pub record Known {D : Type 0} (reads : D → Option (List ℕ)) (images : D → 
   pub same : old ≡ record { instance = i; disk = old.disk; limit = JOURNAL_MAX; budget = old.budget; history = old.history; cost = old.cost; opening = length old.history; opened = old.disk; made = 0; used = old.used; in_flight = []; shut = None }
   pub found : IfSome (reads entry) (IsOpenedFrom JOURNAL_MAX i old.history old.used (reads old.disk))
   pub folds : IsFoldAt i old.history old.cost
+  pub telling : TellsAlike (reads new.opened) (reads new.disk)
   pub lasts : Lasts reads images_since calls new
   pub running : new.in_flight ≡ [] → IsRunning reads images calls new
+
+-- an opened disk tells its content where it did before
+opened_tells : (limit : ℕ) (i : Problem) (posts : List Post) (used : ℕ) (after : Option (List ℕ)) (file : List ℕ) → IsOpenedFrom limit i posts used after file → IsSome after
+opened_tells limit i posts used after [] found = subst IsSome (sym (found.new refl).2.2) tt
+opened_tells limit i posts used after (byte ∷ bytes) found = subst IsSome (sym (found.old (λ empty. absurd (omega (arith, ap length empty)))).2) tt
+
+-- and so does one that tells like it
+tells_after : (before opened now : Option (List ℕ)) → IfSome before (λ file. IsSome opened) → TellsAlike opened now → OnSome before (IsSome now)
+tells_after None opened now told alike = tt
+tells_after (Some file) (Some then) (Some later) told alike = tt
+tells_after (Some file) (Some then) None told alike = absurd alike
+tells_after (Some file) None now told alike = absurd told
 
 -- the posts of a book that grew make what its own posts make
 pub ends_of : {D : Type 0} (reads : D → Option (List ℕ)) (images : D → List ℕ → Type 0) (images_since : D → ℕ → List ℕ → Type 0) (calls : D → ℕ) (entry : D) (i : Problem) (old new : BookView D) (added flight : List Post) (last : Book)
@@ -97,7 +111,37 @@ session_of reads images images_since calls faults entry i old new added flight l
       last = last;
       ends = ends;
       since = calls old.disk;
+      tells = tells_after (reads entry) (reads old.disk) (reads new.disk)
+          (map_some (reads entry) (λ file found. opened_tells JOURNAL_MAX i old.history old.used (reads old.disk) file found) known.found)
+          (subst (λ (v : BookView _). TellsAlike (reads v.opened) (reads new.disk)) known.same (subst (λ (v : BookView _). TellsAlike (reads v.opened) (reads new.disk)) grows known.telling));
       lasts = subst (λ (v : BookView _). Lasts reads images_since calls (grown v new added flight)) known.same (subst (Lasts reads images_since calls) grows known.lasts);
       kept = λ none. map_some (reads new.disk) (λ file kept. record { only = kept.only; stands = record { used = new.used; journal = kept.journal } }) (running none).kept;
       time = λ none. (running none).time;
     }
+
+-- the report of a book that grew
+pub reports_of : {D : Type 0} (i : Problem) (sink : SinkMet) (old new : BookView D) (report : IsReported new sink.held sink.held_after) (disk : DiskMet) (s : Session disk i)
+    → s.last ≡ record { best = report.1.best; cost = new.cost } → new.instance ≡ i → Reports sink s
+reports_of i sink old new report disk s last of = record {
+  sound = subst (IsSound i) (sym last) (subst (λ (j : Problem). IsSound j (record { best = report.1.best; cost = new.cost })) of report.1.sound);
+  written = subst (λ (b : Book). Appends sink.held sink.held_after (report_of b)) (sym last) (subst (Appends sink.held sink.held_after) report.1.is report.2);
+}
+
+-- the instance of a book that grew
+instance_of : {D : Type 0} (i : Problem) (old new : BookView D) (added flight : List Post) → old.instance ≡ i → Grows old new added flight → new.instance ≡ i
+instance_of i old new added flight of grows = ap (λ (v : BookView _). v.instance) grows ∙ of
+
+-- a count of faults that rose in the search rose in the run
+rose_before : (first before now : ℕ) → first ≤ before → Rose before now → Rose first now
+rose_before first before now le rose = omega (arith, le, rose)
+
+-- what a search over a book says of the run
+pub over_disk : {D : Type 0} (reads : D → Option (List ℕ)) (images : D → List ℕ → Type 0) (images_since : D → ℕ → List ℕ → Type 0) (calls faults : D → ℕ) (entry : D) (i : Problem) (old new : BookView D) (sink : SinkMet) (status : Status)
+    → Known reads images images_since calls entry i old new → IsFoldAt new.instance new.history new.cost → faults entry ≤ faults old.disk
+    → SearchEnds faults old new i sink.held sink.held_after sink.faults status
+    → OverDisk (met_of reads images images_since calls faults entry new.disk) sink i true status
+over_disk reads images images_since calls faults entry i old new sink Optimal known folds later e =
+    let of : old.instance ≡ i = ap (λ (v : BookView _). v.instance) known.same in
+    let last : Book = record { best = e.1.1.1.best; cost = new.cost } in
+    let s = session_of reads images images_since calls faults entry i old new (posts_over i old.cost) [] last known e.0 (ends_of reads images images_since calls entry i old new (posts_over i old.cost) [] last known e.0 e.1.1.1.folds) in
+    (refl, s, record { added = refl; landed = refl }, reports_of i sink old new (e.1.0) _ s refl (instance_of i old new (posts_over i old.cost) [] of e.0), e.1.2, λ rota legal. omega (arith, e.1.2))

@@ -1,5 +1,5 @@
 -- What a run makes of the book that it opens on its disk.
-use Rattle.std.specs.Prelude.{◌≡◌, ◌×◌, ℕ, ◌+◌, ◌*◌, ◌≤◌, Bool, nat_lt, if◌then◌else◌, List, [], ◌∷◌, ◌++◌, length, Option, Some, IfSome, OnSome}
+use Rattle.std.specs.Prelude.{◌≡◌, ◌×◌, ℕ, ◌+◌, ◌*◌, ◌≤◌, Bool, nat_lt, if◌then◌else◌, List, [], ◌∷◌, ◌++◌, length, Option, Some, IsSome, IfSome, OnSome}
 use Rattle.plan_base.specs.Disk.{IsOnlyImage}
 use Rattle.gated_journal.specs.declared.TheConstants.{JOURNAL_MAX}
 use Rattle.post_codec.specs.declared.post.Post.{Post}
@@ -68,6 +68,8 @@ pub record Session (met : DiskMet) (i : Problem) : Type 0 where
   pub ends : book_of i (opening ++ added) ≡ Some last
   -- the moment of the opening; each record takes four calls
   pub since : ℕ
+  -- a disk that told its content before the run tells it after
+  pub tells : OnSome met.file (IsSome met.file_after)
   -- each image since the b-th record was acknowledged holds a front of all posts with the opening ones and those b in it
   pub lasts : OnSome met.file_after ((b : ℕ) (image : List ℕ) → b ≤ length added → met.images_since (since + 4 * b) image
     → HoldsFront JOURNAL_MAX i ((opening ++ added) ++ in_flight) (length opening + b) image)

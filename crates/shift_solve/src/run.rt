@@ -1,8 +1,7 @@
 //! The run of `solve`.
 
-ghost use Rattle.std.specs.Prelude.{◌≡◌, ◌<◌, ◌≤◌, ◌+◌, ◌^◌, List, ℕ, length, map, string_bytes, IfOk, IfErr, Ok, All};
+ghost use Rattle.std.specs.Prelude.{◌≡◌, ◌<◌, ◌^◌, List, ℕ, map, string_bytes, IfOk, IfErr, Ok, All};
 ghost use Rattle.instance_json.specs.Reading.{reading_of};
-ghost use Rattle.instance_json.specs.Canonical.{canonical_text};
 ghost use Rattle.break_rules.specs.Plain.{plain_rule};
 ghost use Rattle.shift_solve.specs.Plain.{ArePlain};
 ghost use Rattle.shift_solve.specs.Reading.{IsAllOf, Unread};
@@ -14,7 +13,7 @@ use crate::search::search;
 use crate::status::Status;
 use crate::words::journal_word;
 use gated_journal::JOURNAL_MAX;
-//TODO use instance_json::laws::canonical_text_is_short;
+use instance_json::laws::canonical_text_is_short;
 use instance_json::{INSTANCE_MAX, ReadRefusal, read};
 use plan_base::{Disk, ReadEnd, Sink, Source, read_all};
 use search_book::{Book, BookFault};
@@ -59,7 +58,6 @@ fn run_book<K: Sink, D: Disk>(
     disk: D,
 ) -> (Status, D, bool)
     requires plain { ArePlain instance.now.kinds }
-    requires room { 13 + length (canonical_text instance.now) ≤ 2 ^ 26 }
     requires count { D.calls disk < 2 ^ 62 }
     ensures status { OverDisk
         (met_of D.reads D.images D.images_since D.calls D.faults disk result.1)
@@ -67,7 +65,7 @@ fn run_book<K: Sink, D: Disk>(
         instance.now result.2 result.0 }
     ensures unwritten { EndsUnwritten result.0 → out.new ≡ out.old }
 {
-    //TODO canonical_text_is_short(instance);
+    canonical_text_is_short(instance);
     match Book::open(alloc, instance, disk, 0, JOURNAL_MAX) {
         Err(unopened_book) => (unopened(unopened_book.fault), unopened_book.disk, false),
         Ok(mut book) => {
