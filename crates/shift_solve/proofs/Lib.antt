@@ -4,9 +4,10 @@ pub mod Leading
 pub mod Lengths
 pub mod PlainLists
 pub mod PlanRows
-pub mod Plans
+pub mod TooLong
 pub mod Ranges
 pub mod Rounds
+pub mod Sessions
 pub mod Steps
 pub mod Tallied
 pub mod Texts

@@ -1,7 +1,7 @@
 -- From a search over a book to what a run says of it.
-use Rattle.std.proofs.Common.{◌≡◌, ◌×◌, ⊎_elim, inl, inr, ◌∙◌, sym, ap, subst, refl, ℕ, ◌+◌, ◌*◌, ◌<◌, ◌≤◌, List, [], ◌∷◌, ◌++◌, length, arith}
+use Rattle.std.proofs.Common.{◌≡◌, ⊎_elim, inl, inr, ◌∙◌, sym, ap, subst, refl, ℕ, ◌+◌, ◌*◌, ◌<◌, ◌≤◌, List, [], ◌∷◌, ◌++◌, length, arith}
 use Rattle.std.specs.Prelude.{Option, Some, None, OnSome, IfSome, IsSome, Bool, true, false, if◌then◌else◌}
-use Rattle.std.proofs.lemmas.Bool.{lt-ltb, le-ltb}
+use Rattle.std.proofs.lemmas.Bool.{lt-ltb, le-ltb, false≢true}
 use Rattle.std.proofs.lemmas.List.{append-nil}
 use Rattle.std.specs.Io.KnownBytes.{Appends}
 use Rattle.plan_base.specs.Causes.{Rose}
@@ -10,16 +10,19 @@ use Rattle.plan_base.specs.Streams.{AppendsPart}
 use Rattle.gated_journal.specs.declared.TheConstants.{JOURNAL_MAX}
 use Rattle.post_codec.specs.declared.post.Post.{Post}
 use Rattle.shift_instance.specs.Problem.{Problem}
+use Rattle.search_book.specs.declared.fault.CommitFault.TheVariants.{DiskFault as CommitDisk, Full as CommitFull}
 use Rattle.search_book.specs.declared.fault.Kept.{Kept}
+use Rattle.search_book.specs.declared.fault.Shutting.{Shutting}
+use Rattle.search_book.specs.declared.fault.Shutting.TheVariants.{DiskFault as ByDisk, Full as ByLimit}
 use Rattle.search_book.specs.Fold.{Book, book_of, IsFoldAt, IsSound}
 use Rattle.search_book.specs.Front.{Lasts, IsRunning, HoldsFront}
 use Rattle.search_book.specs.Opening.{IsOpenedFrom}
-use Rattle.search_book.specs.Posting.{Posts, plan_of, rows_cost, with_plan}
+use Rattle.search_book.specs.Posting.{Posts, PostFails, plan_of, rows_cost, with_plan, end_with}
 use Rattle.search_book.specs.View.{BookView}
 use Rattle.shift_solve.specs.Greedy.{greedy_rows}
 use Rattle.shift_solve.specs.Report.{report_text}
 use Rattle.shift_solve.specs.Run.{SinkMet, Reports, ReportsPart, KeepsGreedy, IsFull, IsTorn, IsUnbeaten, OverDisk, report_of}
-use Rattle.shift_solve.specs.Search.{grown, Grows, IsPosted, IsReportOf, IsReported, Overflows, Tears, SearchEnds}
+use Rattle.shift_solve.specs.Search.{grown, Grows, IsPosted, IsReported, IsReportedPart, Overflows, Tears, SearchEnds}
 use Rattle.shift_solve.specs.Session.{DiskMet, met_of, Session, greedy_post, greedy_cost, posts_over}
 use Rattle.shift_solve.specs.declared.status.Status.{Status}
 use Rattle.shift_solve.specs.declared.status.Status.TheVariants.{Optimal, Budget, Full, Usage, Input, ReadFault, WriteFault, DiskFault, NoMemory, Journal}
@@ -34,12 +37,41 @@ pub posts_none : (i : Problem) (best : ℕ) → best ≤ greedy_cost i → posts
 unfolding posts_over
 posts_none i best more = ap (λ (b : Bool). if b then greedy_post i ∷ [] else []) (le-ltb (greedy_cost i) best more)
 
--- a book to which nothing was added
+-- a book to which no post was added, whatever became of its disk, of what shut it, and of a record in flight
+unposted : {D : Type 0} (old : BookView D) (disk : D) (flight : List Post) (shut : Option Shutting) → old.made ≡ 0
+    → record old { disk = disk; in_flight = flight; shut = shut } ≡ grown old (record old { disk = disk; in_flight = flight; shut = shut }) [] flight
+unposted old disk flight shut fresh =
+    let w : BookView _ = record old { disk = disk; in_flight = flight; shut = shut } in
+    ap (λ n. record w { made = n }) fresh ∙ ap (λ h. record w { made = 0; history = h }) (sym (append-nil old.history))
+
+-- a book that stayed as it was
 pub as_opened : {D : Type 0} (old new : BookView D) → new ≡ old → old.made ≡ 0 → old.in_flight ≡ [] → Grows old new [] []
 as_opened old new same fresh landed =
-    subst (λ (v : BookView _). v ≡ grown old v [] []) (sym same)
-    (ap (λ n. record old { made = n }) fresh ∙ ap (λ f. record old { made = 0; in_flight = f }) landed
-    ∙ ap (λ h. record old { made = 0; in_flight = []; history = h }) (sym (append-nil old.history)))
+    subst (λ (f : List Post). Grows old new [] f) landed
+    (subst (λ (v : BookView _). v ≡ grown old v [] old.in_flight) (sym same) (unposted old old.disk old.in_flight old.shut fresh))
+
+-- there was no room for the greedy plan
+pub overflowed : {D : Type 0} (faults : D → ℕ) (i : Problem) (old new : BookView D) (end limit : ℕ) → old.instance ≡ i → old.made ≡ 0 → old.in_flight ≡ []
+    → PostFails faults old new (greedy_rows i) (CommitFull end limit) → Overflows old new i end limit
+overflowed faults i old new end limit of fresh landed (open_, cheaper, ends, most, over, is) = record {
+  grown = subst (λ (f : List Post). Grows old new [] f) landed
+      (subst (λ (v : BookView _). v ≡ grown old v [] old.in_flight) (sym is) (unposted old old.disk old.in_flight (Some (ByLimit end limit)) fresh));
+  cheaper = subst (λ (j : Problem). rows_cost j (greedy_rows i) < old.cost) of cheaper;
+  ends = subst (λ (j : Problem). end ≡ end_with old (plan_of j (greedy_rows i))) of ends;
+  most = most;
+  over = over;
+}
+
+-- the record of the greedy plan ended in a disk fault
+pub torn : {D : Type 0} (faults : D → ℕ) (i : Problem) (old new : BookView D) → old.instance ≡ i → old.made ≡ 0
+    → PostFails faults old new (greedy_rows i) CommitDisk → Tears faults old new i
+torn faults i old new of fresh (open_, cheaper, most, rose, is) = record {
+  grown = subst (λ (j : Problem). Grows old new [] (plan_of j (greedy_rows i) ∷ [])) of
+      (subst (λ (v : BookView _). v ≡ grown old v [] (plan_of old.instance (greedy_rows i) ∷ [])) (sym is)
+      (unposted old new.disk (plan_of old.instance (greedy_rows i) ∷ []) (Some ByDisk) fresh));
+  cheaper = subst (λ (j : Problem). rows_cost j (greedy_rows i) < old.cost) of cheaper;
+  cause = rose;
+}
 
 -- a book in which the greedy plan is best
 pub with_greedy : {D : Type 0} (i : Problem) (old new : BookView D) → old.instance ≡ i → new ≡ with_plan old (greedy_rows i) new.disk → old.made ≡ 0 → old.in_flight ≡ [] → Grows old new (greedy_post i ∷ []) []
@@ -54,13 +86,13 @@ pub posted : {D : Type 0} (calls : D → ℕ) (i : Problem) (old new : BookView 
 posted calls i old new kept of fresh landed = ⊎_elim
     (λ p.
     let cheaper : greedy_cost i < old.cost = subst (λ (j : Problem). rows_cost j (greedy_rows i) < old.cost) of p.0 in
-    subst (λ (added : List Post). Grows old new added []) (sym (posts_it i old.cost cheaper)) (with_greedy i old new of p.2.1 fresh landed))
+    subst (λ (added : List Post). Grows old new added []) (sym (posts_it i old.cost cheaper)) (with_greedy i old new of p.2 fresh landed))
     (λ p.
     let dearer : old.cost ≤ greedy_cost i = subst (λ (j : Problem). old.cost ≤ rows_cost j (greedy_rows i)) of p.0 in
-    subst (λ (added : List Post). Grows old new added []) (sym (posts_none i old.cost dearer)) (as_opened old new p.2.1 fresh landed))
+    subst (λ (added : List Post). Grows old new added []) (sym (posts_none i old.cost dearer)) (as_opened old new p.2 fresh landed))
 
 -- a fact of what there is implies another
-map_some : {A : Type 0} {P Q : A → Type 0} (o : Option A) → ((a : A) → P a → Q a) → IfSome o P → IfSome o Q
+pub map_some : {A : Type 0} {P Q : A → Type 0} (o : Option A) → ((a : A) → P a → Q a) → IfSome o P → IfSome o Q
 map_some None f told = tt
 map_some (Some a) f told = f a told
 
@@ -73,17 +105,38 @@ pub record Known {D : Type 0} (reads : D → Option (List ℕ)) (images : D → 
   pub lasts : Lasts reads images_since calls new
   pub running : new.in_flight ≡ [] → IsRunning reads images calls new
 
+-- these facts, from what an opening says of a book
+pub known : {D : Type 0} (reads : D → Option (List ℕ)) (images : D → List ℕ → Type 0) (images_since : D → ℕ → List ℕ → Type 0) (calls : D → ℕ) (entry : D) (i : Problem) (old new : BookView D)
+    → old.instance ≡ i → old.limit ≡ JOURNAL_MAX → old.opening ≡ length old.history → old.opened ≡ old.disk → old.made ≡ 0 → old.in_flight ≡ [] → old.shut ≡ None
+    → IfSome (reads entry) (IsOpenedFrom JOURNAL_MAX i old.history old.used (reads old.disk)) → IsFoldAt old.instance old.history old.cost
+    → TellsAlike (reads new.opened) (reads new.disk) → Lasts reads images_since calls new → (new.in_flight ≡ [] → IsRunning reads images calls new)
+    → Known reads images images_since calls entry i old new
+known reads images images_since calls entry i old new of limit opening opened made flight shut found folds telling lasts running = record {
+  same = ap (λ x. record old { instance = x }) of
+      ∙ ap (λ x. record old { instance = i; limit = x }) limit
+      ∙ ap (λ x. record old { instance = i; limit = JOURNAL_MAX; opening = x }) opening
+      ∙ ap (λ x. record old { instance = i; limit = JOURNAL_MAX; opening = length old.history; opened = x }) opened
+      ∙ ap (λ x. record old { instance = i; limit = JOURNAL_MAX; opening = length old.history; opened = old.disk; made = x }) made
+      ∙ ap (λ x. record old { instance = i; limit = JOURNAL_MAX; opening = length old.history; opened = old.disk; made = 0; in_flight = x }) flight
+      ∙ ap (λ x. record old { instance = i; limit = JOURNAL_MAX; opening = length old.history; opened = old.disk; made = 0; in_flight = []; shut = x }) shut;
+  found = found;
+  folds = subst (λ (j : Problem). IsFoldAt j old.history old.cost) of folds;
+  telling = telling;
+  lasts = lasts;
+  running = running;
+}
+
 -- an opened disk tells its content where it did before
-opened_tells : (limit : ℕ) (i : Problem) (posts : List Post) (used : ℕ) (after : Option (List ℕ)) (file : List ℕ) → IsOpenedFrom limit i posts used after file → IsSome after
-opened_tells limit i posts used after [] found = subst IsSome (sym (found.new refl).2.2) tt
-opened_tells limit i posts used after (byte ∷ bytes) found = subst IsSome (sym (found.old (λ empty. absurd (omega (arith, ap length empty)))).2) tt
+pub opened_tells : (limit : ℕ) (i : Problem) (posts : List Post) (used : ℕ) (after : Option (List ℕ)) (file : List ℕ) → IsOpenedFrom limit i posts used after file → IsSome after
+opened_tells limit i posts used after [] found = subst IsSome (sym (found.new refl).2) refl
+opened_tells limit i posts used after (byte ∷ bytes) found = subst IsSome (sym (found.old (λ empty. absurd (omega (arith, ap length empty)))).1) refl
 
 -- and so does one that tells like it
-tells_after : (before opened now : Option (List ℕ)) → IfSome before (λ file. IsSome opened) → TellsAlike opened now → OnSome before (IsSome now)
+pub tells_after : (before opened now : Option (List ℕ)) → IfSome before (λ file. IsSome opened) → TellsAlike opened now → OnSome before (IsSome now)
 tells_after None opened now told alike = tt
-tells_after (Some file) (Some then) (Some later) told alike = tt
-tells_after (Some file) (Some then) None told alike = absurd alike
-tells_after (Some file) None now told alike = absurd told
+tells_after (Some file) (Some first) (Some later) told alike = refl
+tells_after (Some file) (Some first) None told alike = absurd alike
+tells_after (Some file) None now told alike = absurd (false≢true told)
 
 -- the posts of a book that grew make what its own posts make
 pub ends_of : {D : Type 0} (reads : D → Option (List ℕ)) (images : D → List ℕ → Type 0) (images_since : D → ℕ → List ℕ → Type 0) (calls : D → ℕ) (entry : D) (i : Problem) (old new : BookView D) (added flight : List Post) (last : Book)
@@ -93,7 +146,7 @@ ends_of reads images images_since calls entry i old new added flight last known 
     (subst (λ (v : BookView _). book_of v.instance v.history ≡ Some last) grows ends)
 
 -- the session of a book that grew
-pub session_of : {D : Type 0} (reads : D → Option (List ℕ)) (images : D → List ℕ → Type 0) (images_since : D → ℕ → List ℕ → Type 0) (calls faults : D → ℕ) (entry : D) (i : Problem) (old new : BookView D) (added flight : List Post) (last : Book)
+abbrev pub session_of : {D : Type 0} (reads : D → Option (List ℕ)) (images : D → List ℕ → Type 0) (images_since : D → ℕ → List ℕ → Type 0) (calls faults : D → ℕ) (entry : D) (i : Problem) (old new : BookView D) (added flight : List Post) (last : Book)
     → Known reads images images_since calls entry i old new → Grows old new added flight → book_of i (old.history ++ added) ≡ Some last
     → Session (met_of reads images images_since calls faults entry new.disk) i
 session_of reads images images_since calls faults entry i old new added flight last known grows ends =
@@ -119,14 +172,6 @@ session_of reads images images_since calls faults entry i old new added flight l
       time = λ none. (running none).time;
     }
 
--- the report of a book that grew
-pub reports_of : {D : Type 0} (i : Problem) (sink : SinkMet) (old new : BookView D) (report : IsReported new sink.held sink.held_after) (disk : DiskMet) (s : Session disk i)
-    → s.last ≡ record { best = report.1.best; cost = new.cost } → new.instance ≡ i → Reports sink s
-reports_of i sink old new report disk s last of = record {
-  sound = subst (IsSound i) (sym last) (subst (λ (j : Problem). IsSound j (record { best = report.1.best; cost = new.cost })) of report.1.sound);
-  written = subst (λ (b : Book). Appends sink.held sink.held_after (report_of b)) (sym last) (subst (Appends sink.held sink.held_after) report.1.is report.2);
-}
-
 -- the instance of a book that grew
 instance_of : {D : Type 0} (i : Problem) (old new : BookView D) (added flight : List Post) → old.instance ≡ i → Grows old new added flight → new.instance ≡ i
 instance_of i old new added flight of grows = ap (λ (v : BookView _). v.instance) grows ∙ of
@@ -141,7 +186,68 @@ pub over_disk : {D : Type 0} (reads : D → Option (List ℕ)) (images : D → L
     → SearchEnds faults old new i sink.held sink.held_after sink.faults status
     → OverDisk (met_of reads images images_since calls faults entry new.disk) sink i true status
 over_disk reads images images_since calls faults entry i old new sink Optimal known folds later e =
-    let of : old.instance ≡ i = ap (λ (v : BookView _). v.instance) known.same in
-    let last : Book = record { best = e.1.1.1.best; cost = new.cost } in
-    let s = session_of reads images images_since calls faults entry i old new (posts_over i old.cost) [] last known e.0 (ends_of reads images images_since calls entry i old new (posts_over i old.cost) [] last known e.0 e.1.1.1.folds) in
-    (refl, s, record { added = refl; landed = refl }, reports_of i sink old new (e.1.0) _ s refl (instance_of i old new (posts_over i old.cost) [] of e.0), e.1.2, λ rota legal. omega (arith, e.1.2))
+    let of : new.instance ≡ i = instance_of i old new (posts_over i old.cost) [] (ap (λ (v : BookView _). v.instance) known.same) e.0 in
+    let last : Book = record { best = e.1.best; cost = new.cost } in
+    let s = session_of reads images images_since calls faults entry i old new (posts_over i old.cost) [] last known e.0 (ends_of reads images images_since calls entry i old new (posts_over i old.cost) [] last known e.0 e.1.folds) in
+    (
+      refl,
+      s,
+      record { added = refl; landed = refl },
+      record { sound = subst (λ (j : Problem). IsSound j last) of e.1.sound; written = e.1.written },
+      e.2,
+      λ rota legal. omega (arith, e.2),
+    )
+over_disk reads images images_since calls faults entry i old new sink Budget known folds later e =
+    let of : new.instance ≡ i = instance_of i old new (posts_over i old.cost) [] (ap (λ (v : BookView _). v.instance) known.same) e.0 in
+    let last : Book = record { best = e.1.best; cost = new.cost } in
+    let s = session_of reads images images_since calls faults entry i old new (posts_over i old.cost) [] last known e.0 (ends_of reads images images_since calls entry i old new (posts_over i old.cost) [] last known e.0 e.1.folds) in
+    (
+      refl,
+      s,
+      record { added = refl; landed = refl },
+      record { sound = subst (λ (j : Problem). IsSound j last) of e.1.sound; written = e.1.written },
+      e.2,
+    )
+over_disk reads images images_since calls faults entry i old new sink (Full end limit) known folds later e =
+    let of : new.instance ≡ i = instance_of i old new [] [] (ap (λ (v : BookView _). v.instance) known.same) e.0.grown in
+    let last : Book = record { best = e.1.best; cost = new.cost } in
+    let s = session_of reads images images_since calls faults entry i old new [] [] last known e.0.grown (ends_of reads images images_since calls entry i old new [] [] last known e.0.grown e.1.folds) in
+    (
+      refl,
+      s,
+      record { added = refl; landed = refl; cheaper = e.0.cheaper; ends = e.0.ends; most = e.0.most ∙ ap (λ (v : BookView _). v.limit) known.same; over = e.0.over },
+      record { sound = subst (λ (j : Problem). IsSound j last) of e.1.sound; written = e.1.written },
+    )
+over_disk reads images images_since calls faults entry i old new sink WriteFault known folds later e =
+    let last : Book = record { best = e.1.best; cost = new.cost } in
+    ⊎_elim
+    (λ posted.
+    let s = session_of reads images images_since calls faults entry i old new (posts_over i old.cost) [] last known posted (ends_of reads images images_since calls entry i old new (posts_over i old.cost) [] last known posted e.1.folds) in
+    (refl, s, inl (record { added = refl; landed = refl }), record { written = e.1.written; cause = e.1.cause }))
+    (λ full.
+    let s = session_of reads images images_since calls faults entry i old new [] [] last known full.2.grown (ends_of reads images images_since calls entry i old new [] [] last known full.2.grown e.1.folds) in
+    (
+      refl,
+      s,
+      inr (full.0, full.1, record { added = refl; landed = refl; cheaper = full.2.cheaper; ends = full.2.ends; most = full.2.most ∙ ap (λ (v : BookView _). v.limit) known.same; over = full.2.over }),
+      record { written = e.1.written; cause = e.1.cause },
+    ))
+    e.0
+over_disk reads images images_since calls faults entry i old new sink DiskFault known folds later e =
+    let last : Book = record { best = folds.best; cost = new.cost } in
+    let s = session_of reads images images_since calls faults entry i old new [] (greedy_post i ∷ []) last known e.grown (ends_of reads images images_since calls entry i old new [] (greedy_post i ∷ []) last known e.grown folds.folds) in
+    (rose_before (faults entry) (faults old.disk) (faults new.disk) later e.cause, inr (refl, s, record { added = refl; torn = refl; cheaper = e.cheaper }))
+over_disk reads images images_since calls faults entry i old new sink NoMemory known folds later e =
+    let last : Book = record { best = folds.best; cost = new.cost } in
+    ⊎_elim
+    (λ none.
+    let s = session_of reads images images_since calls faults entry i old new [] [] last known none (ends_of reads images images_since calls entry i old new [] [] last known none folds.folds) in
+    inr (refl, s, refl, inl refl))
+    (λ posted.
+    let s = session_of reads images images_since calls faults entry i old new (posts_over i old.cost) [] last known posted (ends_of reads images images_since calls entry i old new (posts_over i old.cost) [] last known posted folds.folds) in
+    inr (refl, s, refl, inr refl))
+    e
+over_disk reads images images_since calls faults entry i old new sink Usage known folds later e = absurd e
+over_disk reads images images_since calls faults entry i old new sink (Input why) known folds later e = absurd e
+over_disk reads images images_since calls faults entry i old new sink ReadFault known folds later e = absurd e
+over_disk reads images images_since calls faults entry i old new sink (Journal why) known folds later e = absurd e

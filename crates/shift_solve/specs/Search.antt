@@ -1,26 +1,18 @@
 -- What a run does to the book that it opened, step by step.
-use Rattle.std.specs.Prelude.{◌≡◌, ◌×◌, ◌⊎◌, ℕ, ◌+◌, ◌<◌, ◌≤◌, List, [], ◌∷◌, ◌++◌, length, Option, Some}
+use Rattle.std.specs.Prelude.{◌≡◌, ◌⊎◌, ℕ, ◌+◌, ◌<◌, ◌≤◌, List, [], ◌∷◌, ◌++◌, length, Option, Some}
 use Rattle.std.specs.Io.KnownBytes.{Appends}
 use Rattle.plan_base.specs.Causes.{Rose}
 use Rattle.plan_base.specs.Streams.{AppendsPart}
 use Rattle.post_codec.specs.declared.post.Post.{Post}
 use Rattle.shift_instance.specs.declared.Row.{Row}
 use Rattle.shift_instance.specs.Problem.{Problem}
-use Rattle.search_book.specs.declared.fault.CommitFault.{CommitFault}
-use Rattle.search_book.specs.declared.fault.CommitFault.TheVariants as commit
 use Rattle.search_book.specs.Fold.{book_of, IsSound}
-use Rattle.search_book.specs.Posting.{PostFails, end_with}
+use Rattle.search_book.specs.Posting.{end_with}
 use Rattle.search_book.specs.View.{BookView}
 use Rattle.shift_solve.specs.declared.status.Status.{Status}
 use Rattle.shift_solve.specs.declared.status.Status.TheVariants.{Optimal, Budget, Full, Usage, Input, ReadFault, WriteFault, DiskFault, NoMemory, Journal}
-use Rattle.shift_solve.specs.Greedy.{greedy_rows}
 use Rattle.shift_solve.specs.Report.{report_text}
 use Rattle.shift_solve.specs.Session.{greedy_post, greedy_cost, posts_over}
-
--- why the greedy plan isn't posted: no memory is left for it, or the book refuses it
-abbrev pub GreedyFails : {D : Type 0} → (D → ℕ) → BookView D → BookView D → Problem → CommitFault → Type 0
-GreedyFails faults old new i commit.NoMemory = new ≡ old
-GreedyFails faults old new i why = PostFails faults old new (greedy_rows i) why
 
 -- a book as it was opened, with more posts in it, each a record, and those of a record that ended in a disk fault; its disk, its cost,
 -- its size and what shut it are as they are now
@@ -39,20 +31,23 @@ grown old new added in_flight = record old {
 abbrev pub Grows : {D : Type 0} → BookView D → BookView D → List Post → List Post → Type 0
 Grows old new added in_flight = new ≡ grown old new added in_flight
 
--- the text of the report of a book's best plan
-pub record IsReportOf {D : Type 0} (book : BookView D) (text : List ℕ) : Type 0 where
+-- the report of a book's best plan was written
+pub record IsReported {D : Type 0} (book : BookView D) (held holds : Option (List ℕ)) : Type 0 where
   pub best : List Row
   pub folds : book_of book.instance book.history ≡ Some (record { best = best; cost = book.cost })
   pub sound : IsSound book.instance (record { best = best; cost = book.cost })
-  pub is : text ≡ report_text best book.cost 0
+  pub written : Appends held holds (report_text best book.cost 0)
 
--- the report of a book was written
-abbrev pub IsReported : {D : Type 0} → BookView D → Option (List ℕ) → Option (List ℕ) → Type 0
-IsReported book held holds = (text : List ℕ) × IsReportOf book text × Appends held holds text
+-- a beginning of the report of a book's best plan was written, and the sink had a fault
+pub record IsReportedPart {D : Type 0} (book : BookView D) (held holds : Option (List ℕ)) (faults : ℕ × ℕ) : Type 0 where
+  pub best : List Row
+  pub folds : book_of book.instance book.history ≡ Some (record { best = best; cost = book.cost })
+  pub written : AppendsPart held holds (report_text best book.cost 0)
+  pub cause : Rose faults.0 faults.1
 
 -- why the report of a book wasn't written, or not whole: a fault of the sink, or want of memory
 abbrev pub Unwritten : {D : Type 0} → BookView D → Option (List ℕ) → Option (List ℕ) → ℕ × ℕ → Status → Type 0
-Unwritten book held holds faults WriteFault = (text : List ℕ) × IsReportOf book text × AppendsPart held holds text × Rose faults.0 faults.1
+Unwritten book held holds faults WriteFault = IsReportedPart book held holds faults
 Unwritten book held holds faults NoMemory = Unit {0}
 Unwritten book held holds faults Optimal = ⊥
 Unwritten book held holds faults Budget = ⊥
@@ -81,12 +76,25 @@ pub record Tears {D : Type 0} (faults : D → ℕ) (old new : BookView D) (i : P
   pub cheaper : greedy_cost i < old.cost
   pub cause : Rose (faults old.disk) (faults new.disk)
 
+-- how a run ends that couldn't post the greedy plan
+abbrev pub GreedyFails : {D : Type 0} → (D → ℕ) → BookView D → BookView D → Problem → Status → Type 0
+GreedyFails faults old new i DiskFault = Tears faults old new i
+GreedyFails faults old new i NoMemory = Grows old new [] []
+GreedyFails faults old new i Optimal = ⊥
+GreedyFails faults old new i Budget = ⊥
+GreedyFails faults old new i (Full end limit) = ⊥
+GreedyFails faults old new i Usage = ⊥
+GreedyFails faults old new i (Input why) = ⊥
+GreedyFails faults old new i ReadFault = ⊥
+GreedyFails faults old new i WriteFault = ⊥
+GreedyFails faults old new i (Journal why) = ⊥
+
 -- how a search over a book ends
 abbrev pub SearchEnds : {D : Type 0} → (D → ℕ) → BookView D → BookView D → Problem → Option (List ℕ) → Option (List ℕ) → ℕ × ℕ → Status → Type 0
 SearchEnds faults old new i held holds writes Optimal = IsPosted old new i × IsReported new held holds × (new.cost ≡ 0)
 SearchEnds faults old new i held holds writes Budget = IsPosted old new i × IsReported new held holds × (0 < new.cost)
 SearchEnds faults old new i held holds writes (Full end limit) = Overflows old new i end limit × IsReported new held holds
-SearchEnds faults old new i held holds writes WriteFault = (IsPosted old new i ⊎ ((end : ℕ) × (limit : ℕ) × Overflows old new i end limit)) × Unwritten new held holds writes WriteFault
+SearchEnds faults old new i held holds writes WriteFault = (IsPosted old new i ⊎ ((end : ℕ) × (limit : ℕ) × Overflows old new i end limit)) × IsReportedPart new held holds writes
 SearchEnds faults old new i held holds writes DiskFault = Tears faults old new i
 SearchEnds faults old new i held holds writes NoMemory = Grows old new [] [] ⊎ IsPosted old new i
 SearchEnds faults old new i held holds writes Usage = ⊥

@@ -27,7 +27,7 @@ usage_text = codes "usage: solve JOURNAL [--workers W] [--steps B] [--table] or 
 abbrev pub status_text : Status → List ℕ
 status_text Optimal = []
 status_text Budget = codes "stopped: step budget spent"
-status_text (Full end limit) = codes "stopped: journal full, " ++ decimal end ++ codes " of " ++ decimal limit ++ codes " bytes"
+status_text (Full end limit) = codes "stopped: journal full, " ++ (decimal end ++ (codes " of " ++ (decimal limit ++ codes " bytes")))
 status_text Usage = usage_text
 status_text (Input why) = codes "instance refused: " ++ refusal_text why
 status_text ReadFault = codes "read fault"

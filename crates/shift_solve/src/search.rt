@@ -1,33 +1,48 @@
 //! What a run does with the book that it has opened.
 
-ghost use Rattle.std.specs.Prelude.{◌≡◌, [], None, MatchResult, OnOk, IfErr};
-ghost use Rattle.break_rules.specs.Plain.{plain_rule};
-ghost use Rattle.search_book.specs.Posting.{Posts};
-ghost use Rattle.shift_solve.specs.Greedy.{greedy_rows};
+ghost use Rattle.std.specs.Prelude.{◌≡◌, [], None, MatchOption, OnOk, IfOk, IfErr};
 ghost use Rattle.shift_solve.specs.Plain.{ArePlain};
-ghost use Rattle.shift_solve.specs.Search.{GreedyFails, IsReported, SearchEnds, Unwritten};
+ghost use Rattle.shift_solve.specs.Search.{GreedyFails, IsPosted, IsReported, Overflows, SearchEnds, Unwritten};
 ghost use Rattle.shift_solve.specs.Status.{EndsUnwritten};
 
 use crate::greedy::greedy_plan;
 use crate::report::report;
 use crate::status::Status;
 use plan_base::{Disk, Failed, Sink, write_all};
-use search_book::{Book, CommitFault, Kept};
+use search_book::{Book, CommitFault};
 use shift_instance::Instance;
 use std::alloc::Global;
 
-/// Posts the greedy plan.
+/// There was no room for the greedy plan: with it the file would have ended at `end`, which is past `limit`.
+#[derive(Clone, Copy, Drop)]
+struct Overflow {
+    end: u64,
+    limit: u32,
+}
+
+/// Posts the greedy plan, and says where there was no room for it, or how the run ends.
 fn post_greedy<D: Disk>(
     alloc: Global,
     instance: &Instance,
     book: &mut Book<D>,
-) -> Result<Kept, CommitFault>
+) -> Result<Option<Overflow>, Status>
     requires plain { ArePlain instance.now.kinds }
     requires same { book.old.instance ≡ instance.now }
-    ensures { MatchResult result (Posts D.calls book.old book.new (greedy_rows instance.now)) (GreedyFails D.faults book.old book.new instance.now) }
+    requires running { book.old.shut ≡ None }
+    requires landed { book.old.in_flight ≡ [] }
+    requires opened { book.old.made ≡ 0 }
+    ensures ok { IfOk result (λ full. MatchOption full (IsPosted book.old book.new instance.now) (λ o. Overflows book.old book.new instance.now o.end o.limit)) }
+    ensures err { IfErr result (GreedyFails D.faults book.old book.new instance.now) }
 {
-    let plan = greedy_plan(alloc, instance)?;
-    book.post(plan.rows)
+    let Ok(plan) = greedy_plan(alloc, instance) else {
+        return Err(Status::NoMemory);
+    };
+    match book.post(plan.rows) {
+        Ok(_) => Ok(None),
+        Err(CommitFault::Full { end, limit }) => Ok(Some(Overflow { end, limit })),
+        Err(CommitFault::DiskFault) => Err(Status::DiskFault),
+        Err(_) => Err(Status::NoMemory),
+    }
 }
 
 /// Writes the report of a book's best plan.
@@ -65,16 +80,14 @@ pub(crate) fn search<K: Sink, D: Disk>(
     ensures unwritten { EndsUnwritten result → out.new ≡ out.old }
 {
     let full = match post_greedy(alloc, instance, book) {
-        Ok(_) => None,
-        Err(CommitFault::Full { end, limit }) => Some((end, limit)),
-        Err(CommitFault::DiskFault) => return Status::DiskFault,
-        Err(_) => return Status::NoMemory,
+        Ok(full) => full,
+        Err(status) => return status,
     };
     if let Err(status) = write_report(alloc, book, out) {
         return status;
     }
     match full {
-        Some((end, limit)) => Status::Full { end, limit },
+        Some(Overflow { end, limit }) => Status::Full { end, limit },
         None if book.best_cost() == 0 => Status::Optimal,
         None => Status::Budget,
     }

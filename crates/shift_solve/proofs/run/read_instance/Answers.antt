@@ -2,7 +2,7 @@ use Rattle.std.proofs.Common.{◌≡◌, ◌<◌, ℕ, List, Option, Some, None,
 use Rattle.instance_json.specs.declared.TheConstants.{INSTANCE_MAX}
 use Rattle.instance_json.specs.declared.ReadRefusal.TheVariants.{TooLong}
 use Rattle.instance_json.specs.Reading.{reading_of}
-use Rattle.shift_solve.proofs.Plans.{reads_too_long}
+use Rattle.shift_solve.proofs.TooLong.{reads_too_long}
 use Rattle.shift_solve.proofs.run.read_instance.Goals as goal
 
 all_too_long : (left : Option (List ℕ)) → IfSome left (λ all. INSTANCE_MAX < length all) → IfSome left (λ all. reading_of all ≡ Err TooLong)
