@@ -4,3 +4,5 @@ pub mod Causes
 pub mod RuleFaults
 pub mod Plain
 pub mod Ranges
+pub mod Walk
+pub mod Next
