@@ -12,3 +12,5 @@ pub mod Walk
 pub mod Left
 pub mod Bits
 pub mod Steps
+pub mod Reaching
+pub mod FirstList

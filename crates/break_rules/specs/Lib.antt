@@ -6,3 +6,4 @@ pub mod Plain
 pub mod Ranges
 pub mod Walk
 pub mod Next
+pub mod Live

@@ -5,6 +5,7 @@
 
 mod judging;
 mod legality;
+mod living;
 #[cfg(test)]
 mod tests;
 mod walking;
@@ -18,6 +19,7 @@ ghost use Rattle.break_rules.specs.Plain.{plain_rule};
 ghost use Rattle.break_rules.specs.Walk.{spot_of};
 
 pub use legality::legal;
+pub use living::{LiveSpots, least, live};
 use std::alloc::{AllocError, Global};
 use std::error::Error;
 use std::fmt;

@@ -1,4 +1,7 @@
-use crate::{Break, Breaks, Lunch, Lunches, NoMemory, Rule, RuleFault, Totals, legal};
+use crate::{
+    Break, Breaks, Lunch, Lunches, NoMemory, Rule, RuleFault, Spot, Totals, after, ends, least,
+    legal, live, nexts,
+};
 use std::alloc::Global;
 use std::test::Fail;
 
@@ -165,5 +168,41 @@ fn break_lists_are_judged(rt: HostRuntime) -> Result<(), Fail> {
     ] {
         assert_eq!(rt; legal(&rule, 10, &[first, second]), is_legal);
     }
+    Ok(())
+}
+
+/// Each break of one slot, after work of 2 to 5 slots, with a slot of break in 8.
+fn eighth(alloc: Global) -> Result<Rule, NoMemory> {
+    let mut rule = Rule::plain(alloc)?;
+    rule.lead = 2;
+    rule.tail = 2;
+    rule.work_min = 2;
+    rule.work_max = 5;
+    rule.long_work = 5;
+    rule.size_max = 1;
+    rule.totals = Totals::new(Vec::from_slice(alloc, &[(8, 1)])?);
+    Ok(rule)
+}
+
+#[test]
+fn the_walk_reaches_legal_lists(rt: HostRuntime) -> Result<(), Fail> {
+    let alloc = rt.alloc();
+    let mut rule = eighth(alloc)?;
+    let at = |start| Break { start, len: 1 };
+    let opening = Spot::opening();
+    let firsts: Vec<Break> = nexts(&rule, 8, opening).collect(alloc)?;
+    assert_eq!(rt; firsts.as_slice(), [at(2), at(3), at(4), at(5)].as_slice());
+    for next in firsts.as_slice() {
+        assert!(rt; ends(&rule, 8, after(&rule, opening, *next)));
+    }
+    assert!(rt; !ends(&rule, 8, opening));
+    let found = least(alloc, &rule, 8)?.map(|list| list.into_vec());
+    assert!(rt; found.is_some_and(|list| list.as_slice() == [at(2)].as_slice()));
+    assert!(rt; live(alloc, &rule, 8, &[])?);
+    assert!(rt; live(alloc, &rule, 8, &[at(5)])?);
+    assert!(rt; !live(alloc, &rule, 8, &[at(6)])?);
+    rule.work_max = 2;
+    assert!(rt; least(alloc, &rule, 8)?.is_none());
+    assert!(rt; !live(alloc, &rule, 8, &[])?);
     Ok(())
 }
