@@ -40,7 +40,7 @@ follows_parts rule len offset used b h =
     let p1 = and_parts (nat_le offset b.start) (nat_lt 0 b.len) p2.0 in
     record { later = p1.0; some = p1.1; ends = p2.1; work = p3.1; rested = p4.1; size = p5.1; within = p6.1 }
 
-follows_from : (rule : Rule) (len offset used : ℕ) (b : Break) → Follows rule len offset used b → may_follow rule len offset used b ≡ true
+pub follows_from : (rule : Rule) (len offset used : ℕ) (b : Break) → Follows rule len offset used b → may_follow rule len offset used b ≡ true
 follows_from rule len offset used b f =
     and_from _ _ (and_from _ _ (and_from _ _ (and_from _ _ (and_from _ _ (and_from _ _ f.later f.some) f.ends) f.work) f.rested) f.size) f.within
 

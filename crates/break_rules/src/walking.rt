@@ -6,9 +6,9 @@ ghost use Rattle.std.specs.Iterator.{YieldsFirst, item_count};
 ghost use Rattle.break_rules.specs.Breaks.{is_lunch, is_legal};
 ghost use Rattle.break_rules.specs.Ranges.{IsRule};
 ghost use Rattle.break_rules.specs.Walk.{nexts_of, spot_of, is_walk, bits_of};
-ghost use Rattle.break_rules.specs.Next.{IsNext};
+ghost use Rattle.break_rules.specs.Next.{IsNext, shortest_of};
 
-use crate::legality::{follows, may_stop, meets, total};
+use crate::legality::{may_stop, meets, total};
 use crate::{Break, Lunch, Rule, Spot};
 use std::marker::Model;
 
@@ -17,26 +17,42 @@ use std::marker::Model;
 pub struct NextBreaks<'a> {
     rule: &'a Rule,
     len: u16,
-    total: u16,
     offset: u16,
     used: u16,
+    /// The start from which on no break may come.
+    stop: u32,
+    /// The offset by which breaks end.
+    latest: u32,
+    /// The greatest length of a break.
+    longest: u32,
     start: u32,
     size: u32,
 }
 
 impl<'a> Model for NextBreaks<'a> {
-    ghost use Rattle.std.specs.Prelude.{List, ◌≡◌, ◌≤◌, ◌^◌};
+    ghost use Rattle.std.specs.Prelude.{List};
     ghost use Rattle.break_rules.specs.declared.Break.{Break};
 
     ghost Value = { List Break };
 
     ghost use Rattle.std.specs.Prelude.{filter};
     ghost use Rattle.break_rules.specs.Walk.{may_follow, breaks_left};
-    ghost use Rattle.break_rules.specs.Breaks.{total_of};
+    ghost use Rattle.break_rules.specs.Next.{IsAt};
 
     ghost view = { λ n. filter (may_follow n.rule.now n.len n.offset n.used) (breaks_left n.start n.size n.len) };
 
-    ghost invariant = { λ n. (n.total ≡ total_of n.rule.now n.len) × (1 ≤ n.rule.now.size_min) × (n.rule.now.size_min ≤ 48) × (1 ≤ n.size) × (n.size ≤ 65536) × (n.start ≤ 131072) };
+    ghost invariant = { λ n. IsAt n.rule.now n.len n.offset n.used n.stop n.latest n.longest n.start n.size };
+}
+
+/// The least length of a break that starts there, behind an offset.
+fn shortest(rule: &Rule, offset: u32, start: u32) -> u32
+    ensures { result ≡ shortest_of rule.now offset start }
+{
+    if start.saturating_sub(offset) <= u32::from(rule.long_work) {
+        u32::from(rule.size_min)
+    } else {
+        u32::from(rule.size_min.max(rule.long_rest))
+    }
 }
 
 /// The breaks that may come next at a spot, in rising order and each once: those that keep their distance from both ends
@@ -46,15 +62,27 @@ pub fn nexts(rule: &Rule, len: u16, spot: Spot) -> NextBreaks<'_>
     requires { IsRule rule.now }
     ensures { result ≡ nexts_of rule.now len spot }
 {
-    let earliest = u32::from(spot.offset) + u32::from(rule.work_min);
+    let offset = u32::from(spot.offset);
+    let longest = rule
+        .size_max
+        .min(total(rule, len).saturating_sub(spot.used));
+    let latest = u32::from(len.saturating_sub(rule.tail));
+    let stop = if longest < rule.size_min {
+        0
+    } else {
+        latest.min(offset + u32::from(rule.work_max) + 1)
+    };
+    let start = u32::from(rule.lead).max(offset + u32::from(rule.work_min));
     NextBreaks {
         rule,
         len,
-        total: total(rule, len),
         offset: spot.offset,
         used: spot.used,
-        start: earliest.max(u32::from(rule.lead)),
-        size: u32::from(rule.size_min),
+        stop,
+        latest,
+        longest: u32::from(longest),
+        start,
+        size: shortest(rule, offset, start),
     }
 }
 
@@ -63,31 +91,17 @@ impl<'a> NextBreaks<'a> {
     fn next_break(&mut self) -> Option<Break>
         ensures { MatchOption result ((self.old ≡ []) × (self.new ≡ [])) (λ b. self.old ≡ b ∷ self.new) }
     {
-        while self.start < u32::from(self.len)
-            && self.start <= u32::from(self.offset) + u32::from(self.rule.work_max)
-        {
-            if self.size <= u32::from(self.rule.size_max)
-                && self.size <= u32::from(self.len) - self.start
-            {
+        while self.start < self.stop {
+            if self.size <= self.longest && self.start + self.size <= self.latest {
                 let next = Break {
                     start: self.start as u16,
                     len: self.size as u16,
                 };
                 self.size += 1;
-                if follows(
-                    self.rule,
-                    self.len,
-                    self.total,
-                    u32::from(self.offset),
-                    u32::from(self.used),
-                    &next,
-                ) {
-                    return Some(next);
-                }
-            } else {
-                self.start += 1;
-                self.size = u32::from(self.rule.size_min);
+                return Some(next);
             }
+            self.start += 1;
+            self.size = shortest(self.rule, u32::from(self.offset), self.start);
         }
         None
     }
