@@ -1,10 +1,16 @@
 pub mod Causes
 pub mod Counts
 pub mod Examples
-pub mod Legal
+pub mod LegalLists
 pub mod Lists
 pub mod Once
 pub mod Ordered
 pub mod Sums
 pub mod Plain
 pub mod Ranges
+pub mod Walk
+pub mod Left
+pub mod Bits
+pub mod Steps
+pub mod Reaching
+pub mod FirstList

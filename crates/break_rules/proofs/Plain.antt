@@ -8,7 +8,7 @@ use Rattle.break_rules.specs.declared.Break.{Break}
 use Rattle.break_rules.specs.Breaks.{same_break, is_legal, legal_lists}
 use Rattle.break_rules.specs.Plain.{plain_rule}
 use Rattle.break_rules.proofs.Lists.{Has}
-use Rattle.break_rules.proofs.Legal.{legal_from, legal_parts, legal_in_order, no_rest, from_legal_lists}
+use Rattle.break_rules.proofs.LegalLists.{legal_from, legal_parts, legal_in_order, no_rest, from_legal_lists}
 use Rattle.break_rules.proofs.Once.{once_legal}
 
 -- without breaks a shift of a length from 1 to 288 is legal

@@ -4,3 +4,6 @@ pub mod Causes
 pub mod RuleFaults
 pub mod Plain
 pub mod Ranges
+pub mod Walk
+pub mod Next
+pub mod Live

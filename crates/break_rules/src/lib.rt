@@ -4,8 +4,11 @@
 #![tactic(auto)]
 
 mod judging;
+mod legality;
+mod living;
 #[cfg(test)]
 mod tests;
+mod walking;
 
 ghost use Rattle.std.specs.Prelude.{◌≡◌, ℕ, ◌≤◌, [], ◌∷◌, length, OnOk, IfOk, IsOk, IsTrue, ◌↔◌, MatchResult, Some, None};
 ghost use Rattle.break_rules.specs.Causes.{first_cause};
@@ -13,11 +16,15 @@ ghost use Rattle.break_rules.specs.RuleFaults.{rule_causes};
 ghost use Rattle.break_rules.specs.Ranges.{IsRule};
 ghost use Rattle.break_rules.specs.Breaks.{legal_lists};
 ghost use Rattle.break_rules.specs.Plain.{plain_rule};
+ghost use Rattle.break_rules.specs.Walk.{spot_of};
 
+pub use legality::legal;
+pub use living::{LiveSpots, least, live};
 use std::alloc::{AllocError, Global};
 use std::error::Error;
 use std::fmt;
 use std::marker::Model;
+pub use walking::{NextBreaks, after, ends, nexts};
 
 /// The refusal of a call that found no memory.
 pub type NoMemory = AllocError;
@@ -148,6 +155,17 @@ pub struct Rule {
     pub resettle: u16,
 }
 
+/// Where a walk from break to break stands.
+#[derive(Clone, Copy, Debug, PartialEq, Eq, Drop)]
+pub struct Spot {
+    /// The end of the last break, and 0 at the start of the shift.
+    pub offset: u16,
+    /// The break time so far.
+    pub used: u16,
+    /// A bit for each lunch entry of the rule, the lowest for the first: whether a break so far meets it.
+    pub lunches: u8,
+}
+
 /// Why a break rule isn't well formed.
 #[derive(Clone, Copy, Debug, PartialEq, Eq, Drop)]
 pub enum RuleFault {
@@ -185,6 +203,19 @@ impl fmt::Display for RuleFault {
 }
 
 impl Error for RuleFault {}
+
+impl Spot {
+    /// The spot at the start of a shift, before any break.
+    pub fn opening() -> Spot
+        ensures { (rule : Rule) → result ≡ spot_of rule [] }
+    {
+        Spot {
+            offset: 0,
+            used: 0,
+            lunches: 0,
+        }
+    }
+}
 
 impl Rule {
     /// The plain rule, by which only the empty list of breaks is legal. It takes no memory.

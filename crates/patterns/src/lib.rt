@@ -1,7 +1,6 @@
-//! Break patterns: which lists of breaks a shift may have, and in which of its slots a duty works.
+//! Break patterns: in which of its slots a duty works.
 #![tactic(auto)]
 
-mod legality;
 #[cfg(test)]
 mod tests;
 
@@ -10,7 +9,6 @@ ghost use Rattle.std.specs.List.{list_any};
 ghost use Rattle.break_rules.specs.Breaks.{end_of, is_off, works_at};
 
 use break_rules::{Break, Breaks, Rule};
-pub use legality::legal;
 
 /// The breaks of a duty, with the length of its shift in slots.
 #[derive(Clone, Debug, Drop)]

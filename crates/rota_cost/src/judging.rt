@@ -8,8 +8,7 @@ ghost use Rattle.rota_cost.specs.RowFaults.{heads_of, is_in_order, row_causes, r
 ghost use Rattle.rota_cost.specs.Run.{IsRun};
 
 use crate::RowFault;
-use break_rules::{Break, Breaks};
-use patterns::legal;
+use break_rules::{Break, Breaks, legal};
 use shift_instance::{Instance, Row, Rows};
 
 /// The shift and the day of the last row, and the duties that they have.

@@ -6,9 +6,9 @@ use Rattle.std.proofs.lemmas.List.Sums.{sum_by-cons}
 use Rattle.break_rules.specs.declared.Break.{Break}
 use Rattle.break_rules.specs.declared.Rule.{Rule}
 use Rattle.break_rules.specs.Breaks.{end_of, work_periods_from, keeps_ends, has_work, has_size, is_rested, is_lunched, is_legal, total_of}
-use Rattle.patterns.specs.Walk.{end_of_all, may_follow, is_walk, may_end}
+use Rattle.break_rules.specs.Walk.{end_of_all, may_follow, is_walk_from, may_end}
 use Rattle.break_rules.proofs.Lists.{same_tests}
-use Rattle.break_rules.proofs.Legal.{legal_parts, legal_from}
+use Rattle.break_rules.proofs.LegalLists.{legal_parts, legal_from}
 
 -- the parts of legality from an offset on, with that much break time before
 record From (rule : Rule) (len from used : ℕ) (list : List Break) : Type 0 where
@@ -21,16 +21,16 @@ record From (rule : Rule) (len from used : ℕ) (list : List Break) : Type 0 whe
   total : used + sum_by (λ b. b.len) list ≡ total_of rule len
 
 -- what may follow
-record Follows (rule : Rule) (len offset used : ℕ) (b : Break) : Type 0 where
-  later : nat_le offset b.start ≡ true
-  some : nat_lt 0 b.len ≡ true
-  ends : keeps_ends rule len b ≡ true
-  work : has_work rule (offset, b.start) ≡ true
-  rested : is_rested rule ((offset, b.start), b) ≡ true
-  size : has_size rule b ≡ true
-  within : nat_le (used + b.len) (total_of rule len) ≡ true
+pub record Follows (rule : Rule) (len offset used : ℕ) (b : Break) : Type 0 where
+  pub later : nat_le offset b.start ≡ true
+  pub some : nat_lt 0 b.len ≡ true
+  pub ends : keeps_ends rule len b ≡ true
+  pub work : has_work rule (offset, b.start) ≡ true
+  pub rested : is_rested rule ((offset, b.start), b) ≡ true
+  pub size : has_size rule b ≡ true
+  pub within : nat_le (used + b.len) (total_of rule len) ≡ true
 
-follows_parts : (rule : Rule) (len offset used : ℕ) (b : Break) → may_follow rule len offset used b ≡ true → Follows rule len offset used b
+pub follows_parts : (rule : Rule) (len offset used : ℕ) (b : Break) → may_follow rule len offset used b ≡ true → Follows rule len offset used b
 follows_parts rule len offset used b h =
     let p6 = and_parts (nat_le offset b.start && nat_lt 0 b.len && keeps_ends rule len b && has_work rule (offset, b.start) && is_rested rule ((offset, b.start), b) && has_size rule b) (nat_le (used + b.len) (total_of rule len)) h in
     let p5 = and_parts (nat_le offset b.start && nat_lt 0 b.len && keeps_ends rule len b && has_work rule (offset, b.start) && is_rested rule ((offset, b.start), b)) (has_size rule b) p6.0 in
@@ -40,7 +40,7 @@ follows_parts rule len offset used b h =
     let p1 = and_parts (nat_le offset b.start) (nat_lt 0 b.len) p2.0 in
     record { later = p1.0; some = p1.1; ends = p2.1; work = p3.1; rested = p4.1; size = p5.1; within = p6.1 }
 
-follows_from : (rule : Rule) (len offset used : ℕ) (b : Break) → Follows rule len offset used b → may_follow rule len offset used b ≡ true
+pub follows_from : (rule : Rule) (len offset used : ℕ) (b : Break) → Follows rule len offset used b → may_follow rule len offset used b ≡ true
 follows_from rule len offset used b f =
     and_from _ _ (and_from _ _ (and_from _ _ (and_from _ _ (and_from _ _ (and_from _ _ f.later f.some) f.ends) f.work) f.rested) f.size) f.within
 
@@ -53,7 +53,7 @@ record Ends (rule : Rule) (len from used : ℕ) (list : List Break) : Type 0 whe
   last : has_work rule (end_from from list, len) ≡ true
   total : used + sum_by (λ b. b.len) list ≡ total_of rule len
 
-walk_of : (rule : Rule) (len from used : ℕ) (list : List Break) → From rule len from used list → (is_walk rule len from used list ≡ true) × Ends rule len from used list
+walk_of : (rule : Rule) (len from used : ℕ) (list : List Break) → From rule len from used list → (is_walk_from rule len from used list ≡ true) × Ends rule len from used list
 walk_of rule len from used [] f =
     (refl, record { inside = (and_parts (nat_le from len) true f.ordered).0; last = (and_parts (has_work rule (from, len)) true f.work).0; total = f.total })
 walk_of rule len from used (b ∷ bs) f =
@@ -70,11 +70,11 @@ walk_of rule len from used (b ∷ bs) f =
       record { inside = rest.1.inside; last = rest.1.last; total = all },
     )
 
-from_walk : (rule : Rule) (len from used : ℕ) (list : List Break) → is_walk rule len from used list ≡ true → Ends rule len from used list → From rule len from used list
+from_walk : (rule : Rule) (len from used : ℕ) (list : List Break) → is_walk_from rule len from used list ≡ true → Ends rule len from used list → From rule len from used list
 from_walk rule len from used [] h e =
     record { ordered = and_from (nat_le from len) true e.inside refl; some = refl; ends = refl; work = and_from (has_work rule (from, len)) true e.last refl; rested = refl; sizes = refl; total = e.total }
 from_walk rule len from used (b ∷ bs) h e =
-    let p = and_parts (may_follow rule len from used b) (is_walk rule len (end_of b) (used + b.len) bs) h in
+    let p = and_parts (may_follow rule len from used b) (is_walk_from rule len (end_of b) (used + b.len) bs) h in
     let f = follows_parts rule len from used b p.0 in
     let t : sum_by (λ b. b.len) (b ∷ bs) ≡ b.len + sum_by (λ b. b.len) bs = sum_by-cons (λ b. b.len) b bs in
     let all : used + sum_by (λ b. b.len) (b ∷ bs) ≡ total_of rule len = e.total in
@@ -90,14 +90,14 @@ from_walk rule len from used (b ∷ bs) h e =
     }
 
 -- a legal list is a walk that may end
-pub walk_from_legal : (rule : Rule) (len : ℕ) (list : List Break) → is_legal rule len list ≡ true → (is_walk rule len 0 0 list ≡ true) × (may_end rule len list ≡ true)
+pub walk_from_legal : (rule : Rule) (len : ℕ) (list : List Break) → is_legal rule len list ≡ true → (is_walk_from rule len 0 0 list ≡ true) × (may_end rule len list ≡ true)
 walk_from_legal rule len list h =
     let l = legal_parts rule len list h in
     let w = walk_of rule len 0 0 list (record { ordered = l.ordered; some = l.some; ends = l.ends; work = l.work; rested = l.rested; sizes = l.sizes; total = omega (arith, l.total) }) in
     (w.0, and_from _ _ (and_from _ _ (and_from _ _ w.1.inside w.1.last) (eq-eqb (sum_by (λ b. b.len) list) (total_of rule len) l.total)) l.lunched)
 
 -- and a walk that may end is legal
-pub legal_from_walk : (rule : Rule) (len : ℕ) (list : List Break) → is_walk rule len 0 0 list ≡ true → may_end rule len list ≡ true → is_legal rule len list ≡ true
+pub legal_from_walk : (rule : Rule) (len : ℕ) (list : List Break) → is_walk_from rule len 0 0 list ≡ true → may_end rule len list ≡ true → is_legal rule len list ≡ true
 legal_from_walk rule len list h e =
     let p3 = and_parts (nat_le (end_of_all list) len && has_work rule (end_of_all list, len) && (sum_by (λ b. b.len) list == total_of rule len)) (list_all (is_lunched len list) rule.lunches) e in
     let p2 = and_parts (nat_le (end_of_all list) len && has_work rule (end_of_all list, len)) (sum_by (λ b. b.len) list == total_of rule len) p3.0 in
@@ -106,15 +106,15 @@ legal_from_walk rule len list h e =
     let f = from_walk rule len 0 0 list h (record { inside = p1.0; last = p1.1; total = omega arith }) in
     legal_from rule len list (record { ordered = f.ordered; some = f.some; ends = f.ends; lunched = p3.1; work = f.work; rested = f.rested; sizes = f.sizes; total = t })
 
-pub legal_is_walk : (rule : Rule) (len : ℕ) (list : List Break) → is_legal rule len list ≡ (is_walk rule len 0 0 list && may_end rule len list)
+pub legal_is_walk : (rule : Rule) (len : ℕ) (list : List Break) → is_legal rule len list ≡ (is_walk_from rule len 0 0 list && may_end rule len list)
 legal_is_walk rule len list =
-    same_tests (is_legal rule len list) (is_walk rule len 0 0 list && may_end rule len list)
+    same_tests (is_legal rule len list) (is_walk_from rule len 0 0 list && may_end rule len list)
     (λ h. let w = walk_from_legal rule len list h in and_from _ _ w.0 w.1)
-    (λ h. let p = and_parts (is_walk rule len 0 0 list) (may_end rule len list) h in legal_from_walk rule len list p.0 p.1)
+    (λ h. let p = and_parts (is_walk_from rule len 0 0 list) (may_end rule len list) h in legal_from_walk rule len list p.0 p.1)
 
 -- a list in which some break may not follow isn't legal, and a walk is legal where it may end
-pub not_legal : (rule : Rule) (len : ℕ) (list : List Break) → is_walk rule len 0 0 list ≡ false → is_legal rule len list ≡ false
+pub not_legal : (rule : Rule) (len : ℕ) (list : List Break) → is_walk_from rule len 0 0 list ≡ false → is_legal rule len list ≡ false
 not_legal rule len list h = legal_is_walk rule len list ∙ ap (λ b. b && may_end rule len list) h
 
-pub legal_by_end : (rule : Rule) (len : ℕ) (list : List Break) → is_walk rule len 0 0 list ≡ true → is_legal rule len list ≡ may_end rule len list
+pub legal_by_end : (rule : Rule) (len : ℕ) (list : List Break) → is_walk_from rule len 0 0 list ≡ true → is_legal rule len list ≡ may_end rule len list
 legal_by_end rule len list h = legal_is_walk rule len list ∙ ap (λ b. b && may_end rule len list) h

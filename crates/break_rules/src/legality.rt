@@ -1,11 +1,11 @@
 //! Whether a list of breaks is legal, by one walk from break to break.
 
-ghost use Rattle.std.specs.Prelude.{◌≡◌, ◌+◌, ◌^◌, ◌<◌, ◌≤◌, sum_by};
+ghost use Rattle.std.specs.Prelude.{◌≡◌, ◌==◌, ◌&&◌, ◌+◌, ◌^◌, ◌<◌, ◌≤◌, nat_le, sum_by};
 ghost use Rattle.std.specs.List.{list_all, list_any};
 ghost use Rattle.break_rules.specs.Breaks.{total_in, total_of, end_of, keeps_ends, has_work, is_rested, has_size, is_lunch, is_lunched, is_legal};
-ghost use Rattle.patterns.specs.Walk.{may_follow, may_end, end_of_all};
+ghost use Rattle.break_rules.specs.Walk.{may_follow, may_end, end_of_all};
 
-use break_rules::{Break, Lunch, Rule};
+use crate::{Break, Lunch, Rule};
 
 /// The first offset after a break.
 fn end(b: &Break) -> u32
@@ -29,7 +29,7 @@ fn total_among(totals: &[(u16, u16)], len: u16) -> u16
 }
 
 /// The total break time of a shift.
-fn total(rule: &Rule, len: u16) -> u16
+pub(crate) fn total(rule: &Rule, len: u16) -> u16
     ensures { result ≡ total_of rule.now len }
 {
     total_among(rule.totals.as_slice(), len)
@@ -43,7 +43,7 @@ fn keeps_distance(rule: &Rule, len: u16, b: &Break) -> bool
 }
 
 /// Whether a work period may be that long.
-fn may_work(rule: &Rule, from: u32, to: u32) -> bool
+pub(crate) fn may_work(rule: &Rule, from: u32, to: u32) -> bool
     ensures { result ≡ has_work rule.now (from, to) }
 {
     let worked = to.saturating_sub(from);
@@ -65,8 +65,8 @@ fn may_rest(rule: &Rule, b: &Break) -> bool
 }
 
 /// Whether a break may come next, behind an offset and after that much break time.
-fn follows(rule: &Rule, len: u16, total: u16, offset: u32, used: u32, b: &Break) -> bool
-    requires used { used ≤ total }
+pub(crate) fn follows(rule: &Rule, len: u16, total: u16, offset: u32, used: u32, b: &Break) -> bool
+    requires used { used < 2 ^ 16 }
     requires total { total ≡ total_of rule.now len }
     ensures { result ≡ may_follow rule.now len offset used b.now }
 {
@@ -80,7 +80,7 @@ fn follows(rule: &Rule, len: u16, total: u16, offset: u32, used: u32, b: &Break)
 }
 
 /// Whether a break meets a lunch entry.
-fn meets(entry: &Lunch, b: &Break) -> bool
+pub(crate) fn meets(entry: &Lunch, b: &Break) -> bool
     ensures { result ≡ is_lunch entry.now b.now }
 {
     b.len == entry.size && entry.first <= b.start && end(b) <= u32::from(entry.last)
@@ -107,17 +107,22 @@ fn all_met(len: u16, list: &[Break], entries: &[Lunch]) -> bool
     entries.iter().all(|entry| is_met(len, list, entry))
 }
 
+/// Whether a shift may end with a work period from an offset on, after that much break time.
+pub(crate) fn may_stop(rule: &Rule, len: u16, total: u16, offset: u32, used: u32) -> bool
+    requires total { total ≡ total_of rule.now len }
+    ensures { result ≡ (nat_le offset len && has_work rule.now (offset, len) && (used == total_of rule.now len)) }
+{
+    offset <= u32::from(len) && may_work(rule, offset, u32::from(len)) && used == u32::from(total)
+}
+
 /// Whether the breaks may be followed by work up to the end of the shift.
-fn ends(rule: &Rule, len: u16, total: u16, offset: u32, used: u32, list: &[Break]) -> bool
+fn may_finish(rule: &Rule, len: u16, total: u16, offset: u32, used: u32, list: &[Break]) -> bool
     requires offset { offset ≡ end_of_all list.now }
     requires used { used ≡ sum_by (λ b. b.len) list.now }
     requires total { total ≡ total_of rule.now len }
     ensures { result ≡ may_end rule.now len list.now }
 {
-    offset <= u32::from(len)
-        && may_work(rule, offset, u32::from(len))
-        && used == u32::from(total)
-        && all_met(len, list, rule.lunches.as_slice())
+    may_stop(rule, len, total, offset, used) && all_met(len, list, rule.lunches.as_slice())
 }
 
 /// Whether a list of breaks is legal for a shift of `len` slots. It takes no memory.
@@ -134,5 +139,5 @@ pub fn legal(rule: &Rule, len: u16, list: &[Break]) -> bool
         offset = end(b);
         used += u32::from(b.len);
     }
-    ends(rule, len, total, offset, used, list)
+    may_finish(rule, len, total, offset, used, list)
 }

@@ -1,0 +1,12 @@
+use Rattle.std.proofs.Common.{◌≡◌, ◌<◌, true, take}
+use Rattle.break_rules.specs.Breaks.{total_of}
+use Rattle.break_rules.specs.Walk.{spot_of, is_walk}
+use Rattle.break_rules.proofs.living.spot_behind.Given as goal
+
+abbrev pub invariant-loop-next : goal.invariant-loop-next
+invariant-loop-next l = record {
+  walk : is_walk l.rule l.len (take l.next-index l.list) ≡ true;
+  spot : l.spot ≡ spot_of l.rule (take l.next-index l.list);
+  used : l.spot.used < 65536;
+  total : l.total ≡ total_of l.rule l.len;
+}
