@@ -1,6 +1,7 @@
 -- Lists of values beside lists of data.
-use Rattle.std.proofs.Common.{true, false, Bor, Option, None, option_map, find, cond, ◌≡◌, ℕ, Bool, false, ◌&&◌, List, [], ◌∷◌, map, String, BTreeMap, Global, string_bytes, Some, is_some, option_and_then, refl, sym, ap, ◌∙◌}
+use Rattle.std.proofs.Common.{true, false, Bor, Option, None, option_map, find, cond, ◌≡◌, ℕ, Bool, false, ◌&&◌, List, [], ◌∷◌, map, length, ◌==◌, String, BTreeMap, Global, string_bytes, Some, is_some, option_and_then, refl, sym, ap, ◌∙◌}
 use Rattle.std.specs.List.{list_all}
+use Rattle.std.proofs.lemmas.List.{length-map}
 use Rattle.std.specs.BTreeMap.{keys}
 use Rattle.std.specs.Map.{keys_of}
 use Rattle.std.specs.Option.{option_map_or, option_copied}
@@ -9,7 +10,7 @@ use Rattle.serde_json.specs.Data.{Data}
 use Rattle.serde_json.specs.View.{view, items_view, members_view}
 use Rattle.serde_json.specs.declared.value.Value.{Value}
 use Rattle.instance_json.specs.Document.{items_at}
-use Rattle.instance_json.specs.Fields.{data_list, member_names, whole, are_numbers, names_of}
+use Rattle.instance_json.specs.Fields.{data_list, member_names, whole, are_numbers, is_wide, is_row, are_rows, names_of}
 
 -- the items of a list of values
 pub data_list-items_view : (vs : List Value) → data_list (items_view vs) ≡ map view vs
@@ -29,6 +30,15 @@ member_names-members_view (e ∷ es) = ap (λ names. string_bytes e.0 ∷ names)
 -- whether the items of a list of values are whole numbers
 pub are_numbers_of_list : (d : Data) (vs : List Value) → Some (items_view vs) ≡ as_array d → list_all (λ v. is_some (whole (view v))) vs ≡ are_numbers d
 are_numbers_of_list d vs e = sym (list_all-items_view (λ x. is_some (whole x)) vs) ∙ ap (λ o. option_map_or (λ ds. list_all (λ x. is_some (whole x)) (data_list ds)) o false) e
+
+-- whether a list of values is that wide
+pub is_wide_of_list : (wide : ℕ) (d : Data) (vs : List Value) → Some (items_view vs) ≡ as_array d → (length vs == wide) ≡ is_wide wide d
+is_wide_of_list wide d vs e =
+    ap (λ n. n == wide) (sym (ap length (data_list-items_view vs) ∙ length-map vs view)) ∙ ap (λ o. option_map_or (λ ds. length (data_list ds) == wide) o false) e
+
+-- whether the items of a list of values are lists of that many whole numbers
+pub are_rows_of_list : (wide : ℕ) (d : Data) (vs : List Value) → Some (items_view vs) ≡ as_array d → list_all (λ v. is_row wide (view v)) vs ≡ are_rows wide d
+are_rows_of_list wide d vs e = sym (list_all-items_view (is_row wide) vs) ∙ ap (λ o. option_map_or (λ ds. list_all (is_row wide) (data_list ds)) o false) e
 
 -- the names of what is an object
 pub names_of_object : (d : Data) (m : BTreeMap (String Global) Value) → Some (members_view m.entries) ≡ as_object d → map string_bytes (keys m) ≡ names_of d

@@ -15,7 +15,7 @@ use Rattle.shift_instance.specs.declared.InstanceFault.{InstanceFault}
 use Rattle.shift_instance.specs.declared.InstanceFault.TheVariants as fault
 use Rattle.instance_json.specs.declared.TheConstants.{INSTANCE_MAX}
 use Rattle.instance_json.specs.declared.ReadRefusal.{ReadRefusal}
-use Rattle.instance_json.specs.declared.ReadRefusal.TheVariants.{TooLong, NotJson, Missing, UnknownField, WrongKind, Invalid, NotYet, NoMemory}
+use Rattle.instance_json.specs.declared.ReadRefusal.TheVariants.{TooLong, NotJson, Missing, UnknownField, WrongKind, Invalid, NoMemory}
 use Rattle.instance_json.specs.Departures.{document_departure}
 use Rattle.instance_json.specs.Document.{kind_of, items_at, problem_of}
 use Rattle.instance_json.specs.Reading.{value_of, problem_reading, value_reading, reading_of, IsAnswer, refusal_of}
@@ -73,7 +73,6 @@ answers_itself (Missing at field) reading h = h
 answers_itself (UnknownField at field) reading h = h
 answers_itself (WrongKind at field) reading h = h
 answers_itself (Invalid fault) reading h = h
-answers_itself (NotYet at) reading h = h
 
 -- a document is read as its problem
 pub value_reading-document : (d : Data) → None ≡ document_departure d → value_reading d ≡ problem_reading (problem_of d)
@@ -93,19 +92,6 @@ stated (Some e) p i h = cc
 pub value_reading-stated : (d : Data) (i : Problem) → value_reading d ≡ Ok i → i ≡ problem_of d
 unfolding value_reading
 value_reading-stated d i h = stated (document_departure d) (problem_of d) i h
-
-all_plain : (ds : List Data) → All (λ k. k.rule ≡ plain_rule) (map kind_of ds)
-unfolding kind_of
-all_plain ds = All-map (λ k. k.rule ≡ plain_rule) kind_of ds (λ k d h. refl)
-
-document_plain : (d : Data) → All (λ k. k.rule ≡ plain_rule) (problem_of d).kinds
-unfolding problem_of
-document_plain d = all_plain (items_at (codes "types") d)
-
--- every type of what is read has the plain rule
-pub plain_kinds : (r : Result Problem ReadRefusal) (d : Data) → MatchResult r (λ i. value_reading d ≡ Ok i) (λ e. IsAnswer e (value_reading d)) → IfOk r (λ i. All (λ k. k.rule ≡ plain_rule) i.kinds)
-plain_kinds (Ok i) d h = rw (value_reading-stated d i h) (document_plain d)
-plain_kinds (Err e) d h = tt
 
 pub reading_of-long : (bs : List ℕ) → INSTANCE_MAX < length bs → reading_of bs ≡ Err TooLong
 unfolding reading_of

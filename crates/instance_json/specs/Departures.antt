@@ -5,8 +5,8 @@ use Rattle.std.specs.Str.Lossy.{utf8_valid_len}
 use Rattle.serde_json.specs.Data.{Data}
 use Rattle.serde_json.specs.Find.{get, as_object}
 use Rattle.instance_json.specs.declared.ReadRefusal.{ReadRefusal}
-use Rattle.instance_json.specs.declared.ReadRefusal.TheVariants.{Missing, UnknownField, WrongKind, NotYet}
-use Rattle.instance_json.specs.Document.{document_fields, weights_fields, type_fields, items_at}
+use Rattle.instance_json.specs.declared.ReadRefusal.TheVariants.{Missing, UnknownField, WrongKind}
+use Rattle.instance_json.specs.Document.{document_fields, weights_fields, type_fields, breaks_fields, items_at}
 use Rattle.instance_json.specs.Fields.{Field, names_of, is_known, is_missing, is_misshapen}
 
 -- the first that is there
@@ -35,14 +35,14 @@ kind_departure at fields d = option_map (λ f. WrongKind at f.name) (find (is_mi
 unfoldable pub object_departure : ℕ → List Field → Data → Option ReadRefusal
 object_departure at fields d = first_some (unknown_departure at fields d ∷ missing_departure at fields d ∷ kind_departure at fields d ∷ [])
 
--- a break rule that is no null can't be read yet
+-- how a type's breaks depart: as an object, where they are one
 abbrev pub breaks_departure : ℕ → Data → Option ReadRefusal
-breaks_departure at d = if is_some (option_and_then as_object (get (codes "breaks") d)) then Some (NotYet at) else None
+breaks_departure at breaks = if is_some (as_object breaks) then object_departure at breaks_fields breaks else None
 
--- how a shift type departs, given the place by which a refusal names it
+-- how a shift type departs, by its own fields and then by its breaks, given the place by which a refusal names it
 unfoldable pub type_departure : ℕ × Data → Option ReadRefusal
 type_departure p =
-    if is_some (as_object p.1) then first_some (object_departure p.0 type_fields p.1 ∷ breaks_departure p.0 p.1 ∷ [])
+    if is_some (as_object p.1) then first_some (object_departure p.0 type_fields p.1 ∷ option_and_then (breaks_departure p.0) (get (codes "breaks") p.1) ∷ [])
     else Some (WrongKind p.0 (codes "types"))
 
 -- how the weights depart, and the types, numbered from 1 on

@@ -1,13 +1,15 @@
 -- Instance documents: the fields of their objects, and which problem each states.
-use Rattle.std.specs.Prelude.{ℕ, min, codes, true, false, List, [], ◌∷◌, map, option_and_then, unwrap_or}
+use Rattle.std.specs.Prelude.{ℕ, min, codes, true, false, List, [], ◌∷◌, map, is_some, option_and_then, unwrap_or, if◌then◌else◌}
 use Rattle.std.specs.Option.{option_map_or}
 use Rattle.serde_json.specs.Data.{Data}
-use Rattle.serde_json.specs.Find.{get, as_str, as_array}
+use Rattle.serde_json.specs.Find.{get, at, as_str, as_array, as_object}
+use Rattle.break_rules.specs.declared.Lunch.{Lunch}
+use Rattle.break_rules.specs.declared.Rule.{Rule}
 use Rattle.break_rules.specs.Plain.{plain_rule}
 use Rattle.shift_instance.specs.Kind.{Kind}
 use Rattle.shift_instance.specs.Problem.{Problem}
 use Rattle.instance_json.specs.declared.fields.Shape.{Shape}
-use Rattle.instance_json.specs.declared.fields.Shape.TheVariants.{Number, Text, Array, Numbers, Object, NullOrObject}
+use Rattle.instance_json.specs.declared.fields.Shape.TheVariants.{Number, Text, Array, Numbers, Pairs, Quadruples, Object, NullOrObject}
 use Rattle.instance_json.specs.Fields.{Field, data_list, whole}
 
 -- a field that has to be there, and one that may be missing
@@ -43,6 +45,22 @@ type_fields =
     ∷ optional (codes "breaks") NullOrObject
     ∷ []
 
+-- the fields of a type's break rule
+unfoldable pub breaks_fields : List Field
+breaks_fields =
+    required (codes "lead") Number
+    ∷ required (codes "tail") Number
+    ∷ required (codes "work_min") Number
+    ∷ required (codes "work_max") Number
+    ∷ required (codes "long_work") Number
+    ∷ required (codes "long_rest") Number
+    ∷ required (codes "size_min") Number
+    ∷ required (codes "size_max") Number
+    ∷ required (codes "totals") Pairs
+    ∷ optional (codes "lunches") Quadruples
+    ∷ optional (codes "resettle") Number
+    ∷ []
+
 -- the items of an object's field
 abbrev pub items_at : List ℕ → Data → List Data
 items_at name d = option_map_or data_list (option_and_then as_array (get name d)) []
@@ -58,6 +76,10 @@ short_at name d = option_map_or (number_up_to 65535) (get name d) 0
 abbrev pub long_at : List ℕ → Data → ℕ
 long_at name d = option_map_or (number_up_to 4294967295) (get name d) 0
 
+-- the number at a place of a list, up to that of 16 bits
+abbrev pub short_in : ℕ → Data → ℕ
+short_in place d = option_map_or (number_up_to 65535) (at place d) 0
+
 -- the text of an object's field
 abbrev pub text_at : List ℕ → Data → List ℕ
 text_at name d = unwrap_or (option_and_then as_str (get name d)) []
@@ -65,6 +87,33 @@ text_at name d = unwrap_or (option_and_then as_str (get name d)) []
 -- a weight of a document, by its name
 abbrev pub weight_of : List ℕ → Data → ℕ
 weight_of name d = option_map_or (long_at name) (get (codes "weights") d) 0
+
+-- an entry of a rule's totals, and a lunch entry
+abbrev pub total_of : Data → ℕ × ℕ
+total_of d = (short_in 0 d, short_in 1 d)
+
+abbrev pub lunch_of : Data → Lunch
+lunch_of d = record { from_len = short_in 0 d; size = short_in 1 d; first = short_in 2 d; last = short_in 3 d }
+
+-- the break rule that an object states
+unfoldable pub rule_of : Data → Rule
+rule_of d = record {
+  lead = short_at (codes "lead") d;
+  tail = short_at (codes "tail") d;
+  work_min = short_at (codes "work_min") d;
+  work_max = short_at (codes "work_max") d;
+  long_work = short_at (codes "long_work") d;
+  long_rest = short_at (codes "long_rest") d;
+  size_min = short_at (codes "size_min") d;
+  size_max = short_at (codes "size_max") d;
+  totals = map total_of (items_at (codes "totals") d);
+  lunches = map lunch_of (items_at (codes "lunches") d);
+  resettle = short_at (codes "resettle") d;
+}
+
+-- the rule that a type's breaks state: the plain rule, unless they are an object
+abbrev pub stated_rule : Data → Rule
+stated_rule breaks = if is_some (as_object breaks) then rule_of breaks else plain_rule
 
 -- the shift type that a value states
 unfoldable pub kind_of : Data → Kind
@@ -74,7 +123,7 @@ kind_of d = record {
   start_max = short_at (codes "start_max") d;
   len_min = short_at (codes "len_min") d;
   len_max = short_at (codes "len_max") d;
-  rule = plain_rule;
+  rule = option_map_or stated_rule (get (codes "breaks") d) plain_rule;
 }
 
 -- the problem that a document states

@@ -5,7 +5,7 @@ ghost use Rattle.serde_json.specs.Find.{get, as_object};
 ghost use Rattle.serde_json.specs.View.{view};
 ghost use Rattle.instance_json.specs.Departures.{first_some, unknown_departure, missing_departure, kind_departure, object_departure, breaks_departure, type_departure, weights_departure, types_departure, document_departure};
 
-use crate::document::{items_of, of_document, of_type, of_weights};
+use crate::document::{items_of, of_breaks, of_document, of_type, of_weights};
 use crate::fields::{Field, first_misshapen, first_missing, first_unknown};
 use crate::{FieldName, ReadRefusal};
 use serde_json::Value;
@@ -83,12 +83,24 @@ fn of_object(
     misshapen(alloc, at, fields, value)
 }
 
-fn has_break_object(value: &Value) -> bool
-    ensures { result ≡ is_some (option_and_then as_object (get (codes "breaks") (view value.now))) }
+/// How breaks depart.
+fn in_breaks(alloc: Global, at: u64, breaks: &Value) -> Result<Option<ReadRefusal>, AllocError>
+    ensures { IfOk result (λ found. found ≡ breaks_departure at (view breaks.now)) }
+{
+    if breaks.is_object() {
+        of_object(alloc, at, &of_breaks(), breaks)
+    } else {
+        Ok(None)
+    }
+}
+
+/// How the breaks of a shift type depart.
+fn in_breaks_of(alloc: Global, at: u64, value: &Value) -> Result<Option<ReadRefusal>, AllocError>
+    ensures { IfOk result (λ found. found ≡ option_and_then (breaks_departure at) (get (codes "breaks") (view value.now))) }
 {
     match value.get("breaks") {
-        Some(breaks) => breaks.is_object(),
-        None => false,
+        Some(breaks) => in_breaks(alloc, at, breaks),
+        None => Ok(None),
     }
 }
 
@@ -105,10 +117,7 @@ fn in_type(alloc: Global, at: u64, value: &Value) -> Result<Option<ReadRefusal>,
         Some(refusal) => return Ok(Some(refusal)),
         None => {}
     }
-    if has_break_object(value) {
-        return Ok(Some(ReadRefusal::NotYet { at }));
-    }
-    Ok(None)
+    in_breaks_of(alloc, at, value)
 }
 
 fn in_list(alloc: Global, list: &[Value]) -> Result<Option<ReadRefusal>, AllocError>

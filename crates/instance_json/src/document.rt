@@ -1,11 +1,13 @@
 //! Instance documents: the fields of their objects, and what they state.
 ghost use Rattle.std.specs.Prelude.{◌≡◌, codes, map, IfOk, option_map, option_and_then, string_bytes};
+ghost use Rattle.std.specs.Option.{option_map_or};
+ghost use Rattle.break_rules.specs.Plain.{plain_rule};
 ghost use Rattle.serde_json.specs.Find.{get, as_array};
 ghost use Rattle.serde_json.specs.View.{view, items_view};
-ghost use Rattle.instance_json.specs.Document.{document_fields, weights_fields, type_fields, items_at, number_up_to, short_at, long_at, text_at, weight_of, kind_of, problem_of};
+ghost use Rattle.instance_json.specs.Document.{document_fields, weights_fields, type_fields, breaks_fields, items_at, number_up_to, short_at, short_in, long_at, text_at, weight_of, total_of, lunch_of, rule_of, stated_rule, kind_of, problem_of};
 
 use crate::fields::{Field, Shape};
-use break_rules::Rule;
+use break_rules::{Lunch, Lunches, Rule, Totals};
 use serde_json::Value;
 use shift_instance::{Parts, TypeParts};
 use std::alloc::{AllocError, Global};
@@ -46,6 +48,25 @@ pub fn of_type() -> [Field; 6]
         Field::required("len_min", Shape::Number),
         Field::required("len_max", Shape::Number),
         Field::optional("breaks", Shape::NullOrObject),
+    ]
+}
+
+#[tactic(auto, unfolding(crate::specs::Document::breaks_fields))]
+pub fn of_breaks() -> [Field; 11]
+    ensures { result ≡ breaks_fields }
+{
+    [
+        Field::required("lead", Shape::Number),
+        Field::required("tail", Shape::Number),
+        Field::required("work_min", Shape::Number),
+        Field::required("work_max", Shape::Number),
+        Field::required("long_work", Shape::Number),
+        Field::required("long_rest", Shape::Number),
+        Field::required("size_min", Shape::Number),
+        Field::required("size_max", Shape::Number),
+        Field::required("totals", Shape::Pairs),
+        Field::optional("lunches", Shape::Quadruples),
+        Field::optional("resettle", Shape::Number),
     ]
 }
 
@@ -126,6 +147,93 @@ fn longs_of(alloc: Global, value: &Value, name: &str) -> Result<Vec<u32>, AllocE
     }
 }
 
+fn short_in(value: &Value, place: usize) -> u16
+    ensures { result ≡ short_in place (view value.now) }
+{
+    match value.get(place) {
+        Some(number) => short(number),
+        None => 0,
+    }
+}
+
+/// An entry of a rule's totals.
+fn total(value: &Value) -> (u16, u16)
+    ensures { result ≡ total_of (view value.now) }
+{
+    (short_in(value, 0), short_in(value, 1))
+}
+
+fn totals(alloc: Global, list: &[Value]) -> Result<Vec<(u16, u16)>, AllocError>
+    ensures { IfOk result (λ v. v.items ≡ map (λ x. total_of (view x)) list.now) }
+{
+    list.iter().map(total).collect(alloc)
+}
+
+fn totals_of(alloc: Global, value: &Value) -> Result<Totals, AllocError>
+    ensures { IfOk result (λ t. t ≡ map total_of (items_at (codes "totals") (view value.now))) }
+{
+    match items_of(value, "totals") {
+        Some(list) => Ok(Totals::new(totals(alloc, list)?)),
+        None => Ok(Totals::new(Vec::new(alloc))),
+    }
+}
+
+fn lunch(value: &Value) -> Lunch
+    ensures { result ≡ lunch_of (view value.now) }
+{
+    Lunch {
+        from_len: short_in(value, 0),
+        size: short_in(value, 1),
+        first: short_in(value, 2),
+        last: short_in(value, 3),
+    }
+}
+
+fn lunches(alloc: Global, list: &[Value]) -> Result<Vec<Lunch>, AllocError>
+    ensures { IfOk result (λ v. v.items ≡ map (λ x. lunch_of (view x)) list.now) }
+{
+    list.iter().map(lunch).collect(alloc)
+}
+
+fn lunches_of(alloc: Global, value: &Value) -> Result<Lunches, AllocError>
+    ensures { IfOk result (λ t. t ≡ map lunch_of (items_at (codes "lunches") (view value.now))) }
+{
+    match items_of(value, "lunches") {
+        Some(list) => Ok(Lunches::new(lunches(alloc, list)?)),
+        None => Ok(Lunches::new(Vec::new(alloc))),
+    }
+}
+
+/// The break rule that an object states.
+#[tactic(auto, unfolding(crate::specs::Document::rule_of))]
+fn rule_of(alloc: Global, breaks: &Value) -> Result<Rule, AllocError>
+    ensures { IfOk result (λ r. r ≡ rule_of (view breaks.now)) }
+{
+    Ok(Rule {
+        lead: short_of(breaks, "lead"),
+        tail: short_of(breaks, "tail"),
+        work_min: short_of(breaks, "work_min"),
+        work_max: short_of(breaks, "work_max"),
+        long_work: short_of(breaks, "long_work"),
+        long_rest: short_of(breaks, "long_rest"),
+        size_min: short_of(breaks, "size_min"),
+        size_max: short_of(breaks, "size_max"),
+        totals: totals_of(alloc, breaks)?,
+        lunches: lunches_of(alloc, breaks)?,
+        resettle: short_of(breaks, "resettle"),
+    })
+}
+
+/// The rule of a shift type: the one that its breaks state, and else the plain rule.
+fn rule_stated(alloc: Global, value: &Value) -> Result<Rule, AllocError>
+    ensures { IfOk result (λ r. r ≡ option_map_or stated_rule (get (codes "breaks") (view value.now)) plain_rule) }
+{
+    match value.get("breaks") {
+        Some(breaks) if breaks.is_object() => rule_of(alloc, breaks),
+        _ => Rule::plain(alloc),
+    }
+}
+
 /// The shift type that a value states.
 #[tactic(auto, unfolding(crate::specs::Document::kind_of))]
 fn type_of(alloc: Global, value: &Value) -> Result<TypeParts, AllocError>
@@ -137,7 +245,7 @@ fn type_of(alloc: Global, value: &Value) -> Result<TypeParts, AllocError>
         start_max: short_of(value, "start_max"),
         len_min: short_of(value, "len_min"),
         len_max: short_of(value, "len_max"),
-        rule: Rule::plain(alloc)?,
+        rule: rule_stated(alloc, value)?,
     })
 }
 

@@ -4,7 +4,7 @@ ghost use Rattle.std.specs.BTreeMap.{keys};
 ghost use Rattle.std.specs.Option.{option_copied};
 ghost use Rattle.std.specs.List.{list_all, list_any};
 ghost use Rattle.serde_json.specs.View.{view};
-ghost use Rattle.instance_json.specs.Fields.{whole, are_numbers, has_shape, names_of, is_known, is_missing, is_misshapen};
+ghost use Rattle.instance_json.specs.Fields.{whole, are_numbers, is_wide, is_row, are_rows, has_shape, names_of, is_known, is_missing, is_misshapen};
 
 use serde_json::{Map, Value};
 use std::marker::Model;
@@ -18,6 +18,10 @@ pub enum Shape {
     Array,
     /// A list of whole numbers.
     Numbers,
+    /// A list of lists of two whole numbers.
+    Pairs,
+    /// A list of lists of four whole numbers.
+    Quadruples,
     Object,
     NullOrObject,
 }
@@ -96,6 +100,38 @@ fn are_whole(value: &Value) -> bool
     }
 }
 
+#[tactic(auto, using(crate::proofs::Lists::is_wide_of_list))]
+fn is_wide(wide: usize, value: &Value) -> bool
+    ensures { result ≡ is_wide wide (view value.now) }
+{
+    match value.as_array() {
+        Some(list) => list.len() == wide,
+        None => false,
+    }
+}
+
+/// Whether a value is a list of that many whole numbers.
+fn is_whole_row(wide: usize, value: &Value) -> bool
+    ensures { result ≡ is_row wide (view value.now) }
+{
+    are_whole(value) && is_wide(wide, value)
+}
+
+fn all_rows(wide: usize, list: &[Value]) -> bool
+    ensures { result ≡ list_all (λ v. is_row wide (view v)) list.now }
+{
+    list.iter().all(|value| is_whole_row(wide, value))
+}
+
+fn are_whole_rows(wide: usize, value: &Value) -> bool
+    ensures { result ≡ are_rows wide (view value.now) }
+{
+    match value.as_array() {
+        Some(list) => all_rows(wide, list),
+        None => false,
+    }
+}
+
 /// Whether a value is of a kind.
 fn is_shaped(shape: Shape, value: &Value) -> bool
     ensures { result ≡ has_shape shape (view value.now) }
@@ -105,6 +141,8 @@ fn is_shaped(shape: Shape, value: &Value) -> bool
         Shape::Text => value.is_string(),
         Shape::Array => value.is_array(),
         Shape::Numbers => are_whole(value),
+        Shape::Pairs => are_whole_rows(2, value),
+        Shape::Quadruples => are_whole_rows(4, value),
         Shape::Object => value.is_object(),
         Shape::NullOrObject => value.is_null() || value.is_object(),
     }

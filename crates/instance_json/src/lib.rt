@@ -23,7 +23,7 @@ pub use text::canonical;
 pub const INSTANCE_MAX: usize = 1_048_576;
 
 /// Why a text isn't read as an instance. `at` is 0 for the document and its weights, and 1 more than a type's place in
-/// `types`, from 0 on, for that type.
+/// `types`, from 0 on, for that type and its breaks.
 #[derive(Debug, Drop)]
 pub enum ReadRefusal {
     /// It has more than `INSTANCE_MAX` bytes.
@@ -34,12 +34,10 @@ pub enum ReadRefusal {
     Missing { at: u64, field: FieldName },
     /// There is a field of a name that no field has; `field` is its first 64 bytes at most.
     UnknownField { at: u64, field: FieldName },
-    /// The value of a field is of another kind.
+    /// The value of a field, or a value in it, is of another kind.
     WrongKind { at: u64, field: FieldName },
     /// The numbers of the document make no instance. Never holds `NoMemory`.
     Invalid(InstanceFault),
-    /// A type has a break rule.
-    NotYet { at: u64 },
     /// No memory was left.
     NoMemory,
 }
@@ -84,7 +82,6 @@ impl fmt::Display for ReadRefusal {
             ReadRefusal::UnknownField { at, field } => write!(f, "4 {at} {field}"),
             ReadRefusal::WrongKind { at, field } => write!(f, "5 {at} {field}"),
             ReadRefusal::Invalid(fault) => write!(f, "6 {fault}"),
-            ReadRefusal::NotYet { at } => write!(f, "7 {at}"),
             ReadRefusal::NoMemory => f.write_str("no memory"),
         }
     }

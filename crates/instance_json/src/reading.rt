@@ -1,6 +1,5 @@
 //! From a text to an instance.
 ghost use Rattle.std.specs.Prelude.{◌≡◌, Ok, All, option_map, IfOk, MatchResult};
-ghost use Rattle.break_rules.specs.Plain.{plain_rule};
 ghost use Rattle.serde_json.specs.View.{view};
 ghost use Rattle.instance_json.specs.Document.{problem_of};
 ghost use Rattle.instance_json.specs.Reading.{value_of, problem_reading, value_reading, reading_of, IsAnswer};
@@ -58,16 +57,15 @@ fn instance_of(alloc: Global, value: &Value) -> Result<Instance, ReadRefusal>
 /// The instance that a text states.
 ///
 /// The text is refused with `TooLong` where it has more than `INSTANCE_MAX` bytes; else with `NotJson` where it isn't
-/// UTF-8 or isn't JSON. Else its objects are judged in turn: the document, its weights, and each type. In each the
+/// UTF-8 or isn't JSON. Else its objects are judged in turn: the document, its weights, and each type, followed by its
+/// breaks where they are an object. In each the
 /// first field in byte order that the object may not have is `UnknownField`, then the first that it lacks is `Missing`,
 /// and then the first with a value of another kind is `WrongKind`. A document that is no object is `WrongKind` of
-/// `document`, and a type that is none `WrongKind` of `types`. A type that departs in none of these ways, and has a break
-/// rule, is `NotYet`. A document whose numbers make no instance is `Invalid`. `NoMemory` may come instead, where memory
+/// `document`, and a type that is none `WrongKind` of `types`. A document whose numbers make no instance is `Invalid`. `NoMemory` may come instead, where memory
 /// runs out.
 pub fn read(alloc: Global, bytes: &[u8]) -> Result<Instance, ReadRefusal>
-    ensures reading { MatchResult result (λ i. reading_of bytes.now ≡ Ok i)
+    ensures { MatchResult result (λ i. reading_of bytes.now ≡ Ok i)
         (λ e. IsAnswer e (reading_of bytes.now)) }
-    ensures plain { IfOk result (λ i. All (λ k. k.rule ≡ plain_rule) i.kinds) }
 {
     if bytes.len() > INSTANCE_MAX {
         return Err(ReadRefusal::TooLong);

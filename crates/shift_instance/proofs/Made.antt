@@ -97,6 +97,7 @@ pub inside : (i : Problem) (kinds : List Kind) (shifts : List Shift) → None �
 inside i kinds shifts h same e =
     record {
       valid = valid_from_none i (sym h);
+      faultless = sym h;
       listed = e ∙ ap (λ ks. flat_map shifts_of (enumerate_from 0 ks)) same ∙ sym (firsts_of_kinds (enumerate_from 0 i.kinds));
     }
 

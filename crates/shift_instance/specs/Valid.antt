@@ -5,6 +5,7 @@ use Rattle.break_rules.specs.RuleFaults.{rule_causes}
 use Rattle.shift_instance.specs.declared.Shift.{Shift}
 use Rattle.shift_instance.specs.Kind.{Kind}
 use Rattle.shift_instance.specs.Names.{is_name}
+use Rattle.shift_instance.specs.Faults.{instance_causes}
 use Rattle.shift_instance.specs.Problem.{Problem, slots, day_slots, shift_list}
 
 -- a shift type whose name, windows and break rule are within the ranges
@@ -46,7 +47,8 @@ pub record IsValid (i : Problem) : Type 0 where
   pub names : (a b : ℕ) (x y : Kind) → slice_get i.kinds a ≡ Some x → slice_get i.kinds b ≡ Some y → a < b → ¬ (x.name ≡ y.name)
   pub shifts : length (shift_list i) ≤ 1024
 
--- what an instance keeps: valid numbers, and their shift list
+-- what an instance keeps: valid numbers without a fault, and their shift list
 pub record IsInside (i : Problem) (shifts : List Shift) : Type 0 where
   pub valid : IsValid i
+  pub faultless : first_cause (instance_causes i) ≡ None
   pub listed : shifts ≡ map (λ x. x.0) (shift_list i)

@@ -231,6 +231,7 @@ impl Instance {
     /// The numbers of the instance.
     pub fn parts(&self) -> &Parts
         ensures parts { result.now ≡ self.now }
+        ensures faultless { first_cause (instance_causes self.now) ≡ None }
         ensures valid { IsValid self.now }
     {
         &self.parts
