@@ -1,9 +1,7 @@
 //! The run of `solve`.
 
-ghost use Rattle.std.specs.Prelude.{◌≡◌, ◌<◌, ◌^◌, List, ℕ, map, string_bytes, IfOk, IfErr, Ok, All};
+ghost use Rattle.std.specs.Prelude.{◌≡◌, ◌<◌, ◌^◌, List, ℕ, map, string_bytes, IfOk, IfErr, Ok};
 ghost use Rattle.instance_json.specs.Reading.{reading_of};
-ghost use Rattle.break_rules.specs.Plain.{plain_rule};
-ghost use Rattle.shift_solve.specs.Plain.{ArePlain};
 ghost use Rattle.shift_solve.specs.Reading.{IsAllOf, Unread};
 ghost use Rattle.shift_solve.specs.Run.{Explains, OverDisk, status_of};
 ghost use Rattle.shift_solve.specs.Session.{met_of};
@@ -23,7 +21,6 @@ use std::alloc::Global;
 /// Reads a source to its end and makes the instance of its document, or says how the run ends.
 fn read_instance<S: Source>(alloc: Global, input: &mut S) -> Result<Instance, Status>
     ensures ok { IfOk result (λ i. (bytes : List ℕ) × IsAllOf (S.left input.old) bytes × (reading_of bytes ≡ Ok i)) }
-    ensures plain { IfOk result (λ i. All (λ k. k.rule ≡ plain_rule) i.kinds) }
     ensures err { IfErr result (Unread (S.left input.old) (S.faults input.old) (S.faults input.new)) }
 {
     let bytes = match read_all(alloc, input, INSTANCE_MAX) {
@@ -57,7 +54,6 @@ fn run_book<K: Sink, D: Disk>(
     out: &mut K,
     disk: D,
 ) -> (Status, D, bool)
-    requires plain { ArePlain instance.now.kinds }
     requires count { D.calls disk < 2 ^ 62 }
     ensures status { OverDisk
         (met_of D.reads D.images D.images_since D.calls D.faults disk result.1)

@@ -1,10 +1,11 @@
 //! Runs of `solve` over sources, sinks and disks in memory.
 
-ghost use Rattle.std.specs.Prelude.{◌<◌};
+ghost use Rattle.std.specs.Prelude.{◌<◌, ◌^◌};
 
-use crate::{Status, solve_run, status_line};
+use crate::{Status, journal_path, solve_run, status_line};
 use instance_json::ReadRefusal;
-use plan_base::{MemDisk, MemSink, MemSource};
+use plan_base::{Disk, MemDisk, MemSink, MemSource};
+use search_book::BookFault;
 use std::alloc::{AllocError, Global};
 use std::test::Fail;
 
@@ -36,17 +37,30 @@ fn words_of(alloc: Global, line: &str) -> Result<Vec<String>, AllocError> {
     Ok(words)
 }
 
-/// What a run says: the number of its status and its line on standard error, and what the sink then holds. The source gives `most` bytes a read and the sink takes as many; the
-/// reads and writes of the given numbers fail.
-fn run(
+/// What a run says: the number of its status and its line on standard error, what the sink then holds, and its disk with whether a book
+/// was opened on it.
+#[derive(Drop)]
+struct Ran {
+    number: u8,
+    line: String,
+    written: Vec<u8>,
+    disk: MemDisk,
+    opened: bool,
+}
+
+/// A run over a disk. The source gives `most` bytes a read and the sink takes as many; the reads and writes of the given numbers
+/// fail.
+fn run_on(
     alloc: Global,
+    disk: MemDisk,
     line: &str,
     input: &[u8],
     most: usize,
     bad_read: u64,
     bad_write: u64,
-) -> Result<(u8, String, Vec<u8>), AllocError>
-    requires { 0 < most }
+) -> Result<Ran, AllocError>
+    requires most { 0 < most }
+    requires count { ⟦<MemDisk as Disk>⟧.calls disk < 2 ^ 62 }
 {
     let words = words_of(alloc, line)?;
     let mut source = MemSource::new(
@@ -56,13 +70,37 @@ fn run(
         most,
     );
     let mut sink = MemSink::new(alloc, vec![in alloc; bad_write]?, most);
+    let (status, disk, opened) = solve_run(alloc, words.as_slice(), &mut source, &mut sink, disk);
+    Ok(Ran {
+        number: status.number(),
+        line: status_line(alloc, &status)?,
+        written: Vec::from_slice(alloc, sink.bytes())?,
+        disk,
+        opened,
+    })
+}
+
+/// A run over a new disk.
+fn run(
+    alloc: Global,
+    line: &str,
+    input: &[u8],
+    most: usize,
+    bad_read: u64,
+    bad_write: u64,
+) -> Result<Ran, AllocError>
+    requires { 0 < most }
+{
     let disk = MemDisk::new(alloc, Vec::new(alloc), Vec::new(alloc));
-    let (status, _disk, _opened) = solve_run(alloc, words.as_slice(), &mut source, &mut sink, disk);
-    Ok((
-        status.number(),
-        status_line(alloc, &status)?,
-        Vec::from_slice(alloc, sink.bytes())?,
-    ))
+    run_on(alloc, disk, line, input, most, bad_read, bad_write)
+}
+
+/// A run of `solve J` on a disk with this content, of which one call fails, or none where its number is 0.
+fn run_over(alloc: Global, content: &[u8], bad_call: u64) -> Result<Ran, AllocError> {
+    let text = document(alloc, MORNING, "null")?;
+    let bytes = Vec::from_slice(alloc, content)?;
+    let disk = MemDisk::new(alloc, bytes, vec![in alloc; bad_call]?);
+    run_on(alloc, disk, "solve J", text.as_bytes(), 100000, 0, 0)
 }
 
 #[test]
@@ -70,16 +108,79 @@ fn a_plan_is_printed(rt: HostRuntime) -> Result<(), Fail> {
     let alloc = rt.alloc();
     for most in [1usize, 7, 100000] {
         let text = document(alloc, MORNING, "null")?;
-        let (number, line, written) = run(alloc, "solve J", text.as_bytes(), most, 0, 0)?;
-        assert_eq!(rt; number, 10);
-        assert_eq!(rt; line.as_str(), "stopped: step budget spent");
-        assert_eq!(rt; written.as_slice(), MORNING_REPORT.as_bytes());
+        let ran = run(alloc, "solve J", text.as_bytes(), most, 0, 0)?;
+        assert_eq!(rt; (ran.number, ran.opened), (10, true));
+        assert_eq!(rt; ran.line.as_str(), "stopped: step budget spent");
+        assert_eq!(rt; ran.written.as_slice(), MORNING_REPORT.as_bytes());
+        assert_eq!(rt; (ran.disk.bytes().len(), ran.disk.calls()), (413, 8));
     }
     let text = document(alloc, NOTHING, "null")?;
-    let (number, line, written) = run(alloc, "solve J", text.as_bytes(), 100000, 0, 0)?;
-    assert_eq!(rt; number, 0);
-    assert_eq!(rt; line.as_str(), "");
-    assert_eq!(rt; written.as_slice(), NOTHING_REPORT.as_bytes());
+    let ran = run(alloc, "solve J", text.as_bytes(), 100000, 0, 0)?;
+    assert_eq!(rt; (ran.number, ran.line.as_str()), (0, ""));
+    assert_eq!(rt; ran.written.as_slice(), NOTHING_REPORT.as_bytes());
+    assert_eq!(rt; (ran.disk.bytes().len(), ran.disk.calls()), (385, 4));
+    Ok(())
+}
+
+#[test]
+fn a_journal_is_gone_on_with(rt: HostRuntime) -> Result<(), Fail> {
+    let alloc = rt.alloc();
+    let first = run_over(alloc, &[], 0)?;
+    let again = run_over(alloc, first.disk.bytes(), 0)?;
+    assert_eq!(rt; (again.number, again.opened), (10, true));
+    assert_eq!(rt; again.written.as_slice(), MORNING_REPORT.as_bytes());
+    assert_eq!(rt; again.disk.bytes(), first.disk.bytes());
+    Ok(())
+}
+
+#[test]
+fn a_failing_disk_prints_nothing(rt: HostRuntime) -> Result<(), Fail> {
+    let alloc = rt.alloc();
+    for call in 1..9u64 {
+        let ran = run_over(alloc, &[], call)?;
+        assert_eq!(rt; (ran.number, ran.opened), (7, 4 < call));
+        assert_eq!(rt; ran.line.as_str(), "disk fault");
+        assert!(rt; ran.written.is_empty());
+    }
+    Ok(())
+}
+
+#[test]
+fn each_image_of_a_torn_record_is_gone_on_with(rt: HostRuntime) -> Result<(), Fail> {
+    let alloc = rt.alloc();
+    for call in 5..9u64 {
+        let torn = run_over(alloc, &[], call)?;
+        for fill in [None, Some(0), Some(1), Some(255u8)] {
+            let image = torn.disk.image(fill)?;
+            let ran = run_over(alloc, image.bytes(), 0)?;
+            assert_eq!(rt; ran.number, 10, "call {call}");
+            assert_eq!(rt; ran.written.as_slice(), MORNING_REPORT.as_bytes());
+        }
+    }
+    Ok(())
+}
+
+#[test]
+fn other_files_are_refused_and_left(rt: HostRuntime) -> Result<(), Fail> {
+    let alloc = rt.alloc();
+    let whole = run_over(alloc, &[], 0)?;
+    let mut other = Vec::from_slice(alloc, whole.disk.bytes())?;
+    if let Some(byte) = other.get_mut(356) {
+        *byte = b'9';
+    }
+    let mut open = Vec::from_slice(alloc, whole.disk.bytes())?;
+    if let Some(byte) = open.get_mut(385) {
+        *byte = 255;
+    }
+    let cut = whole.disk.bytes().get(..412).unwrap_or_default();
+    let torn = whole.disk.bytes().get(..100).unwrap_or_default();
+    for content in [b"no journal".as_slice(), torn, cut, other.as_slice(), open.as_slice()] {
+        let ran = run_over(alloc, content, 0)?;
+        assert_eq!(rt; (ran.number, ran.opened), (9, false));
+        assert_eq!(rt; ran.line.as_str(), "journal refused: 6");
+        assert!(rt; ran.written.is_empty());
+        assert_eq!(rt; ran.disk.bytes(), content);
+    }
     Ok(())
 }
 
@@ -96,18 +197,13 @@ fn other_words_are_usage(rt: HostRuntime) -> Result<(), Fail> {
         "solve J --steps 1",
         "solve J --",
     ] {
-        let (number, line, written) = run(alloc, words, text.as_bytes(), 100000, 0, 0)?;
-        assert_eq!(rt; number, 2, "{words}");
-        assert!(rt; line.as_str().starts_with("usage: solve JOURNAL "));
-        assert!(rt; written.is_empty());
+        let ran = run(alloc, words, text.as_bytes(), 100000, 0, 0)?;
+        assert_eq!(rt; (ran.number, ran.opened, ran.disk.calls()), (2, false, 0), "{words}");
+        assert!(rt; ran.line.as_str().starts_with("usage: solve JOURNAL "));
+        assert!(rt; ran.written.is_empty());
     }
     let words = vec![in alloc; String::from_str(alloc, "solve")?, String::new(alloc)]?;
-    let mut source = MemSource::new(alloc, Vec::new(alloc), Vec::new(alloc), 1);
-    let mut sink = MemSink::new(alloc, Vec::new(alloc), 1);
-    let disk = MemDisk::new(alloc, Vec::new(alloc), Vec::new(alloc));
-    let (status, _disk, opened) = solve_run(alloc, words.as_slice(), &mut source, &mut sink, disk);
-    assert_eq!(rt; status.number(), 2);
-    assert!(rt; !opened);
+    assert!(rt; journal_path(words.as_slice())?.is_none());
     Ok(())
 }
 
@@ -119,9 +215,9 @@ const TWICE: &str =
 
 /// What a run says on standard error of a document that it refuses, and that it then prints nothing.
 fn refusal(alloc: Global, text: &str) -> Result<Option<String>, AllocError> {
-    let (number, line, written) = run(alloc, "solve J", text.as_bytes(), 100000, 0, 0)?;
-    if number == 3 && written.is_empty() {
-        return Ok(Some(line));
+    let ran = run(alloc, "solve J", text.as_bytes(), 100000, 0, 0)?;
+    if ran.number == 3 && ran.written.is_empty() && ran.disk.calls() == 0 {
+        return Ok(Some(ran.line));
     }
     Ok(None)
 }
@@ -160,7 +256,7 @@ fn other_types_are_refused_by_place(rt: HostRuntime) -> Result<(), Fail> {
         (ONE_TYPE, "[]", "instance refused: 6 7 0"),
         (ONE_TYPE, TWICE, "instance refused: 6 12 1"),
         ("\"len_max\":4", "\"len_max\":1e400", "instance refused: 2"),
-        ("null", "{}", "instance refused: 7 1"),
+        ("null", "{}", "instance refused: 3 1 lead"),
         ("null", "7", "instance refused: 5 1 breaks"),
         (
             "\"start_max\":8",
@@ -189,10 +285,10 @@ fn a_failing_read_prints_nothing(rt: HostRuntime) -> Result<(), Fail> {
     let text = document(alloc, MORNING, "null")?;
     // the document has more than 200 bytes: the reads 1 to 3 of 100 bytes give some, and the next one the end
     for call in [1u64, 2, 3, 4] {
-        let (number, line, written) = run(alloc, "solve J", text.as_bytes(), 100, call, 0)?;
-        assert_eq!(rt; number, 5, "at read {call}");
-        assert_eq!(rt; line.as_str(), "read fault");
-        assert!(rt; written.is_empty());
+        let ran = run(alloc, "solve J", text.as_bytes(), 100, call, 0)?;
+        assert_eq!(rt; (ran.number, ran.disk.calls()), (5, 0), "at read {call}");
+        assert_eq!(rt; ran.line.as_str(), "read fault");
+        assert!(rt; ran.written.is_empty());
     }
     Ok(())
 }
@@ -202,11 +298,10 @@ fn a_failing_write_leaves_the_beginning(rt: HostRuntime) -> Result<(), Fail> {
     let alloc = rt.alloc();
     let text = document(alloc, MORNING, "null")?;
     for (most, call, held) in [(100000usize, 1u64, 0usize), (1, 21, 20), (20, 2, 20)] {
-        let (number, line, written) = run(alloc, "solve J", text.as_bytes(), most, 0, call)?;
-        assert_eq!(rt; number, 6, "at write {call}");
-        assert_eq!(rt; line.as_str(), "write fault");
-        assert_eq!(rt; written.len(), held);
-        assert!(rt; MORNING_REPORT.as_bytes().starts_with(written.as_slice()));
+        let ran = run(alloc, "solve J", text.as_bytes(), most, 0, call)?;
+        assert_eq!(rt; (ran.number, ran.written.len()), (6, held), "at write {call}");
+        assert_eq!(rt; ran.line.as_str(), "write fault");
+        assert!(rt; MORNING_REPORT.as_bytes().starts_with(ran.written.as_slice()));
     }
     Ok(())
 }
@@ -227,7 +322,10 @@ fn each_status_has_its_number_and_line(rt: HostRuntime) -> Result<(), Fail> {
         ),
         (Status::ReadFault, 5, "read fault"),
         (Status::WriteFault, 6, "write fault"),
+        (Status::DiskFault, 7, "disk fault"),
         (Status::NoMemory, 8, "no memory"),
+        (Status::Journal(BookFault::NotYet), 9, "journal refused: 6"),
+        (Status::Full { end: 622, limit: 500 }, 11, "stopped: journal full, 622 of 500 bytes"),
     ] {
         assert_eq!(rt; status.number(), number);
         assert_eq!(rt; status_line(alloc, &status)?.as_str(), line);

@@ -1,7 +1,6 @@
 //! What a run does with the book that it has opened.
 
 ghost use Rattle.std.specs.Prelude.{◌≡◌, [], None, MatchOption, OnOk, IfOk, IfErr};
-ghost use Rattle.shift_solve.specs.Plain.{ArePlain};
 ghost use Rattle.shift_solve.specs.Search.{GreedyFails, IsPosted, IsReported, Overflows, SearchEnds, Unwritten};
 ghost use Rattle.shift_solve.specs.Status.{EndsUnwritten};
 
@@ -26,7 +25,6 @@ fn post_greedy<D: Disk>(
     instance: &Instance,
     book: &mut Book<D>,
 ) -> Result<Option<Overflow>, Status>
-    requires plain { ArePlain instance.now.kinds }
     requires same { book.old.instance ≡ instance.now }
     requires running { book.old.shut ≡ None }
     requires landed { book.old.in_flight ≡ [] }
@@ -71,7 +69,6 @@ pub(crate) fn search<K: Sink, D: Disk>(
     book: &mut Book<D>,
     out: &mut K,
 ) -> Status
-    requires plain { ArePlain instance.now.kinds }
     requires same { book.old.instance ≡ instance.now }
     requires running { book.old.shut ≡ None }
     requires landed { book.old.in_flight ≡ [] }
