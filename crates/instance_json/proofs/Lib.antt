@@ -3,3 +3,6 @@ pub mod Names
 pub mod Readings
 pub mod Texts
 pub mod Sizes
+pub mod Restated
+pub mod ReadBack
+pub mod Restored

@@ -1,12 +1,10 @@
 -- What a text is read as, case by case.
-use Rattle.std.proofs.Common.{◌≡◌, ℕ, ◌<◌, ◌≤◌, Bool, true, false, cond, List, length, Option, Some, None, Result, Ok, Err, IfOk, MatchResult, All, IsUtf8, map, codes, refl, sym, ap, ◌∙◌, cond, arith}
+use Rattle.std.proofs.Common.{◌≡◌, ℕ, ◌<◌, ◌≤◌, Bool, true, false, cond, List, length, Option, Some, None, Result, Ok, Err, IsUtf8, refl, sym, ap, ◌∙◌, cond, arith}
 use Rattle.std.proofs.lemmas.Bool.Decides.{nat_tests}
-use Rattle.std.proofs.lemmas.List.Elements.{All-map}
 use Rattle.std.proofs.lemmas.Str.{IsUtf8-from_is_utf8, is_utf8-from_IsUtf8}
 use Rattle.std.specs.Option.{option_map_or}
 use Rattle.std.specs.Str.{is_utf8}
 use Rattle.break_rules.specs.Causes.{first_cause}
-use Rattle.break_rules.specs.Plain.{plain_rule}
 use Rattle.serde_json.specs.Data.{Data}
 use Rattle.serde_json.specs.Read.{read}
 use Rattle.shift_instance.specs.Problem.{Problem}
@@ -17,7 +15,7 @@ use Rattle.instance_json.specs.declared.TheConstants.{INSTANCE_MAX}
 use Rattle.instance_json.specs.declared.ReadRefusal.{ReadRefusal}
 use Rattle.instance_json.specs.declared.ReadRefusal.TheVariants.{TooLong, NotJson, Missing, UnknownField, WrongKind, Invalid, NoMemory}
 use Rattle.instance_json.specs.Departures.{document_departure}
-use Rattle.instance_json.specs.Document.{kind_of, items_at, problem_of}
+use Rattle.instance_json.specs.Document.{problem_of}
 use Rattle.instance_json.specs.Reading.{value_of, problem_reading, value_reading, reading_of, IsAnswer, refusal_of}
 
 not_chosen : (b : Bool) (o : Option Data) → (b ≡ true → ⊥) → cond b o None ≡ None

@@ -173,7 +173,7 @@ weights_length i v =
       long_number i.excess v.excess,
     )
 
-slot_minutes_limit : (i : Problem) → IsValid i → i.slot_minutes < 1000
+pub slot_minutes_limit : (i : Problem) → IsValid i → i.slot_minutes < 1000
 slot_minutes_limit i v =
     let fits : i.slot_minutes * day_slots i ≤ 1440 = mul-div-le 1440 i.slot_minutes in
     let more : i.slot_minutes * 24 ≤ i.slot_minutes * day_slots i = mul-le-mul_left i.slot_minutes v.some_day_slots in

@@ -7,12 +7,14 @@ mod fields;
 pub mod laws;
 mod name;
 mod reading;
+mod round_trip;
 #[cfg(test)]
 mod tests;
 mod text;
 
 pub use name::FieldName;
 pub use reading::read;
+pub use round_trip::read_back;
 use shift_instance::InstanceFault;
 use std::alloc::AllocError;
 use std::error::Error;

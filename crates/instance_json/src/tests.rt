@@ -1,5 +1,5 @@
 //! Texts that are read, texts that are refused, and the text that is written.
-use crate::{INSTANCE_MAX, canonical, read};
+use crate::{INSTANCE_MAX, canonical, read, read_back};
 use std::alloc::{AllocError, Global};
 use std::test::Fail;
 
@@ -103,6 +103,8 @@ fn writes_break_rules(rt: HostRuntime) -> Result<(), Fail> {
     let text = canonical(rt.alloc(), &instance)?;
     let wanted = WRITTEN.replacen(rt.alloc(), PLAIN_WRITTEN, RULE_WRITTEN, 1)?;
     assert!(rt; text.as_slice() == wanted.as_bytes());
+    let again = canonical(rt.alloc(), &read_back(rt.alloc(), &instance)?)?;
+    assert!(rt; again.as_slice() == wanted.as_bytes());
     Ok(())
 }
 
