@@ -1,5 +1,5 @@
 -- The first legal list, break by break.
-use Rattle.std.proofs.Common.{◌≡◌, ◌⊎◌, inl, inr, ℕ, ◌-◌, ◌<◌, arith, Bool, true, false, ◌&&◌, List, [], ◌∷◌, ◌++◌, refl, sym, ap, ◌∙◌, subst, append_assoc, append-nil, Option, Some, None, slice_get}
+use Rattle.std.proofs.Common.{◌≡◌, ◌⊎◌, inl, inr, ℕ, ◌-◌, ◌<◌, arith, Bool, true, false, ◌&&◌, List, [], ◌∷◌, ◌++◌, refl, sym, ap, ◌∙◌, subst, append_assoc, append-nil, Option, Some, None, MatchOption, slice_get}
 use Rattle.std.specs.List.{find}
 use Rattle.std.proofs.lemmas.List.Sums.{fold-append}
 use Rattle.std.proofs.lemmas.Bool.{and_from, false≢true, or_left, or_right, cond_both, cases_Bool}
@@ -8,6 +8,7 @@ use Rattle.break_rules.specs.declared.Rule.{Rule}
 use Rattle.break_rules.specs.declared.Spot.{Spot}
 use Rattle.break_rules.specs.Breaks.{same_break, is_less_break, is_less_list, is_legal, is_live, legal_lists, breaks_between, end_of}
 use Rattle.break_rules.specs.Walk.{may_follow, nexts_of, spot_of, is_walk, end_of_all}
+use Rattle.break_rules.specs.Live.{IsLeastLegal}
 use Rattle.break_rules.proofs.Lists.{Has}
 use Rattle.break_rules.proofs.LegalLists.{live_rest, live_from, no_longer_list, same_break_decides, from_legal_lists, Has-legal_lists}
 use Rattle.break_rules.proofs.Ordered.{Sorted, Sorted-filter, Sorted-breaks, IsLessBreak, least_legal}
@@ -125,3 +126,12 @@ nearer rule len list spot behind b is at m =
     let before : spot.offset ≡ end_of_all list = ap (λ (s : Spot). s.offset) is in
     let after : behind.offset ≡ end_of b = ap (λ (s : Spot). s.offset) at ∙ fold-append (λ (at : ℕ) (c : Break). end_of c) 0 list (b ∷ []) in
     omega arith
+
+-- the first legal list is the least, and where there is none no list is legal
+pub least_of : (rule : Rule) (len : ℕ) (found : Option (List Break)) → found ≡ slice_get (legal_lists rule len) 0
+    → MatchOption found ((list : List Break) → is_legal rule len list ≡ false) (λ list. IsLeastLegal rule len list)
+least_of rule len None e = λ list. elim (cases_Bool (is_legal rule len list)) [
+  | inl t ↦ let first = some_first (legal_lists rule len) list (Has-legal_lists rule len list t) in let wrong : ◌≡◌ {A = Option (List Break)} None (Some first.0) = e ∙ first.1 in cc
+  | inr f ↦ f
+]
+least_of rule len (Some list) e = record { legal = first_legal rule len list (sym e); least = λ other h. first_least rule len list other (sym e) h }

@@ -14,3 +14,4 @@ pub mod Bits
 pub mod Steps
 pub mod Reaching
 pub mod FirstList
+pub mod NextLaws

@@ -3,7 +3,7 @@ use Rattle.std.specs.Prelude.{◌≡◌, ℕ, ◌+◌, ◌-◌, ◌*◌, ◌<◌
 use Rattle.break_rules.specs.declared.Break.{Break}
 use Rattle.break_rules.specs.declared.Rule.{Rule}
 use Rattle.break_rules.specs.declared.Spot.{Spot}
-use Rattle.break_rules.specs.Breaks.{is_live}
+use Rattle.break_rules.specs.Breaks.{is_legal, is_less_list, is_live}
 use Rattle.break_rules.specs.Walk.{spot_of, is_walk}
 
 -- a rule, and the length of the shifts that are meant
@@ -24,3 +24,8 @@ AreKnown rule len before table =
 -- for each walk, whether some legal list begins with it
 abbrev pub AreLive : Rule → ℕ → List Bool → Type 0
 AreLive rule len table = AreKnown rule len (256 * (len + 1)) table
+
+-- a legal list, with no legal list less than it
+pub record IsLeastLegal (rule : Rule) (len : ℕ) (list : List Break) : Type 0 where
+  pub legal : IsTrue (is_legal rule len list)
+  pub least : (other : List Break) → IsTrue (is_legal rule len other) → is_less_list other list ≡ false

@@ -4,6 +4,7 @@
 #![tactic(auto)]
 
 mod judging;
+pub mod laws;
 mod legality;
 mod living;
 #[cfg(test)]
@@ -15,7 +16,7 @@ ghost use Rattle.break_rules.specs.Causes.{first_cause};
 ghost use Rattle.break_rules.specs.RuleFaults.{rule_causes};
 ghost use Rattle.break_rules.specs.Ranges.{IsRule};
 ghost use Rattle.break_rules.specs.Breaks.{legal_lists};
-ghost use Rattle.break_rules.specs.Plain.{plain_rule};
+ghost use Rattle.break_rules.specs.Plain.{plain_rule, IsPlainTimes};
 ghost use Rattle.break_rules.specs.Walk.{spot_of};
 
 pub use legality::legal;
@@ -204,6 +205,15 @@ impl fmt::Display for RuleFault {
 
 impl Error for RuleFault {}
 
+/// Whether a rule has the plain rule's distances from both ends and lengths of work.
+fn has_plain_times(rule: &Rule) -> bool
+    ensures { IsTrue result ↔ IsPlainTimes rule.now }
+{
+    (rule.lead, rule.tail) == (0, 0)
+        && (rule.work_min, rule.work_max) == (1, 288)
+        && (rule.long_work, rule.long_rest) == (288, 1)
+}
+
 impl Spot {
     /// The spot at the start of a shift, before any break.
     pub fn opening() -> Spot
@@ -237,6 +247,16 @@ impl Rule {
             lunches: Lunches::new(Vec::new(alloc)),
             resettle: 0,
         })
+    }
+
+    /// Whether the rule is the plain one: all its fields are those of [`Rule::plain`]. It takes no memory.
+    pub fn is_plain(&self) -> bool
+        ensures { IsTrue result ↔ (self.now ≡ plain_rule) }
+    {
+        has_plain_times(self)
+            && (self.size_min, self.size_max, self.resettle) == (1, 48, 0)
+            && self.totals.as_slice().is_empty()
+            && self.lunches.as_slice().is_empty()
     }
 
     /// Whether the rule is well formed, or the first fault in the order of [`RuleFault`]. It takes no memory.

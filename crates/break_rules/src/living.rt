@@ -2,10 +2,10 @@
 
 ghost use Rattle.std.specs.Prelude.{◌≡◌, ◌+◌, ◌-◌, ◌*◌, ◌<◌, ◌≤◌, ◌++◌, List, [], ◌∷◌, Bool, false, IfOk, IsTrue, MatchOption, length, slice_get, slice_index_or};
 ghost use Rattle.std.specs.List.{find};
-ghost use Rattle.break_rules.specs.Breaks.{is_legal, is_live, is_less_list, legal_lists};
+ghost use Rattle.break_rules.specs.Breaks.{is_legal, is_live, legal_lists};
 ghost use Rattle.break_rules.specs.Ranges.{IsRule};
 ghost use Rattle.break_rules.specs.Walk.{nexts_of, spot_of, is_walk};
-ghost use Rattle.break_rules.specs.Live.{place_of, AreKnown, AreLive};
+ghost use Rattle.break_rules.specs.Live.{place_of, AreKnown, AreLive, IsLeastLegal};
 
 use crate::legality::{follows, total};
 use crate::walking::{after, ends, nexts};
@@ -171,6 +171,7 @@ pub fn live(alloc: Global, rule: &Rule, len: u16, list: &[Break]) -> Result<bool
 pub fn least(alloc: Global, rule: &Rule, len: u16) -> Result<Option<Breaks>, NoMemory>
     requires { IsRule rule.now }
     ensures first { IfOk result (λ found. found ≡ slice_get (legal_lists rule.now len) 0) }
+    ensures least { IfOk result (λ found. MatchOption found ((list : List Break) → is_legal rule.now len list ≡ false) (λ list. IsLeastLegal rule.now len list)) }
 {
     let spots = LiveSpots::new(alloc, rule, len)?;
     let mut spot = Spot::opening();

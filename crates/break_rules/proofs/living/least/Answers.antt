@@ -7,7 +7,7 @@ use Rattle.break_rules.specs.Breaks.{is_live, legal_lists}
 use Rattle.break_rules.specs.Walk.{nexts_of, spot_of, is_walk, may_follow}
 use Rattle.break_rules.proofs.Steps.{from_next}
 use Rattle.break_rules.proofs.Reaching.{walk_on}
-use Rattle.break_rules.proofs.FirstList.{first_start, first_none, first_step, first_end, found_at, found_next, nearer}
+use Rattle.break_rules.proofs.FirstList.{least_of, first_start, first_none, first_step, first_end, found_at, found_next, nearer}
 use Rattle.break_rules.proofs.living.least.Goals as goal
 
 pub returns-then-not-is_live : goal.returns-then-not-is_live
@@ -15,7 +15,8 @@ returns-then-not-is_live c =
     let made = c.in_ok-spots.ensures in
     let live : c.is_live.result ≡ is_live c.in_ok-spots.spots.rule c.in_ok-spots.spots.len [] = c.is_live.ensures [] refl (c.opening-spot.ensures c.in_ok-spots.spots.rule) in
     let here : c.is_live.result ≡ is_live c.args.rule.now c.args.len [] = live ∙ ap (λ (r : Rule). is_live r c.in_ok-spots.spots.len []) made.0 ∙ ap (λ n. is_live c.args.rule.now n []) made.1 in
-    record { first = sym (first_none c.args.rule.now c.args.len (sym here ∙ c.if-not-is_live.true)) }
+    let first : None ≡ slice_get (legal_lists c.args.rule.now c.args.len) 0 = sym (first_none c.args.rule.now c.args.len (sym here ∙ c.if-not-is_live.true)) in
+    record { first = first; least = least_of c.args.rule.now c.args.len None first }
 
 pub loop-next-init : goal.loop-next-init
 loop-next-init c =
@@ -68,4 +69,5 @@ returns c =
     let found : None ≡ find (λ n. is_live rule c.args.len (list ++ n ∷ [])) (nexts_of rule c.args.len (spot_of rule list)) =
     found_at rule c.args.len c.in_ok-spots.spots.len list c.loop-next.spot None c.in_ok-spots.ensures.1 c.in_default.ensures c.loop-next.invariant.walk c.loop-next.invariant.spot in
     let whole = first_end rule c.args.len list c.loop-next.invariant.leads.0 c.loop-next.invariant.leads.1 (sym found) in
-    record { first = ap Some c.new-2.ensures ∙ sym whole }
+    let first : Some c.new-2.result ≡ slice_get (legal_lists rule c.args.len) 0 = ap Some c.new-2.ensures ∙ sym whole in
+    record { first = first; least = least_of rule c.args.len (Some c.new-2.result) first }
