@@ -10,3 +10,4 @@ pub mod Used
 pub mod Books
 pub mod Posted
 pub mod Crosses
+pub mod Fits

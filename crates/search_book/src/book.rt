@@ -221,7 +221,7 @@ impl<D: Disk> Book<D> {
             rows,
             cost,
         };
-        let bytes = spelled(self.alloc, &post)?;
+        let bytes = spelled(self.alloc, &self.instance, &post)?;
         match self.log.add(&bytes) {
             Ok(()) => {
                 self.posts.push_reserved(post);
@@ -242,6 +242,7 @@ impl<D: Disk> Book<D> {
                 self.shut = Some(Shutting::Full { end, limit });
                 Err(CommitFault::Full { end, limit })
             }
+            // the one other fault that an addition has
             Err(_) => Err(CommitFault::NoMemory),
         }
     }
