@@ -5,7 +5,7 @@ ghost use Rattle.gated_journal.specs.View.{IsSettled};
 ghost use Rattle.instance_json.specs.Canonical.{canonical_text};
 ghost use Rattle.shift_instance.specs.Rota.{are_legal_rows};
 ghost use Rattle.search_book.specs.Fold.{book_of, is_better, IsSound, IsFoldAt};
-ghost use Rattle.search_book.specs.Front.{Lasts, IsRunning};
+ghost use Rattle.search_book.specs.Front.{Lasts, IsRunning, ShutFor};
 ghost use Rattle.search_book.specs.Opening.{IsOpenedFrom, OpenFails, KeepsContent, IsOldOrShort};
 ghost use Rattle.search_book.specs.Posts.{bytes_used, SpellPosts};
 ghost use Rattle.search_book.specs.Posting.{Posts, PostFails, rows_cost, rows_in};
@@ -177,13 +177,15 @@ impl<D: Disk> Book<D> {
         self.posts.len() as u64
     }
 
-    /// How many records were made since the book was opened, with all that a crash at any moment may leave.
+    /// How many records were made since the book was opened, with all that a crash at any moment may leave, and why the
+    /// book is shut, where it is.
     pub fn batches(&self) -> u64
         ensures made { result ≡ self.now.made }
         ensures counted { length self.now.history ≡ self.now.opening + self.now.made }
         ensures lasts { Lasts D.reads D.images_since D.calls self.now }
         ensures running { self.now.in_flight ≡ [] → IsRunning D.reads D.images D.calls self.now }
         ensures faults { D.faults self.now.opened ≤ D.faults self.now.disk }
+        ensures fault { ShutFor self.now.limit (D.faults self.now.opened) (D.faults self.now.disk) self.now.shut }
     {
         self.log.added()
     }
