@@ -1,24 +1,28 @@
 -- What is known of a book.
-use Rattle.std.proofs.Common.{◌≡◌, ℕ, ◌-◌, ◌<◌, suc, Bool, true, false, cond, ◌&&◌, ◌==◌, List, [], ◌∷◌, length, refl, sym, ◌∙◌, ap, subst, arith, nat_lt, eq-eqb}
+use Rattle.std.proofs.Common.{◌≡◌, ◌≢◌, ℕ, ◌-◌, ◌<◌, suc, Bool, true, false, cond, ◌&&◌, ◌==◌, List, [], ◌∷◌, length, map, refl, sym, ◌∙◌, ap, subst, arith, nat_lt, eq-eqb}
 use Rattle.std.specs.Prelude.{Option, None, Some, IfSome, IsTrue, slice_get}
+use Rattle.std.specs.List.{AllZip}
 use Rattle.std.specs.Option.{option_and_then}
+use Rattle.plan_base.specs.Causes.{Rose}
 use Rattle.std.proofs.lemmas.Bool.{and_parts, and_from, eqb-true, lt-ltb}
 use Rattle.gated_journal.specs.Format.{StandsFor}
 use Rattle.gated_journal.specs.View.{IsStored, JournalView}
 use Rattle.instance_json.specs.Canonical.{canonical_text}
 use Rattle.post_codec.specs.declared.post.Post.{Post}
 use Rattle.post_codec.specs.declared.post.Post.TheVariants.{Plan}
-use Rattle.post_codec.specs.Spelling.{EachSpellsOnce}
+use Rattle.post_codec.specs.Spelling.{EachSpellsOnce, Spells}
 use Rattle.shift_instance.specs.declared.Row.{Row}
 use Rattle.shift_instance.specs.Problem.{Problem}
 use Rattle.shift_instance.specs.Rota.{are_legal_rows, cost, rota_of}
+use Rattle.search_book.specs.declared.fault.Shutting.{Shutting}
+use Rattle.search_book.specs.declared.fault.Shutting.TheVariants.{DiskFault, Full}
 use Rattle.search_book.specs.Fold.{Book, opening, is_better, step, cost_after, book_after, book_of, IsFoldAt, IsSound}
-use Rattle.search_book.specs.Front.{IsKept}
+use Rattle.search_book.specs.Front.{IsKept, ShutFor}
 use Rattle.search_book.specs.Opening.{IsFound, IsOpenedFrom}
 use Rattle.search_book.specs.Posting.{rows_cost, rows_in}
 use Rattle.search_book.specs.Posts.{bytes_used, SpellPosts}
 use Rattle.search_book.specs.View.{BookView}
-use Rattle.search_book.specs.Written.{IsWritten}
+use Rattle.search_book.specs.Written.{IsWritten, ShutBy}
 use Rattle.search_book.proofs.Batches.{posts_once, none_spelled}
 use Rattle.search_book.proofs.Folds.{book_with}
 use Rattle.search_book.proofs.Used.{used_fresh}
@@ -130,3 +134,15 @@ better i best n rows legal exact cheaper = and_from _ _ (and_from _ _ legal (eq-
 
 pub allowed : (i : Problem) (best n : ℕ) (rows : List Row) → IsTrue (are_legal_rows i rows) → n ≡ rows_cost i rows → n < best → cost_after i best (Plan 0 rows n) ≡ Some n
 allowed i best n rows legal exact cheaper = ap (λ (t : Bool). cond t (Some n) None) (better i best n rows legal exact cheaper)
+
+-- ---- why a book is shut
+pub shut_for : (limit before now : ℕ) (in_flight : List Post) (shut : Option Shutting) → ShutBy limit in_flight shut → (in_flight ≢ [] → Rose before now) → ShutFor limit before now shut
+shut_for limit before now in_flight None by cause = tt
+shut_for limit before now in_flight (Some DiskFault) by cause = cause by
+shut_for limit before now in_flight (Some (Full end most)) by cause = by
+
+-- a post in flight is a record in flight
+pub some_flight : (flight : List (List ℕ)) (posts : List Post) → AllZip Spells flight (map (λ (p : Post). p ∷ []) posts) → posts ≢ [] → flight ≢ []
+some_flight flight [] z some = absurd (some refl)
+some_flight [] (p ∷ ps) z some = absurd z
+some_flight (r ∷ rs) (p ∷ ps) z some = λ e. absurd (cc)

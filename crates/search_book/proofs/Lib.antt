@@ -11,3 +11,4 @@ pub mod Books
 pub mod Posted
 pub mod Crosses
 pub mod Telling
+pub mod Fits

@@ -1,8 +1,11 @@
 -- What a crash may leave of a book.
-use Rattle.std.specs.Prelude.{◌≡◌, ℕ, ◌+◌, ◌*◌, ◌≤◌, List, ◌++◌, length, take, Option, Some, OnSome, IfSome}
+use Rattle.std.specs.Prelude.{◌≡◌, ℕ, ◌+◌, ◌*◌, ◌≤◌, ◌<◌, ⊤, List, ◌++◌, length, take, Option, None, Some, OnSome, IfSome}
+use Rattle.plan_base.specs.Causes.{Rose}
 use Rattle.plan_base.specs.Disk.{IsOnlyImage}
 use Rattle.post_codec.specs.declared.post.Post.{Post}
 use Rattle.shift_instance.specs.Problem.{Problem}
+use Rattle.search_book.specs.declared.fault.Shutting.{Shutting}
+use Rattle.search_book.specs.declared.fault.Shutting.TheVariants.{DiskFault, Full}
 use Rattle.search_book.specs.Fold.{Book, book_of}
 use Rattle.search_book.specs.Posts.{StandsForPosts, IsJournalOf}
 use Rattle.search_book.specs.View.{BookView}
@@ -33,3 +36,9 @@ pub record IsKept {D : Type 0} (images : D → List ℕ → Type 0) (book : Book
 pub record IsRunning {D : Type 0} (reads : D → Option (List ℕ)) (images : D → List ℕ → Type 0) (calls : D → ℕ) (book : BookView D) : Type 0 where
   pub kept : IfSome (reads book.disk) (IsKept images book)
   pub time : calls book.disk ≡ calls book.opened + 4 * book.made
+
+-- why a book is shut, where it is: its disk failed between two counts of faults, or a record would have ended past its limit
+abbrev pub ShutFor : (limit before now : ℕ) → Option Shutting → Type 0
+ShutFor limit before now None = ⊤
+ShutFor limit before now (Some DiskFault) = Rose before now
+ShutFor limit before now (Some (Full end most)) = (most ≡ limit) × (limit < end)

@@ -5,7 +5,7 @@ ghost use Rattle.gated_journal.specs.View.{IsSettled};
 ghost use Rattle.instance_json.specs.Canonical.{canonical_text};
 ghost use Rattle.shift_instance.specs.Rota.{are_legal_rows};
 ghost use Rattle.search_book.specs.Fold.{book_of, is_better, IsSound, IsFoldAt};
-ghost use Rattle.search_book.specs.Front.{Lasts, IsRunning};
+ghost use Rattle.search_book.specs.Front.{Lasts, IsRunning, ShutFor};
 ghost use Rattle.search_book.specs.Opening.{IsOpenedFrom, OpenFails, KeepsContent, IsOldOrShort};
 ghost use Rattle.search_book.specs.Posts.{bytes_used, SpellPosts};
 ghost use Rattle.search_book.specs.Posting.{Posts, PostFails, rows_cost, rows_in};
@@ -177,7 +177,8 @@ impl<D: Disk> Book<D> {
         self.posts.len() as u64
     }
 
-    /// How many records were made since the book was opened, with all that a crash at any moment may leave.
+    /// How many records were made since the book was opened, with all that a crash at any moment may leave, and why the
+    /// book is shut, where it is.
     pub fn batches(&self) -> u64
         ensures made { result ≡ self.now.made }
         ensures counted { length self.now.history ≡ self.now.opening + self.now.made }
@@ -185,6 +186,7 @@ impl<D: Disk> Book<D> {
         ensures running { self.now.in_flight ≡ [] → IsRunning D.reads D.images D.calls self.now }
         ensures telling { TellsAlike (D.reads self.now.opened) (D.reads self.now.disk) }
         ensures faults { D.faults self.now.opened ≤ D.faults self.now.disk }
+        ensures fault { ShutFor self.now.limit (D.faults self.now.opened) (D.faults self.now.disk) self.now.shut }
     {
         self.log.added()
     }
@@ -222,7 +224,7 @@ impl<D: Disk> Book<D> {
             rows,
             cost,
         };
-        let bytes = spelled(self.alloc, &post)?;
+        let bytes = spelled(self.alloc, &self.instance, &post)?;
         match self.log.add(&bytes) {
             Ok(()) => {
                 self.posts.push_reserved(post);
@@ -243,6 +245,7 @@ impl<D: Disk> Book<D> {
                 self.shut = Some(Shutting::Full { end, limit });
                 Err(CommitFault::Full { end, limit })
             }
+            // the one other fault that an addition has
             Err(_) => Err(CommitFault::NoMemory),
         }
     }

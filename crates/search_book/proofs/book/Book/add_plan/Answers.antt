@@ -7,7 +7,7 @@ use Rattle.post_codec.specs.Spelling.{Spells}
 use Rattle.search_book.specs.Fold.{IsFoldAt}
 use Rattle.search_book.specs.Records.{LogView, AddFails}
 use Rattle.search_book.specs.View.{BookView}
-use Rattle.search_book.specs.Written.{IsWritten, posts_in}
+use Rattle.search_book.specs.Written.{IsWritten, ShutBy, posts_in}
 use Rattle.search_book.proofs.Books.{allowed}
 use Rattle.search_book.proofs.Folds.{fold_more}
 use Rattle.search_book.proofs.Posted.{posted, failed, filled}
@@ -45,6 +45,7 @@ invariant_of-self-in-Ok g c =
       next = (c.args.cost, subst (λ (l : List Post). IsFoldAt b.instance (c.push_reserved.new.self.items ++ l) c.args.cost) (sym none) (subst (λ (l : List Post). IsFoldAt b.instance l c.args.cost) (sym (append-nil c.push_reserved.new.self.items)) folds));
       running = i.running;
       none = i.none;
+      shut = subst (λ (l : LogView g.row.D.Denot). ShutBy l.limit (posts_in b.in_flight) b.shut) (sym ok) i.shut;
     }
 
 pub invariant_of-self-in-Err-DiskFault : goal.invariant_of-self-in-Err-DiskFault
@@ -75,6 +76,7 @@ invariant_of-self-in-Err-DiskFault g c =
       );
       running = λ shut. absurd (cc);
       none = i.none;
+      shut = λ e. absurd (cc);
     }
 
 pub returns-in-Ok : goal.returns-in-Ok

@@ -1,9 +1,9 @@
 use Rattle.std.proofs.Common.{◌≡◌, [], subst, refl}
-use Rattle.search_book.specs.Front.{Lasts, IsRunning}
+use Rattle.search_book.specs.Front.{Lasts, IsRunning, ShutFor}
 use Rattle.search_book.specs.Records.{journal_of}
 use Rattle.search_book.specs.View.{BookView}
 use Rattle.search_book.specs.Written.{posts_in}
-use Rattle.search_book.proofs.Books.{kept_of}
+use Rattle.search_book.proofs.Books.{kept_of, shut_for, some_flight}
 use Rattle.search_book.proofs.Written.{lasts_of, flight_none}
 use Rattle.search_book.proofs.book.Book.batches.Goals as goal
 
@@ -27,3 +27,11 @@ returns-clause-running g c =
       kept = kept_of K.images _ (journal_of b.log) b.log.opening (K.reads b.log.disk) i.head refl refl i.written running.stored;
       time = running.time;
     })
+
+pub returns-clause-fault : goal.returns-clause-fault
+returns-clause-fault g c =
+    let K = g.D.Disk in
+    let b = c.self.inside in
+    let i = c.self.invariant in
+    subst (λ (v : BookView g.row.D.Denot). ShutFor v.limit (K.faults v.opened) (K.faults v.disk) v.shut) c.self.view_is
+    (shut_for b.log.limit (K.faults b.log.opened) (K.faults b.log.disk) (posts_in b.in_flight) b.shut i.shut (λ some. c.added.ensures.log.cause (some_flight b.log.in_flight (posts_in b.in_flight) i.flight some)))

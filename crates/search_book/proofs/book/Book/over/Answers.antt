@@ -22,4 +22,5 @@ invariant_of-result g c =
       next = (f.cost, subst (λ (l : List Post). IsFoldAt f.instance l f.cost) (sym (append-nil f.posts.items)) c.requires.folds);
       running = λ running. refl;
       none = c.new-2.ensures ∙ c.new.ensures.items;
+      shut = tt;
     }

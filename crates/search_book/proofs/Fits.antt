@@ -1,0 +1,134 @@
+-- Legal rows of an instance have a spelling.
+use Rattle.std.proofs.Common.{◌≡◌, inl, inr, ℕ, zero, suc, ◌+◌, ◌*◌, ◌/◌, ◌%◌, ◌<◌, ◌≤◌, ◌^◌, Bool, true, false, cond, ◌==◌, List, [], ◌∷◌, length, replicate, refl, ap, ◌∙◌, sym, arith, sum_by, count_by, fold, nat_lt, nat_le, Option, Some, None, eq-eqb, length-append}
+use Rattle.std.specs.Prelude.{All, slice_get}
+use Rattle.std.specs.Option.{option_map_or}
+use Rattle.std.specs.List.{list_all, AllByRecursion}
+use Rattle.std.proofs.lemmas.Bool.{and_parts, and_from, lt-ltb, le-ltb, ltb-true, eqb-true, false≢true, cond_both, cases_order, ne_eqb}
+use Rattle.std.proofs.lemmas.List.{length-replicate}
+use Rattle.std.proofs.lemmas.List.Sums.{sum_by-cons}
+use Rattle.std.proofs.lemmas.List.Elements.{All-from_recursion, recursion_from_All}
+use Rattle.std.proofs.lemmas.Nat.{div-mul-add, mod-mul-add}
+use Rattle.break_rules.specs.declared.Break.{Break}
+use Rattle.break_rules.specs.declared.Rule.{Rule}
+use Rattle.break_rules.specs.Breaks.{is_legal, total_in}
+use Rattle.break_rules.specs.Ranges.{IsRule, IsTotal}
+use Rattle.break_rules.proofs.Lists.{Has, Has-flat_map, all_at}
+use Rattle.break_rules.proofs.Counts.{count_by_none, count_by_at_most}
+use Rattle.break_rules.proofs.Legal.{legal_parts}
+use Rattle.break_rules.proofs.Ranges.{ranges_from_none}
+use Rattle.shift_instance.specs.declared.Shift.{Shift}
+use Rattle.shift_instance.specs.declared.Duty.{Duty}
+use Rattle.shift_instance.specs.declared.Row.{Row}
+use Rattle.shift_instance.specs.Problem.{Problem, shift_list}
+use Rattle.shift_instance.specs.Rota.{is_list_of, is_on, heads_on, is_legal_rota, duty_of, rota_of, are_legal_rows}
+use Rattle.shift_instance.specs.Valid.{IsValid}
+use Rattle.shift_instance.proofs.Rotas.{heads_within, legal_duties}
+use Rattle.shift_instance.proofs.Shifts.{Has_at, rule_passes}
+use Rattle.rota_cost.proofs.Counting.{Has_copy, legal_rows_parts}
+use Rattle.rota_cost.proofs.Coverage.{split_count}
+use Rattle.post_codec.specs.declared.post.Post.{Post}
+use Rattle.post_codec.specs.declared.post.Post.TheVariants.{Plan}
+use Rattle.post_codec.specs.Spelling.{CountsFitRow, CountsFitRows, CountsFitPost, CountsFit}
+use Rattle.search_book.specs.Posting.{rows_in}
+
+-- ---- how many breaks a row has
+totals_small : (len : ℕ) (totals : List (ℕ × ℕ)) (t : ℕ) → t ≤ 48 → AllByRecursion IsTotal totals → fold (λ t e. cond (nat_le e.0 len) e.1 t) t totals ≤ 48
+totals_small len [] t small all = small
+totals_small len (e ∷ totals) t small all =
+    totals_small len totals (cond (nat_le e.0 len) e.1 t) (cond_both (nat_le e.0 len) e.1 t (λ x. x ≤ 48) (λ is. all.0.total) (λ not. small)) all.1
+
+total_small : (len : ℕ) (totals : List (ℕ × ℕ)) → All IsTotal totals → total_in totals len ≤ 48
+total_small len totals all = totals_small len totals 0 (omega arith) (recursion_from_All IsTotal totals all)
+
+-- each break takes time
+breaks_time : (list : List Break) → list_all (λ b. nat_lt 0 b.len) list ≡ true → length list ≤ sum_by (λ b. b.len) list
+breaks_time [] some = omega arith
+breaks_time (b ∷ bs) some =
+    let parts = and_parts (nat_lt 0 b.len) (list_all (λ b. nat_lt 0 b.len) bs) some in
+    let here : 0 < b.len = ltb-true 0 b.len parts.0 in
+    let rest : length bs ≤ sum_by (λ b. b.len) bs = breaks_time bs parts.1 in
+    omega (arith, sum_by-cons (λ (b : Break). b.len) b bs)
+
+few_of_shift : (o : Option (Shift × Rule)) (list : List Break) → ((x : Shift × Rule) → o ≡ Some x → IsRule x.1) → option_map_or (λ x. is_legal x.1 x.0.len list) o false ≡ true → length list ≤ 48
+few_of_shift None list rule h = absurd (false≢true h)
+few_of_shift (Some x) list rule h =
+    let p = legal_parts x.1 x.0.len list h in
+    omega (arith, breaks_time list p.some, p.total, total_small x.0.len x.1.totals (rule x refl).totals)
+
+few_breaks : (i : Problem) (s : ℕ) (list : List Break) → IsValid i → is_list_of i s list ≡ true → length list ≤ 48
+few_breaks i s list valid h = few_of_shift (slice_get (shift_list i) s) list (λ x at. ranges_from_none x.1 (rule_passes i valid x (Has_at (shift_list i) s x at))) h
+
+-- ---- how many duties a legal rota has
+last_or_below : (a n : ℕ) → ◌≡◌ {A = ℕ} (cond (nat_lt a (suc n)) 1 0) (cond (nat_lt a n) 1 0 + cond (a == n) 1 0)
+last_or_below a n =
+    elim (cases_order a n) [
+      | inl e ↦ rw (lt-ltb a (suc n) (omega arith), le-ltb a n (omega arith), eq-eqb a n e) refl
+      | inr o ↦ elim o [
+        | inl l ↦ rw (lt-ltb a (suc n) (omega arith), lt-ltb a n l, ne_eqb a n (λ e. omega arith)) refl
+        | inr g ↦ rw (le-ltb a (suc n) (omega arith), le-ltb a n (omega arith), ne_eqb a n (λ e. omega arith)) refl
+      ]
+    ]
+
+-- where at most m elements have each key, at most n times m have a key below n
+count_keys : {X : Type 0} (key : X → ℕ) (n m : ℕ) (xs : List X) → ((k : ℕ) → count_by (λ x. key x == k) xs ≤ m) → count_by (λ x. nat_lt (key x) n) xs ≤ n * m
+count_keys key zero m xs h =
+    let e : count_by (λ x. nat_lt (key x) 0) xs ≡ 0 = count_by_none (λ x. nat_lt (key x) 0) xs (λ x i. le-ltb (key x) 0 (omega arith)) in
+    omega arith
+count_keys key (suc n) m xs h =
+    let a : count_by (λ x. nat_lt (key x) (suc n)) xs ≡ count_by (λ x. nat_lt (key x) n) xs + count_by (λ x. key x == n) xs =
+    split_count (λ x. nat_lt (key x) (suc n)) (λ x. nat_lt (key x) n) (λ x. key x == n) xs (λ x. last_or_below (key x) n) in
+    let b : count_by (λ x. nat_lt (key x) n) xs ≤ n * m = count_keys key n m xs h in
+    let c : count_by (λ x. key x == n) xs ≤ m = h n in
+    omega arith
+
+count_all : {X : Type 0} (p : X → Bool) (xs : List X) → ((x : X) → Has xs x → p x ≡ true) → count_by p xs ≡ length xs
+count_all p [] h = refl
+count_all {X} p (x ∷ xs) h =
+    let rest : count_by p xs ≡ length xs = count_all p xs (λ y i. h y (inr i)) in
+    let here : ◌≡◌ {A = ℕ} (cond (p x) 1 0) 1 = ap (λ t. cond t 1 0) (h x (inl refl)) in
+    omega (arith, sum_by-cons (λ (x : X). cond (p x) 1 0) x xs)
+
+-- a number for each shift and day
+abbrev place : Duty → ℕ
+place d = d.shift * 7 + d.day
+
+few_duties : (i : Problem) (rota : List Duty) → IsValid i → is_legal_rota i rota ≡ true → length rota ≤ 1433600
+few_duties i rota valid h =
+    let day : (d : Duty) → Has rota d → d.day < 7 = λ d m. omega (arith, (legal_duties i rota h d m).day, valid.days) in
+    let each : (k : ℕ) → count_by (λ d. place d == k) rota ≤ 200 = λ k.
+    let most : count_by (λ d. place d == k) rota ≤ heads_on rota (k / 7) (k % 7) = count_by_at_most (λ d. place d == k) (is_on (k / 7) (k % 7)) rota (λ d m e.
+    let at : place d ≡ k = eqb-true _ _ e in
+    and_from (d.shift == k / 7) (d.day == k % 7)
+    (eq-eqb d.shift (k / 7) (sym (div-mul-add d.shift 7 d.day (day d m)) ∙ ap (λ (n : ℕ). n / 7) at))
+    (eq-eqb d.day (k % 7) (sym (mod-mul-add d.shift 7 d.day (day d m)) ∙ ap (λ (n : ℕ). n % 7) at))) in
+    omega (arith, most, heads_within i rota h (k / 7) (k % 7), valid.heads) in
+    let all : count_by (λ d. nat_lt (place d) 7168) rota ≡ length rota = count_all (λ d. nat_lt (place d) 7168) rota (λ d m.
+    lt-ltb (place d) 7168 (omega (arith, (legal_duties i rota h d m).shift, valid.shifts, day d m))) in
+    let most : count_by (λ d. nat_lt (place d) 7168) rota ≤ 7168 * 200 = count_keys place 7168 200 rota each in
+    omega arith
+
+-- no row stands for no duty
+rows_within : (rows : List Row) → list_all (λ r. nat_lt 0 r.count) rows ≡ true → length rows ≤ length (rota_of rows)
+rows_within [] some = omega arith
+rows_within (r ∷ rows) some =
+    let parts = and_parts (nat_lt 0 r.count) (list_all (λ r. nat_lt 0 r.count) rows) some in
+    let here : 0 < r.count = ltb-true 0 r.count parts.0 in
+    omega (arith, rows_within rows parts.1, length-append (replicate r.count (duty_of r)) (rota_of rows), length-replicate r.count (duty_of r))
+
+-- ---- the spelling
+each_fits : (rows : List Row) → ((r : Row) → Has rows r → length r.breaks < 2 ^ 8) → AllByRecursion CountsFitRow rows
+each_fits [] h = tt
+each_fits (r ∷ rows) h = (h r (inl refl), each_fits rows (λ s m. h s (inr m)))
+
+pub rows_fit : (i : Problem) (rows : List Row) → IsValid i → are_legal_rows i rows ≡ true → CountsFitRows rows
+rows_fit i rows valid h =
+    let p = legal_rows_parts i rows h in (
+      omega (arith, rows_within rows p.counted, few_duties i (rota_of rows) valid p.legal),
+      All-from_recursion CountsFitRow rows (each_fits rows (λ r m.
+          let copy = Has_copy r.count (duty_of r) (all_at (λ r. nat_lt 0 r.count) rows r p.counted m) in
+          let duty = legal_duties i (rota_of rows) p.legal (duty_of r) (Has-flat_map (λ r. replicate r.count (duty_of r)) rows r (duty_of r) m copy) in
+          omega (arith, few_breaks i r.shift r.breaks valid duty.breaks))),
+    )
+
+pub post_fits : (i : Problem) (post : Post) → IsValid i → are_legal_rows i (rows_in post) ≡ true → CountsFit (post ∷ [])
+post_fits i (Plan worker rows cost) valid h = (omega arith, All-from_recursion CountsFitPost (Plan worker rows cost ∷ []) (rows_fit i rows valid h, tt))
