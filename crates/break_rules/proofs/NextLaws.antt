@@ -1,5 +1,5 @@
 -- What the breaks that may come next are, and in which order.
-use Rattle.std.proofs.Common.{◌≡◌, inl, inr, ℕ, Bool, true, ◌&&◌, List, [], ◌∷◌, ◌++◌, drop, refl, sym, ap, ◌∙◌, subst, sum_by, filter}
+use Rattle.std.proofs.Common.{◌≡◌, inl, ℕ, true, ◌&&◌, List, [], ◌∷◌, ◌++◌, drop, refl, sym, ap, ◌∙◌, subst}
 use Rattle.std.specs.List.{list_all, list_any, zip}
 use Rattle.std.proofs.lemmas.Bool.{and_from}
 use Rattle.break_rules.specs.declared.Break.{Break}
@@ -17,7 +17,7 @@ pub next_exact : (rule : Rule) (len : ℕ) (spot : Spot) (b : Break) → list_an
 next_exact rule len spot b =
     same_tests (list_any (same_break b) (nexts_of rule len spot)) (may_follow rule len spot.offset spot.used b)
     (λ h. let s = any_some (same_break b) (nexts_of rule len spot) h in
-        from_next rule len spot b (subst (λ (x : Break). Has (nexts_of rule len spot) x) (sym ((same_break_decides b s.0).0 s.2)) s.1))
+    from_next rule len spot b (subst (λ (x : Break). Has (nexts_of rule len spot) x) (sym ((same_break_decides b s.0).0 s.2)) s.1))
     (λ h. any_at (same_break b) (nexts_of rule len spot) b (has_next rule len spot b h) ((same_break_decides b b).1 refl))
 
 rising : (xs : List Break) → Sorted IsLessBreak xs → list_all (λ (p : Break × Break). is_less_break p.0 p.1) (zip xs (drop 1 xs)) ≡ true

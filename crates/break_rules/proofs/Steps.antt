@@ -214,3 +214,14 @@ first_place rule len spot start r from =
     sym (skip_starts p spot.offset (start - spot.offset) len (λ b low high. not_next rule len spot.offset spot.used b (λ f. omega arith))
     ∙ ap (λ n. filter p (breaks_between n len)) (let e : spot.offset + (start - spot.offset) ≡ start = omega arith in e)
     ∙ from_size p start (shortest_of rule spot.offset start) len (shortest_some rule spot.offset start r.some_size) (λ k less. too_short rule len spot.offset spot.used start k less))
+
+-- the spot with these numbers is the one behind the list with the break
+pub spot_with : (rule : Rule) (list : List Break) (spot : Spot) (b : Break) (offset used bits : ℕ) → length rule.lunches ≤ 2 → spot ≡ spot_of rule list
+    → offset ≡ end_of b → used ≡ spot.used + b.len → bits ≡ bits_of (λ e. is_lunch e b) rule.lunches
+    → ◌≡◌ {A = Spot} (record { offset = offset; used = used; lunches = bit_or spot.lunches bits }) (spot_of rule (list ++ b ∷ []))
+spot_with rule list spot b offset used bits few is at time met =
+    ap (λ o. record { offset = o; used = used; lunches = bit_or spot.lunches bits }) at
+    ∙ ap (λ u. record { offset = end_of b; used = u; lunches = bit_or spot.lunches bits }) time
+    ∙ ap (λ n. record { offset = end_of b; used = spot.used + b.len; lunches = bit_or spot.lunches n }) met
+    ∙ ap (λ (s : Spot). record { offset = end_of b; used = s.used + b.len; lunches = bit_or s.lunches (bits_of (λ e. is_lunch e b) rule.lunches) }) is
+    ∙ sym (spot_more rule list b few)

@@ -1,5 +1,5 @@
 -- The plain rule. Source: this project's profile.
-use Rattle.std.specs.Prelude.{◌≡◌, ℕ, []}
+use Rattle.std.specs.Prelude.{◌≡◌, []}
 use Rattle.break_rules.specs.declared.Rule.{Rule}
 
 -- the rule of a shift type without breaks: the whole shift is one work period

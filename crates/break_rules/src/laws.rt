@@ -13,12 +13,10 @@ pub fn walks_reach_the_legal_lists()
     ensures opening { (rule : Rule) (len : ℕ) → IsTrue (is_walk rule len []) }
     ensures step { (rule : Rule) (len : ℕ) (list : List Break) (b : Break) → is_walk rule len (list ++ b ∷ []) ≡ (is_walk rule len list && list_any (same_break b) (nexts_of rule len (spot_of rule list))) }
     ensures legal { (rule : Rule) (len : ℕ) (list : List Break) → is_legal rule len list ≡ (is_walk rule len list && may_end rule len list) }
-{
-}
+{}
 
 /// The breaks that may come next at a spot are exactly those that may follow there, in strictly rising order.
 pub fn next_breaks_are_those_that_may_follow()
     ensures exact { (rule : Rule) (len : ℕ) (spot : Spot) (b : Break) → list_any (same_break b) (nexts_of rule len spot) ≡ may_follow rule len spot.offset spot.used b }
     ensures rising { (rule : Rule) (len : ℕ) (spot : Spot) → list_all (λ p. is_less_break p.0 p.1) (zip (nexts_of rule len spot) (drop 1 (nexts_of rule len spot))) ≡ true }
-{
-}
+{}

@@ -1,8 +1,11 @@
+ghost use Rattle.break_rules.specs.Ranges.{IsRule};
+
 use crate::{
-    Break, Breaks, Lunch, Lunches, NoMemory, Rule, RuleFault, Spot, Totals, after, ends, least,
-    legal, live, nexts,
+    Break, Breaks, LiveSpots, Lunch, Lunches, NoMemory, Rule, RuleFault, Spot, Totals, after, ends,
+    least, legal, live, nexts,
 };
 use std::alloc::Global;
+use std::process::Abort;
 use std::test::Fail;
 
 #[test]
@@ -15,6 +18,7 @@ fn plain_rule_passes(rt: HostRuntime) -> Result<(), Fail> {
     assert_eq!(rt; (rule.size_min, rule.size_max), (1, 48));
     assert!(rt; rule.totals.as_slice().is_empty());
     assert!(rt; rule.lunches.as_slice().is_empty());
+    assert!(rt; rule.is_plain());
     Ok(())
 }
 
@@ -171,7 +175,7 @@ fn break_lists_are_judged(rt: HostRuntime) -> Result<(), Fail> {
     Ok(())
 }
 
-/// Each break of one slot, after work of 2 to 5 slots, with a slot of break in 8.
+/// One break of one slot in a shift of 8 slots, between work of 2 to 5 slots.
 fn eighth(alloc: Global) -> Result<Rule, NoMemory> {
     let mut rule = Rule::plain(alloc)?;
     rule.lead = 2;
@@ -184,25 +188,144 @@ fn eighth(alloc: Global) -> Result<Rule, NoMemory> {
     Ok(rule)
 }
 
+/// Stops the test where the rule isn't well formed.
+fn judge(rt: &impl Abort, rule: &Rule)
+    ensures { IsRule rule.now }
+{
+    assert!(rt; rule.check().is_ok());
+}
+
+/// A break of one slot.
+fn short(start: u16) -> Break {
+    Break { start, len: 1 }
+}
+
+/// The starts of the legal lists of one break of one slot, for a shift of 8 slots.
+fn legal_starts(alloc: Global, rule: &Rule) -> Result<Vec<u16>, NoMemory> {
+    (0..8)
+        .filter(|start| legal(rule, 8, &[short(*start)]))
+        .collect(alloc)
+}
+
 #[test]
-fn the_walk_reaches_legal_lists(rt: HostRuntime) -> Result<(), Fail> {
+fn legal_places_of_one_break(rt: HostRuntime) -> Result<(), Fail> {
     let alloc = rt.alloc();
     let mut rule = eighth(alloc)?;
-    let at = |start| Break { start, len: 1 };
-    let opening = Spot::opening();
-    let firsts: Vec<Break> = nexts(&rule, 8, opening).collect(alloc)?;
-    assert_eq!(rt; firsts.as_slice(), [at(2), at(3), at(4), at(5)].as_slice());
-    for next in firsts.as_slice() {
-        assert!(rt; ends(&rule, 8, after(&rule, opening, *next)));
-    }
-    assert!(rt; !ends(&rule, 8, opening));
-    let found = least(alloc, &rule, 8)?.map(|list| list.into_vec());
-    assert!(rt; found.is_some_and(|list| list.as_slice() == [at(2)].as_slice()));
-    assert!(rt; live(alloc, &rule, 8, &[])?);
-    assert!(rt; live(alloc, &rule, 8, &[at(5)])?);
-    assert!(rt; !live(alloc, &rule, 8, &[at(6)])?);
+    assert_eq!(rt;
+        legal_starts(alloc, &rule)?.as_slice(),
+        [2, 3, 4, 5].as_slice()
+    );
+    rule.long_work = 4;
+    rule.long_rest = 2;
+    assert_eq!(rt;
+        legal_starts(alloc, &rule)?.as_slice(),
+        [2, 3, 4].as_slice()
+    );
+    let window = Lunch {
+        from_len: 8,
+        size: 1,
+        first: 3,
+        last: 4,
+    };
+    rule.lunches = Lunches::new(Vec::from_slice(alloc, &[window])?);
+    assert_eq!(rt; legal_starts(alloc, &rule)?.as_slice(), [3].as_slice());
+    assert!(rt; !rule.is_plain());
+    Ok(())
+}
+
+/// The starts of the breaks that may come first in a shift of 8 slots.
+fn first_starts(rt: &impl Abort, alloc: Global, rule: &Rule) -> Result<Vec<u16>, NoMemory> {
+    judge(rt, rule);
+    nexts(rule, 8, Spot::opening())
+        .map(|next| next.start)
+        .collect(alloc)
+}
+
+/// The spot behind a first break, and whether a shift of 8 slots may end there.
+fn behind(rt: &impl Abort, rule: &Rule, next: Break) -> (Spot, bool) {
+    judge(rt, rule);
+    let spot = after(rule, Spot::opening(), next);
+    (spot, ends(rule, 8, spot))
+}
+
+#[test]
+fn the_walk_reaches_the_legal_lists(rt: HostRuntime) -> Result<(), Fail> {
+    let alloc = rt.alloc();
+    let rule = eighth(alloc)?;
+    assert_eq!(rt;
+        first_starts(&rt, alloc, &rule)?.as_slice(),
+        [2, 3, 4, 5].as_slice()
+    );
+    let (spot, is_end) = behind(&rt, &rule, short(4));
+    assert_eq!(rt; (spot.offset, spot.used, spot.lunches), (5, 1, 0));
+    assert!(rt; is_end);
+    Ok(())
+}
+
+/// Whether the least legal list of a shift of 8 slots is this one.
+fn is_least(rt: &impl Abort, alloc: Global, rule: &Rule, list: &[Break]) -> Result<bool, NoMemory> {
+    judge(rt, rule);
+    let found = least(alloc, rule, 8)?.map(|found| found.into_vec());
+    Ok(found.is_some_and(|found| found.as_slice() == list))
+}
+
+/// Whether no list of breaks in a shift of 8 slots is legal, by the least one and by what is live.
+fn is_dead(rt: &impl Abort, alloc: Global, rule: &Rule) -> Result<bool, NoMemory> {
+    judge(rt, rule);
+    Ok(least(alloc, rule, 8)?.is_none() && !live(alloc, rule, 8, &[])?)
+}
+
+#[test]
+fn the_least_list_and_rules_without_one(rt: HostRuntime) -> Result<(), Fail> {
+    let alloc = rt.alloc();
+    let mut rule = eighth(alloc)?;
+    assert!(rt; is_least(&rt, alloc, &rule, &[short(2)])?);
+    // Breaks of two slots don't add up to one.
+    rule.size_min = 2;
+    rule.size_max = 2;
+    assert!(rt; is_dead(&rt, alloc, &rule)?);
+    // Work of two slots, a break of one and work of two slots are no shift of eight.
+    rule.size_min = 1;
     rule.work_max = 2;
-    assert!(rt; least(alloc, &rule, 8)?.is_none());
-    assert!(rt; !live(alloc, &rule, 8, &[])?);
+    assert!(rt; is_dead(&rt, alloc, &rule)?);
+    Ok(())
+}
+
+/// Whether a list of breaks in a shift of 8 slots is live.
+fn is_live_list(
+    rt: &impl Abort,
+    alloc: Global,
+    rule: &Rule,
+    list: &[Break],
+) -> Result<bool, NoMemory> {
+    judge(rt, rule);
+    live(alloc, rule, 8, list)
+}
+
+#[test]
+fn live_lists(rt: HostRuntime) -> Result<(), Fail> {
+    let alloc = rt.alloc();
+    let rule = eighth(alloc)?;
+    assert!(rt; is_live_list(&rt, alloc, &rule, &[])?);
+    assert!(rt; is_live_list(&rt, alloc, &rule, &[short(5)])?);
+    assert!(rt; !is_live_list(&rt, alloc, &rule, &[short(6)])?);
+    assert!(rt; !is_live_list(&rt, alloc, &rule, &[short(2), short(5)])?);
+    Ok(())
+}
+
+/// The first break that leads on in a shift of 10 slots, by the table of live spots.
+fn first_next(rt: &impl Abort, alloc: Global, rule: &Rule) -> Result<Option<Break>, NoMemory> {
+    judge(rt, rule);
+    let spots = LiveSpots::new(alloc, rule, 10)?;
+    Ok(spots.first_next(rule, Spot::opening()))
+}
+
+#[test]
+fn lunches_lead_the_walk(rt: HostRuntime) -> Result<(), Fail> {
+    let alloc = rt.alloc();
+    let rule = strict(alloc)?;
+    assert_eq!(rt; first_next(&rt, alloc, &rule)?, Some(short(3)));
+    let (spot, _) = behind(&rt, &rule, short(3));
+    assert_eq!(rt; (spot.offset, spot.used, spot.lunches), (4, 1, 1));
     Ok(())
 }

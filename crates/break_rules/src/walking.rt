@@ -137,13 +137,12 @@ fn lunches_met(entries: &[Lunch], b: &Break) -> u8
 
 /// The spot behind a break that [`nexts`] gives at a spot. It takes no memory.
 pub fn after(rule: &Rule, spot: Spot, next: Break) -> Spot
-    requires rule { IsRule rule.now }
-    requires next { IsNext rule.now spot next }
-    ensures { (list : List Break) → spot ≡ spot_of rule.now list → result ≡ spot_of rule.now (list ++ next ∷ []) }
+    requires { IsRule rule.now }
+    ensures { (list : List Break) → spot ≡ spot_of rule.now list → IsNext rule.now spot next → result ≡ spot_of rule.now (list ++ next ∷ []) }
 {
     Spot {
-        offset: next.start + next.len,
-        used: spot.used + next.len,
+        offset: next.start.saturating_add(next.len),
+        used: spot.used.saturating_add(next.len),
         lunches: spot.lunches | lunches_met(rule.lunches.as_slice(), &next),
     }
 }

@@ -8,14 +8,6 @@ use Rattle.break_rules.proofs.Steps.{from_next}
 use Rattle.break_rules.proofs.Reaching.{has_middle, live_behind, find_here, find_none}
 use Rattle.break_rules.proofs.living.first_live.Goals as goal
 
-pub after-requires-clause-next : goal.after-requires-clause-next
-after-requires-clause-next c =
-    let all : c.loop-next.yielded ++ c.in-Some.next ∷ c.next.new.self ≡ nexts_of c.args.rule.now c.args.len c.args.spot =
-    ap (λ rest. c.loop-next.yielded ++ rest) (sym c.in-Some.ensures.steps) ∙ c.loop-next.invariant.whole in
-    let has : Has (nexts_of c.args.rule.now c.args.len c.args.spot) c.in-Some.next =
-    subst (λ ns. Has ns c.in-Some.next) all (has_middle c.loop-next.yielded c.next.new.self c.in-Some.next) in
-    (c.args.len, c.ranges.len.fits, from_next c.args.rule.now c.args.len c.args.spot c.in-Some.next has)
-
 pub returns-then-is_live_in : goal.returns-then-is_live_in
 returns-then-is_live_in c = λ list walk is.
     let next = c.in-Some.next in
@@ -24,7 +16,7 @@ returns-then-is_live_in c = λ list walk is.
     ap (λ rest. c.loop-next.yielded ++ rest) (sym c.in-Some.ensures.steps) ∙ c.loop-next.invariant.whole in
     let has : Has (nexts_of c.args.rule.now c.args.len c.args.spot) next = subst (λ ns. Has ns next) all (has_middle c.loop-next.yielded c.next.new.self next) in
     let here : p next ≡ true =
-    sym (live_behind c.args.rule.now c.args.len list c.args.spot c.after.result next c.args.table.now c.requires.rule c.requires.known walk is has (c.after.ensures list is))
+    sym (live_behind c.args.rule.now c.args.len list c.args.spot c.after.result next c.args.table.now c.requires.rule c.requires.known walk is has (c.after.ensures list is (c.args.len, c.ranges.len.fits, from_next c.args.rule.now c.args.len c.args.spot next has)))
     ∙ sym c.is_live_in.ensures ∙ c.if-is_live_in.true in
     sym (ap (find p) (sym all) ∙ find_here p c.loop-next.yielded next c.next.new.self (c.loop-next.invariant.dead list walk is) here)
 
@@ -40,7 +32,7 @@ loop-next-preserved c =
       whole = append_assoc c.loop-next.yielded (next ∷ []) c.next.new.self ∙ all;
       dead = λ list walk is b m.
           let here : is_live c.args.rule.now c.args.len (list ++ next ∷ []) ≡ false =
-          sym (live_behind c.args.rule.now c.args.len list c.args.spot c.after.result next c.args.table.now c.requires.rule c.requires.known walk is has (c.after.ensures list is))
+          sym (live_behind c.args.rule.now c.args.len list c.args.spot c.after.result next c.args.table.now c.requires.rule c.requires.known walk is has (c.after.ensures list is (c.args.len, c.ranges.len.fits, from_next c.args.rule.now c.args.len c.args.spot next has)))
           ∙ sym c.is_live_in.ensures ∙ c.if-is_live_in.false in
           elim (Has-append_cases c.loop-next.yielded (next ∷ []) b m) [
             | inl before ↦ c.loop-next.invariant.dead list walk is b before

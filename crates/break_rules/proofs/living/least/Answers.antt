@@ -30,22 +30,16 @@ loop-next-init c =
       leads = subst (λ (list : List Break). (tail : List Break) × (slice_get (legal_lists c.args.rule.now c.args.len) 0 ≡ Some (list ++ tail))) none (first_start c.args.rule.now c.args.len (sym here ∙ c.if-not-is_live.false));
     }
 
-pub after-spot-requires-clause-next : goal.after-spot-requires-clause-next
-after-spot-requires-clause-next c =
-    let rule = c.args.rule.now in
-    let list = c.loop-next.list.items in
-    let found : Some c.in-Some.next ≡ find (λ n. is_live rule c.args.len (list ++ n ∷ [])) (nexts_of rule c.args.len (spot_of rule list)) =
-    found_at rule c.args.len c.in_ok-spots.spots.len list c.loop-next.spot (Some c.in-Some.next) c.in_ok-spots.ensures.1 c.in-Some.ensures c.loop-next.invariant.walk c.loop-next.invariant.spot in
-    let may = from_next rule c.args.len (spot_of rule list) c.in-Some.next (found_next rule c.args.len list c.in-Some.next found) in
-    (c.args.len, c.ranges.len.fits, subst (λ (s : Spot). may_follow rule c.args.len s.offset s.used c.in-Some.next ≡ true) (sym c.loop-next.invariant.spot) may)
-
 pub loop-next-smaller : goal.loop-next-smaller
 loop-next-smaller c =
     let rule = c.args.rule.now in
     let list = c.loop-next.list.items in
     let found : Some c.in-Some.next ≡ find (λ n. is_live rule c.args.len (list ++ n ∷ [])) (nexts_of rule c.args.len (spot_of rule list)) =
     found_at rule c.args.len c.in_ok-spots.spots.len list c.loop-next.spot (Some c.in-Some.next) c.in_ok-spots.ensures.1 c.in-Some.ensures c.loop-next.invariant.walk c.loop-next.invariant.spot in
-    nearer rule c.args.len list c.loop-next.spot c.after-spot.result c.in-Some.next c.loop-next.invariant.spot (c.after-spot.ensures list c.loop-next.invariant.spot) (found_next rule c.args.len list c.in-Some.next found)
+    let may : may_follow rule c.args.len c.loop-next.spot.offset c.loop-next.spot.used c.in-Some.next ≡ true =
+    subst (λ (s : Spot). may_follow rule c.args.len s.offset s.used c.in-Some.next ≡ true) (sym c.loop-next.invariant.spot)
+    (from_next rule c.args.len (spot_of rule list) c.in-Some.next (found_next rule c.args.len list c.in-Some.next found)) in
+    nearer rule c.args.len list c.loop-next.spot c.after-spot.result c.in-Some.next c.loop-next.invariant.spot (c.after-spot.ensures list c.loop-next.invariant.spot (c.args.len, c.ranges.len.fits, may)) (found_next rule c.args.len list c.in-Some.next found)
 
 pub loop-next-preserved : goal.loop-next-preserved
 loop-next-preserved c =
@@ -54,10 +48,13 @@ loop-next-preserved c =
     let next = c.in-Some.next in
     let found : Some next ≡ find (λ n. is_live rule c.args.len (list ++ n ∷ [])) (nexts_of rule c.args.len (spot_of rule list)) =
     found_at rule c.args.len c.in_ok-spots.spots.len list c.loop-next.spot (Some next) c.in_ok-spots.ensures.1 c.in-Some.ensures c.loop-next.invariant.walk c.loop-next.invariant.spot in
+    let may : may_follow rule c.args.len c.loop-next.spot.offset c.loop-next.spot.used c.in-Some.next ≡ true =
+    subst (λ (s : Spot). may_follow rule c.args.len s.offset s.used c.in-Some.next ≡ true) (sym c.loop-next.invariant.spot)
+    (from_next rule c.args.len (spot_of rule list) c.in-Some.next (found_next rule c.args.len list c.in-Some.next found)) in
     let longer : list ++ next ∷ [] ≡ c.push.new.self.items = sym c.in_ok-push.ensures.items in
     record {
       walk = ap (is_walk rule c.args.len) (sym longer) ∙ walk_on rule c.args.len list next c.loop-next.invariant.walk (found_next rule c.args.len list next found);
-      spot = c.after-spot.ensures list c.loop-next.invariant.spot ∙ ap (spot_of rule) longer;
+      spot = c.after-spot.ensures list c.loop-next.invariant.spot (c.args.len, c.ranges.len.fits, may) ∙ ap (spot_of rule) longer;
       leads = subst (λ (whole : List Break). (tail : List Break) × (slice_get (legal_lists rule c.args.len) 0 ≡ Some (whole ++ tail))) longer
           (first_step rule c.args.len list next c.loop-next.invariant.leads.0 c.loop-next.invariant.leads.1 (sym found));
     }

@@ -1,4 +1,4 @@
-use Rattle.std.proofs.Common.{◌≡◌, ◌+◌, take, get_or, sym, ap, ◌∙◌, arith}
+use Rattle.std.proofs.Common.{◌≡◌, true, ◌+◌, take, get_or, sym, ap, ◌∙◌, arith}
 use Rattle.std.proofs.lemmas.List.{take_more}
 use Rattle.break_rules.specs.declared.Break.{Break}
 use Rattle.break_rules.specs.declared.Spot.{Spot}
@@ -28,9 +28,12 @@ loop-next-preserved c =
     let at : c.follows.result ≡ may_follow rule c.args.len (spot_of rule (take i c.args.list.now)).offset (spot_of rule (take i c.args.list.now)).used b =
     may ∙ ap (λ o. may_follow rule c.args.len o c.from-in-loop-next.result b) c.from.ensures ∙ ap (λ u. may_follow rule c.args.len c.loop-next.spot.offset u b) c.from-in-loop-next.ensures
     ∙ ap (λ (s : Spot). may_follow rule c.args.len s.offset s.used b) c.loop-next.invariant.spot in
+    let there : may_follow rule c.args.len c.loop-next.spot.offset c.loop-next.spot.used b ≡ true =
+    ap (λ u. may_follow rule c.args.len c.loop-next.spot.offset u b) (sym c.from-in-loop-next.ensures) ∙ ap (λ o. may_follow rule c.args.len o c.from-in-loop-next.result b) (sym c.from.ensures)
+    ∙ sym may ∙ c.if-not-follows.false in
     let walk = walk_longer rule c.args.len c.args.list.now i d c.loop-next-test.true c.loop-next.invariant.walk (sym at ∙ c.if-not-follows.false) in
     let spot : c.after-spot.result ≡ spot_of rule (take (i + 1) c.args.list.now) =
-    c.after-spot.ensures (take i c.args.list.now) c.loop-next.invariant.spot ∙ ap (spot_of rule) (sym (take_more c.args.list.now i d c.loop-next-test.true)) in
+    c.after-spot.ensures (take i c.args.list.now) c.loop-next.invariant.spot (c.args.len, c.ranges.len.fits, there) ∙ ap (spot_of rule) (sym (take_more c.args.list.now i d c.loop-next-test.true)) in
     let small = walk_small rule c.args.len (take (i + 1) c.args.list.now) c.requires walk in
     let used = ap (λ (s : Spot). s.used) spot in
     record { walk = walk; spot = spot; used = omega arith; total = c.loop-next.invariant.total }

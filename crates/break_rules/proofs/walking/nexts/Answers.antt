@@ -1,7 +1,7 @@
-use Rattle.std.proofs.Common.{◌≡◌, ◌+◌, max, sym, ap, ◌∙◌, arith, filter}
+use Rattle.std.proofs.Common.{◌≡◌, ◌+◌, max, ap, ◌∙◌, arith, filter}
 use Rattle.break_rules.specs.Next.{shortest_of}
 use Rattle.break_rules.specs.Walk.{may_follow, breaks_left}
-use Rattle.break_rules.proofs.Steps.{at_first, first_place}
+use Rattle.break_rules.proofs.Steps.{first_place}
 use Rattle.break_rules.proofs.walking.nexts.Goals as goal
 
 pub returns : goal.returns

@@ -1,4 +1,4 @@
-use Rattle.std.proofs.Common.{◌≡◌, ◌⊎◌, ℕ, [], ◌∷◌, ◌+◌, ◌≤◌, ◌<◌, inl, inr, sym, ap, subst, ◌∙◌, arith, filter}
+use Rattle.std.proofs.Common.{◌≡◌, ◌⊎◌, [], ◌+◌, ◌≤◌, ◌<◌, inl, inr, sym, ap, subst, ◌∙◌, arith, filter}
 use Rattle.break_rules.specs.Next.{IsAt, shortest_of}
 use Rattle.break_rules.specs.Walk.{may_follow, breaks_left}
 use Rattle.break_rules.proofs.Left.{filter_left_yes, none_left}

@@ -1,4 +1,4 @@
-use Rattle.std.proofs.Common.{◌≡◌, ◌+◌, ◌-◌, ◌*◌, filter}
+use Rattle.std.proofs.Common.{◌≡◌, ◌-◌, filter}
 use Rattle.break_rules.specs.Next.{IsAt}
 use Rattle.break_rules.specs.Walk.{may_follow, breaks_left}
 use Rattle.break_rules.proofs.walking.NextBreaks.next_break.Given as goal
