@@ -14,7 +14,7 @@ use Rattle.break_rules.specs.Breaks.{is_legal, total_in}
 use Rattle.break_rules.specs.Ranges.{IsRule, IsTotal}
 use Rattle.break_rules.proofs.Lists.{Has, Has-flat_map, all_at}
 use Rattle.break_rules.proofs.Counts.{count_by_none, count_by_at_most}
-use Rattle.break_rules.proofs.Legal.{legal_parts}
+use Rattle.break_rules.proofs.LegalLists.{legal_parts}
 use Rattle.break_rules.proofs.Ranges.{ranges_from_none}
 use Rattle.shift_instance.specs.declared.Shift.{Shift}
 use Rattle.shift_instance.specs.declared.Duty.{Duty}
