@@ -58,11 +58,11 @@ fn instance_of(alloc: Global, value: &Value) -> Result<Instance, ReadRefusal>
 ///
 /// The text is refused with `TooLong` where it has more than `INSTANCE_MAX` bytes; else with `NotJson` where it isn't
 /// UTF-8 or isn't JSON. Else its objects are judged in turn: the document, its weights, and each type, followed by its
-/// breaks where they are an object. In each the
-/// first field in byte order that the object may not have is `UnknownField`, then the first that it lacks is `Missing`,
-/// and then the first with a value of another kind is `WrongKind`. A document that is no object is `WrongKind` of
-/// `document`, and a type that is none `WrongKind` of `types`. A document whose numbers make no instance is `Invalid`. `NoMemory` may come instead, where memory
-/// runs out.
+/// breaks where they are an object. In each the first field in byte order that the object may not have is
+/// `UnknownField`, then the first that it lacks is `Missing`, and then the first whose value, or a value in it, is of
+/// another kind is `WrongKind`. A document that is no object is `WrongKind` of `document`, and a type that is none
+/// `WrongKind` of `types`. A document whose numbers make no instance is `Invalid`. `NoMemory` may come instead, where
+/// memory runs out.
 pub fn read(alloc: Global, bytes: &[u8]) -> Result<Instance, ReadRefusal>
     ensures { MatchResult result (λ i. reading_of bytes.now ≡ Ok i)
         (λ e. IsAnswer e (reading_of bytes.now)) }
