@@ -18,7 +18,7 @@ use Rattle.shift_instance.specs.Rota.{same_duty, count_of, lists_of, is_list_of,
 use Rattle.shift_instance.proofs.Rotas.{legal_duty_parts, from_lists_of}
 use Rattle.shift_solve.specs.Greedy.{duty, all_duties, row_of}
 
-once_of : (o : Option (Shift × Rule)) (list : List Break) → option_map_or (λ x. is_legal x.1 x.0.len list) o false ≡ true → count_by (same_list list) (option_map_or (λ x. legal_lists x.1 x.0.len) o []) ≡ 1
+pub once_of : (o : Option (Shift × Rule)) (list : List Break) → option_map_or (λ x. is_legal x.1 x.0.len list) o false ≡ true → count_by (same_list list) (option_map_or (λ x. legal_lists x.1 x.0.len) o []) ≡ 1
 once_of None list h = absurd (false≢true h)
 once_of (Some x) list h = once_legal x.1 x.0.len list h
 

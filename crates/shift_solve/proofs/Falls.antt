@@ -28,7 +28,7 @@ use Rattle.shift_instance.specs.Worth.{price_of, earned}
 use Rattle.shift_instance.proofs.Offsets.{same_offset}
 use Rattle.shift_instance.proofs.Shifts.{some_at, Has_at, shift_within}
 use Rattle.shift_solve.specs.Greedy.{duty, marginal_price, marginal_prices, day_value, best_list, value_on, counts, gain, next_shift, new_duties, greedy_after, greedy_rota}
-use Rattle.shift_solve.proofs.Rounds.{find_some, find_has, counts_parts, count_new, count_one, from_new_duties, next_gains, lt_true, next_cases, round_grows, round_some, round_none}
+use Rattle.shift_solve.proofs.Rounds.{best_earns, counts_parts, count_new, count_one, from_new_duties, next_gains, lt_true, next_cases, round_grows, round_some, round_none}
 
 times_one : (v : ℤ) → v *ℤ pos 1 ≡ v
 times_one v = mul-suc v 0 ∙ ap (λ z. v +ℤ z) (mul-zero v) ∙ omega (arith, ints)
@@ -95,20 +95,9 @@ one_day i s a b t l m x valid e ha hb wa wb =
     let same : a * d + p.0 ≡ b * d + q.0 = same_offset x.0.start (a * d + p.0) (b * d + q.0) n (omega arith) (omega arith) (ea ∙ sym eb) in
     sym (div-mul-add a d p.0 lp) ∙ ap (λ k. k / d) same ∙ div-mul-add b d q.0 lq
 
--- the list that is taken has the greatest value
-best_value_of : (f : List Break → ℤ) (lists : List (List Break)) (v : ℤ) → v ≡ greatest (map f lists) → int_lt (pos 0) v ≡ true → f (unwrap_or (find (λ list. int_eq (f list) v) lists) []) ≡ v
-best_value_of f [] v e h = absurd (false≢true (ap (int_lt (pos 0)) (sym e) ∙ h))
-best_value_of f (list ∷ lists) v e h =
-    let r = from_map f (list ∷ lists) (greatest (map f (list ∷ lists))) (greatest_reached (f list) (map f lists)) in
-    let z = find_has (λ l. int_eq (f l) v) (list ∷ lists) r.0 r.1 ((Decides-int_eq (f r.0) v).1 (r.2 ∙ sym e)) in
-    let m = find_some (λ l. int_eq (f l) v) (list ∷ lists) z.0 z.1 in
-    ap (λ (o : Option (List Break)). f (unwrap_or o [])) z.1 ∙ (Decides-int_eq (f z.0) v).0 m.1
-
-best_value : (i : Problem) (rota : List Duty) (s day : ℕ) → counts i rota s day ≡ true → earned i (marginal_prices i rota) (duty s day (best_list i (marginal_prices i rota) s day)) ≡ value_on i rota s day
-unfolding day_value best_list
-best_value i rota s day h =
-    let prices = marginal_prices i rota in
-    best_value_of (λ list. earned i prices (duty s day list)) (lists_of i s) (day_value i prices s day) refl (counts_parts i rota s day h).1
+-- the duty of a day that counts earns its value
+best_value : (i : Problem) (rota : List Duty) (s day : ℕ) → counts i rota s day ≡ true → earned i (marginal_prices i rota) (duty s day (best_list i s)) ≡ value_on i rota s day
+best_value i rota s day h = best_earns i (marginal_prices i rota) s day (counts_parts i rota s day h).1
 
 price_at : (i : Problem) (rota : List Duty) (t : ℕ) → t < slots i → price_of (marginal_prices i rota) t ≡ marginal_price i t (cover i rota t)
 unfolding marginal_prices
@@ -132,7 +121,7 @@ pos_sum f (x ∷ xs) = int_sum_by-cons (λ x. pos (f x)) x xs ∙ ap (λ z. pos 
 
 -- the new duties that work in a slot
 newly : Problem → List Duty → ℕ → ℕ → ℕ → Bool
-newly i rota s t day = counts i rota s day && works i (duty s day (best_list i (marginal_prices i rota) s day)) t
+newly i rota s t day = counts i rota s day && works i (duty s day (best_list i s)) t
 
 -- excess and shortage fall by the values of the days that count
 slots_fall : (i : Problem) (rota : List Duty) (s : ℕ) → IsValid i → s < length (shift_list i)
@@ -147,7 +136,7 @@ slots_fall i rota s valid hs =
     let new = new_duties i rota s in
     let k : ℕ → ℕ = λ t. count_by (newly i rota s t) (below days) in
     let price : ℕ → ℤ = λ t. marginal_price i t (cover i rota t) in
-    let w : ℕ → ℕ → Bool = λ day t. works i (duty s day (best_list i prices s day)) t in
+    let w : ℕ → ℕ → Bool = λ day t. works i (duty s day (best_list i s)) t in
     let values : int_sum_by (λ t. price t *ℤ pos (k t)) (below n) ≡ int_sum_by (λ day. cond (counts i rota s day) (value_on i rota s day) (pos 0)) (below days) =
     int_sum_by-same (λ t. price t *ℤ pos (k t)) (λ t. int_sum_by (λ day. cond (newly i rota s t day) (price t) (pos 0)) (below days)) (below n) (λ t m. sym (int_sum_by_if (newly i rota s t) (price t) (below days)))
     ∙ int_sum_by_swap (λ t day. cond (newly i rota s t day) (price t) (pos 0)) (below n) (below days)
@@ -167,7 +156,7 @@ slots_fall i rota s valid hs =
     (count_by-append (λ d. works i d t) rota new ∙ ap (λ c. cover i rota t + c) (count_new i rota s (λ d. works i d t)))
     ∙ slot_falls i t (cover i rota t) (k t)
     (at_most_one (newly i rota s t) days (λ a b ha hb p q.
-    one_day i s a b t (best_list i prices s a) (best_list i prices s b) x.0 valid x.1 ha hb (and_parts (counts i rota s a) (w a t) p).1 (and_parts (counts i rota s b) (w b t) q).1)))
+    one_day i s a b t (best_list i s) (best_list i s) x.0 valid x.1 ha hb (and_parts (counts i rota s a) (w a t) p).1 (and_parts (counts i rota s b) (w b t) q).1)))
     ∙ pos_sum (λ t. slot_cost i t (cover i rota t)) (below n)
 
 -- the shifts used are one more where the shift was not used yet

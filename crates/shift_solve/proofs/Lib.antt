@@ -2,7 +2,7 @@ pub mod Duties
 pub mod Falls
 pub mod Leading
 pub mod Lengths
-pub mod PlainLists
+pub mod LeastLists
 pub mod PlanRows
 pub mod TooLong
 pub mod Ranges

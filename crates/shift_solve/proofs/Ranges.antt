@@ -36,7 +36,7 @@ any_more p n =
     or_no true = refl
     or_no false = refl
 
-pub map_push : {X : Type 0} (f : ℕ → X) (xs : List ℕ) (x : ℕ) → map f (xs ++ x ∷ []) ≡ map f xs ++ f x ∷ []
+pub map_push : {Y X : Type 0} (f : Y → X) (xs : List Y) (x : Y) → map f (xs ++ x ∷ []) ≡ map f xs ++ f x ∷ []
 map_push f [] x = refl
 map_push f (y ∷ ys) x = ap (λ zs. f y ∷ zs) (map_push f ys x)
 

@@ -1,19 +1,17 @@
 -- The rounds of the greedy plan: each adds legal duties, and in the end no shift is left to take.
 use Rattle.std.proofs.Common.{◌≡◌, ◌⊎◌, inl, inr, ℕ, zero, suc, ◌+◌, ◌*◌, ◌<◌, ◌≤◌, ℤ, pos, ◌-ℤ◌, ◌≤ℤ◌, ◌<ℤ◌, Bool, true, false, cond, ◌&&◌, ◌==◌, not, List, [], ◌∷◌, ◌++◌, map, filter, length, refl, sym, ap, ◌∙◌, subst, arith, nat_lt, nat_le, Option, Some, None, length-append}
-use Rattle.std.specs.Prelude.{int_lt, unwrap_or}
-use Rattle.std.specs.Ordering.{int_eq}
+use Rattle.std.specs.Prelude.{int_lt, slice_get, unwrap_or}
 use Rattle.std.specs.Option.{option_map_or}
 use Rattle.std.specs.List.{list_all, list_any, find, count_by}
 use Rattle.std.proofs.lemmas.Int.{ints}
 use Rattle.std.proofs.lemmas.Bool.{and_parts, and_from, ltb-true, lt-ltb, le-leb, false≢true, cases_Bool, cases_eq, ne_eqb}
-use Rattle.std.proofs.lemmas.Bool.Decides.{Decides-int_eq}
 use Rattle.std.proofs.lemmas.List.Sums.{sum_by-cons}
 use Rattle.break_rules.specs.declared.Break.{Break}
-use Rattle.break_rules.specs.Sums.{int_sum_by, greatest}
+use Rattle.break_rules.specs.Sums.{int_sum_by}
 use Rattle.break_rules.proofs.Lists.{Has, Has-map, from_map, from_filter, Has-filter, from_below, Has-append_cases, all_at, all_from, any_some, any_none}
 use Rattle.break_rules.proofs.Counts.{count_by-append, count_by-map, count_by_same, count_by_none, count_by-below}
 use Rattle.break_rules.proofs.Once.{count_by_and}
-use Rattle.break_rules.proofs.Sums.{int_sum_by-same, int_sum_by_zero, greatest_reached}
+use Rattle.break_rules.proofs.Sums.{int_sum_by-same, int_sum_by_zero}
 use Rattle.shift_instance.specs.declared.Duty.{Duty}
 use Rattle.shift_instance.specs.Problem.{Problem, shift_list, below}
 use Rattle.shift_instance.specs.Rota.{lists_of, is_list_of, is_legal_duty, is_on, heads_on, is_legal_rota, is_used}
@@ -49,18 +47,19 @@ find_has p (y ∷ ys) x m h =
       ]
     ]
 
--- a list of the greatest value, where that is above 0
-pub best_among : (f : List Break → ℤ) (lists : List (List Break)) (v : ℤ) → v ≡ greatest (map f lists) → int_lt (pos 0) v ≡ true → Has lists (unwrap_or (find (λ list. int_eq (f list) v) lists) [])
-best_among f [] v e h = absurd (false≢true (ap (int_lt (pos 0)) (sym e) ∙ h))
-best_among f (list ∷ lists) v e h =
-    let r = from_map f (list ∷ lists) (greatest (map f (list ∷ lists))) (greatest_reached (f list) (map f lists)) in
-    let z = find_has (λ l. int_eq (f l) v) (list ∷ lists) r.0 r.1 ((Decides-int_eq (f r.0) v).1 (r.2 ∙ sym e)) in
-    let m = find_some (λ l. int_eq (f l) v) (list ∷ lists) z.0 z.1 in
-    subst (λ (o : Option (List Break)). Has (list ∷ lists) (unwrap_or o [])) (sym z.1) m.0
+-- a shift of a value above 0 has a legal list, and its duties have the least
+valued : (f : List Break → ℤ) (lists : List (List Break)) → int_lt (pos 0) (option_map_or f (slice_get lists 0) (pos 0)) ≡ true
+    → Has lists (unwrap_or (slice_get lists 0) []) × (f (unwrap_or (slice_get lists 0) []) ≡ option_map_or f (slice_get lists 0) (pos 0))
+valued f [] h = absurd (false≢true h)
+valued f (list ∷ lists) h = (inl refl, refl)
 
-pub best_listed : (i : Problem) (prices : List ℤ) (s day : ℕ) → int_lt (pos 0) (day_value i prices s day) ≡ true → Has (lists_of i s) (best_list i prices s day)
+pub best_listed : (i : Problem) (prices : List ℤ) (s day : ℕ) → int_lt (pos 0) (day_value i prices s day) ≡ true → Has (lists_of i s) (best_list i s)
 unfolding day_value best_list
-best_listed i prices s day h = best_among (λ list. earned i prices (duty s day list)) (lists_of i s) (day_value i prices s day) refl h
+best_listed i prices s day h = (valued (λ list. earned i prices (duty s day list)) (lists_of i s) h).0
+
+pub best_earns : (i : Problem) (prices : List ℤ) (s day : ℕ) → int_lt (pos 0) (day_value i prices s day) ≡ true → earned i prices (duty s day (best_list i s)) ≡ day_value i prices s day
+unfolding day_value best_list
+best_earns i prices s day h = (valued (λ list. earned i prices (duty s day list)) (lists_of i s) h).1
 
 -- a day that counts has room, and a value above 0
 pub counts_parts : (i : Problem) (rota : List Duty) (s day : ℕ) → counts i rota s day ≡ true → (heads_on rota s day < i.heads) × (int_lt (pos 0) (value_on i rota s day) ≡ true)
@@ -70,10 +69,10 @@ counts_parts i rota s day h =
     (ltb-true _ _ p.0, p.1)
 
 -- a new duty is of a day that counts
-pub from_new_duties : (i : Problem) (rota : List Duty) (s : ℕ) (d : Duty) → Has (new_duties i rota s) d → (day : ℕ) × (day < i.days) × (counts i rota s day ≡ true) × (duty s day (best_list i (marginal_prices i rota) s day) ≡ d)
+pub from_new_duties : (i : Problem) (rota : List Duty) (s : ℕ) (d : Duty) → Has (new_duties i rota s) d → (day : ℕ) × (day < i.days) × (counts i rota s day ≡ true) × (duty s day (best_list i s) ≡ d)
 unfolding new_duties
 from_new_duties i rota s d h =
-    let a = from_map {X = ℕ} {Y = Duty} (λ day. duty s day (best_list i (marginal_prices i rota) s day)) (filter (counts i rota s) (below i.days)) d h in
+    let a = from_map {X = ℕ} {Y = Duty} (λ day. duty s day (best_list i s)) (filter (counts i rota s) (below i.days)) d h in
     let b = from_filter (counts i rota s) (below i.days) a.0 a.1 in
     (a.0, from_below i.days a.0 b.0, b.1, a.2)
 
@@ -82,7 +81,7 @@ new_duty_legal i rota s d h =
     let a = from_new_duties i rota s d h in
     let listed = best_listed i (marginal_prices i rota) s a.0 (counts_parts i rota s a.0 a.2).1 in
     subst (λ (x : Duty). is_legal_duty i x ≡ true) a.3
-    (and_from (nat_lt a.0 i.days) (is_list_of i s (best_list i (marginal_prices i rota) s a.0)) (lt-ltb a.0 i.days a.1) (from_lists_of i s _ listed))
+    (and_from (nat_lt a.0 i.days) (is_list_of i s (best_list i s)) (lt-ltb a.0 i.days a.1) (from_lists_of i s _ listed))
 
 -- of the elements that a filter keeps
 pub count_by-filter_and : {X : Type 0} (p q : X → Bool) (xs : List X) → count_by p (filter q xs) ≡ count_by (λ x. q x && p x) xs
@@ -99,11 +98,11 @@ count_by-filter_and {X} p q (x ∷ xs) =
     ]
 
 -- how many new duties pass a test: as many as there are days that count and pass it
-pub count_new : (i : Problem) (rota : List Duty) (s : ℕ) (p : Duty → Bool) → count_by p (new_duties i rota s) ≡ count_by (λ day. counts i rota s day && p (duty s day (best_list i (marginal_prices i rota) s day))) (below i.days)
+pub count_new : (i : Problem) (rota : List Duty) (s : ℕ) (p : Duty → Bool) → count_by p (new_duties i rota s) ≡ count_by (λ day. counts i rota s day && p (duty s day (best_list i s))) (below i.days)
 unfolding new_duties
 count_new i rota s p =
-    count_by-map p (λ day. duty s day (best_list i (marginal_prices i rota) s day)) (filter (counts i rota s) (below i.days))
-    ∙ count_by-filter_and (λ day. p (duty s day (best_list i (marginal_prices i rota) s day))) (counts i rota s) (below i.days)
+    count_by-map p (λ day. duty s day (best_list i s)) (filter (counts i rota s) (below i.days))
+    ∙ count_by-filter_and (λ day. p (duty s day (best_list i s))) (counts i rota s) (below i.days)
 
 -- of one number below n that passes
 pub count_one : (q : ℕ → Bool) (x n : ℕ) → count_by (λ k. q k && (k == x)) (below n) ≡ cond (nat_lt x n && q x) 1 0
@@ -205,7 +204,7 @@ round_grows i rota s e =
     let g = next_gains i rota s e in
     let some = gains_some (counts i rota s) (λ day. value_on i rota s day) (is_used rota s) i.shift i.days g.1 in
     let day = any_some (counts i rota s) (below i.days) some in
-    has_length _ _ (Has-map (λ day. duty s day (best_list i (marginal_prices i rota) s day)) (filter (counts i rota s) (below i.days)) day.0 (Has-filter (counts i rota s) (below i.days) day.0 day.1 day.2))
+    has_length _ _ (Has-map (λ day. duty s day (best_list i s)) (filter (counts i rota s) (below i.days)) day.0 (Has-filter (counts i rota s) (below i.days) day.0 day.1 day.2))
 
 -- what a round makes of the plan
 pub round_some : (i : Problem) (n : ℕ) (rota : List Duty) (s : ℕ) → next_shift i rota ≡ Some s → greedy_after i (suc n) rota ≡ greedy_after i n (rota ++ new_duties i rota s)
@@ -228,6 +227,31 @@ greedy_after_legal i (suc n) rota legal =
       | inl none ↦ subst (λ (zs : List Duty). is_legal_rota i zs ≡ true) (sym (round_none i (suc n) rota none)) legal
       | inr some ↦ subst (λ (zs : List Duty). is_legal_rota i zs ≡ true) (sym (round_some i n rota some.0 some.1)) (greedy_after_legal i n (rota ++ new_duties i rota some.0) (round_legal i rota some.0 legal))
     ]
+
+-- each duty has the list with which its shift is used
+unfoldable pub HasBest : Problem → List Duty → Type 0
+HasBest i rota = (d : Duty) → Has rota d → d.breaks ≡ best_list i d.shift
+
+round_best : (i : Problem) (rota : List Duty) (s : ℕ) → HasBest i rota → HasBest i (rota ++ new_duties i rota s)
+unfolding HasBest
+round_best i rota s h d m =
+    elim (Has-append_cases rota (new_duties i rota s) d m) [
+      | inl old ↦ h d old
+      | inr new ↦ subst (λ (x : Duty). x.breaks ≡ best_list i x.shift) (from_new_duties i rota s d new).3 refl
+    ]
+
+after_best : (i : Problem) (n : ℕ) (rota : List Duty) → HasBest i rota → HasBest i (greedy_after i n rota)
+unfolding greedy_after
+after_best i zero rota h = h
+after_best i (suc n) rota h =
+    elim (next_cases i rota) [
+      | inl none ↦ subst (λ (zs : List Duty). HasBest i zs) (sym (round_none i (suc n) rota none)) h
+      | inr some ↦ subst (λ (zs : List Duty). HasBest i zs) (sym (round_some i n rota some.0 some.1)) (after_best i n (rota ++ new_duties i rota some.0) (round_best i rota some.0 h))
+    ]
+
+pub greedy_best : (i : Problem) → HasBest i (greedy_rota i)
+unfolding greedy_rota HasBest
+greedy_best i = after_best i (length (shift_list i) * i.days * i.heads) [] (λ d m. absurd m)
 
 -- after enough rounds no shift is left to take
 ends : (i : Problem) (n : ℕ) (rota : List Duty) → is_legal_rota i rota ≡ true → length (shift_list i) * i.days * i.heads ≤ length rota + n → next_shift i (greedy_after i n rota) ≡ None

@@ -1,18 +1,20 @@
 -- What the numbers of a plan say of the plan.
 use Rattle.std.proofs.Common.{◌≡◌, inl, inr, ℕ, zero, suc, ◌+◌, ◌*◌, ◌/◌, ◌%◌, ◌<◌, ◌≤◌, ℤ, pos, ◌-ℤ◌, Bool, true, false, cond, ◌&&◌, ◌==◌, not, nat_lt, List, [], ◌∷◌, ◌++◌, map, filter, length, get_or, set, replicate, refl, sym, ap, ◌∙◌, subst, arith, count_by, sum_by, eq-eqb, Some}
-use Rattle.std.specs.Prelude.{slice_get, int_lt}
+use Rattle.std.specs.Prelude.{slice_get, int_lt, unwrap_or}
+use Rattle.std.specs.Option.{option_map_or}
 use Rattle.std.specs.List.{list_any, find, flat_map}
 use Rattle.std.proofs.lemmas.Bool.{and_parts, and_from, eqb-true, ltb-true, lt-ltb, cases_Bool, cases_eq, cases_lt}
 use Rattle.std.proofs.lemmas.Grind.{common_steps}
 use Rattle.std.proofs.lemmas.List.{get_or-set_same, get_or-set_other, get_or-replicate, get_or_past}
-use Rattle.std.proofs.lemmas.List.Sums.{sum_by_push, count_by-le-length}
+use Rattle.std.proofs.lemmas.List.Sums.{sum_by-cons, sum_by_push, count_by-le-length}
 use Rattle.std.proofs.lemmas.Nat.{div-mul-add, mod-mul-add, mul-add-lt}
 use Rattle.break_rules.specs.declared.Break.{Break}
 use Rattle.break_rules.specs.declared.Rule.{Rule}
 use Rattle.break_rules.specs.Breaks.{same_list}
 use Rattle.break_rules.specs.Sums.{int_sum_by}
+use Rattle.break_rules.proofs.LegalLists.{same_list_decides}
 use Rattle.break_rules.proofs.Lists.{Has, Has-below, from_below, from_filter, any_some, any_at, same_tests}
-use Rattle.break_rules.proofs.Counts.{count_by_same, sum_by_same, any_by_count, Has-from_count}
+use Rattle.break_rules.proofs.Counts.{count_by_none, count_by_same, sum_by_same, any_by_count, Has-from_count}
 use Rattle.break_rules.proofs.Sums.{int_sum_by-same}
 use Rattle.shift_instance.specs.declared.Shift.{Shift}
 use Rattle.shift_instance.specs.declared.Duty.{Duty}
@@ -20,12 +22,14 @@ use Rattle.shift_instance.specs.declared.Row.{Row}
 use Rattle.shift_instance.specs.Problem.{Problem, slots, shift_list, slot_of, below}
 use Rattle.shift_instance.specs.Rota.{lists_of, works, same_duty, count_of, is_on, heads_on, cover, slot_cost, is_used, cost, is_legal_rota}
 use Rattle.shift_instance.specs.Valid.{IsValid}
-use Rattle.shift_instance.proofs.Rotas.{legal_duties}
-use Rattle.shift_instance.proofs.Shifts.{some_at}
+use Rattle.shift_instance.proofs.Alike.{same_duty_decides}
+use Rattle.shift_instance.proofs.Rotas.{legal_duties, from_lists_of}
 use Rattle.shift_solve.specs.Greedy.{duty, row_of, rows_of, marginal_price, marginal_prices, day_value, best_list, value_on, is_wanted, counts, gain, first_greatest, next_shift, new_duties}
-use Rattle.shift_solve.specs.Plain.{ArePlain}
-use Rattle.shift_solve.specs.Tally.{Tallies, heads_at, is_begun, is_counted, tallied_gain, tallied_next, tallied_prices, shift_rows, tallied_cost}
-use Rattle.shift_solve.proofs.PlainLists.{plain_lists, plain_best, plain_works, any_same}
+use Rattle.shift_solve.specs.Least.{Working}
+use Rattle.shift_solve.specs.Tally.{Tallies, heads_at, is_begun, is_counted, tallied_gain, tallied_next, tallied_prices, rows_with, shift_rows, tallied_cost}
+use Rattle.shift_solve.proofs.Duties.{once_of}
+use Rattle.shift_solve.proofs.LeastLists.{HasLeast, used_works, any_same}
+use Rattle.shift_solve.proofs.Rounds.{HasBest}
 
 -- ---- lists that agree element by element
 pub map_same : {X Y : Type 0} (f g : X → Y) (xs : List X) → ((x : X) → Has xs x → f x ≡ g x) → map f xs ≡ map g xs
@@ -78,10 +82,6 @@ map-filter-map g p h (x ∷ xs) =
     elim (p (h x)) as (λ b. map g (cond b (h x ∷ filter p (map h xs)) (filter p (map h xs))) ≡ map (λ x. g (h x)) (cond b (x ∷ filter (λ x. p (h x)) xs) (filter (λ x. p (h x)) xs)))
     [ true ↦ ap (λ zs. g (h x) ∷ zs) (map-filter-map g p h xs) | false ↦ map-filter-map g p h xs ]
 
-flat_map-single : {X Y : Type 0} (h : X → Y) (xs : List X) → flat_map (λ x. h x ∷ []) xs ≡ map h xs
-flat_map-single h [] = refl
-flat_map-single h (x ∷ xs) = ap (λ zs. h x ∷ zs) (flat_map-single h xs)
-
 -- ---- the numbers of a plan
 pub tallies_none : (i : Problem) → Tallies i [] (replicate (slots i) 0) (replicate (length (shift_list i) * i.days) 0)
 tallies_none i = record {
@@ -105,12 +105,12 @@ same_place d s day k other h g e = (
   sym (mod-mul-add s d day h) ∙ ap (λ (j : ℕ). j % d) e ∙ mod-mul-add k d other g,
 )
 
-headed_add : (i : Problem) (rota : List Duty) (heads : List ℕ) (s day k other : ℕ) → s < length (shift_list i) → day < i.days → other < i.days
+headed_add : (i : Problem) (rota : List Duty) (heads : List ℕ) (list : List Break) (s day k other : ℕ) → s < length (shift_list i) → day < i.days → other < i.days
     → length heads ≡ length (shift_list i) * i.days
     → heads_at i heads s day ≡ heads_on rota s day → heads_at i heads k other ≡ heads_on rota k other
-    → heads_at i (set heads (s * i.days + day) (heads_at i heads s day + 1)) k other ≡ heads_on (rota ++ duty s day [] ∷ []) k other
-headed_add i rota heads s day k other hs hd ho len here there =
-    let d = duty s day [] in
+    → heads_at i (set heads (s * i.days + day) (heads_at i heads s day + 1)) k other ≡ heads_on (rota ++ duty s day list ∷ []) k other
+headed_add i rota heads list s day k other hs hd ho len here there =
+    let d = duty s day list in
     let at = s * i.days + day in
     let to = k * i.days + other in
     let small : at < i.days * length (shift_list i) = mul-add-lt s i.days day (length (shift_list i)) hs hd in
@@ -138,28 +138,29 @@ headed_add i rota heads s day k other hs hd ho len here there =
         ]
 
 -- one more duty
-pub tallies_add : (i : Problem) (rota : List Duty) (covers heads raised more : List ℕ) (s day start : ℕ) (x : Shift × Rule)
-    → IsValid i → ArePlain i.kinds → slice_get (shift_list i) s ≡ Some x → s < length (shift_list i) → day < i.days
+pub tallies_add : (i : Problem) (rota : List Duty) (covers heads raised more : List ℕ) (s day start : ℕ) (w : Working) (x : Shift × Rule)
+    → IsValid i → HasLeast i s w x → s < length (shift_list i) → day < i.days
     → Tallies i rota covers heads
     → start ≡ slot_of i x.0 day 0
     → length raised ≡ length covers
-    → ((t : ℕ) → t < length covers → get_or raised t 0 ≡ get_or covers t 0 + count_by (λ o. ((start + o) % length covers) == t) (below x.0.len))
+    → ((t : ℕ) → t < length covers → get_or raised t 0 ≡ get_or covers t 0 + count_by (λ o. ((start + o) % length covers) == t) w.offsets)
     → more ≡ set heads (s * i.days + day) (heads_at i heads s day + 1)
-    → Tallies i (rota ++ duty s day [] ∷ []) raised more
-tallies_add i rota covers heads raised more s day start x valid plain e hs hd h at len up one = record {
+    → Tallies i (rota ++ duty s day (best_list i s) ∷ []) raised more
+tallies_add i rota covers heads raised more s day start w x valid least hs hd h at len up one = record {
   all_slots = len ∙ h.all_slots;
   all_shifts = ap (λ (xs : List ℕ). length xs) one ∙ length_set heads (s * i.days + day) (heads_at i heads s day + 1) ∙ h.all_shifts;
   covered = λ t l.
       up t (let n : length covers ≡ slots i = h.all_slots in omega arith)
-      ∙ ap (λ n. n + count_by (λ o. ((start + o) % length covers) == t) (below x.0.len)) (h.covered t l)
+      ∙ ap (λ n. n + count_by (λ o. ((start + o) % length covers) == t) w.offsets) (h.covered t l)
       ∙ ap (λ n. cover i rota t + n)
-      (ap (λ n. count_by (λ o. ((start + o) % n) == t) (below x.0.len)) h.all_slots
-      ∙ ap (λ a. count_by (λ o. ((a + o) % slots i) == t) (below x.0.len)) at
-      ∙ sym (plain_works i s day x valid plain e t))
-      ∙ sym (count_push (λ d. works i d t) rota (duty s day []));
+      (ap (λ n. count_by (λ o. ((start + o) % n) == t) w.offsets) h.all_slots
+      ∙ ap (λ a. count_by (λ o. ((a + o) % slots i) == t) w.offsets) at
+      ∙ sym (used_works i s day w x valid least t)
+      ∙ ap (λ list. cond (works i (duty s day list) t) 1 0) (sym least.best))
+      ∙ sym (count_push (λ d. works i d t) rota (duty s day (best_list i s)));
   headed = λ k other hk ho.
       ap (λ xs. heads_at i xs k other) one
-      ∙ headed_add i rota heads s day k other hs hd ho h.all_shifts (h.headed s day hs hd) (h.headed k other hk ho);
+      ∙ headed_add i rota heads (best_list i s) s day k other hs hd ho h.all_shifts (h.headed s day hs hd) (h.headed k other hk ho);
 }
   where
     length_set : (xs : List ℕ) (j v : ℕ) → length (set xs j v) ≡ length xs
@@ -219,14 +220,11 @@ unfolding tallied_next next_shift
 tallied_next_is i rota prices covers heads h legal e =
     first_greatest_same (tallied_gain i prices heads) (gain i rota) (length (shift_list i)) (λ s l. tallied_gain_is i rota prices covers heads s h legal e l)
 
-pub tallied_duties_are : (i : Problem) (rota : List Duty) (prices : List ℤ) (covers heads : List ℕ) (s : ℕ) → IsValid i → ArePlain i.kinds → Tallies i rota covers heads → prices ≡ marginal_prices i rota → s < length (shift_list i)
-    → map (λ day. duty s day []) (filter (is_counted i prices heads s) (below i.days)) ≡ new_duties i rota s
+pub tallied_duties_are : (i : Problem) (rota : List Duty) (prices : List ℤ) (covers heads : List ℕ) (s : ℕ) → Tallies i rota covers heads → prices ≡ marginal_prices i rota → s < length (shift_list i)
+    → map (λ day. duty s day (best_list i s)) (filter (is_counted i prices heads s) (below i.days)) ≡ new_duties i rota s
 unfolding new_duties
-tallied_duties_are i rota prices covers heads s valid plain h e hs =
-    let x = some_at (shift_list i) s hs in
-    ap (map (λ day. duty s day [])) (filter_same (is_counted i prices heads s) (counts i rota s) (below i.days) (λ day m. counted_counts i rota prices covers heads s day h e hs (from_below i.days day m)))
-    ∙ map_same (λ day. duty s day []) (λ day. duty s day (best_list i (marginal_prices i rota) s day)) (filter (counts i rota s) (below i.days))
-    (λ day m. ap (duty s day) (sym (plain_best i (marginal_prices i rota) s day x.0 valid plain x.1)))
+tallied_duties_are i rota prices covers heads s h e hs =
+    ap (map (λ day. duty s day (best_list i s))) (filter_same (is_counted i prices heads s) (counts i rota s) (below i.days) (λ day m. counted_counts i rota prices covers heads s day h e hs (from_below i.days day m)))
 
 pub tallied_cost_is : (i : Problem) (rota : List Duty) (covers heads : List ℕ) → Tallies i rota covers heads → is_legal_rota i rota ≡ true → tallied_cost i covers heads ≡ cost i rota
 unfolding tallied_cost
@@ -236,47 +234,98 @@ tallied_cost_is i rota covers heads h legal =
     ∙ ap (λ n. sum_by (λ t. slot_cost i t (cover i rota t)) (below (slots i)) + i.shift * n)
     (count_by_same (is_begun i heads) (is_used rota) (below (length (shift_list i))) (λ s m. begun_used i rota covers heads s h legal (from_below (length (shift_list i)) s m)))
 
--- a legal duty of an instance without breaks has none
-no_breaks : (i : Problem) (rota : List Duty) (d : Duty) → IsValid i → ArePlain i.kinds → is_legal_rota i rota ≡ true → Has rota d → d.breaks ≡ []
-no_breaks i rota d valid plain legal m =
-    let l = legal_duties i rota legal d m in
-    let x = some_at (shift_list i) d.shift l.shift in
-    one (subst (λ (lists : List (List Break)). Has lists d.breaks) (plain_lists i d.shift x.0 valid plain x.1) l.listed)
+-- ---- rows
+-- where each duty has its shift's list, the duties with it are those of shift and day
+count_heads : (i : Problem) (rota : List Duty) (s day : ℕ) → HasBest i rota → count_of rota (duty s day (best_list i s)) ≡ heads_on rota s day
+unfolding HasBest
+count_heads i rota s day best =
+    count_by_same (same_duty (duty s day (best_list i s))) (is_on s day) rota (λ d m.
+    same_tests (same_duty (duty s day (best_list i s)) d) (is_on s day d)
+    (λ t. subst (λ (z : Duty). is_on s day z ≡ true) ((same_duty_decides (duty s day (best_list i s)) d).0 t) (and_from (s == s) (day == day) (eq-eqb s s refl) (eq-eqb day day refl)))
+    (λ t.
+    let p = and_parts (d.shift == s) (d.day == day) t in
+    let same : d.shift ≡ s = eqb-true d.shift s p.0 in
+    and_from ((s == d.shift) && (day == d.day)) (same_list (best_list i s) d.breaks)
+    (and_from (s == d.shift) (day == d.day) (eq-eqb s d.shift (sym same)) (eq-eqb day d.day (sym (eqb-true d.day day p.1))))
+    ((same_list_decides (best_list i s) d.breaks).1 (ap (best_list i) (sym same) ∙ sym (best d m)))))
+
+-- and with another list there is none
+count_other : (i : Problem) (rota : List Duty) (s day : ℕ) (list : List Break) → HasBest i rota → (list ≡ best_list i s → ⊥) → count_of rota (duty s day list) ≡ 0
+unfolding HasBest
+count_other i rota s day list best ne =
+    count_by_none (same_duty (duty s day list)) rota (λ d m.
+    elim (cases_Bool (same_duty (duty s day list) d)) [
+      | inl t ↦
+          let e : duty s day list ≡ d = (same_duty_decides (duty s day list) d).0 t in
+          absurd (ne (ap (λ (z : Duty). z.breaks) e ∙ best d m ∙ ap (λ (z : Duty). best_list i z.shift) (sym e)))
+      | inr f ↦ f
+    ])
+
+-- the first of lists that are distinct stands once
+first_only : (list : List Break) (lists : List (List Break)) → count_by (same_list list) (list ∷ lists) ≡ 1 → (other : List Break) → Has lists other → other ≡ list → ⊥
+first_only list lists once other m e =
+    let more : count_by (same_list list) (list ∷ lists) ≡ cond (same_list list list) 1 0 + count_by (same_list list) lists = sum_by-cons (λ x. cond (same_list list x) 1 0) list lists in
+    let here : ◌≡◌ {A = ℕ} (cond (same_list list list) 1 0) 1 = ap (λ b. cond b 1 0) ((same_list_decides list list).1 refl) in
+    let some : 0 < count_by (same_list list) lists = any_by_count (same_list list) lists (any_at (same_list list) lists other m ((same_list_decides list other).1 (sym e))) in
+    absurd (omega arith)
+
+none_kept : (p : Duty → Bool) (s day : ℕ) (lists : List (List Break)) → ((other : List Break) → Has lists other → p (duty s day other) ≡ false) → filter p (map (duty s day) lists) ≡ []
+none_kept p s day [] h = refl
+none_kept p s day (list ∷ lists) h =
+    ap (λ b. cond b (duty s day list ∷ filter p (map (duty s day) lists)) (filter p (map (duty s day) lists))) (h list (inl refl))
+    ∙ none_kept p s day lists (λ other m. h other (inr m))
+
+first_kept : (p : Duty → Bool) (s : ℕ) (list : List Break) (lists : List (List Break)) (days : List ℕ) → ((day : ℕ) (other : List Break) → Has lists other → p (duty s day other) ≡ false)
+    → filter p (flat_map (λ day. map (duty s day) (list ∷ lists)) days) ≡ filter p (map (λ day. duty s day list) days)
+first_kept p s list lists [] h = refl
+first_kept p s list lists (day ∷ days) h =
+    filter-append p (map (duty s day) (list ∷ lists)) (flat_map (λ day. map (duty s day) (list ∷ lists)) days)
+    ∙ ap (λ zs. filter p (map (duty s day) (list ∷ lists)) ++ zs) (first_kept p s list lists days h)
+    ∙ ap (λ zs. cond (p (duty s day list)) (duty s day list ∷ zs) zs ++ filter p (map (λ day. duty s day list) days)) (none_kept p s day lists (h day))
+    ∙ joined (p (duty s day list)) (duty s day list) (filter p (map (λ day. duty s day list) days))
   where
-    one : {X : Type 0} {x y : X} → Has (y ∷ []) x → x ≡ y
-    one h = elim h [ inl e ↦ sym e | inr n ↦ absurd n ]
+    joined : (b : Bool) (d : Duty) (ds : List Duty) → cond b (d ∷ []) [] ++ ds ≡ cond b (d ∷ ds) ds
+    joined true d ds = refl
+    joined false d ds = refl
 
-count_heads : (i : Problem) (rota : List Duty) (s day : ℕ) → IsValid i → ArePlain i.kinds → is_legal_rota i rota ≡ true → count_of rota (duty s day []) ≡ heads_on rota s day
-count_heads i rota s day valid plain legal =
-    count_by_same (same_duty (duty s day [])) (is_on s day) rota (λ d m.
-    ap (λ list. (s == d.shift) && (day == d.day) && same_list [] list) (no_breaks i rota d valid plain legal m)
-    ∙ and_yes ((s == d.shift) && (day == d.day))
-    ∙ ap (λ b. b && (day == d.day)) (turned s d.shift) ∙ ap (λ b. (d.shift == s) && b) (turned day d.day))
-  where
-    and_yes : (b : Bool) → (b && true) ≡ b
-    and_yes true = refl
-    and_yes false = refl
+no_days : (s : ℕ) (days : List ℕ) → flat_map (λ day. map (duty s day) []) days ≡ []
+no_days s [] = refl
+no_days s (day ∷ days) = no_days s days
 
-    turned : (a b : ℕ) → (a == b) ≡ (b == a)
-    turned a b = same_tests (a == b) (b == a) (λ e. eq-eqb b a (sym (eqb-true a b e))) (λ e. eq-eqb a b (sym (eqb-true b a e)))
+counted_row : List Duty → Duty → Row
+counted_row rota d = row_of d (count_of rota d)
 
-pub tallied_rows_are : (i : Problem) (rota : List Duty) (covers heads : List ℕ) → IsValid i → ArePlain i.kinds → Tallies i rota covers heads → is_legal_rota i rota ≡ true
+is_there : List Duty → Duty → Bool
+is_there rota d = nat_lt 0 (count_of rota d)
+
+-- the rows of a shift
+rows_of_shift : (i : Problem) (rota : List Duty) (covers heads : List ℕ) (s : ℕ) (lists : List (List Break)) → lists ≡ lists_of i s → s < length (shift_list i) → Tallies i rota covers heads → HasBest i rota
+    → option_map_or (rows_with i heads s) (slice_get lists 0) [] ≡ map (counted_row rota) (filter (is_there rota) (flat_map (λ day. map (duty s day) lists) (below i.days)))
+unfolding rows_with best_list counted_row is_there
+rows_of_shift i rota covers heads s [] e hs h best = ap (λ ds. map (counted_row rota) (filter (is_there rota) ds)) (sym (no_days s (below i.days)))
+rows_of_shift i rota covers heads s (list ∷ lists) e hs h best =
+    let g = counted_row rota in
+    let p = is_there rota in
+    let is : best_list i s ≡ list = ap (λ ls. unwrap_or (slice_get ls 0) []) (sym e) in
+    let listed : Has (lists_of i s) list = subst (λ (ls : List (List Break)). Has ls list) e (inl refl) in
+    let once : count_by (same_list list) (list ∷ lists) ≡ 1 = ap (λ ls. count_by (same_list list) ls) e ∙ once_of (slice_get (shift_list i) s) list (from_lists_of i s list listed) in
+    let count : (day : ℕ) → day < i.days → heads_at i heads s day ≡ count_of rota (duty s day list) = λ day hd. h.headed s day hs hd ∙ sym (count_heads i rota s day best) ∙ ap (λ l. count_of rota (duty s day l)) is in
+    ap (map (λ day. row_of (duty s day list) (heads_at i heads s day)))
+    (filter_same (λ day. nat_lt 0 (heads_at i heads s day)) (λ day. p (duty s day list)) (below i.days) (λ day l. ap (nat_lt 0) (count day (from_below i.days day l))))
+    ∙ map_same (λ day. row_of (duty s day list) (heads_at i heads s day)) (λ day. g (duty s day list)) (filter (λ day. p (duty s day list)) (below i.days))
+    (λ day l. ap (row_of (duty s day list)) (count day (from_below i.days day (from_filter (λ day. p (duty s day list)) (below i.days) day l).0)))
+    ∙ sym (map-filter-map g p (λ day. duty s day list) (below i.days))
+    ∙ ap (map g) (sym (first_kept p s list lists (below i.days) (λ day other m.
+    ap (nat_lt 0) (count_other i rota s day other best (λ q. first_only list lists once other m (q ∙ is))))))
+
+pub tallied_rows_are : (i : Problem) (rota : List Duty) (covers heads : List ℕ) → Tallies i rota covers heads → HasBest i rota
     → flat_map (shift_rows i heads) (below (length (shift_list i))) ≡ rows_of i rota
-unfolding shift_rows
-tallied_rows_are i rota covers heads valid plain h legal =
+unfolding counted_row is_there
+tallied_rows_are i rota covers heads h best =
     let n = length (shift_list i) in
-    let g : Duty → Row = λ d. row_of d (count_of rota d) in
-    let p : Duty → Bool = λ d. nat_lt 0 (count_of rota d) in
+    let g = counted_row rota in
+    let p = is_there rota in
     let of : ℕ → List Duty = λ s. flat_map (λ day. map (duty s day) (lists_of i s)) (below i.days) in
-    flat_map_same (shift_rows i heads) (λ s. map g (filter p (of s))) (below n) (λ s m.
-    let hs = from_below n s m in
-    let x = some_at (shift_list i) s hs in
-    let count : (day : ℕ) → day < i.days → heads_at i heads s day ≡ count_of rota (duty s day []) = λ day hd. h.headed s day hs hd ∙ sym (count_heads i rota s day valid plain legal) in
-    ap (map (λ day. row_of (duty s day []) (heads_at i heads s day)))
-    (filter_same (λ day. nat_lt 0 (heads_at i heads s day)) (λ day. p (duty s day [])) (below i.days) (λ day l. ap (nat_lt 0) (count day (from_below i.days day l))))
-    ∙ map_same (λ day. row_of (duty s day []) (heads_at i heads s day)) (λ day. g (duty s day [])) (filter (λ day. p (duty s day [])) (below i.days))
-    (λ day l. ap (row_of (duty s day [])) (count day (from_below i.days day (from_filter (λ day. p (duty s day [])) (below i.days) day l).0)))
-    ∙ sym (map-filter-map g p (λ day. duty s day []) (below i.days))
-    ∙ ap (λ ds. map g (filter p ds)) (sym (ap (λ (lists : List (List Break)). flat_map (λ day. map (duty s day) lists) (below i.days)) (plain_lists i s x.0 valid plain x.1) ∙ flat_map-single (λ day. duty s day []) (below i.days))))
+    flat_map_same (shift_rows i heads) (λ s. map g (filter p (of s))) (below n) (λ s m. rows_of_shift i rota covers heads s (lists_of i s) refl (from_below n s m) h best)
     ∙ sym (map-flat_map g (λ s. filter p (of s)) (below n))
     ∙ ap (map g) (sym (filter-flat_map p of (below n)))

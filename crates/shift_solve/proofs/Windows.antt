@@ -1,12 +1,14 @@
 -- Running sums of prices: those of a window are a difference of two, and none is large.
-use Rattle.std.proofs.Common.{◌≡◌, ℕ, zero, suc, ◌+◌, ◌*◌, ◌%◌, ◌<◌, ◌≤◌, ℤ, pos, neg_ℤ, ◌+ℤ◌, ◌≤ℤ◌, List, [], ◌∷◌, ◌++◌, length, get_or, inl, inr, refl, sym, ap, ◌∙◌, subst, arith}
+use Rattle.std.proofs.Common.{◌≡◌, ℕ, zero, suc, ◌+◌, ◌*◌, ◌%◌, ◌<◌, ◌≤◌, ℤ, pos, neg_ℤ, ◌+ℤ◌, ◌≤ℤ◌, List, [], ◌∷◌, ◌++◌, length, get_or, take, inl, inr, refl, sym, ap, ◌∙◌, subst, arith}
 use Rattle.std.proofs.lemmas.Int.{ints}
 use Rattle.std.proofs.lemmas.Bool.{cases_lt}
-use Rattle.std.proofs.lemmas.List.{get_or_append_left, get_or_push, get_or_read}
+use Rattle.std.proofs.lemmas.List.{get_or_append_left, get_or_push, get_or_read, take_more}
+use Rattle.std.proofs.lemmas.Nat.{mod_below}
 use Rattle.break_rules.specs.Sums.{int_sum_by}
+use Rattle.break_rules.proofs.Sums.{int_sum_by-append}
 use Rattle.shift_instance.specs.Problem.{below}
 use Rattle.shift_instance.specs.Worth.{price_of}
-use Rattle.shift_solve.specs.Sums.{running, window_sum, IsWithin, ArePrices, AreSums}
+use Rattle.shift_solve.specs.Sums.{running, sum_at, window_sum, IsWithin, ArePrices, AreSums}
 use Rattle.shift_solve.proofs.Ranges.{int_sum_more}
 
 pub running_more : (prices : List ℤ) (k : ℕ) → running prices (k + 1) ≡ running prices k +ℤ price_of prices (k % length prices)
@@ -109,3 +111,25 @@ window_read prices value sums start len a b h view in_start in_len ea eb =
     let low : neg_ℤ (pos 4032000000) ≤ℤ running value start = small.above in
     let high : running value start ≤ℤ pos 4032000000 = small.below in
     record { last = omega (arith, ints); first_above = omega (arith, ints); first_below = omega (arith, ints); window_above = window.above; window_below = window.below }
+
+-- ---- sums at offsets
+pub sum_at_none : (prices : List ℤ) (start : ℕ) → sum_at prices start [] ≡ pos 0
+unfolding sum_at
+sum_at_none prices start = refl
+
+-- the sum at one offset more, and the price there as it is read
+pub offset_read : (prices value : List ℤ) (offsets : List ℕ) (start k o n : ℕ) (v : ℤ) → ArePrices prices → prices ≡ value → n ≡ length prices → k < length offsets → o ≡ get_or offsets k 0 → v ≡ get_or prices ((start + o) % n) v
+    → (sum_at value start (take (k + 1) offsets) ≡ sum_at value start (take k offsets) +ℤ v) × IsWithin 1000000 v
+unfolding sum_at
+offset_read prices value offsets start k o n v h view len inside is read =
+    let f : ℕ → ℤ = λ o. price_of value ((start + o) % length value) in
+    let at = (start + o) % n in
+    let some : 0 < length prices = h.some in
+    let below_end : at < n = mod_below (start + o) n (omega arith) in
+    let here : v ≡ price_of prices at = get_or_read prices at v (omega arith) read (pos 0) in
+    let same : v ≡ f o = here ∙ ap (λ m. price_of prices ((start + o) % m)) len ∙ ap (λ (zs : List ℤ). price_of zs ((start + o) % length zs)) view in
+    let longer : take (k + 1) offsets ≡ take k offsets ++ o ∷ [] = take_more offsets k 0 inside ∙ ap (λ x. take k offsets ++ x ∷ []) (sym is) in (
+      ap (int_sum_by f) longer ∙ int_sum_by-append f (take k offsets) (o ∷ [])
+          ∙ ap (λ z. int_sum_by f (take k offsets) +ℤ z) ((let e : pos 0 +ℤ f o ≡ f o = omega (arith, ints) in e) ∙ sym same),
+      subst (IsWithin 1000000) (sym here) (h.small at),
+    )

@@ -1,10 +1,9 @@
 -- The greedy plan: it takes shifts one after another, always that which lowers the cost most. Source: this project's profile.
-use Rattle.std.specs.Prelude.{ℕ, zero, suc, ◌*◌, ℤ, pos, ◌-ℤ◌, neg_ℤ, Bool, not, ◌&&◌, nat_lt, int_lt, List, [], ◌++◌, map, length, Option, unwrap_or, if◌then◌else◌}
-use Rattle.std.specs.Ordering.{int_eq}
+use Rattle.std.specs.Prelude.{ℕ, zero, suc, ◌*◌, ℤ, pos, ◌-ℤ◌, neg_ℤ, Bool, not, ◌&&◌, nat_lt, int_lt, List, [], ◌++◌, map, length, Option, unwrap_or, slice_get, if◌then◌else◌}
 use Rattle.std.specs.Option.{option_map_or}
 use Rattle.std.specs.List.{list_any, filter, find, flat_map}
 use Rattle.break_rules.specs.declared.Break.{Break}
-use Rattle.break_rules.specs.Sums.{int_sum_by, greatest}
+use Rattle.break_rules.specs.Sums.{int_sum_by}
 use Rattle.shift_instance.specs.declared.Duty.{Duty}
 use Rattle.shift_instance.specs.declared.Row.{Row}
 use Rattle.shift_instance.specs.Problem.{Problem, slots, need_at, shift_list, below}
@@ -23,13 +22,17 @@ marginal_price i t c = if nat_lt c (need_at i t) then pos i.shortage else neg_�
 unfoldable pub marginal_prices : Problem → List Duty → List ℤ
 marginal_prices i rota = map (λ t. marginal_price i t (cover i rota t)) (below (slots i))
 
--- the greatest reduced value of a shift on a day, over its legal lists
-unfoldable pub day_value : Problem → List ℤ → ℕ → ℕ → ℤ
-day_value i prices s day = greatest (map (λ list. earned i prices (duty s day list)) (lists_of i s))
+-- the least legal list of a shift, where it has one
+abbrev pub least_list : Problem → ℕ → Option (List Break)
+least_list i s = slice_get (lists_of i s) 0
 
--- the least legal list of that value, or the empty one where no list is legal
-unfoldable pub best_list : Problem → List ℤ → ℕ → ℕ → List Break
-best_list i prices s day = unwrap_or (find (λ list. int_eq (earned i prices (duty s day list)) (day_value i prices s day)) (lists_of i s)) []
+-- the list with which a shift is used: its least legal list, or the empty one where no list is legal
+unfoldable pub best_list : Problem → ℕ → List Break
+best_list i s = unwrap_or (least_list i s) []
+
+-- the value of a shift on a day: what a duty with its least legal list earns, and 0 where no list is legal
+unfoldable pub day_value : Problem → List ℤ → ℕ → ℕ → ℤ
+day_value i prices s day = option_map_or (λ list. earned i prices (duty s day list)) (least_list i s) (pos 0)
 
 -- a shift's value on a day under a plan's marginal prices
 abbrev pub value_on : Problem → List Duty → ℕ → ℕ → ℤ
@@ -59,7 +62,7 @@ next_shift i rota = first_greatest (gain i rota) (length (shift_list i))
 
 -- the duties that are added of a shift: one on each day that counts
 unfoldable pub new_duties : Problem → List Duty → ℕ → List Duty
-new_duties i rota s = map (λ day. duty s day (best_list i (marginal_prices i rota) s day)) (filter (counts i rota s) (below i.days))
+new_duties i rota s = map (λ day. duty s day (best_list i s)) (filter (counts i rota s) (below i.days))
 
 -- the plan after that many rounds: each takes a shift, and where there is none the plan stays
 unfoldable pub greedy_after : Problem → ℕ → List Duty → List Duty

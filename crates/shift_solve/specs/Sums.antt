@@ -12,6 +12,10 @@ running prices k = int_sum_by (λ t. price_of prices (t % length prices)) (below
 unfoldable pub window_sum : List ℤ → ℕ → ℕ → ℤ
 window_sum prices start len = int_sum_by (λ o. price_of prices ((start + o) % length prices)) (below len)
 
+-- the sum of the prices at offsets from a slot on
+unfoldable pub sum_at : List ℤ → ℕ → List ℕ → ℤ
+sum_at prices start offsets = int_sum_by (λ o. price_of prices ((start + o) % length prices)) offsets
+
 -- a number within a bound, on either side of 0
 pub record IsWithin (bound : ℕ) (z : ℤ) : Type 0 where
   pub above : neg_ℤ (pos bound) ≤ℤ z

@@ -1,13 +1,15 @@
 -- A plan as numbers: how many duties work in each slot, and how many of each shift stand on each day.
 use Rattle.std.specs.Prelude.{◌≡◌, ℕ, ◌+◌, ◌*◌, ◌≤◌, ◌<◌, ℤ, pos, ◌-ℤ◌, ◌≤ℤ◌, ◌<ℤ◌, MatchOption, Bool, IsTrue, nat_lt, List, [], length, map, slice_index, sum_by, count_by, Option, if◌then◌else◌}
+use Rattle.std.specs.Option.{option_map_or}
 use Rattle.std.specs.List.{list_any, filter}
+use Rattle.break_rules.specs.declared.Break.{Break}
 use Rattle.break_rules.specs.Sums.{int_sum_by}
 use Rattle.shift_instance.specs.declared.Duty.{Duty}
 use Rattle.shift_instance.specs.declared.Row.{Row}
 use Rattle.shift_instance.specs.Problem.{Problem, slots, shift_list, below}
 use Rattle.shift_instance.specs.Rota.{heads_on, cover, slot_cost, is_legal_rota}
 use Rattle.shift_instance.specs.Valid.{IsValid}
-use Rattle.shift_solve.specs.Greedy.{duty, row_of, marginal_price, day_value, is_wanted, first_greatest, greedy_after, greedy_rota}
+use Rattle.shift_solve.specs.Greedy.{duty, row_of, marginal_price, least_list, day_value, is_wanted, first_greatest, greedy_after, greedy_rota}
 
 -- the duties of a shift on a day, of numbers kept shift by shift with one for each day
 abbrev pub heads_at : Problem → List ℕ → ℕ → ℕ → ℕ
@@ -48,11 +50,15 @@ tallied_next i prices heads = first_greatest (tallied_gain i prices heads) (leng
 unfoldable pub tallied_prices : Problem → List ℕ → List ℤ
 tallied_prices i covers = map (λ t. marginal_price i t (slice_index covers t)) (below (slots i))
 
--- the rows of a shift without breaks, by its numbers
-unfoldable pub shift_rows : Problem → List ℕ → ℕ → List Row
-shift_rows i heads s =
-    map (λ day. row_of (duty s day []) (heads_at i heads s day))
+-- the rows of a shift that has that list, by its numbers
+unfoldable pub rows_with : Problem → List ℕ → ℕ → List Break → List Row
+rows_with i heads s list =
+    map (λ day. row_of (duty s day list) (heads_at i heads s day))
     (filter (λ day. nat_lt 0 (heads_at i heads s day)) (below i.days))
+
+-- the rows of a shift, by its numbers: none where no list is legal
+abbrev pub shift_rows : Problem → List ℕ → ℕ → List Row
+shift_rows i heads s = option_map_or (rows_with i heads s) (least_list i s) []
 
 -- the cost of excess and shortage, and of the shifts used, by their numbers
 unfoldable pub tallied_cost : Problem → List ℕ → List ℕ → ℕ

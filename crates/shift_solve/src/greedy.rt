@@ -1,18 +1,19 @@
 //! The greedy plan: shift by shift, always the one that lowers the cost most.
-ghost use Rattle.std.specs.Prelude.{◌≡◌, ◌<◌, ◌≤◌, ◌*◌, ◌+◌, ◌++◌, [], ℕ, List, length, map, IfOk, IsTrue, MatchBool};
+ghost use Rattle.std.specs.Prelude.{◌≡◌, ◌<◌, ◌≤◌, ◌*◌, ◌+◌, ◌++◌, [], ℕ, List, length, map, slice_get, Some, IfOk, IsTrue, MatchBool};
 ghost use Rattle.std.specs.List.{flat_map, filter};
 ghost use Rattle.shift_instance.specs.declared.Duty.{Duty};
 ghost use Rattle.shift_instance.specs.Problem.{shift_list, slots, below};
 ghost use Rattle.shift_instance.specs.Rota.{are_legal_rows, cost, rota_of};
-ghost use Rattle.shift_solve.specs.Greedy.{duty, day_value, greedy_rows, is_wanted, marginal_price};
-ghost use Rattle.shift_solve.specs.Plain.{ArePlain};
+ghost use Rattle.shift_solve.specs.Greedy.{best_list, duty, day_value, greedy_rows, is_wanted, marginal_price};
+ghost use Rattle.shift_solve.specs.Least.{least_duties};
 ghost use Rattle.shift_solve.specs.Sums.{ArePrices, IsWithin};
-ghost use Rattle.shift_solve.specs.Tally.{IsTally, LeadsToGreedy, Tallies, is_counted, shift_rows, tallied_gain, tallied_next, tallied_prices};
+ghost use Rattle.shift_solve.specs.Tally.{IsTally, LeadsToGreedy, Tallies, is_counted, rows_with, shift_rows, tallied_gain, tallied_next, tallied_prices};
 
+use crate::least_duties::{LeastDuties, LeastDuty};
 use crate::plan_cost::{opening_cost, tally_cost};
 use crate::price_sums::PriceSums;
 use crate::tally::Tally;
-use break_rules::{Breaks, NoMemory};
+use break_rules::NoMemory;
 use shift_instance::{Instance, Row, Rows};
 use std::alloc::Global;
 
@@ -53,16 +54,46 @@ fn marginal_prices(alloc: Global, instance: &Instance, tally: &Tally) -> Result<
     PriceSums::of(alloc, prices)
 }
 
-/// The greatest reduced value of a shift on a day.
-fn day_value(instance: &Instance, prices: &PriceSums, shift: u16, day: u8) -> i64
-    requires plain { ArePlain instance.now.kinds }
+/// What a duty of a shift with its least legal list earns on a day.
+fn duty_value(
+    instance: &Instance,
+    least: &LeastDuty,
+    prices: &PriceSums,
+    shift: u16,
+    day: u8,
+) -> i64
+    requires least { slice_get (least_duties instance.now) shift ≡ Some (Some least.now) }
     requires prices { length prices.now ≡ slots instance.now }
     requires shift { shift < length (shift_list instance.now) }
     ensures value { result ≡ day_value instance.now prices.now shift day }
     ensures small { IsWithin (2016 * 1000000) result }
 {
     let start = instance.slot_of(shift, day, 0);
-    prices.window(start, usize::from(instance.shift(shift).len))
+    if least.breaks().is_empty() {
+        prices.window(start, usize::from(instance.shift(shift).len))
+    } else {
+        prices.sum_at(start, least.offsets())
+    }
+}
+
+/// The value of a shift on a day.
+fn day_value(
+    instance: &Instance,
+    duties: &LeastDuties,
+    prices: &PriceSums,
+    shift: u16,
+    day: u8,
+) -> i64
+    requires duties { duties.now ≡ least_duties instance.now }
+    requires prices { length prices.now ≡ slots instance.now }
+    requires shift { shift < length (shift_list instance.now) }
+    ensures value { result ≡ day_value instance.now prices.now shift day }
+    ensures small { IsWithin (2016 * 1000000) result }
+{
+    match duties.get(shift) {
+        Some(least) => duty_value(instance, least, prices, shift, day),
+        None => 0,
+    }
 }
 
 /// Whether there is room for one more duty beside that many, and it has a value above 0.
@@ -73,8 +104,14 @@ fn is_wanted(instance: &Instance, heads: u16, value: i64) -> bool
 }
 
 /// The gain of a shift.
-fn gain(instance: &Instance, tally: &Tally, prices: &PriceSums, shift: u16) -> i64
-    requires plain { ArePlain instance.now.kinds }
+fn gain(
+    instance: &Instance,
+    duties: &LeastDuties,
+    tally: &Tally,
+    prices: &PriceSums,
+    shift: u16,
+) -> i64
+    requires duties { duties.now ≡ least_duties instance.now }
     requires tally { IsTally instance.now 0 tally.now.cover.items tally.now.heads.items }
     requires prices { length prices.now ≡ slots instance.now }
     requires shift { shift < length (shift_list instance.now) }
@@ -82,7 +119,7 @@ fn gain(instance: &Instance, tally: &Tally, prices: &PriceSums, shift: u16) -> i
 {
     let mut gain = 0;
     for day in 0..instance.days() {
-        let value = day_value(instance, prices, shift, day);
+        let value = day_value(instance, duties, prices, shift, day);
         if is_wanted(instance, tally.heads_on(instance, shift, day), value) {
             gain += value;
         }
@@ -95,8 +132,13 @@ fn gain(instance: &Instance, tally: &Tally, prices: &PriceSums, shift: u16) -> i
 }
 
 /// The shift to take next: that of greatest gain, and of least number among equals, where its gain is above 0.
-fn best_shift(instance: &Instance, tally: &Tally, prices: &PriceSums) -> Option<u16>
-    requires plain { ArePlain instance.now.kinds }
+fn best_shift(
+    instance: &Instance,
+    duties: &LeastDuties,
+    tally: &Tally,
+    prices: &PriceSums,
+) -> Option<u16>
+    requires duties { duties.now ≡ least_duties instance.now }
     requires tally { IsTally instance.now 0 tally.now.cover.items tally.now.heads.items }
     requires prices { length prices.now ≡ slots instance.now }
     ensures { result ≡ tallied_next instance.now prices.now tally.now.heads.items }
@@ -104,7 +146,7 @@ fn best_shift(instance: &Instance, tally: &Tally, prices: &PriceSums) -> Option<
     let mut best = None;
     let mut best_gain = 0;
     for shift in 0..instance.shifts().len() as u16 {
-        let gain = gain(instance, tally, prices, shift);
+        let gain = gain(instance, duties, tally, prices, shift);
         if best_gain < gain {
             best = Some(shift);
             best_gain = gain;
@@ -113,27 +155,59 @@ fn best_shift(instance: &Instance, tally: &Tally, prices: &PriceSums) -> Option<
     best
 }
 
-/// Adds a duty of a shift on each day that counts.
-fn add_duties(instance: &Instance, tally: &mut Tally, prices: &PriceSums, shift: u16)
-    requires plain { ArePlain instance.now.kinds }
+/// Adds a duty of a shift that has a legal list on each day that counts.
+fn add_days(
+    instance: &Instance,
+    least: &LeastDuty,
+    tally: &mut Tally,
+    prices: &PriceSums,
+    shift: u16,
+)
+    requires least { slice_get (least_duties instance.now) shift ≡ Some (Some least.now) }
     requires tally { IsTally instance.now 7 tally.old.cover.items tally.old.heads.items }
     requires prices { length prices.now ≡ slots instance.now }
     requires shift { shift < length (shift_list instance.now) }
     ensures { (rota : List Duty) → Tallies instance.now rota tally.old.cover.items tally.old.heads.items
-        → Tallies instance.now (rota ++ map (λ day. duty shift day []) (filter (is_counted instance.now prices.now tally.old.heads.items shift) (below instance.now.days)))
+        → Tallies instance.now (rota ++ map (λ day. duty shift day (best_list instance.now shift)) (filter (is_counted instance.now prices.now tally.old.heads.items shift) (below instance.now.days)))
         tally.new.cover.items tally.new.heads.items }
 {
     for day in 0..instance.days() {
-        let value = day_value(instance, prices, shift, day);
+        let value = duty_value(instance, least, prices, shift, day);
         if is_wanted(instance, tally.heads_on(instance, shift, day), value) {
-            tally.add(instance, shift, day);
+            tally.add(instance, least, shift, day);
         }
     }
 }
 
+/// Adds a duty of a shift on each day that counts.
+fn add_duties(
+    instance: &Instance,
+    duties: &LeastDuties,
+    tally: &mut Tally,
+    prices: &PriceSums,
+    shift: u16,
+)
+    requires duties { duties.now ≡ least_duties instance.now }
+    requires tally { IsTally instance.now 7 tally.old.cover.items tally.old.heads.items }
+    requires prices { length prices.now ≡ slots instance.now }
+    requires shift { shift < length (shift_list instance.now) }
+    ensures { (rota : List Duty) → Tallies instance.now rota tally.old.cover.items tally.old.heads.items
+        → Tallies instance.now (rota ++ map (λ day. duty shift day (best_list instance.now shift)) (filter (is_counted instance.now prices.now tally.old.heads.items shift) (below instance.now.days)))
+        tally.new.cover.items tally.new.heads.items }
+{
+    if let Some(least) = duties.get(shift) {
+        add_days(instance, least, tally, prices, shift);
+    }
+}
+
 /// One round: takes the shift of greatest gain, and says whether there was one.
-fn round(alloc: Global, instance: &Instance, tally: &mut Tally) -> Result<bool, NoMemory>
-    requires plain { ArePlain instance.now.kinds }
+fn round(
+    alloc: Global,
+    instance: &Instance,
+    duties: &LeastDuties,
+    tally: &mut Tally,
+) -> Result<bool, NoMemory>
+    requires duties { duties.now ≡ least_duties instance.now }
     requires tally { IsTally instance.now 7 tally.old.cover.items tally.old.heads.items }
     ensures { IfOk result (λ more. (rounds : ℕ) → LeadsToGreedy instance.now (rounds + 1) tally.old.cover.items tally.old.heads.items
         → MatchBool more
@@ -141,9 +215,9 @@ fn round(alloc: Global, instance: &Instance, tally: &mut Tally) -> Result<bool, 
         (LeadsToGreedy instance.now 0 tally.new.cover.items tally.new.heads.items)) }
 {
     let prices = marginal_prices(alloc, instance, tally)?;
-    match best_shift(instance, tally, &prices) {
+    match best_shift(instance, duties, tally, &prices) {
         Some(shift) => {
-            add_duties(instance, tally, &prices, shift);
+            add_duties(instance, duties, tally, &prices, shift);
             Ok(true)
         }
         None => Ok(false),
@@ -151,8 +225,8 @@ fn round(alloc: Global, instance: &Instance, tally: &mut Tally) -> Result<bool, 
 }
 
 /// The numbers of the greedy plan.
-fn greedy_tally(alloc: Global, instance: &Instance) -> Result<Tally, NoMemory>
-    requires plain { ArePlain instance.now.kinds }
+fn greedy_tally(alloc: Global, instance: &Instance, duties: &LeastDuties) -> Result<Tally, NoMemory>
+    requires duties { duties.now ≡ least_duties instance.now }
     ensures { IfOk result (λ t. LeadsToGreedy instance.now 0 t.cover.items t.heads.items) }
 {
     let mut tally = Tally::empty(alloc, instance)?;
@@ -160,32 +234,34 @@ fn greedy_tally(alloc: Global, instance: &Instance) -> Result<Tally, NoMemory>
         * usize::from(instance.days())
         * usize::from(instance.heads());
     'rounds: for _round in 0..most {
-        if !round(alloc, instance, &mut tally)? {
+        if !round(alloc, instance, duties, &mut tally)? {
             return Ok(tally);
         }
     }
     Ok(tally)
 }
 
-/// Appends the rows of a shift.
+/// Appends the rows of a shift, which has that list.
 fn push_rows(
     alloc: Global,
     instance: &Instance,
+    least: &LeastDuty,
     tally: &Tally,
     shift: u16,
     rows: &mut Vec<Row>,
 ) -> Result<(), NoMemory>
     requires tally { IsTally instance.now 0 tally.now.cover.items tally.now.heads.items }
     requires shift { shift < length (shift_list instance.now) }
-    ensures { IfOk result (λ _. rows.new.items ≡ rows.old.items ++ shift_rows instance.now tally.now.heads.items shift) }
+    ensures { IfOk result (λ _. rows.new.items ≡ rows.old.items ++ rows_with instance.now tally.now.heads.items shift least.now.breaks) }
 {
     for day in 0..instance.days() {
         let count = tally.heads_on(instance, shift, day);
         if 0 < count {
+            let breaks = least.breaks_copy(alloc)?;
             rows.push(Row {
                 shift,
                 day,
-                breaks: Breaks::new(Vec::new(alloc)),
+                breaks,
                 count,
             })?;
         }
@@ -194,30 +270,39 @@ fn push_rows(
 }
 
 /// The rows of all shifts.
-fn all_rows(alloc: Global, instance: &Instance, tally: &Tally) -> Result<Rows, NoMemory>
-    requires { IsTally instance.now 0 tally.now.cover.items tally.now.heads.items }
+fn all_rows(
+    alloc: Global,
+    instance: &Instance,
+    duties: &LeastDuties,
+    tally: &Tally,
+) -> Result<Rows, NoMemory>
+    requires duties { duties.now ≡ least_duties instance.now }
+    requires tally { IsTally instance.now 0 tally.now.cover.items tally.now.heads.items }
     ensures { IfOk result (λ rows. rows ≡ flat_map (shift_rows instance.now tally.now.heads.items) (below (length (shift_list instance.now)))) }
 {
     let mut rows = Vec::new(alloc);
     for shift in 0..instance.shifts().len() as u16 {
-        push_rows(alloc, instance, tally, shift, &mut rows)?;
+        if let Some(least) = duties.get(shift) {
+            push_rows(alloc, instance, least, tally, shift, &mut rows)?;
+        }
     }
     Ok(Rows::new(rows))
 }
 
-/// The greedy plan of an instance without breaks: from no duties, in each round a duty of the shift that gains most at
-/// the marginal prices of the slots, on each day where it gains.
+/// The greedy plan of an instance: from no duties, in each round a duty of the shift that gains most at the marginal
+/// prices of the slots, on each day where it gains. Each shift is used with its least legal list, and a shift without
+/// one not at all.
 pub(crate) fn greedy_plan(alloc: Global, instance: &Instance) -> Result<GreedyPlan, NoMemory>
-    requires plain { ArePlain instance.now.kinds }
     ensures rows { IfOk result (λ p. p.rows ≡ greedy_rows instance.now) }
     ensures cost { IfOk result (λ p. p.cost ≡ cost instance.now (rota_of p.rows)) }
     ensures legal { IfOk result (λ p. IsTrue (are_legal_rows instance.now p.rows)) }
     ensures opening { IfOk result (λ p. p.opening ≡ cost instance.now []) }
     ensures cheaper { IfOk result (λ p. p.cost ≤ p.opening) }
 {
-    let tally = greedy_tally(alloc, instance)?;
+    let duties = LeastDuties::of(alloc, instance)?;
+    let tally = greedy_tally(alloc, instance, &duties)?;
     Ok(GreedyPlan {
-        rows: all_rows(alloc, instance, &tally)?,
+        rows: all_rows(alloc, instance, &duties, &tally)?,
         cost: tally_cost(instance, &tally),
         opening: opening_cost(instance),
     })

@@ -1,18 +1,12 @@
-ghost use Rattle.std.specs.Prelude.{◌≡◌, IfOk};
-ghost use Rattle.break_rules.specs.Plain.{plain_rule};
-ghost use Rattle.shift_solve.specs.Plain.{ArePlain};
-
 use crate::greedy::greedy_plan;
-use break_rules::Rule;
+use break_rules::{Break, Rule, Totals};
 use shift_instance::{Instance, Parts, TypeParts};
 use std::alloc::Global;
 use std::process::Abort;
 use std::test::Fail;
 
 /// A type without breaks that has one start and one length.
-fn plain_type(alloc: Global, name: &str, start: u16, len: u16) -> Result<TypeParts, Fail>
-    ensures { IfOk result (λ k. k.rule ≡ plain_rule) }
-{
+fn plain_type(alloc: Global, name: &str, start: u16, len: u16) -> Result<TypeParts, Fail> {
     Ok(TypeParts {
         name: String::from_str(alloc, name)?,
         start_min: start,
@@ -25,9 +19,7 @@ fn plain_type(alloc: Global, name: &str, start: u16, len: u16) -> Result<TypePar
 
 /// Hour slots, each of which needs one employee for each time that it stands in a list; at most one duty of a shift on
 /// a day; the costs 1 of excess, 2 of shortage and 3 of a shift used; and one type, of 4 hours from a slot on.
-fn one_type(alloc: Global, days: u16, wanted: &[usize], start: u16) -> Result<Parts, Fail>
-    ensures { IfOk result (λ p. ArePlain p.kinds) }
-{
+fn one_type(alloc: Global, days: u16, wanted: &[usize], start: u16) -> Result<Parts, Fail> {
     let mut need = vec![in alloc; 0u32; usize::from(days) * 24]?;
     for t in wanted {
         if let Some(n) = need.get_mut(*t) {
@@ -46,22 +38,22 @@ fn one_type(alloc: Global, days: u16, wanted: &[usize], start: u16) -> Result<Pa
     })
 }
 
-/// Checks a plan: its rows, each with its shift, its day and its count, its cost, and the cost of the empty plan.
+/// Checks a plan: its rows, each with its shift, its day and its count, and with these breaks, its cost, and the cost of
+/// the empty plan.
 fn expect_plan(
     rt: &impl Abort,
     alloc: Global,
     parts: Parts,
     rows: &[(u16, u8, u16)],
+    breaks: &[Break],
     cost: u64,
     opening: u64,
-) -> Result<(), Fail>
-    requires { ArePlain parts.kinds }
-{
+) -> Result<(), Fail> {
     let instance = Instance::new(alloc, parts)?;
     let plan = greedy_plan(alloc, &instance)?;
     let mut found = Vec::new(alloc);
     for row in plan.rows.as_slice() {
-        assert!(rt; row.breaks.is_empty());
+        assert!(rt; row.breaks.as_slice() == breaks);
         found.push((row.shift, row.day, row.count))?;
     }
     assert_eq!(rt; found.as_slice(), rows);
@@ -73,19 +65,19 @@ fn expect_plan(
 #[test]
 fn takes_the_shift_that_pays(rt: HostRuntime) -> Result<(), Fail> {
     let parts = one_type(rt.alloc(), 1, &[8, 9, 10, 11], 8)?;
-    expect_plan(&rt, rt.alloc(), parts, &[(0, 0, 1)], 3, 8)
+    expect_plan(&rt, rt.alloc(), parts, &[(0, 0, 1)], &[], 3, 8)
 }
 
 #[test]
 fn takes_none_where_nothing_is_needed(rt: HostRuntime) -> Result<(), Fail> {
     let parts = one_type(rt.alloc(), 1, &[], 8)?;
-    expect_plan(&rt, rt.alloc(), parts, &[], 0, 0)
+    expect_plan(&rt, rt.alloc(), parts, &[], &[], 0, 0)
 }
 
 #[test]
 fn goes_on_at_the_start_of_the_period(rt: HostRuntime) -> Result<(), Fail> {
     let parts = one_type(rt.alloc(), 1, &[22, 23, 0, 1], 22)?;
-    expect_plan(&rt, rt.alloc(), parts, &[(0, 0, 1)], 3, 8)
+    expect_plan(&rt, rt.alloc(), parts, &[(0, 0, 1)], &[], 3, 8)
 }
 
 // Three employees are needed and at most two may come, so one is missing in each of the four slots.
@@ -94,14 +86,14 @@ fn adds_up_to_the_limit(rt: HostRuntime) -> Result<(), Fail> {
     let wanted = [8, 8, 8, 9, 9, 9, 10, 10, 10, 11, 11, 11];
     let mut parts = one_type(rt.alloc(), 1, &wanted, 8)?;
     parts.max_heads = 2;
-    expect_plan(&rt, rt.alloc(), parts, &[(0, 0, 2)], 11, 24)
+    expect_plan(&rt, rt.alloc(), parts, &[(0, 0, 2)], &[], 11, 24)
 }
 
 // At the marginal prices 2, 2, 2 and -1 the duty is worth 5, and the shift costs 3.
 #[test]
 fn pays_for_excess(rt: HostRuntime) -> Result<(), Fail> {
     let parts = one_type(rt.alloc(), 1, &[8, 9, 10], 8)?;
-    expect_plan(&rt, rt.alloc(), parts, &[(0, 0, 1)], 4, 6)
+    expect_plan(&rt, rt.alloc(), parts, &[(0, 0, 1)], &[], 4, 6)
 }
 
 // A duty is worth 8.
@@ -109,7 +101,7 @@ fn pays_for_excess(rt: HostRuntime) -> Result<(), Fail> {
 fn takes_no_shift_that_gains_nothing(rt: HostRuntime) -> Result<(), Fail> {
     let mut parts = one_type(rt.alloc(), 1, &[8, 9, 10, 11], 8)?;
     parts.shift = 8;
-    expect_plan(&rt, rt.alloc(), parts, &[], 8, 8)
+    expect_plan(&rt, rt.alloc(), parts, &[], &[], 8, 8)
 }
 
 // Two days are worth 16 together, and the third day nothing.
@@ -117,7 +109,7 @@ fn takes_no_shift_that_gains_nothing(rt: HostRuntime) -> Result<(), Fail> {
 fn takes_the_days_that_count_together(rt: HostRuntime) -> Result<(), Fail> {
     let mut parts = one_type(rt.alloc(), 3, &[8, 9, 10, 11, 56, 57, 58, 59], 8)?;
     parts.shift = 9;
-    expect_plan(&rt, rt.alloc(), parts, &[(0, 0, 1), (0, 2, 1)], 9, 16)
+    expect_plan(&rt, rt.alloc(), parts, &[(0, 0, 1), (0, 2, 1)], &[], 9, 16)
 }
 
 #[test]
@@ -127,7 +119,7 @@ fn takes_the_least_of_equals(rt: HostRuntime) -> Result<(), Fail> {
         plain_type(rt.alloc(), "M", 8, 4)?,
         plain_type(rt.alloc(), "N", 8, 4)?,
     ]?;
-    expect_plan(&rt, rt.alloc(), parts, &[(0, 0, 1)], 3, 8)
+    expect_plan(&rt, rt.alloc(), parts, &[(0, 0, 1)], &[], 3, 8)
 }
 
 // The longer shift gains 9, and then the shorter one has no more to gain.
@@ -138,7 +130,7 @@ fn takes_the_greatest_gain(rt: HostRuntime) -> Result<(), Fail> {
         plain_type(rt.alloc(), "M", 8, 4)?,
         plain_type(rt.alloc(), "L", 8, 6)?,
     ]?;
-    expect_plan(&rt, rt.alloc(), parts, &[(1, 0, 1)], 3, 12)
+    expect_plan(&rt, rt.alloc(), parts, &[(1, 0, 1)], &[], 3, 12)
 }
 
 // The shift from 12 on gains 13 and is taken first, then that from 8 on: the rows stand by shift.
@@ -154,5 +146,33 @@ fn orders_the_rows(rt: HostRuntime) -> Result<(), Fail> {
         plain_type(rt.alloc(), "M", 8, 4)?,
         plain_type(rt.alloc(), "L", 12, 8)?,
     ]?;
-    expect_plan(&rt, rt.alloc(), parts, &[(0, 0, 1), (1, 0, 1)], 6, 24)
+    expect_plan(&rt, rt.alloc(), parts, &[(0, 0, 1), (1, 0, 1)], &[], 6, 24)
+}
+
+/// A type of 8 hours from 8 on, each duty of which has a break of one slot, at least two slots away from both ends. No
+/// list is legal where a break must be longer.
+fn broken_type(alloc: Global, shortest: u16) -> Result<TypeParts, Fail> {
+    let mut kind = plain_type(alloc, "B", 8, 8)?;
+    kind.rule.lead = 2;
+    kind.rule.tail = 2;
+    kind.rule.size_min = shortest;
+    kind.rule.totals = Totals::new(vec![in alloc; (0u16, 1u16)]?);
+    Ok(kind)
+}
+
+// The break may begin at the offsets 2 to 5. The least list has it at 2, so that slot 10 stays short, and 12 has one too
+// many.
+#[test]
+fn takes_the_least_legal_list(rt: HostRuntime) -> Result<(), Fail> {
+    let mut parts = one_type(rt.alloc(), 1, &[8, 9, 10, 11, 13, 14, 15], 8)?;
+    parts.types = vec![in rt.alloc(); broken_type(rt.alloc(), 1)?]?;
+    let breaks = [Break { start: 2, len: 1 }];
+    expect_plan(&rt, rt.alloc(), parts, &[(0, 0, 1)], &breaks, 6, 14)
+}
+
+#[test]
+fn takes_no_shift_without_a_legal_list(rt: HostRuntime) -> Result<(), Fail> {
+    let mut parts = one_type(rt.alloc(), 1, &[8, 9, 10, 11, 13, 14, 15], 8)?;
+    parts.types = vec![in rt.alloc(); broken_type(rt.alloc(), 2)?]?;
+    expect_plan(&rt, rt.alloc(), parts, &[], &[], 14, 14)
 }

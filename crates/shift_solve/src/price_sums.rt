@@ -1,6 +1,6 @@
 //! Slot prices with their running sums.
 ghost use Rattle.std.specs.Prelude.{◌≡◌, ◌<◌, ◌≤◌, ◌*◌, length, IfOk};
-ghost use Rattle.shift_solve.specs.Sums.{ArePrices, AreSums, IsWithin, window_sum};
+ghost use Rattle.shift_solve.specs.Sums.{ArePrices, AreSums, IsWithin, sum_at, window_sum};
 
 use break_rules::NoMemory;
 use std::alloc::Global;
@@ -59,5 +59,19 @@ impl PriceSums {
         ensures small { IsWithin (2016 * 1000000) result }
     {
         self.sums[start + len] - self.sums[start]
+    }
+
+    /// The sum of the prices of the slots at these offsets from the slot `start` on.
+    pub(crate) fn sum_at(&self, start: usize, offsets: &[u16]) -> i64
+        requires start { start < length self.now }
+        requires few { length offsets.now ≤ 2016 }
+        ensures sum { result ≡ sum_at self.now start offsets.now }
+        ensures small { IsWithin (2016 * 1000000) result }
+    {
+        let mut sum = 0;
+        for offset in offsets {
+            sum += self.prices[(start + usize::from(*offset)) % self.prices.len()];
+        }
+        sum
     }
 }

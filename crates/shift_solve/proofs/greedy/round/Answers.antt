@@ -14,7 +14,7 @@ add_duties-requires-clause-shift c = taken_below c.args.instance.now c.in-Some.s
 pub returns-in-Some : goal.returns-in-Some
 returns-in-Some c = λ rounds h.
     round_goes_on c.args.instance.now rounds c.in-Some.shift c.args.tally.now.cover.items c.args.tally.now.heads.items c.add_duties.new.tally.cover.items c.add_duties.new.tally.heads.items c.in_ok-prices.prices
-    c.requires.plain c.in_ok-prices.ensures c.in-Some.ensures c.add_duties.ensures h
+    c.in_ok-prices.ensures c.in-Some.ensures c.add_duties.ensures h
 
 pub returns : goal.returns
 returns c = λ rounds h.
