@@ -1,12 +1,10 @@
 -- A round lowers the cost by the gain of the shift that it takes.
-use Rattle.std.proofs.Common.{◌≡◌, inl, inr, ℕ, zero, suc, ◌+◌, ◌-◌, ◌*◌, ◌/◌, ◌%◌, ◌<◌, ◌≤◌, ℤ, pos, neg_ℤ, ◌+ℤ◌, ◌-ℤ◌, ◌*ℤ◌, ◌<ℤ◌, Bool, true, false, cond, ◌&&◌, ◌||◌, ◌==◌, List, [], ◌∷◌, ◌++◌, map, length, refl, sym, ap, ◌∙◌, arith, count_by, sum_by, nat_lt, eq-eqb, Option, Some}
-use Rattle.std.specs.Prelude.{slice_get, int_lt, unwrap_or}
-use Rattle.std.specs.Ordering.{int_eq}
+use Rattle.std.proofs.Common.{◌≡◌, inl, inr, ℕ, zero, suc, ◌+◌, ◌-◌, ◌*◌, ◌/◌, ◌%◌, ◌<◌, ◌≤◌, ℤ, pos, neg_ℤ, ◌+ℤ◌, ◌-ℤ◌, ◌*ℤ◌, ◌<ℤ◌, Bool, true, false, cond, ◌&&◌, ◌||◌, ◌==◌, List, [], ◌∷◌, ◌++◌, length, refl, sym, ap, ◌∙◌, arith, count_by, sum_by, nat_lt, eq-eqb, Some}
+use Rattle.std.specs.Prelude.{slice_get}
 use Rattle.std.specs.Option.{option_map_or}
-use Rattle.std.specs.List.{list_any, find}
+use Rattle.std.specs.List.{list_any}
 use Rattle.std.proofs.lemmas.Int.{ints}
-use Rattle.std.proofs.lemmas.Bool.{and_parts, eqb-true, lt-ltb, le-ltb, cases_Bool, cases_lt, false≢true}
-use Rattle.std.proofs.lemmas.Bool.Decides.{Decides-int_eq}
+use Rattle.std.proofs.lemmas.Bool.{and_parts, eqb-true, lt-ltb, le-ltb, cases_Bool, cases_lt}
 use Rattle.std.proofs.lemmas.List.Folds.{list_any-append}
 use Rattle.std.proofs.lemmas.List.Sums.{sum_by-cons}
 use Rattle.std.proofs.lemmas.List.FromFn.{get_or-map-range_with_len}
@@ -15,19 +13,19 @@ use Rattle.std.proofs.Math.Nat.{mul-le-mul_right}
 use Rattle.break_rules.specs.declared.Break.{Break}
 use Rattle.break_rules.specs.declared.Rule.{Rule}
 use Rattle.break_rules.specs.Breaks.{works_at}
-use Rattle.break_rules.specs.Sums.{int_sum_by, greatest}
-use Rattle.break_rules.proofs.Lists.{Has, from_map, from_below, any_some, any_none, any_at, same_tests}
+use Rattle.break_rules.specs.Sums.{int_sum_by}
+use Rattle.break_rules.proofs.Lists.{Has, from_below, any_some, any_none, any_at, same_tests}
 use Rattle.break_rules.proofs.Counts.{count_by-append, count_by_same, count_by_none, sum_by_same, count_by_at_most, count_by-below}
-use Rattle.break_rules.proofs.Sums.{int_sum_by-cons, int_sum_by-same, int_sum_by-add, int_sum_by_swap, int_sum_by_if, int_sum_by_zero, greatest_reached, mul-suc, mul-zero}
+use Rattle.break_rules.proofs.Sums.{int_sum_by-cons, int_sum_by-same, int_sum_by-add, int_sum_by_swap, int_sum_by_if, int_sum_by_zero, mul-suc, mul-zero}
 use Rattle.shift_instance.specs.declared.Shift.{Shift}
 use Rattle.shift_instance.specs.declared.Duty.{Duty}
 use Rattle.shift_instance.specs.Problem.{Problem, slots, day_slots, need_at, shift_list, slot_of, below}
-use Rattle.shift_instance.specs.Rota.{lists_of, works, cover, slot_cost, is_used, shifts_used, cost}
+use Rattle.shift_instance.specs.Rota.{works, cover, slot_cost, is_used, shifts_used, cost}
 use Rattle.shift_instance.specs.Valid.{IsValid}
 use Rattle.shift_instance.specs.Worth.{price_of, earned}
 use Rattle.shift_instance.proofs.Offsets.{same_offset}
 use Rattle.shift_instance.proofs.Shifts.{some_at, Has_at, shift_within}
-use Rattle.shift_solve.specs.Greedy.{duty, marginal_price, marginal_prices, day_value, best_list, value_on, counts, gain, next_shift, new_duties, greedy_after, greedy_rota}
+use Rattle.shift_solve.specs.Greedy.{duty, marginal_price, marginal_prices, best_list, value_on, counts, gain, next_shift, new_duties, greedy_after, greedy_rota}
 use Rattle.shift_solve.proofs.Rounds.{best_earns, counts_parts, count_new, count_one, from_new_duties, next_gains, lt_true, next_cases, round_grows, round_some, round_none}
 
 times_one : (v : ℤ) → v *ℤ pos 1 ≡ v

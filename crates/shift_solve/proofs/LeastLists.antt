@@ -1,6 +1,6 @@
 -- The duties with which shifts are used: what one earns, and in which slots it works.
 use Rattle.std.proofs.Common.{◌≡◌, inl, inr, ℕ, zero, suc, ◌+◌, ◌*◌, ◌%◌, ◌<◌, ◌≤◌, ℤ, pos, Bool, true, false, cond, ◌&&◌, ◌||◌, ◌==◌, nat_lt, List, [], ◌∷◌, map, filter, length, refl, sym, ap, ◌∙◌, subst, arith, count_by, eq-eqb, Option, Some, None}
-use Rattle.std.specs.Prelude.{slice_get, unwrap_or}
+use Rattle.std.specs.Prelude.{slice_get, unwrap_or, IsSomeAnd}
 use Rattle.std.specs.Option.{option_map, option_map_or}
 use Rattle.std.specs.List.{list_any}
 use Rattle.std.proofs.lemmas.Bool.{and_from, and_parts, eqb-true, lt-ltb, cases_Bool}
@@ -15,12 +15,13 @@ use Rattle.break_rules.proofs.Counts.{count_by_at_most, count_by-below, count_by
 use Rattle.break_rules.specs.Sums.{int_sum_by}
 use Rattle.break_rules.proofs.Sums.{int_sum_by-same, int_sum_by-filter}
 use Rattle.shift_instance.specs.declared.Shift.{Shift}
+use Rattle.shift_instance.specs.Kind.{Kind}
 use Rattle.shift_instance.specs.Problem.{Problem, slots, day_slots, shift_list, slot_of, below}
 use Rattle.shift_instance.specs.Rota.{lists_of, works}
 use Rattle.shift_instance.specs.Valid.{IsValid}
 use Rattle.shift_instance.specs.Worth.{price_of, earned}
 use Rattle.shift_instance.proofs.Offsets.{earned_by_offsets, same_offset}
-use Rattle.shift_instance.proofs.Shifts.{some_at, Has_at, shift_within, shift_short}
+use Rattle.shift_instance.proofs.Shifts.{some_at, Has_at, kind_of, is_some_and_from, is_some_and_at, shift_short}
 use Rattle.shift_solve.specs.Greedy.{duty, least_list, best_list, day_value}
 use Rattle.shift_solve.specs.Least.{Working, working, least_duty, least_duties}
 use Rattle.shift_solve.specs.Sums.{sum_at, window_sum}
@@ -164,3 +165,28 @@ used_works i s day w x valid h t =
     same_offset start a b n (omega arith) (omega arith) (fa ∙ sym gb))
     ∙ sym (count_by-filter_and at p (below x.0.len))
     ∙ ap (λ os. count_by at os) (sym h.offsets)
+
+-- ---- shifts alike
+-- shifts of one type and one length have the same
+pub alike_step : (i : Problem) (k s : ℕ) (x y : Shift) → k < length (shift_list i) → s < length (shift_list i)
+    → IsSomeAnd (slice_get (shift_list i) k) (λ p. x ≡ p.0) → IsSomeAnd (slice_get (shift_list i) s) (λ p. y ≡ p.0) → x.kind ≡ y.kind → x.len ≡ y.len
+    → IsSomeAnd (slice_get (shift_list i) k) (λ p. IsSomeAnd (slice_get (shift_list i) s) (λ q. least_duty p ≡ least_duty q))
+alike_step i k s x y hk hs first own kinds lens =
+    let xs = shift_list i in
+    let a = some_at xs k hk in
+    let b = some_at xs s hs in
+    let ea : x ≡ a.0.0 = is_some_and_at _ (λ p. x ≡ p.0) a.0 a.1 first in
+    let eb : y ≡ b.0.0 = is_some_and_at _ (λ p. y ≡ p.0) b.0 b.1 own in
+    let ka = kind_of i a.0 (Has_at xs k a.0 a.1) in
+    let kb = kind_of i b.0 (Has_at xs s b.0 b.1) in
+    let kind : a.0.0.kind ≡ b.0.0.kind = ap (λ (z : Shift). z.kind) (sym ea) ∙ kinds ∙ ap (λ (z : Shift). z.kind) eb in
+    let len : a.0.0.len ≡ b.0.0.len = ap (λ (z : Shift). z.len) (sym ea) ∙ lens ∙ ap (λ (z : Shift). z.len) eb in
+    let q : Some ka.0 ≡ Some kb.0 = sym ka.1.at ∙ ap (slice_get i.kinds) kind ∙ kb.1.at in
+    let same : ka.0 ≡ kb.0 = cc in
+    let rule : a.0.1 ≡ b.0.1 = ka.1.rule ∙ ap (λ (z : Kind). z.rule) same ∙ sym kb.1.rule in
+    is_some_and_from _ _ a.0 a.1 (is_some_and_from _ _ b.0 b.1
+    (ap (λ r. option_map (working r a.0.0.len) (slice_get (legal_lists r a.0.0.len) 0)) rule
+    ∙ ap (λ n. option_map (working b.0.1 n) (slice_get (legal_lists b.0.1 n) 0)) len))
+
+pub alike_itself : (i : Problem) (s : ℕ) → s < length (shift_list i) → IsSomeAnd (slice_get (shift_list i) s) (λ p. IsSomeAnd (slice_get (shift_list i) s) (λ q. least_duty p ≡ least_duty q))
+alike_itself i s hs = let a = some_at (shift_list i) s hs in is_some_and_from _ _ a.0 a.1 (is_some_and_from _ _ a.0 a.1 refl)

@@ -31,7 +31,7 @@ use Rattle.shift_solve.proofs.Lengths.{legal_length}
 use Rattle.shift_solve.proofs.PlanRows.{rows_legal, rows_cost}
 use Rattle.shift_solve.proofs.Rounds.{HasBest, find_some, next_gains, round_legal, round_some, round_none, greedy_best, greedy_legal}
 use Rattle.shift_solve.proofs.LeastLists.{least_at, none_at, no_value, few_offsets, used_value, window_value}
-use Rattle.shift_solve.proofs.Ranges.{count_more, sum_more, int_sum_more, any_more, map_more, map_push, filter_more, flat_map_more}
+use Rattle.shift_solve.proofs.Ranges.{sum_more, int_sum_more, any_more, map_more, map_push, filter_more, flat_map_more}
 use Rattle.shift_solve.proofs.Tallied.{tallies_add, cover_short, tallied_prices_are, tallied_next_is, tallied_duties_are, tallied_cost_is, tallied_rows_are}
 
 -- a marginal price is no larger than a weight

@@ -1,5 +1,5 @@
 //! The duties with which the greedy plan uses shifts.
-ghost use Rattle.std.specs.Prelude.{◌≡◌, ◌<◌, ◌≤◌, length, slice_get, Some, IfOk, IsSomeAnd};
+ghost use Rattle.std.specs.Prelude.{◌≡◌, ◌<◌, ◌≤◌, length, map, take, slice_get, Some, IfOk, IsSomeAnd};
 ghost use Rattle.std.specs.Option.{option_copied};
 ghost use Rattle.shift_instance.specs.Problem.{shift_list};
 ghost use Rattle.shift_solve.specs.Least.{least_duties, least_duty, working};
@@ -85,6 +85,51 @@ fn shift_duty(alloc: Global, instance: &Instance, shift: u16) -> Result<Option<L
     }
 }
 
+/// The first shift of the same type and length as a shift, which has the same least duty.
+fn first_alike(instance: &Instance, shift: u16) -> u16
+    requires { shift < length (shift_list instance.now) }
+    ensures early { result ≤ shift }
+    ensures alike { IsSomeAnd (slice_get (shift_list instance.now) result) (λ x. IsSomeAnd (slice_get (shift_list instance.now) shift) (λ y. least_duty x ≡ least_duty y)) }
+{
+    let own = instance.shift(shift);
+    for other in 0..shift {
+        let found = instance.shift(other);
+        if found.kind == own.kind && found.len == own.len {
+            return other;
+        }
+    }
+    shift
+}
+
+/// An entry of the table, once more.
+fn entry_copy(alloc: Global, entry: &Option<LeastDuty>) -> Result<Option<LeastDuty>, NoMemory>
+    ensures { IfOk result (λ d. d ≡ entry.now) }
+{
+    match entry {
+        Some(least) => Ok(Some(least.copy(alloc)?)),
+        None => Ok(None),
+    }
+}
+
+/// The least duty of a shift, behind those of the shifts before it. It is looked for once for a type and a length.
+fn next_duty(
+    alloc: Global,
+    instance: &Instance,
+    before: &[Option<LeastDuty>],
+    shift: u16,
+) -> Result<Option<LeastDuty>, NoMemory>
+    requires shift { shift < length (shift_list instance.now) }
+    requires before { before.now ≡ map least_duty (take shift (shift_list instance.now)) }
+    ensures { IfOk result (λ d. IsSomeAnd (slice_get (shift_list instance.now) shift) (λ x. d ≡ least_duty x)) }
+{
+    let first = first_alike(instance, shift);
+    if first < shift {
+        let known = entry_copy(alloc, &before[usize::from(first)])?;
+        return Ok(known);
+    }
+    shift_duty(alloc, instance, shift)
+}
+
 /// The least duties of the shifts of an instance.
 #[derive(Drop)]
 pub(crate) struct LeastDuties {
@@ -107,7 +152,7 @@ impl LeastDuties {
     {
         let mut duties = Vec::new(alloc);
         for shift in 0..instance.shifts().len() as u16 {
-            duties.push(shift_duty(alloc, instance, shift)?)?;
+            duties.push(next_duty(alloc, instance, &duties, shift)?)?;
         }
         Ok(LeastDuties { duties })
     }
