@@ -1,6 +1,6 @@
 -- The two laws for each part of a post, and for all of the bytes.
-use Rattle.std.proofs.Common.{◌≡◌, inl, inr, ℕ, ◌^◌, eqb, List, [], ◌∷◌, ◌++◌, length, Result, Ok, Err, refl, sym, ap, subst, ◌∙◌, ◌-◌, ◌≤◌, arith}
-use Rattle.std.specs.Prelude.{IfOk, IfErr, Vec}
+use Rattle.std.proofs.Common.{◌≡◌, inl, inr, ℕ, ◌^◌, eqb, List, [], ◌∷◌, ◌++◌, length, Result, Ok, Err, refl, sym, ap, subst, ◌∙◌}
+use Rattle.std.specs.Prelude.{IfOk, Vec}
 use Rattle.std.specs.declared.alloc.Global.{Global}
 use Rattle.std.specs.Int.{w16, w32}
 use Rattle.std.proofs.lemmas.List.{append-nil}
@@ -8,9 +8,8 @@ use Rattle.std.proofs.lemmas.Bool.{eqb-true}
 use Rattle.post_codec.specs.declared.post.Post.{Post}
 use Rattle.post_codec.specs.declared.post.Post.TheVariants.{Plan}
 use Rattle.post_codec.specs.declared.fault.CodecFault.{CodecFault}
-use Rattle.post_codec.specs.declared.fault.CodecFault.TheVariants.{Departs, NoMemory}
 use Rattle.post_codec.specs.Spelling.{u16_bytes, u32_bytes, u64_bytes, break_bytes, breaks_bytes, row_bytes, rows_bytes, post_bytes, spelling, FitsBreak, FitsBreaks, FitsRow, FitsRows, FitsPost, FitsPosts, Spells}
-use Rattle.post_codec.specs.Reading.{◌then◌, byte_at, number_at, to_break, break_at, breaks_at, to_row, row_at, rows_at, to_plan, plan_at, post_at, posts_at, ended, by_offset, whole, reading, IsRead, IsWithin}
+use Rattle.post_codec.specs.Reading.{◌then◌, byte_at, number_at, to_break, break_at, breaks_at, to_row, row_at, rows_at, to_plan, plan_at, post_at, posts_at, ended, by_offset, whole, reading, IsRead}
 use Rattle.post_codec.proofs.Laws.{AreBytes, bound, same, Took, Inverse, pair, tagged, chosen, tail_bytes, byte, number_16, number_32, number_64, many, made_of}
 
 pub break : Inverse FitsBreak break_bytes break_at
@@ -91,15 +90,3 @@ reads_spelling ps h = rw (whole_again ps h) refl
 pub one_list : (bytes : List ℕ) (ps qs : List Post) → Spells bytes ps → Spells bytes qs → ps ≡ qs
 one_list bytes ps qs a b =
     same ps qs (sym (reads_spelling ps a.fits) ∙ ap reading (sym a.is ∙ b.is) ∙ reads_spelling qs b.fits)
-
-offset_within : (n : ℕ) (r : Result (List Post) ℕ) (at : ℕ) → by_offset n r ≡ Err at → at ≤ n
-offset_within n (Ok x) at e = absurd cc
-offset_within n (Err left) at e =
-    let is : n - left ≡ at = cc in
-    omega (arith, is)
-
--- a fault lies within the bytes, or at their end
-pub within : (bytes : List ℕ) (r : Result (Vec Post Global) CodecFault) → IsRead r (reading bytes) → IfErr r (λ e. IsWithin (length bytes) e)
-within bytes (Ok v) h = tt
-within bytes (Err (Departs at)) h = offset_within (length bytes) (whole bytes) at h
-within bytes (Err NoMemory) h = tt

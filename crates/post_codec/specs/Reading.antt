@@ -1,5 +1,5 @@
--- The same format read from left to right, with the first fault that is met.
-use Rattle.std.specs.Prelude.{◌≡◌, ℕ, zero, suc, ◌-◌, ◌≤◌, List, [], ◌∷◌, length, take, drop, Result, Ok, Err, Vec, nat_lt, ◌==◌, if◌then◌else◌}
+-- How the parts of a spelling are read, one after the other. Contracts of private functions speak of it; what `read` answers is told without it.
+use Rattle.std.specs.Prelude.{◌≡◌, ℕ, zero, suc, ◌-◌, List, [], ◌∷◌, length, take, drop, Result, Ok, Err, Vec, nat_lt, ◌==◌, if◌then◌else◌}
 use Rattle.std.specs.declared.alloc.Global.{Global}
 use Rattle.std.specs.Int.{Width, w16, w32, w64, byte_len, from_le_bytes}
 use Rattle.break_rules.specs.declared.Break.{Break}
@@ -125,8 +125,3 @@ Tells NoMemory read = Unit {0}
 abbrev pub IsRead : Result (Vec Post Global) CodecFault → Result (List Post) ℕ → Type 0
 IsRead (Ok v) read = read ≡ Ok v.items
 IsRead (Err e) read = Tells e read
-
--- a fault's offset is one of bytes of that length, or their end
-abbrev pub IsWithin : ℕ → CodecFault → Type 0
-IsWithin len (Departs at) = at ≤ len
-IsWithin len NoMemory = Unit {0}

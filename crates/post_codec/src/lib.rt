@@ -12,6 +12,7 @@ mod reading;
 mod tests;
 mod writing;
 
+ghost use Rattle.post_codec.specs.Fields.{FieldsSpell};
 ghost use Rattle.post_codec.specs.Spelling.{EachSpellsOnce, EachIsSpelledOnce};
 
 pub use fault::CodecFault;
@@ -19,8 +20,9 @@ pub use post::Post;
 pub use reading::read;
 pub use writing::write;
 
-/// A law: no bytes spell two lists of posts, and no list has two spellings.
+/// A law: no bytes spell two lists of posts, no list has two spellings, and a list's fields are its spelling in pieces.
 pub fn one_spelling()
     ensures lists { EachSpellsOnce }
     ensures spellings { EachIsSpelledOnce }
+    ensures fields { FieldsSpell }
 {}

@@ -1,9 +1,10 @@
 //! Bytes read as posts.
-ghost use Rattle.std.specs.Prelude.{◌≡◌, List, Ok, IfOk, IfErr, length};
+ghost use Rattle.std.specs.Prelude.{◌≡◌, List, IfOk, IfErr};
 ghost use Rattle.std.specs.Int.{w16, w32, w64};
 ghost use Rattle.post_codec.specs.declared.post.Post.{Post as APost};
 ghost use Rattle.post_codec.specs.Spelling.{Spells};
-ghost use Rattle.post_codec.specs.Reading.{Gives, IsRead, IsWithin, byte_at, number_at, break_at, breaks_at, row_at, rows_at, times, plan_at, post_at, posts_at, whole, reading};
+ghost use Rattle.post_codec.specs.Fields.{IsFaultOf, GivesPosts};
+ghost use Rattle.post_codec.specs.Reading.{Gives, IsRead, byte_at, number_at, break_at, breaks_at, row_at, rows_at, times, plan_at, post_at, posts_at, whole, reading};
 
 use crate::fault::{CodecFault, Stop};
 use crate::post::Post;
@@ -207,17 +208,17 @@ fn posts_or_offset(alloc: Global, bytes: &[u8]) -> Result<Vec<Post>, CodecFault>
 
 /// The posts that the bytes spell, all of the bytes, in their order.
 ///
-/// `Departs` comes exactly where the bytes spell no posts, with the offset of the first fault, unless memory runs out before.
-/// Whether the numbers of a post make sense isn't judged. The work grows with the number of bytes.
+/// `Departs` comes exactly where the bytes spell no posts, unless memory runs out before. Its offset is that of the first
+/// field that isn't whole, of the first tag of no kind of post, or of the first byte after the last post: the bytes up to it
+/// are whole fields of the spelling of some posts, and no more of the bytes are. Whether the numbers of a post make sense
+/// isn't judged. The work grows with the number of bytes.
 pub fn read(alloc: Global, bytes: &[u8]) -> Result<Vec<Post>, CodecFault>
     // What is read is spelled so.
     ensures found { IfOk result (λ posts. Spells bytes.now posts.items) }
     // What is spelled so is read, unless memory runs out.
-    ensures only { (posts : List APost) → Spells bytes.now posts → IsRead result (Ok posts) }
-    // Else it is the first fault that is met from left to right,
-    ensures fault { IsRead result (reading bytes.now) }
-    // and that lies within the bytes, or at their end.
-    ensures within { IfErr result (λ e. IsWithin (length bytes.now) e) }
+    ensures only { (posts : List APost) → Spells bytes.now posts → GivesPosts result posts }
+    // Else the fault is where the bytes depart from every spelling.
+    ensures fault { IfErr result (IsFaultOf bytes.now) }
 {
     posts_or_offset(alloc, bytes)
 }

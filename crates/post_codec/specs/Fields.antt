@@ -1,0 +1,69 @@
+-- The fields of a spelling, and where bytes depart from every spelling.
+-- Source: this project's own format.
+use Rattle.std.specs.Prelude.{◌≡◌, ℕ, ◌≤◌, List, [], ◌∷◌, length, take, ⊤, Result, Ok, Err, Vec}
+use Rattle.std.specs.declared.alloc.Global.{Global}
+use Rattle.std.specs.List.{flat_map}
+use Rattle.break_rules.specs.declared.Break.{Break}
+use Rattle.shift_instance.specs.declared.Row.{Row}
+use Rattle.post_codec.specs.declared.post.Post.{Post}
+use Rattle.post_codec.specs.declared.post.Post.TheVariants.{Plan}
+use Rattle.post_codec.specs.declared.fault.CodecFault.{CodecFault}
+use Rattle.post_codec.specs.declared.fault.CodecFault.TheVariants.{Departs, NoMemory}
+use Rattle.post_codec.specs.Spelling.{u16_bytes, u32_bytes, u64_bytes, spelling, FitsPosts, Spells}
+
+-- a break: its start and its length
+abbrev pub break_fields : Break → List (List ℕ)
+break_fields b = u16_bytes b.start ∷ u16_bytes b.len ∷ []
+
+-- breaks: their number, and the fields of each
+abbrev pub breaks_fields : List Break → List (List ℕ)
+breaks_fields bs = (length bs ∷ []) ∷ flat_map break_fields bs
+
+-- a row: its shift, its day, its count and its breaks
+abbrev pub row_fields : Row → List (List ℕ)
+row_fields r = u16_bytes r.shift ∷ (r.day ∷ []) ∷ u16_bytes r.count ∷ breaks_fields r.breaks
+
+-- rows: their number, and the fields of each
+abbrev pub rows_fields : List Row → List (List ℕ)
+rows_fields rs = u32_bytes (length rs) ∷ flat_map row_fields rs
+
+-- a post: its tag, which alone is 1 for a plan, and then its worker, its cost and its rows
+abbrev pub post_fields : Post → List (List ℕ)
+post_fields (Plan worker rows cost) = (1 ∷ []) ∷ u16_bytes worker ∷ u64_bytes cost ∷ rows_fields rows
+
+-- posts: their number, and the fields of each
+abbrev pub posts_fields : List Post → List (List ℕ)
+posts_fields ps = u16_bytes (length ps) ∷ flat_map post_fields ps
+
+-- the bytes of fields, one field after the other
+abbrev pub bytes_of : List (List ℕ) → List ℕ
+bytes_of fields = flat_map (λ field. field) fields
+
+-- a list's fields are its spelling in pieces
+abbrev pub FieldsSpell : Type 0
+FieldsSpell = (ps : List Post) → bytes_of (posts_fields ps) ≡ spelling ps
+
+-- these bytes are the first fields of the spelling of some posts, each of them whole
+pub record AreFirstFields (bytes : List ℕ) : Type 0 where
+  pub posts : List Post
+  pub fits : FitsPosts posts
+  pub count : ℕ
+  pub is : bytes ≡ bytes_of (take count (posts_fields posts))
+
+-- the bytes spell no posts; up to this offset, and to none behind it, they are first fields of some posts
+pub record DepartAt (bytes : List ℕ) (at : ℕ) : Type 0 where
+  pub none : (ps : List Post) → Spells bytes ps → ⊥
+  pub within : at ≤ length bytes
+  pub before : AreFirstFields (take at bytes)
+  pub last : (n : ℕ) → n ≤ length bytes → AreFirstFields (take n bytes) → n ≤ at
+
+-- why bytes aren't read: they depart from every spelling there, or no memory is left
+abbrev pub IsFaultOf : List ℕ → CodecFault → Type 0
+IsFaultOf bytes (Departs at) = DepartAt bytes at
+IsFaultOf bytes NoMemory = ⊤
+
+-- the answer is these posts, unless memory ran out
+abbrev pub GivesPosts : Result (Vec Post Global) CodecFault → List Post → Type 0
+GivesPosts (Ok v) posts = v.items ≡ posts
+GivesPosts (Err (Departs at)) posts = ⊥
+GivesPosts (Err NoMemory) posts = ⊤
