@@ -151,7 +151,7 @@ abbrev pub session_of : {D : Type 0} (reads : D → Option (List ℕ)) (images :
     → Session (met_of reads images images_since calls faults entry new.disk) i
 session_of reads images images_since calls faults entry i old new added flight last known grows ends =
     let running = subst (λ (v : BookView _). flight ≡ [] → IsRunning reads images calls (grown v new added flight)) known.same
-        (subst (λ (v : BookView _). v.in_flight ≡ [] → IsRunning reads images calls v) grows known.running) in
+    (subst (λ (v : BookView _). v.in_flight ≡ [] → IsRunning reads images calls v) grows known.running) in
     record {
       opening = old.history;
       first = record { best = known.folds.best; cost = old.cost };
@@ -188,8 +188,7 @@ pub over_disk : {D : Type 0} (reads : D → Option (List ℕ)) (images : D → L
 over_disk reads images images_since calls faults entry i old new sink Optimal known folds later e =
     let of : new.instance ≡ i = instance_of i old new (posts_over i old.cost) [] (ap (λ (v : BookView _). v.instance) known.same) e.0 in
     let last : Book = record { best = e.1.best; cost = new.cost } in
-    let s = session_of reads images images_since calls faults entry i old new (posts_over i old.cost) [] last known e.0 (ends_of reads images images_since calls entry i old new (posts_over i old.cost) [] last known e.0 e.1.folds) in
-    (
+    let s = session_of reads images images_since calls faults entry i old new (posts_over i old.cost) [] last known e.0 (ends_of reads images images_since calls entry i old new (posts_over i old.cost) [] last known e.0 e.1.folds) in (
       refl,
       s,
       record { added = refl; landed = refl },
@@ -200,8 +199,7 @@ over_disk reads images images_since calls faults entry i old new sink Optimal kn
 over_disk reads images images_since calls faults entry i old new sink Budget known folds later e =
     let of : new.instance ≡ i = instance_of i old new (posts_over i old.cost) [] (ap (λ (v : BookView _). v.instance) known.same) e.0 in
     let last : Book = record { best = e.1.best; cost = new.cost } in
-    let s = session_of reads images images_since calls faults entry i old new (posts_over i old.cost) [] last known e.0 (ends_of reads images images_since calls entry i old new (posts_over i old.cost) [] last known e.0 e.1.folds) in
-    (
+    let s = session_of reads images images_since calls faults entry i old new (posts_over i old.cost) [] last known e.0 (ends_of reads images images_since calls entry i old new (posts_over i old.cost) [] last known e.0 e.1.folds) in (
       refl,
       s,
       record { added = refl; landed = refl },
@@ -211,8 +209,7 @@ over_disk reads images images_since calls faults entry i old new sink Budget kno
 over_disk reads images images_since calls faults entry i old new sink (Full end limit) known folds later e =
     let of : new.instance ≡ i = instance_of i old new [] [] (ap (λ (v : BookView _). v.instance) known.same) e.0.grown in
     let last : Book = record { best = e.1.best; cost = new.cost } in
-    let s = session_of reads images images_since calls faults entry i old new [] [] last known e.0.grown (ends_of reads images images_since calls entry i old new [] [] last known e.0.grown e.1.folds) in
-    (
+    let s = session_of reads images images_since calls faults entry i old new [] [] last known e.0.grown (ends_of reads images images_since calls entry i old new [] [] last known e.0.grown e.1.folds) in (
       refl,
       s,
       record { added = refl; landed = refl; cheaper = e.0.cheaper; ends = e.0.ends; most = e.0.most ∙ ap (λ (v : BookView _). v.limit) known.same; over = e.0.over },
@@ -225,8 +222,7 @@ over_disk reads images images_since calls faults entry i old new sink WriteFault
     let s = session_of reads images images_since calls faults entry i old new (posts_over i old.cost) [] last known posted (ends_of reads images images_since calls entry i old new (posts_over i old.cost) [] last known posted e.1.folds) in
     (refl, s, inl (record { added = refl; landed = refl }), record { written = e.1.written; cause = e.1.cause }))
     (λ full.
-    let s = session_of reads images images_since calls faults entry i old new [] [] last known full.2.grown (ends_of reads images images_since calls entry i old new [] [] last known full.2.grown e.1.folds) in
-    (
+    let s = session_of reads images images_since calls faults entry i old new [] [] last known full.2.grown (ends_of reads images images_since calls entry i old new [] [] last known full.2.grown e.1.folds) in (
       refl,
       s,
       inr (full.0, full.1, record { added = refl; landed = refl; cheaper = full.2.cheaper; ends = full.2.ends; most = full.2.most ∙ ap (λ (v : BookView _). v.limit) known.same; over = full.2.over }),

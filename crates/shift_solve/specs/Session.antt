@@ -72,7 +72,7 @@ pub record Session (met : DiskMet) (i : Problem) : Type 0 where
   pub tells : OnSome met.file (IsSome met.file_after)
   -- each image since the b-th record was acknowledged holds a front of all posts with the opening ones and those b in it
   pub lasts : OnSome met.file_after ((b : ℕ) (image : List ℕ) → b ≤ length added → met.images_since (since + 4 * b) image
-    → HoldsFront JOURNAL_MAX i ((opening ++ added) ++ in_flight) (length opening + b) image)
+      → HoldsFront JOURNAL_MAX i ((opening ++ added) ++ in_flight) (length opening + b) image)
   -- where no record ended in a disk fault, the disk holds these posts and nothing else
   pub kept : in_flight ≡ [] → IfSome met.file_after (IsOnlyJournal met i (opening ++ added))
   pub time : in_flight ≡ [] → met.calls.1 ≡ since + 4 * length added

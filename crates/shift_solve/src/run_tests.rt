@@ -174,7 +174,13 @@ fn other_files_are_refused_and_left(rt: HostRuntime) -> Result<(), Fail> {
     }
     let cut = whole.disk.bytes().get(..412).unwrap_or_default();
     let torn = whole.disk.bytes().get(..100).unwrap_or_default();
-    for content in [b"no journal".as_slice(), torn, cut, other.as_slice(), open.as_slice()] {
+    for content in [
+        b"no journal".as_slice(),
+        torn,
+        cut,
+        other.as_slice(),
+        open.as_slice(),
+    ] {
         let ran = run_over(alloc, content, 0)?;
         assert_eq!(rt; (ran.number, ran.opened), (9, false));
         assert_eq!(rt; ran.line.as_str(), "journal refused: 6");
@@ -198,7 +204,11 @@ fn other_words_are_usage(rt: HostRuntime) -> Result<(), Fail> {
         "solve J --",
     ] {
         let ran = run(alloc, words, text.as_bytes(), 100000, 0, 0)?;
-        assert_eq!(rt; (ran.number, ran.opened, ran.disk.calls()), (2, false, 0), "{words}");
+        assert_eq!(rt;
+            (ran.number, ran.opened, ran.disk.calls()),
+            (2, false, 0),
+            "{words}"
+        );
         assert!(rt; ran.line.as_str().starts_with("usage: solve JOURNAL "));
         assert!(rt; ran.written.is_empty());
     }
@@ -299,9 +309,17 @@ fn a_failing_write_leaves_the_beginning(rt: HostRuntime) -> Result<(), Fail> {
     let text = document(alloc, MORNING, "null")?;
     for (most, call, held) in [(100000usize, 1u64, 0usize), (1, 21, 20), (20, 2, 20)] {
         let ran = run(alloc, "solve J", text.as_bytes(), most, 0, call)?;
-        assert_eq!(rt; (ran.number, ran.written.len()), (6, held), "at write {call}");
+        assert_eq!(rt;
+            (ran.number, ran.written.len()),
+            (6, held),
+            "at write {call}"
+        );
         assert_eq!(rt; ran.line.as_str(), "write fault");
-        assert!(rt; MORNING_REPORT.as_bytes().starts_with(ran.written.as_slice()));
+        assert!(rt;
+            MORNING_REPORT
+                .as_bytes()
+                .starts_with(ran.written.as_slice())
+        );
     }
     Ok(())
 }
@@ -325,7 +343,14 @@ fn each_status_has_its_number_and_line(rt: HostRuntime) -> Result<(), Fail> {
         (Status::DiskFault, 7, "disk fault"),
         (Status::NoMemory, 8, "no memory"),
         (Status::Journal(BookFault::NotYet), 9, "journal refused: 6"),
-        (Status::Full { end: 622, limit: 500 }, 11, "stopped: journal full, 622 of 500 bytes"),
+        (
+            Status::Full {
+                end: 622,
+                limit: 500,
+            },
+            11,
+            "stopped: journal full, 622 of 500 bytes",
+        ),
     ] {
         assert_eq!(rt; status.number(), number);
         assert_eq!(rt; status_line(alloc, &status)?.as_str(), line);

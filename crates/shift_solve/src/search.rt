@@ -44,11 +44,7 @@ fn post_greedy<D: Disk>(
 }
 
 /// Writes the report of a book's best plan.
-fn write_report<K: Sink, D: Disk>(
-    alloc: Global,
-    book: &Book<D>,
-    out: &mut K,
-) -> Result<(), Status>
+fn write_report<K: Sink, D: Disk>(alloc: Global, book: &Book<D>, out: &mut K) -> Result<(), Status>
     ensures ok { OnOk result (IsReported book.now (K.held out.old) (K.held out.new)) }
     ensures err { IfErr result (Unwritten book.now (K.held out.old) (K.held out.new) (K.faults out.old, K.faults out.new)) }
     ensures unwritten { IfErr result (λ status. EndsUnwritten status → out.new ≡ out.old) }
