@@ -1,12 +1,10 @@
 -- From a search over a book to what a run says of it.
-use Rattle.std.proofs.Common.{◌≡◌, ⊎_elim, inl, inr, ◌∙◌, sym, ap, subst, refl, ℕ, ◌+◌, ◌*◌, ◌<◌, ◌≤◌, List, [], ◌∷◌, ◌++◌, length, arith}
+use Rattle.std.proofs.Common.{◌≡◌, ⊎_elim, inl, inr, ◌∙◌, sym, ap, subst, refl, ℕ, ◌+◌, ◌<◌, ◌≤◌, List, [], ◌∷◌, ◌++◌, length, arith}
 use Rattle.std.specs.Prelude.{Option, Some, None, OnSome, IfSome, IsSome, Bool, true, false, if◌then◌else◌}
 use Rattle.std.proofs.lemmas.Bool.{lt-ltb, le-ltb, false≢true}
 use Rattle.std.proofs.lemmas.List.{append-nil}
-use Rattle.std.specs.Io.KnownBytes.{Appends}
 use Rattle.plan_base.specs.Causes.{Rose}
 use Rattle.plan_base.specs.Disk.{TellsAlike}
-use Rattle.plan_base.specs.Streams.{AppendsPart}
 use Rattle.gated_journal.specs.declared.TheConstants.{JOURNAL_MAX}
 use Rattle.post_codec.specs.declared.post.Post.{Post}
 use Rattle.shift_instance.specs.Problem.{Problem}
@@ -15,15 +13,14 @@ use Rattle.search_book.specs.declared.fault.Kept.{Kept}
 use Rattle.search_book.specs.declared.fault.Shutting.{Shutting}
 use Rattle.search_book.specs.declared.fault.Shutting.TheVariants.{DiskFault as ByDisk, Full as ByLimit}
 use Rattle.search_book.specs.Fold.{Book, book_of, IsFoldAt, IsSound}
-use Rattle.search_book.specs.Front.{Lasts, IsRunning, HoldsFront}
+use Rattle.search_book.specs.Front.{Lasts, IsRunning}
 use Rattle.search_book.specs.Opening.{IsOpenedFrom}
 use Rattle.search_book.specs.Posting.{Posts, PostFails, plan_of, rows_cost, with_plan, end_with}
 use Rattle.search_book.specs.View.{BookView}
 use Rattle.shift_solve.specs.Greedy.{greedy_rows}
-use Rattle.shift_solve.specs.Report.{report_text}
-use Rattle.shift_solve.specs.Run.{SinkMet, Reports, ReportsPart, KeepsGreedy, IsFull, IsTorn, IsUnbeaten, OverDisk, report_of}
-use Rattle.shift_solve.specs.Search.{grown, Grows, IsPosted, IsReported, IsReportedPart, Overflows, Tears, SearchEnds}
-use Rattle.shift_solve.specs.Session.{DiskMet, met_of, Session, greedy_post, greedy_cost, posts_over}
+use Rattle.shift_solve.specs.Run.{SinkMet, OverDisk}
+use Rattle.shift_solve.specs.Search.{grown, Grows, IsPosted, Overflows, Tears, SearchEnds}
+use Rattle.shift_solve.specs.Session.{met_of, Session, greedy_post, greedy_cost, posts_over}
 use Rattle.shift_solve.specs.declared.status.Status.{Status}
 use Rattle.shift_solve.specs.declared.status.Status.TheVariants.{Optimal, Budget, Full, Usage, Input, ReadFault, WriteFault, DiskFault, NoMemory, Journal}
 

@@ -1,5 +1,5 @@
 -- What a run makes of the book that it opens on its disk.
-use Rattle.std.specs.Prelude.{◌≡◌, ℕ, ◌+◌, ◌*◌, ◌≤◌, Bool, nat_lt, if◌then◌else◌, List, [], ◌∷◌, ◌++◌, length, Option, Some, IsSome, IfSome, OnSome}
+use Rattle.std.specs.Prelude.{◌≡◌, ℕ, ◌+◌, ◌*◌, ◌≤◌, nat_lt, if◌then◌else◌, List, [], ◌∷◌, ◌++◌, length, Option, Some, IsSome, IfSome, OnSome}
 use Rattle.plan_base.specs.Disk.{IsOnlyImage}
 use Rattle.gated_journal.specs.declared.TheConstants.{JOURNAL_MAX}
 use Rattle.post_codec.specs.declared.post.Post.{Post}

@@ -1,7 +1,4 @@
-use Rattle.std.proofs.Common.{◌≡◌, ◌∙◌, [], ap, subst, sym, refl, true}
-use Rattle.shift_instance.specs.Problem.{Problem}
-use Rattle.gated_journal.specs.declared.TheConstants.{JOURNAL_MAX}
-use Rattle.search_book.specs.Fold.{IsFoldAt}
+use Rattle.std.proofs.Common.{subst, sym, true}
 use Rattle.shift_solve.specs.Run.{OverDisk, SinkMet}
 use Rattle.shift_solve.specs.Session.{met_of}
 use Rattle.shift_solve.proofs.Sessions.{known, over_disk}
