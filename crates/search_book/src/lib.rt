@@ -4,6 +4,8 @@
 
 mod book;
 mod copying;
+#[cfg(test)]
+mod crash_tests;
 mod fault;
 mod folding;
 mod laws;
@@ -12,6 +14,8 @@ mod reading;
 mod record_log;
 mod sends;
 mod spelling;
+#[cfg(test)]
+mod test_books;
 #[cfg(test)]
 mod tests;
 

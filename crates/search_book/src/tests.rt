@@ -1,141 +1,40 @@
 //! Books on disks in memory.
-ghost use Rattle.std.specs.Prelude.{◌≡◌, ◌^◌, ◌<◌, IfOk};
-
-use crate::{Book, BookFault, CommitFault, Kept, Unopened};
-use break_rules::{Breaks, Rule};
-use instance_json::canonical;
-use plan_base::{Disk, MemDisk};
-use rota_cost::legal_rows;
-use shift_instance::{Instance, Parts, Row, Rows, TypeParts};
-use std::alloc::Global;
-use std::process::Abort;
+use crate::test_books::{KEPT, LIMIT, journal, one_duty, one_shift, open, post};
+use crate::{CommitFault, Kept};
+use plan_base::MemDisk;
 use std::test::Fail;
-
-const LIMIT: u32 = 1 << 26;
-
-/// Hour slots of one day, of which 8 to 11 need an employee; at most one duty of a shift; the costs 1 of excess, 2 of
-/// shortage and so much of a shift used; and one shift, of 4 hours from 8 on.
-fn one_shift(alloc: Global, shift: u32) -> Result<Instance, Fail> {
-    let mut need = vec![in alloc; 0u32; 24]?;
-    for t in 8..12usize {
-        if let Some(n) = need.get_mut(t) {
-            *n = 1;
-        }
-    }
-    let kind = TypeParts {
-        name: String::from_str(alloc, "M")?,
-        start_min: 8,
-        start_max: 8,
-        len_min: 4,
-        len_max: 4,
-        rule: Rule::plain(alloc)?,
-    };
-    Ok(Instance::new(
-        alloc,
-        Parts {
-            slot_minutes: 60,
-            days: 1,
-            need,
-            max_heads: 1,
-            excess: 1,
-            shortage: 2,
-            shift,
-            types: vec![in alloc; kind]?,
-        },
-    )?)
-}
-
-/// One duty of the shift.
-fn one_duty(alloc: Global) -> Result<Rows, Fail> {
-    let row = Row {
-        shift: 0,
-        day: 0,
-        breaks: Breaks::new(Vec::new(alloc)),
-        count: 1,
-    };
-    Ok(Rows::new(vec![in alloc; row]?))
-}
-
-/// Opens a book, whose head has room.
-fn open(
-    rt: &impl Abort,
-    alloc: Global,
-    instance: &Instance,
-    disk: MemDisk,
-    limit: u32,
-) -> Result<Result<Book<MemDisk>, Unopened<MemDisk>>, Fail>
-    requires { ⟦<MemDisk as Disk>⟧.calls disk < 2 ^ 62 }
-    ensures { IfOk result (λ opened. IfOk opened (λ book. book.instance ≡ instance.now)) }
-{
-    let head = canonical(alloc, instance)?;
-    assert!(rt; head.len() < 1 << 20);
-    assert!(rt; 13 + head.len() as u32 <= limit);
-    assert!(rt; limit <= 1 << 26);
-    Ok(Book::open(alloc, instance, disk, 0, limit))
-}
-
-/// Posts rows that are legal.
-fn post<D: Disk>(
-    rt: &impl Abort,
-    instance: &Instance,
-    book: &mut Book<D>,
-    rows: Rows,
-) -> Result<Kept, CommitFault>
-    requires { book.old.instance ≡ instance.now }
-    ensures { book.new.instance ≡ instance.now }
-{
-    assert!(rt; legal_rows(instance, &rows).is_ok());
-    book.post(rows)
-}
-
-const KEPT: Kept = Kept {
-    plan: true,
-    records: 1,
-    best: 3,
-    floor: 0,
-};
-
-/// A disk with the journal of one plan.
-fn one_plan(rt: &impl Abort, alloc: Global, instance: &Instance) -> Result<MemDisk, Fail> {
-    let disk = MemDisk::new(alloc, Vec::new(alloc), Vec::new(alloc));
-    let Ok(mut book) = open(rt, alloc, instance, disk, LIMIT)? else {
-        assert!(rt; false);
-        return Ok(MemDisk::new(alloc, Vec::new(alloc), Vec::new(alloc)));
-    };
-    let answer = post(rt, instance, &mut book, one_duty(alloc)?);
-    assert_eq!(rt; answer, Ok(KEPT));
-    Ok(book.into_disk())
-}
 
 #[test]
 fn a_plan_is_posted(rt: HostRuntime) -> Result<(), Fail> {
     let alloc = rt.alloc();
     let instance = one_shift(alloc, 3)?;
-    let disk = one_plan(&rt, alloc, &instance)?;
-    assert_eq!(rt; disk.bytes().len(), 413);
-    assert_eq!(rt; disk.calls(), 8);
+    for (plan, length, calls) in [(false, 385usize, 4u64), (true, 413, 8)] {
+        let disk = journal(&rt, alloc, &instance, plan)?;
+        assert_eq!(rt; (disk.bytes().len(), disk.calls()), (length, calls));
+    }
     Ok(())
 }
 
 #[test]
-fn a_new_journal_takes_four_calls(rt: HostRuntime) -> Result<(), Fail> {
+fn a_plan_is_found_again(rt: HostRuntime) -> Result<(), Fail> {
     let alloc = rt.alloc();
     let instance = one_shift(alloc, 3)?;
-    let disk = MemDisk::new(alloc, Vec::new(alloc), Vec::new(alloc));
-    match open(&rt, alloc, &instance, disk, 385)? {
-        Ok(book) => {
-            let disk = book.into_disk();
-            assert_eq!(rt; (disk.bytes().len(), disk.calls()), (385, 4));
-        }
-        Err(_) => assert!(rt; false),
-    }
-    for call in [1u64, 2, 3, 4] {
-        let disk = MemDisk::new(alloc, Vec::new(alloc), vec![in alloc; call; 1]?);
-        match open(&rt, alloc, &instance, disk, LIMIT)? {
-            Ok(_) => assert!(rt; false),
-            Err(unopened) => assert_eq!(rt; unopened.fault, BookFault::DiskFault),
-        }
-    }
+    let disk = journal(&rt, alloc, &instance, true)?.image(None)?;
+    let Ok(mut book) = open(&rt, alloc, &instance, disk, 413)? else {
+        assert!(rt; false);
+        return Ok(());
+    };
+    assert_eq!(rt; (book.best_cost(), book.floor(), book.posts()), (3, 0, 1));
+    assert_eq!(rt; (book.best().len(), book.history().len()), (1, 1));
+    let same = Kept {
+        plan: false,
+        records: 0,
+        best: 3,
+        floor: 0,
+    };
+    assert_eq!(rt; post(&rt, &instance, &mut book, one_duty(alloc)?), Ok(same));
+    assert_eq!(rt; book.batches(), 0);
+    assert_eq!(rt; book.into_disk().bytes().len(), 413);
     Ok(())
 }
 
@@ -143,13 +42,8 @@ fn a_new_journal_takes_four_calls(rt: HostRuntime) -> Result<(), Fail> {
 fn another_gate_ends_the_journal(rt: HostRuntime) -> Result<(), Fail> {
     let alloc = rt.alloc();
     let instance = one_shift(alloc, 3)?;
-    let disk = MemDisk::new(alloc, Vec::new(alloc), Vec::new(alloc));
-    let Ok(mut book) = open(&rt, alloc, &instance, disk, LIMIT)? else {
-        assert!(rt; false);
-        return Ok(());
-    };
-    assert_eq!(rt; post(&rt, &instance, &mut book, one_duty(alloc)?), Ok(KEPT));
-    let mut bytes = Vec::from_slice(alloc, book.into_disk().bytes())?;
+    let disk = journal(&rt, alloc, &instance, true)?;
+    let mut bytes = Vec::from_slice(alloc, disk.bytes())?;
     if let Some(gate) = bytes.get_mut(384) {
         *gate = 0x77;
     }
@@ -176,14 +70,10 @@ fn a_full_journal_shuts_the_book(rt: HostRuntime) -> Result<(), Fail> {
         end: 413,
         limit: 412,
     };
-    assert_eq!(rt;
-        post(&rt, &instance, &mut book, one_duty(alloc)?),
-        Err(full)
-    );
-    assert_eq!(rt;
-        post(&rt, &instance, &mut book, one_duty(alloc)?),
-        Err(CommitFault::Shut)
-    );
+    let answer = post(&rt, &instance, &mut book, one_duty(alloc)?);
+    assert_eq!(rt; answer, Err(full));
+    let answer = post(&rt, &instance, &mut book, one_duty(alloc)?);
+    assert_eq!(rt; answer, Err(CommitFault::Shut));
     assert_eq!(rt; (book.best_cost(), book.posts(), book.batches()), (8, 0, 0));
     let disk = book.into_disk();
     assert_eq!(rt; (disk.bytes().len(), disk.calls()), (385, 4));
