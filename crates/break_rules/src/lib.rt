@@ -31,7 +31,7 @@ pub use walking::{NextBreaks, after, ends, nexts};
 pub type NoMemory = AllocError;
 
 /// A break inside a shift: its first slot and its length, in slots from the shift's start.
-#[derive(Clone, Copy, Debug, PartialEq, Eq, PartialOrd, Ord, Drop)]
+#[derive(Clone, Copy, Debug, PartialEq, Eq, PartialOrd, Ord, Hash, Drop)]
 pub struct Break {
     /// Its first slot.
     pub start: u16,

@@ -3,12 +3,14 @@
 
 #[cfg(test)]
 mod tests;
+mod trie;
 
 ghost use Rattle.std.specs.Prelude.{◌≡◌, ◌+◌, ◌^◌, ◌<◌};
 ghost use Rattle.std.specs.List.{list_any};
 ghost use Rattle.break_rules.specs.Breaks.{end_of, is_off, works_at};
 
 use break_rules::{Break, Breaks, Rule};
+pub use trie::Trie;
 
 /// The breaks of a duty, with the length of its shift in slots.
 #[derive(Clone, Debug, Drop)]

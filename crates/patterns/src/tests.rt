@@ -1,4 +1,4 @@
-use crate::{Pattern, works};
+use crate::{Pattern, Trie, works};
 use break_rules::{Break, Breaks, Rule};
 use std::test::Fail;
 
@@ -35,5 +35,25 @@ fn a_pattern_is_copied(rt: HostRuntime) -> Result<(), Fail> {
     let copy = pattern.clone()?;
     assert!(rt; copy.list.is_same(&pattern.list));
     assert_eq!(rt; copy.len, 4);
+    Ok(())
+}
+
+#[test]
+fn numbers_of_all_prefixes_are_added_up(rt: HostRuntime) -> Result<(), Fail> {
+    let alloc = rt.alloc();
+    let a = Break { start: 2, len: 1 };
+    let b = Break { start: 5, len: 2 };
+    let mut trie = Trie::new(alloc)?;
+    assert_eq!(rt; trie.bonus_of(&[a]), 0);
+    trie.add(&[a, b], 100)?;
+    trie.add(&[], 7)?;
+    trie.add(&[a], -20)?;
+    trie.add(&[b], 5000)?;
+    trie.add(&[a, b], 1000)?;
+    assert_eq!(rt; trie.bonus_of(&[]), 7);
+    assert_eq!(rt; trie.bonus_of(&[a]), -13);
+    assert_eq!(rt; trie.bonus_of(&[a, b]), 1087);
+    assert_eq!(rt; trie.bonus_of(&[a, b, a]), 1087);
+    assert_eq!(rt; trie.bonus_of(&[b, a]), 5007);
     Ok(())
 }
