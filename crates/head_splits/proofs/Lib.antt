@@ -1,0 +1,4 @@
+pub mod Duality
+pub mod Examples
+pub mod Fixed
+pub mod Splits
