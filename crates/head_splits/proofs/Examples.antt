@@ -5,7 +5,6 @@ use Rattle.shift_instance.specs.Problem.{Problem}
 use Rattle.shift_instance.proofs.Examples.{one_morning, duty}
 use Rattle.head_splits.specs.declared.Side.TheVariants.{AtMost, AtLeast}
 use Rattle.head_splits.specs.declared.Side.{Side}
-use Rattle.head_splits.specs.declared.Class.{Class}
 use Rattle.head_splits.specs.declared.Cut.{Cut}
 use Rattle.head_splits.specs.declared.Prices.{Prices}
 use Rattle.head_splits.specs.Cuts.{whole_class, meets, low, high}

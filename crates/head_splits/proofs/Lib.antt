@@ -1,3 +1,4 @@
+pub mod Best
 pub mod Duality
 pub mod Examples
 pub mod Fixed

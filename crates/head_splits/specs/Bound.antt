@@ -1,7 +1,7 @@
 -- The bound that a price set gives on the cost of the legal rotas below some cuts.
 -- Source: weak duality of linear programming, in whole numbers, for the model with a number of duties for each shift, day and break list; such
 -- models of shifts with breaks go back to Dantzig 1954. The scale and the cuts' prices are this project's profile.
-use Rattle.std.specs.Prelude.{ℕ, ◌*◌, ◌^◌, ℤ, pos, neg_ℤ, ◌+ℤ◌, ◌-ℤ◌, ◌*ℤ◌, int_le, Bool, true, false, ◌&&◌, ◌||◌, not, ◌==◌, nat_lt, nat_le, List, [], ◌∷◌, min, map, length, if◌then◌else◌}
+use Rattle.std.specs.Prelude.{ℕ, ◌*◌, ℤ, pos, neg_ℤ, ◌+ℤ◌, ◌-ℤ◌, ◌*ℤ◌, int_le, Bool, true, false, ◌&&◌, ◌||◌, not, ◌==◌, nat_lt, nat_le, List, [], ◌∷◌, min, map, length, if◌then◌else◌}
 use Rattle.std.specs.Int.{int_max, int_min}
 use Rattle.std.specs.List.{list_all, list_any, zip, filter}
 use Rattle.break_rules.specs.declared.Break.{Break}
