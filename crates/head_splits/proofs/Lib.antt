@@ -1,0 +1,5 @@
+pub mod Best
+pub mod Duality
+pub mod Examples
+pub mod Fixed
+pub mod Splits

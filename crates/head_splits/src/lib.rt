@@ -1,0 +1,62 @@
+//! Classes of duties, cuts on the number of their duties, and the bound that prices give below cuts.
+#![tactic(auto)]
+
+mod cuts;
+pub mod laws;
+mod meeting;
+mod price_lists;
+mod ranges;
+#[cfg(test)]
+mod tests;
+
+use break_rules::Breaks;
+pub use cuts::Cuts;
+pub use meeting::meets;
+pub use price_lists::{CutPrices, SlotPrices};
+pub use ranges::range;
+
+/// The greatest price that a cut may have.
+pub const CUT_PRICE_MAX: u64 = 1_000_000_000_000;
+
+/// The duties of a shift on a day whose breaks begin with a prefix.
+#[derive(Clone, Debug, Drop)]
+pub struct Class {
+    /// The number of the shift, its place in the shift list.
+    pub shift: u16,
+    /// The day, from 0 on.
+    pub day: u8,
+    /// The breaks with which those of each duty begin.
+    pub prefix: Breaks,
+}
+
+/// From which side a cut bounds the number of a class's duties.
+#[derive(Clone, Copy, Debug, PartialEq, Eq, Drop)]
+pub enum Side {
+    /// There are no more duties.
+    AtMost,
+    /// There are no fewer duties.
+    AtLeast,
+}
+
+/// A bound on the number of a class's duties: at most `m`, or at least `m`.
+#[derive(Clone, Debug, Drop)]
+pub struct Cut {
+    /// The class.
+    pub class: Class,
+    /// Whether there are at most or at least so many duties.
+    pub side: Side,
+    /// The number of duties.
+    pub m: u16,
+}
+
+/// A price set: what a slot's cover and a class's duties are taken to be worth, all in parts of `1 / q` of the cost's unit.
+#[derive(Clone, Debug, Drop)]
+pub struct Prices {
+    /// The scale, by which costs are multiplied before they are compared with prices.
+    pub q: u16,
+    /// The price of a duty that works in a slot, for each slot of the planning period.
+    pub slots: SlotPrices,
+    /// The price of a duty that a cut's class holds, for each cut from the root on: earned where the cut bounds the number
+    /// from below, paid where it bounds it from above.
+    pub cuts: CutPrices,
+}
