@@ -96,6 +96,7 @@ impl Journal {
         // Each image during the call is no longer than the new file.
         ensures any_moment { IsSynced (D.reads disk.old) (D.images disk.old) → OnSome (D.reads disk.old) (HoldsThroughout D.calls D.images_since disk.old disk.new (IsNoLonger (13 + length head.now))) }
         ensures two { OnOk result (D.calls disk.new ≡ D.calls disk.old + 2) }
+        ensures least { D.calls disk.old ≤ D.calls disk.new }
         ensures most { D.calls disk.new ≤ D.calls disk.old + 2 }
         ensures telling { TellsAlike (D.reads disk.old) (D.reads disk.new) }
         ensures cause { IfErr result (CreateFails (D.faults disk.old) (D.faults disk.new)) }
@@ -191,6 +192,7 @@ impl Journal {
         // Each image during the call stands for the records from before it, or for those with the new one.
         ensures any_moment { OnSome (D.reads disk.old) (HoldsThroughout D.calls D.images_since disk.old disk.new (IsBeforeOrAfter self.old.limit self.old.head self.old.records bytes.now)) }
         ensures four { OnOk result (D.calls disk.new ≡ D.calls disk.old + 4) }
+        ensures least { D.calls disk.old ≤ D.calls disk.new }
         ensures most { D.calls disk.new ≤ D.calls disk.old + 4 }
         ensures telling { TellsAlike (D.reads disk.old) (D.reads disk.new) }
         ensures cause { MatchResult result (λ _. end_after self.old.head self.old.records (length bytes.now) ≤ self.old.limit) (PutFails (D.faults disk.old) (D.faults disk.new) (end_after self.old.head self.old.records (length bytes.now)) self.old.limit) }

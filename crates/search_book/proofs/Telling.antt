@@ -1,6 +1,5 @@
 -- Disks that tell their content alike.
-use Rattle.std.specs.Prelude.{◌≡◌, ℕ, List, Option, Some, None}
-use Rattle.std.proofs.Common.{subst, refl}
+use Rattle.std.specs.Prelude.{ℕ, List, Option, Some, None}
 use Rattle.plan_base.specs.Disk.{TellsAlike}
 
 -- a disk tells like itself

@@ -50,6 +50,8 @@ pub record IsLog {D : Type 0} (reads : D → Option (List ℕ)) (images : D → 
   pub telling : TellsAlike (reads log.opened) (reads log.disk)
   pub later : faults log.opened ≤ faults log.disk
   pub cause : log.in_flight ≢ [] → Rose (faults log.opened) (faults log.disk)
+  -- the last of the added records was acknowledged by now
+  pub moment : calls log.opened + 4 * log.added ≤ calls log.disk
   pub lasts : RecordsLast reads images_since calls log
 
 -- the bytes of a record in flight

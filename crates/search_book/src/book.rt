@@ -1,5 +1,5 @@
 //! The book.
-ghost use Rattle.std.specs.Prelude.{◌≡◌, ◌+◌, ◌^◌, ◌<◌, ◌≤◌, [], ◌∷◌, length, Some, None, IsTrue, IfOk, IfErr, IfSome, OnSome, MatchResult};
+ghost use Rattle.std.specs.Prelude.{◌≡◌, ◌+◌, ◌*◌, ◌^◌, ◌<◌, ◌≤◌, [], ◌∷◌, length, Some, None, IsTrue, IfOk, IfErr, IfSome, OnSome, MatchResult};
 ghost use Rattle.plan_base.specs.Disk.{HoldsThroughout, TellsAlike};
 ghost use Rattle.gated_journal.specs.View.{IsSettled};
 ghost use Rattle.instance_json.specs.Canonical.{canonical_text};
@@ -101,6 +101,7 @@ impl<D: Disk> Book<D> {
         ensures content { IfErr result (λ e. KeepsContent (canonical_text instance.now) (D.reads disk) (D.reads e.disk) e.fault) }
         ensures cause { IfErr result (λ e. OpenFails limit instance.now (D.reads disk) (D.faults disk) (D.faults e.disk) e.fault) }
         ensures faults { MatchResult result (λ book. D.faults disk ≤ D.faults book.disk) (λ e. D.faults disk ≤ D.faults e.disk) }
+        ensures least { MatchResult result (λ book. D.calls disk ≤ D.calls book.disk) (λ e. D.calls disk ≤ D.calls e.disk) }
         ensures most { MatchResult result (λ book. D.calls book.disk ≤ D.calls disk + 2 ^ 33 + 2) (λ e. D.calls e.disk ≤ D.calls disk + 2 ^ 33 + 2) }
     {
         match open_posts(alloc, instance, &mut disk, limit) {
@@ -178,12 +179,14 @@ impl<D: Disk> Book<D> {
     }
 
     /// How many records were made since the book was opened, with all that a crash at any moment may leave, and why the
-    /// book is shut, where it is.
+    /// book is shut, where it is. The moment at which the last of them was acknowledged isn't after now, even where a disk
+    /// fault shut the book.
     pub fn batches(&self) -> u64
         ensures made { result ≡ self.now.made }
         ensures counted { length self.now.history ≡ self.now.opening + self.now.made }
         ensures lasts { Lasts D.reads D.images_since D.calls self.now }
         ensures running { self.now.in_flight ≡ [] → IsRunning D.reads D.images D.calls self.now }
+        ensures moment { D.calls self.now.opened + 4 * self.now.made ≤ D.calls self.now.disk }
         ensures telling { TellsAlike (D.reads self.now.opened) (D.reads self.now.disk) }
         ensures faults { D.faults self.now.opened ≤ D.faults self.now.disk }
         ensures fault { ShutFor self.now.limit (D.faults self.now.opened) (D.faults self.now.disk) self.now.shut }
@@ -245,8 +248,9 @@ impl<D: Disk> Book<D> {
                 self.shut = Some(Shutting::Full { end, limit });
                 Err(CommitFault::Full { end, limit })
             }
-            // the one other fault that an addition has
-            Err(_) => Err(CommitFault::NoMemory),
+            Err(JournalFault::NoMemory) => Err(CommitFault::NoMemory),
+            // an addition has no other fault
+            Err(_) => unreachable!(),
         }
     }
 

@@ -2,7 +2,7 @@
 ghost use Rattle.std.specs.Prelude.{◌≡◌, IfOk};
 
 use break_rules::{Lunches, NoMemory, Rule, Totals};
-use shift_instance::{Instance, Parts, TypeParts};
+use shift_instance::{Instance, InstanceFault, Parts, TypeParts};
 use std::alloc::{AllocError, Global};
 
 fn rule_copy(alloc: Global, rule: &Rule) -> Result<Rule, NoMemory>
@@ -67,13 +67,15 @@ fn parts_copy(alloc: Global, parts: &Parts) -> Result<Parts, NoMemory>
     })
 }
 
-/// The same instance once more. The numbers of an instance have no fault, so only memory may be wanting.
+/// The same instance once more. Only memory may be wanting.
 pub(crate) fn instance_copy(alloc: Global, instance: &Instance) -> Result<Instance, NoMemory>
     ensures { IfOk result (λ copy. copy ≡ instance.now) }
 {
     let parts = parts_copy(alloc, instance.parts())?;
     match Instance::new(alloc, parts) {
         Ok(copy) => Ok(copy),
-        Err(_) => Err(AllocError),
+        Err(InstanceFault::NoMemory) => Err(AllocError),
+        // the numbers of an instance have no fault
+        Err(_) => unreachable!(),
     }
 }

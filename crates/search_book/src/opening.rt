@@ -32,6 +32,7 @@ pub(crate) fn open_journal<D: Disk>(
     ensures settled { IfOk result (λ r. IsSettled r.0 (D.reads disk.new) (D.images disk.new)) }
     ensures found { IfOk result (λ r. IfSome (D.reads disk.old) (IsFound limit head.now r.0.records (D.reads disk.new))) }
     ensures four { IfOk result (λ _. D.reads disk.old ≡ Some [] → D.calls disk.new ≡ D.calls disk.old + 4) }
+    ensures least { D.calls disk.old ≤ D.calls disk.new }
     ensures most { D.calls disk.new ≤ D.calls disk.old + 2 ^ 33 + 2 }
     ensures any_moment { OnSome (D.reads disk.old) (HoldsThroughout D.calls D.images_since disk.old disk.new (IsOldOrShort (D.reads disk.old) (D.images disk.old) (13 + length head.now))) }
     ensures telling { TellsAlike (D.reads disk.old) (D.reads disk.new) }
@@ -79,6 +80,7 @@ pub(crate) fn open_posts<D: Disk>(
     ensures settled { IfOk result (λ f. IsSettled f.journal (D.reads disk.new) (D.images disk.new)) }
     ensures found { IfOk result (λ f. IfSome (D.reads disk.old) (IsFound limit (canonical_text instance.now) f.journal.records (D.reads disk.new))) }
     ensures four { IfOk result (λ _. D.reads disk.old ≡ Some [] → D.calls disk.new ≡ D.calls disk.old + 4) }
+    ensures least { D.calls disk.old ≤ D.calls disk.new }
     ensures most { D.calls disk.new ≤ D.calls disk.old + 2 ^ 33 + 2 }
     ensures any_moment { OnSome (D.reads disk.old) (HoldsThroughout D.calls D.images_since disk.old disk.new (IsOldOrShort (D.reads disk.old) (D.images disk.old) (13 + length (canonical_text instance.now)))) }
     ensures content { IfErr result (KeepsContent (canonical_text instance.now) (D.reads disk.old) (D.reads disk.new)) }

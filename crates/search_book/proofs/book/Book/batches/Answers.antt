@@ -1,4 +1,4 @@
-use Rattle.std.proofs.Common.{◌≡◌, [], subst, refl}
+use Rattle.std.proofs.Common.{◌≡◌, ◌+◌, ◌*◌, ◌≤◌, [], subst, refl}
 use Rattle.search_book.specs.Front.{Lasts, IsRunning, ShutFor}
 use Rattle.search_book.specs.Records.{journal_of}
 use Rattle.search_book.specs.View.{BookView}
@@ -27,6 +27,11 @@ returns-clause-running g c =
       kept = kept_of K.images _ (journal_of b.log) b.log.opening (K.reads b.log.disk) i.head refl refl i.written running.stored;
       time = running.time;
     })
+
+pub returns-clause-moment : goal.returns-clause-moment
+returns-clause-moment g c =
+    let K = g.D.Disk in
+    subst (λ (v : BookView g.row.D.Denot). K.calls v.opened + 4 * v.made ≤ K.calls v.disk) c.self.view_is c.added.ensures.log.moment
 
 pub returns-clause-fault : goal.returns-clause-fault
 returns-clause-fault g c =
