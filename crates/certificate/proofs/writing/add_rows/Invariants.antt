@@ -1,0 +1,10 @@
+use Rattle.std.proofs.Common.{◌≡◌, ◌++◌, take, string_bytes, map}
+use Rattle.std.specs.Prelude.{All}
+use Rattle.certificate.specs.Text.{row_line, lines_text, FitsRow}
+use Rattle.certificate.proofs.writing.add_rows.Given as goal
+
+abbrev pub invariant-loop-row : goal.invariant-loop-row
+invariant-loop-row l = record {
+  added : string_bytes l.text ≡ string_bytes l.fn.text ++ lines_text (map row_line (take l.row-index l.rows));
+  fits : All FitsRow (take l.row-index l.rows);
+}
