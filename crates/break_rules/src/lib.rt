@@ -3,6 +3,8 @@
 //! All times are whole numbers of slots, counted from the start of the shift.
 #![tactic(auto)]
 
+#[cfg(test)]
+mod enumeration_tests;
 mod judging;
 pub mod laws;
 mod legality;

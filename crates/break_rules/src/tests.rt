@@ -189,7 +189,7 @@ fn eighth(alloc: Global) -> Result<Rule, NoMemory> {
 }
 
 /// Stops the test where the rule isn't well formed.
-fn judge(rt: &impl Abort, rule: &Rule)
+pub(crate) fn judge(rt: &impl Abort, rule: &Rule)
     ensures { IsRule rule.now }
 {
     assert!(rt; rule.check().is_ok());
