@@ -73,6 +73,39 @@ fn lists_are_judged(rt: HostRuntime) -> Result<(), Fail> {
     Ok(())
 }
 
+/// A lunch of one slot from 4 slots on, between two offsets.
+fn window(first: u16, last: u16) -> Lunch {
+    Lunch {
+        from_len: 4,
+        size: 1,
+        first,
+        last,
+    }
+}
+
+#[test]
+fn lunch_windows_are_judged(rt: HostRuntime) -> Result<(), Fail> {
+    let alloc = rt.alloc();
+    let mut rule = Rule::plain(alloc)?;
+    for (windows, expected) in [
+        // They touch, and they stand apart.
+        ([window(2, 4), window(4, 6)], Ok(())),
+        ([window(2, 4), window(5, 6)], Ok(())),
+        // They overlap, stand in the wrong order, or are the same.
+        ([window(2, 4), window(3, 6)], Err(RuleFault::LunchOrder)),
+        ([window(4, 6), window(2, 4)], Err(RuleFault::LunchOrder)),
+        ([window(2, 4), window(2, 4)], Err(RuleFault::LunchOrder)),
+        // One ends before it begins, or has no room for its slot.
+        ([window(4, 2), window(4, 6)], Err(RuleFault::LunchOrder)),
+        ([window(2, 4), window(6, 4)], Err(RuleFault::LunchOrder)),
+        ([window(2, 2), window(4, 6)], Err(RuleFault::LunchOrder)),
+    ] {
+        rule.lunches = Lunches::new(Vec::from_slice(alloc, &windows)?);
+        assert_eq!(rt; rule.check(), expected);
+    }
+    Ok(())
+}
+
 #[test]
 fn long_lists_are_refused(rt: HostRuntime) -> Result<(), Fail> {
     let alloc = rt.alloc();
@@ -280,14 +313,23 @@ fn the_least_list_and_rules_without_one(rt: HostRuntime) -> Result<(), Fail> {
     let alloc = rt.alloc();
     let mut rule = eighth(alloc)?;
     assert!(rt; is_least(&rt, alloc, &rule, &[short(2)])?);
-    // Breaks of two slots don't add up to one.
-    rule.size_min = 2;
-    rule.size_max = 2;
-    assert!(rt; is_dead(&rt, alloc, &rule)?);
-    // Work of two slots, a break of one and work of two slots are no shift of eight.
-    rule.size_min = 1;
-    rule.work_max = 2;
-    assert!(rt; is_dead(&rt, alloc, &rule)?);
+    for (size_min, work_max, total) in [
+        // Breaks of two slots don't add up to one.
+        (2, 5, 1),
+        // Breaks of one slot with work of two between them don't add up to three, nor to all there is.
+        (1, 5, 3),
+        (1, 5, 48),
+        // Work of two slots, a break of one and work of two slots are no shift of eight.
+        (1, 2, 1),
+        // Without a break eight slots of work are too long.
+        (1, 5, 0),
+    ] {
+        rule.size_min = size_min;
+        rule.size_max = size_min;
+        rule.work_max = work_max;
+        rule.totals = Totals::new(Vec::from_slice(alloc, &[(8, total)])?);
+        assert!(rt; is_dead(&rt, alloc, &rule)?);
+    }
     Ok(())
 }
 
