@@ -1,13 +1,13 @@
 -- What one duty more changes.
-use Rattle.std.proofs.Common.{◌≡◌, inl, inr, ℕ, ◌+◌, ◌*◌, ◌<◌, ◌≤◌, Bool, true, false, cond, ◌||◌, ◌==◌, nat_lt, List, [], ◌∷◌, ◌++◌, length, refl, sym, ap, ◌∙◌, subst, arith, count_by, eq-eqb}
+use Rattle.std.proofs.Common.{◌≡◌, inl, inr, ℕ, ◌+◌, ◌<◌, Bool, true, false, cond, ◌||◌, ◌==◌, List, [], ◌∷◌, ◌++◌, length, refl, sym, ap, ◌∙◌, subst, arith, count_by}
 use Rattle.std.specs.List.{list_any}
-use Rattle.std.proofs.lemmas.Bool.{cases_Bool, cases_eq, ne_eqb, eqb-true, false≢true}
-use Rattle.std.proofs.lemmas.List.Sums.{sum_by-cons, sum_by_push, count_by-le-length}
-use Rattle.break_rules.proofs.Counts.{count_by_none, count_by_same, count_by-below, any_by_count, any_from_count}
+use Rattle.std.proofs.lemmas.Bool.{cases_Bool, cases_eq, ne_eqb, eqb-true}
+use Rattle.std.proofs.lemmas.List.Sums.{sum_by-cons, sum_by_push}
+use Rattle.break_rules.proofs.Counts.{count_by_same, count_by-below, any_by_count, any_from_count}
 use Rattle.break_rules.proofs.Lists.{same_tests}
 use Rattle.shift_instance.specs.declared.Duty.{Duty}
-use Rattle.shift_instance.specs.Problem.{Problem, shift_list, slots, below}
-use Rattle.shift_instance.specs.Rota.{same_duty, count_of, cover, works, is_used, shifts_used}
+use Rattle.shift_instance.specs.Problem.{Problem, shift_list, below}
+use Rattle.shift_instance.specs.Rota.{same_duty, count_of, is_used, shifts_used}
 use Rattle.shift_instance.proofs.Alike.{same_duty_decides}
 use Rattle.rota_cost.specs.Cover.{without}
 use Rattle.rota_cost.specs.Counted.{duties_of}

@@ -1,5 +1,5 @@
 -- The numbers that a cover keeps of its duties.
-use Rattle.std.specs.Prelude.{◌≡◌, ℕ, ◌+◌, ◌-◌, ◌*◌, ◌^◌, ◌<◌, ◌≤◌, ◌==◌, List, length, sum_by, count_by, slice_index}
+use Rattle.std.specs.Prelude.{◌≡◌, ℕ, ◌+◌, ◌-◌, ◌*◌, ◌^◌, ◌<◌, ◌≤◌, ◌==◌, List, length, sum_by, count_by, slice_index, if◌then◌else◌}
 use Rattle.shift_instance.specs.declared.Duty.{Duty}
 use Rattle.shift_instance.specs.Problem.{Problem, slots, shift_list, below}
 use Rattle.shift_instance.specs.Rota.{cover, slot_cost, shifts_used}
@@ -19,6 +19,10 @@ slots_cost i counts = sum_by (λ t. slot_cost i t (slice_index counts t)) (below
 -- the duties of a shift
 abbrev pub duties_of : List Duty → ℕ → ℕ
 duties_of duties s = count_by (λ d. d.shift == s) duties
+
+-- what a shift costs that has that many duties
+abbrev pub shift_cost : Problem → ℕ → ℕ
+shift_cost i n = if n == 0 then 0 else i.shift
 
 -- how many of some duties work in each slot and how many are of each shift, and the two parts of their cost
 pub record IsCounted (i : Problem) (duties : List Duty) (working shifts : List ℕ) (slot_part shift_part : ℕ) : Type 0 where

@@ -4,7 +4,7 @@ ghost use Rattle.shift_instance.specs.Problem.{shift_list, slots};
 ghost use Rattle.shift_instance.specs.Rota.{cost, count_of, works};
 ghost use Rattle.shift_instance.specs.Valid.{IsValid};
 ghost use Rattle.rota_cost.specs.Cover.{without};
-ghost use Rattle.rota_cost.specs.Counted.{changed, slots_cost};
+ghost use Rattle.rota_cost.specs.Counted.{changed, shift_cost, slots_cost};
 
 use crate::covered::Covered;
 use crate::recounting::{slot_cost, slots_cost};
@@ -77,6 +77,36 @@ fn change_slots(
     changing
 }
 
+/// What a shift costs that has that many duties.
+fn shift_cost(instance: &Instance, duties: u32) -> u64
+    ensures cost { result ≡ shift_cost instance.now duties }
+    ensures few { result ≤ 10 ^ 6 }
+{
+    let (_, _, weight) = instance.weights();
+    if duties == 0 { 0 } else { u64::from(weight) }
+}
+
+/// Changes the number of duties of a shift, and gives the cost of the shifts used after that.
+fn change_shift(
+    instance: &Instance,
+    shifts: &mut [u32],
+    shift: u16,
+    change: Change,
+    cost: u64,
+) -> u64
+    requires shift { shift < length shifts.old }
+    requires few { slice_index shifts.old shift ≤ 2 ^ 31 }
+    requires part { shift_cost instance.now (slice_index shifts.old shift) ≤ cost }
+    requires small { cost ≤ 1024 * 10 ^ 6 }
+    ensures shifts { shifts.new ≡ slice_set shifts.old shift (changed change (slice_index shifts.old shift)) }
+    ensures cost { result + shift_cost instance.now (slice_index shifts.old shift) ≡ cost + shift_cost instance.now (changed change (slice_index shifts.old shift)) }
+{
+    let before = shifts[usize::from(shift)];
+    let after = changed(before, change);
+    shifts[usize::from(shift)] = after;
+    cost - shift_cost(instance, before) + shift_cost(instance, after)
+}
+
 /// The running cover of an instance's duties: how many of them work in each slot, how many there are of each shift, and
 /// what they cost.
 ///
@@ -129,13 +159,13 @@ impl Cover {
         ensures instance { self.new.instance ≡ self.old.instance }
         ensures duties { self.new.duties ≡ self.old.duties ++ duty.now ∷ [] }
     {
-        let (_, _, weight) = instance.weights();
-        let shift = usize::from(duty.shift);
-        let before = self.shifts[shift];
-        if before == 0 {
-            self.shift_part += u64::from(weight);
-        }
-        self.shifts[shift] = before + 1;
+        self.shift_part = change_shift(
+            instance,
+            &mut self.shifts,
+            duty.shift,
+            Change::More,
+            self.shift_part,
+        );
         self.slot_part = change_slots(
             instance,
             duty,
@@ -155,13 +185,13 @@ impl Cover {
         ensures instance { self.new.instance ≡ self.old.instance }
         ensures duties { self.new.duties ≡ without duty.now self.old.duties }
     {
-        let (_, _, weight) = instance.weights();
-        let shift = usize::from(duty.shift);
-        let after = self.shifts[shift] - 1;
-        if after == 0 {
-            self.shift_part -= u64::from(weight);
-        }
-        self.shifts[shift] = after;
+        self.shift_part = change_shift(
+            instance,
+            &mut self.shifts,
+            duty.shift,
+            Change::Less,
+            self.shift_part,
+        );
         self.slot_part = change_slots(
             instance,
             duty,

@@ -1,4 +1,4 @@
-use Rattle.std.proofs.Common.{◌≡◌, ℕ, ◌+◌, ◌*◌, ◌<◌, ◌≤◌, length, get_or, set, arith, ap}
+use Rattle.std.proofs.Common.{◌≡◌, ◌+◌, ◌*◌, ◌≤◌, get_or, set, arith}
 use Rattle.shift_instance.specs.Problem.{slots}
 use Rattle.shift_instance.specs.Rota.{slot_cost}
 use Rattle.rota_cost.specs.Counted.{slots_cost}

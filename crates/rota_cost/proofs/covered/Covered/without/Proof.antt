@@ -1,5 +1,5 @@
 -- `without` makes a value of no bytes from another one. What it tells is set here, as its clause says.
-use Rattle.std.proofs.Common.{List, [], ◌∷◌, ◌++◌, refl}
+use Rattle.std.proofs.Common.{List, [], ◌∷◌, refl}
 use Rattle.std.proofs.raw_atomic.Walks.{proved}
 use mir.Syntax.{named}
 use mir.Val.{Val, vstruct, vnil}
