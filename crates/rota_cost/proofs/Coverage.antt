@@ -141,7 +141,7 @@ slot_few i t c valid small few =
     let b : i.shortage * (need_at i t - c) ≤ 1000000 * 10000 = mul-le-mul valid.shortage (let k : need_at i t - c ≤ 10000 = omega arith in k) in
     omega arith
 
-sum_few : {X : Type 0} (f : X → ℕ) (m : ℕ) (xs : List X) → ((x : X) → Has xs x → f x ≤ m) → sum_by f xs ≤ length xs * m
+pub sum_few : {X : Type 0} (f : X → ℕ) (m : ℕ) (xs : List X) → ((x : X) → Has xs x → f x ≤ m) → sum_by f xs ≤ length xs * m
 sum_few f m [] h = omega arith
 sum_few f m (x ∷ xs) h =
     let e : sum_by f (x ∷ xs) ≡ f x + sum_by f xs = sum_by-cons f x xs in

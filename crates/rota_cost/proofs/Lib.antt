@@ -4,3 +4,6 @@ pub mod Marks
 pub mod RowLaw
 pub mod Seen
 pub mod Runs
+pub mod Sums
+pub mod Duties
+pub mod Counts

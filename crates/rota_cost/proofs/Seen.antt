@@ -31,11 +31,11 @@ seen_none i rows seen e = record {
   used = sym (count_by_none (has_shift rows 0) (below (length (shift_list i))) (λ s m. refl));
 }
 
-or_false : (b : Bool) → (b || false) ≡ b
+pub or_false : (b : Bool) → (b || false) ≡ b
 or_false true = refl
 or_false false = refl
 
-or_true : (b : Bool) → (b || true) ≡ true
+pub or_true : (b : Bool) → (b || true) ≡ true
 or_true true = refl
 or_true false = refl
 
@@ -62,7 +62,7 @@ seen_skip i rows k seen used x small at low there h =
       used = h.used ∙ count_by_same (has_shift rows k) (has_shift rows (k + 1)) (below (length (shift_list i))) (λ s m. sym (same s));
     }
 
-one_more : (a b : Bool) → (b ≡ true → a ≡ false) → ◌≡◌ {A = ℕ} (cond (a || b) 1 0) (cond a 1 0 + cond b 1 0)
+pub one_more : (a b : Bool) → (b ≡ true → a ≡ false) → ◌≡◌ {A = ℕ} (cond (a || b) 1 0) (cond a 1 0 + cond b 1 0)
 one_more true true h = let z : true ≡ false = h refl in absurd (cc)
 one_more true false h = omega arith
 one_more false true h = omega arith

@@ -2,6 +2,8 @@
 #![tactic(auto)]
 
 mod costed;
+mod cover;
+mod covered;
 mod judging;
 mod laws;
 mod recounting;
@@ -9,6 +11,7 @@ mod recounting;
 mod tests;
 
 pub use costed::{Costed, cost_rows};
+pub use cover::Cover;
 pub use judging::legal_rows;
 pub use laws::costs_below_top;
 pub use recounting::recount;

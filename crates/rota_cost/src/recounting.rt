@@ -46,11 +46,10 @@ fn add_rows(instance: &Instance, rows: &Rows, counts: &mut [u32])
 }
 
 /// What a slot costs where that many duties work.
-fn slot_cost(instance: &Instance, t: usize, cover: u32) -> u64
-    requires t { t < slots instance.now }
-    requires few { cover ≤ 204800 }
+pub(crate) fn slot_cost(instance: &Instance, t: usize, cover: u32) -> u64
+    requires { t < slots instance.now }
     ensures cost { result ≡ slot_cost instance.now t cover }
-    ensures few { result ≤ 215 * 10 ^ 9 }
+    ensures few { result ≤ 10 ^ 6 * cover + 10 ^ 10 }
 {
     let (excess, shortage, _) = instance.weights();
     let need = instance.need(t);
@@ -60,7 +59,7 @@ fn slot_cost(instance: &Instance, t: usize, cover: u32) -> u64
 }
 
 /// The cost of excess and shortage where that many duties work in each slot.
-fn slots_cost(instance: &Instance, counts: &[u32]) -> u64
+pub(crate) fn slots_cost(instance: &Instance, counts: &[u32]) -> u64
     requires slots { slots instance.now ≤ length counts.now }
     requires few { (t : ℕ) → t < slots instance.now → slice_index counts.now t ≤ 204800 }
     ensures cost { result ≡ sum_by (λ t. slot_cost instance.now t (slice_index counts.now t)) (below (slots instance.now)) }

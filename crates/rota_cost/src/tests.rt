@@ -1,6 +1,6 @@
-use crate::{RowFault, cost_rows, legal_rows};
+use crate::{Cover, RowFault, cost_rows, legal_rows};
 use break_rules::{Break, Breaks, Lunches, NoMemory, Rule, Totals};
-use shift_instance::{Instance, Parts, Row, Rows, TypeParts};
+use shift_instance::{Duty, Instance, Parts, Row, Rows, TypeParts};
 use std::alloc::Global;
 use std::test::Fail;
 
@@ -171,6 +171,67 @@ fn faults_show_number_and_row(rt: HostRuntime) -> Result<(), Fail> {
         (RowFault::NotSorted { row: 10 }, "6 10"),
     ] {
         assert_eq!(rt; format!(in rt.alloc(); "{fault}")?.as_str(), text);
+    }
+    Ok(())
+}
+
+/// A type with shifts of 4 hours from a start on, with one hour of resettling after a break.
+fn four_hours(alloc: Global, name: &str, start: u16) -> Result<TypeParts, NoMemory> {
+    let mut rule = Rule::plain(alloc)?;
+    rule.resettle = 1;
+    Ok(TypeParts {
+        name: String::from_str(alloc, name)?,
+        start_min: start,
+        start_max: start,
+        len_min: 4,
+        len_max: 4,
+        rule,
+    })
+}
+
+/// Two days of hours that need one employee from 8 to 12, and one in the very first hour. Shift 0 is from 8 on, and shift
+/// 1 from 22 on.
+fn two_days(alloc: Global) -> Result<Parts, NoMemory> {
+    let mut need = Vec::new(alloc);
+    for slot in 0..48u16 {
+        let morning = 8 <= slot % 24 && slot % 24 < 12;
+        need.push(if slot == 0 || morning { 1 } else { 0 })?;
+    }
+    let mut types = Vec::new(alloc);
+    types.push(four_hours(alloc, "M", 8)?)?;
+    types.push(four_hours(alloc, "N", 22)?)?;
+    Ok(Parts {
+        days: 2,
+        need,
+        types,
+        ..one_day(alloc)?
+    })
+}
+
+#[test]
+fn a_cover_costs_what_its_duties_cost(rt: HostRuntime) -> Result<(), Fail> {
+    let alloc = rt.alloc();
+    let instance = Instance::new(alloc, two_days(alloc)?)?;
+    let mut cover = Cover::new(alloc, &instance)?;
+    assert_eq!(rt; cover.cost(), 9 * 2);
+    // The second morning uses no further shift. The last night is worked in the first hours of the period, too.
+    for (adds, shift, day, start, cost) in [
+        (true, 0, 0, None, 5 * 2 + 3),
+        (true, 0, 1, None, 2 + 3),
+        (true, 1, 1, None, 3 + 2 * 3),
+        (false, 0, 0, None, 4 * 2 + 3 + 2 * 3),
+        (false, 0, 1, None, 8 * 2 + 3 + 3),
+        (true, 0, 0, Some(1), 6 * 2 + 3 + 2 * 3),
+        (false, 1, 1, None, 7 * 2 + 3),
+    ] {
+        let Row { breaks, .. } = row_of(alloc, shift, day, start, 1)?;
+        let duty = Duty { shift, day, breaks };
+        if adds {
+            cover.add(&instance, &duty);
+        } else {
+            cover.remove(&instance, &duty);
+        }
+        assert_eq!(rt; cover.cost(), cost);
     }
     Ok(())
 }

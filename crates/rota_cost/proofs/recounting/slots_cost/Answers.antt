@@ -1,8 +1,13 @@
-use Rattle.std.proofs.Common.{◌≡◌, ℕ, ◌+◌, arith, ap, ◌∙◌, sym, sum_by, get_or}
+use Rattle.std.proofs.Common.{◌≡◌, ℕ, ◌+◌, ◌≤◌, arith, ap, ◌∙◌, sym, sum_by, get_or}
 use Rattle.shift_instance.specs.Problem.{below}
 use Rattle.shift_instance.specs.Rota.{slot_cost}
 use Rattle.rota_cost.proofs.Counting.{sum_below_more}
 use Rattle.rota_cost.proofs.recounting.slots_cost.Goals as goal
+
+pub overflow_add-total : goal.overflow_add-total
+overflow_add-total c =
+    let low : get_or c.args.counts.now c.loop-t.t 0 ≤ 204800 = c.requires.few c.loop-t.t (omega (arith, c.slots-t-end.ensures.slots)) in
+    omega arith
 
 pub loop-t-preserved : goal.loop-t-preserved
 loop-t-preserved c =
@@ -11,4 +16,5 @@ loop-t-preserved c =
     let more = sum_below_more f c.loop-t.t in
     let here : c.slot_cost-total.result ≡ f c.loop-t.t = c.slot_cost-total.ensures.cost in
     let total : c.loop-t.total ≡ sum_by f (below c.loop-t.t) = c.loop-t.invariant.total in
+    let low : get_or c.args.counts.now c.loop-t.t 0 ≤ 204800 = c.requires.few c.loop-t.t (omega (arith, c.slots-t-end.ensures.slots)) in
     record { total = ap (λ (n : ℕ). n + c.slot_cost-total.result) total ∙ ap (λ (n : ℕ). sum_by f (below c.loop-t.t) + n) here ∙ sym more; few = omega arith }

@@ -1,0 +1,13 @@
+use Rattle.std.proofs.Common.{◌≤◌, ◌+◌, ◌∙◌, ap, arith}
+use Rattle.shift_instance.specs.Rota.{cost}
+use Rattle.rota_cost.specs.Cover.{Covering}
+use Rattle.rota_cost.proofs.Counts.{counted_cost, parts_fit}
+use Rattle.rota_cost.proofs.cover.Cover.cost.Goals as goal
+
+pub overflow_add-result : goal.overflow_add-result
+overflow_add-result c =
+    let fit : c.self.inside.slot_part + c.self.inside.shift_part ≤ 5000000000000000000 = parts_fit _ _ _ _ _ _ c.self.invariant in
+    omega arith
+
+pub returns : goal.returns
+returns c = counted_cost _ _ _ _ _ _ c.self.invariant ∙ ap (λ (v : Covering). cost v.instance v.duties) c.self.view_is
