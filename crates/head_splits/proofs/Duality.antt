@@ -138,7 +138,7 @@ high_at_least i rota class cuts l h =
 pub whole_class_count : (rota : List Duty) (s day : ℕ) → class_count rota (whole_class s day) ≡ heads_on rota s day
 whole_class_count rota s day = count_by_same (holds (whole_class s day)) (is_on s day) rota (λ d m. and-true (is_on s day d))
 
-none_in : {X : Type 0} (xs : List X) (x : X) → is_nil xs ≡ true → Has xs x → ⊥
+pub none_in : {X : Type 0} (xs : List X) (x : X) → is_nil xs ≡ true → Has xs x → ⊥
 none_in [] x e h = h
 none_in (y ∷ xs) x e h = false≢true e
 

@@ -69,7 +69,7 @@ at_most_one = refl
 at_least_two : total two_heads (cut AtLeast 2 ∷ []) (prices (negsuc 0) (0 ∷ [])) ≡ pos 7
 at_least_two = refl
 
--- one duty is worth -4, and at least one is needed: with two counted the bound would be above what one costs
+-- one duty is worth -4, and at least one is needed: with the worth of two counted, -8, the total would be 7, where a rota with one costs 3
 worth_below_zero : best_value two_heads (cut AtLeast 1 ∷ []) (prices (negsuc 0) (0 ∷ [])) 0 0 ≡ negsuc 3
 worth_below_zero = refl
 

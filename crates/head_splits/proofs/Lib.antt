@@ -1,5 +1,7 @@
 pub mod Best
+pub mod ByClasses
 pub mod Duality
 pub mod Examples
 pub mod Fixed
+pub mod Recursion
 pub mod Splits

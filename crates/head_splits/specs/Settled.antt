@@ -1,12 +1,12 @@
 -- Settled nodes: cuts that fix how often each legal duty stands in a rota below them. Source: this project's profile.
-use Rattle.std.specs.Prelude.{ℕ, ◌+◌, ◌-◌, Bool, ◌&&◌, ◌||◌, not, ◌==◌, nat_lt, nat_le, List, Option, None, length, take, replicate, map, sum_by, if◌then◌else◌}
+use Rattle.std.specs.Prelude.{◌≡◌, ◌≤◌, ◌++◌, ◌∷◌, [], IsTrue, IsFalse, ℕ, ◌+◌, ◌-◌, Bool, ◌&&◌, ◌||◌, not, ◌==◌, nat_lt, nat_le, List, Option, None, length, take, replicate, map, sum_by, if◌then◌else◌}
 use Rattle.std.specs.List.{list_all, list_any, flat_map, find}
 use Rattle.std.specs.Option.{option_map_or}
 use Rattle.break_rules.specs.declared.Break.{Break}
 use Rattle.break_rules.specs.Breaks.{is_live}
 use Rattle.shift_instance.specs.declared.Duty.{Duty}
 use Rattle.shift_instance.specs.Problem.{Problem, shift_list, below}
-use Rattle.shift_instance.specs.Rota.{lists_of, live_lists_of, is_legal_rota, is_shift_and}
+use Rattle.shift_instance.specs.Rota.{lists_of, is_list_of, live_lists_of, is_legal_rota, is_shift_and}
 use Rattle.head_splits.specs.declared.Class.{Class}
 use Rattle.head_splits.specs.declared.Cut.{Cut}
 use Rattle.head_splits.specs.Cuts.{low, high, meets}
@@ -68,3 +68,12 @@ live_classes i = flat_map (λ s. flat_map (λ day. map (class_of s day) (live_li
 -- the span of a node: how far its cuts leave the live classes open
 abbrev pub span : Problem → List Cut → ℕ
 span i cuts = sum_by (λ c. high i cuts c - low cuts c) (live_classes i)
+
+-- a class that is settled: the cuts leave it no duty; or it is a whole legal list whose number they fix; or it isn't a whole legal list, and each
+-- live extension of it by one break is settled
+pub data IsSettledClass (i : Problem) (cuts : List Cut) (s day : ℕ) : List Break → Type 0 where
+  without_duties : (prefix : List Break) → high i cuts (class_of s day prefix) ≡ 0 → IsSettledClass i cuts s day prefix
+  of_fixed_number : (prefix : List Break) → IsTrue (is_list_of i s prefix) → high i cuts (class_of s day prefix) ≤ low cuts (class_of s day prefix) → IsSettledClass i cuts s day prefix
+  of_settled_extensions : (prefix : List Break) → IsFalse (is_list_of i s prefix)
+      → ((b : Break) → IsTrue (is_live_class i (class_of s day (prefix ++ b ∷ []))) → IsSettledClass i cuts s day (prefix ++ b ∷ []))
+      → IsSettledClass i cuts s day prefix

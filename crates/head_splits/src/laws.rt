@@ -1,22 +1,30 @@
 //! Laws of rotas, cuts and prices. Each function's contract is the law; the functions do nothing.
-ghost use Rattle.std.specs.Prelude.{◌≡◌, ℕ, ◌+◌, ◌<◌, ◌≤◌, ◌++◌, ◌∷◌, [], IsTrue, IsFalse, IsSomeAnd, List};
+ghost use Rattle.std.specs.Prelude.{◌≡◌, ◌↔◌, ℕ, ◌+◌, ◌<◌, ◌≤◌, ◌++◌, ◌∷◌, [], IsTrue, IsFalse, IsSomeAnd, List};
 ghost use Rattle.shift_instance.specs.declared.Duty.{Duty};
 ghost use Rattle.shift_instance.specs.Problem.{Problem};
-ghost use Rattle.shift_instance.specs.Rota.{is_legal_rota, cost, count_of};
+ghost use Rattle.shift_instance.specs.Rota.{is_legal_rota, cost, count_of, lists_of};
 ghost use Rattle.head_splits.specs.declared.Class.{Class};
 ghost use Rattle.head_splits.specs.declared.Cut.{Cut};
 ghost use Rattle.head_splits.specs.declared.Prices.{Prices};
 ghost use Rattle.head_splits.specs.Cuts.{meets, low, high};
-ghost use Rattle.head_splits.specs.Bound.{are_prices, bound_of};
-ghost use Rattle.head_splits.specs.Settled.{is_settled, settled_plan, is_empty, split_class, is_live_class, span};
+ghost use Rattle.head_splits.specs.Bound.{are_prices, bound_of, is_nil};
+ghost use Rattle.head_splits.specs.Settled.{is_settled, settled_plan, is_empty, split_class, is_live_class, IsSettledClass, span};
 
 use crate::Side;
 
-/// Weak duality: every legal rota that meets the cuts costs at least the value of each price set for them.
+/// Weak duality: every legal rota that meets the cuts costs at least the bound of each price set within its ranges.
 pub fn weak_duality()
     ensures { (i : Problem) (cuts : List Cut) (prices : Prices) (rota : List Duty)
         → IsTrue (are_prices i cuts prices) → IsTrue (is_legal_rota i rota) → IsTrue (meets rota cuts)
         → bound_of i cuts prices ≤ cost i rota }
+{}
+
+/// A node is settled exactly where, for each shift with a legal list and each day, the class of all duties is. A class is
+/// settled where the cuts leave it no duty, where it is a whole legal list whose number they fix, and where it isn't a
+/// whole legal list and all its live extensions by one break are settled.
+pub fn settled_by_classes()
+    ensures { (i : Problem) (cuts : List Cut)
+        → IsTrue (is_settled i cuts) ↔ ((s day : ℕ) → IsFalse (is_nil (lists_of i s)) → day < i.days → IsSettledClass i cuts s day []) }
 {}
 
 /// All legal rotas below a settled node have the same number of each duty.

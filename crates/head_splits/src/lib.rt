@@ -49,14 +49,14 @@ pub struct Cut {
     pub m: u16,
 }
 
-/// A price set: what a slot's cover and a class's duties are taken to be worth, all in parts of `1 / q` of the cost's unit.
+/// A price set: what a slot's cover and a class's duties are taken to be worth. A price of `q` is worth a cost of 1.
 #[derive(Clone, Debug, Drop)]
 pub struct Prices {
     /// The scale, by which costs are multiplied before they are compared with prices.
     pub q: u16,
-    /// The price of a duty that works in a slot, for each slot of the planning period.
+    /// For each slot of the planning period, what a duty earns that works in it.
     pub slots: SlotPrices,
-    /// The price of a duty that a cut's class holds, for each cut from the root on: earned where the cut bounds the number
-    /// from below, paid where it bounds it from above.
+    /// For each cut, from the root on, what a duty of its class earns where the cut bounds their number from below, and
+    /// pays where it bounds it from above.
     pub cuts: CutPrices,
 }

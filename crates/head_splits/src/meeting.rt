@@ -48,8 +48,8 @@ fn meets_cut(rows: &[Row], cut: &Cut) -> bool
     keeps_to(cut.side, cut.m, count(rows, &cut.class))
 }
 
-/// Whether the rota that the rows stand for meets all cuts: each class has at most, or at least, as many duties as its cut
-/// says. It takes no memory.
+/// Whether the rota that rows stand for meets all cuts: each class has at most, or at least, as many duties as its cut
+/// says. The rows needn't be legal. It takes no memory.
 pub fn meets(_instance: &Instance, rows: &Rows, cuts: &Cuts) -> bool
     ensures { result ≡ meets (rota_of rows.now) cuts.now }
 {

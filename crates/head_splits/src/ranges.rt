@@ -48,10 +48,10 @@ fn range_below(heads: u16, cuts: &[Cut], class: &Class) -> (u16, u16)
     (low, high)
 }
 
-/// The least and the greatest number of duties that cuts leave to a class: the greatest number of the cuts that bound
-/// exactly this class from below, and 0 where there is none, and the least number of those that bound it from above and of
-/// the most duties of one shift on one day. The first may be above the second, where no rota meets the cuts. It takes no
-/// memory.
+/// The least and the greatest number of duties that cuts leave to a class. The first is the greatest number of the cuts
+/// that bound exactly this class from below, and 0 where there is none. The second is the least of the numbers of those
+/// that bound it from above and of the most duties of one shift on one day. The first may be above the second, and then
+/// no legal rota meets the cuts. It takes no memory.
 pub fn range(instance: &Instance, cuts: &Cuts, class: &Class) -> (u16, u16)
     ensures low { result.0 ≡ low cuts.now class.now }
     ensures high { result.1 ≡ high instance.now cuts.now class.now }
