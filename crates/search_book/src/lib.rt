@@ -3,7 +3,6 @@
 #![tactic(auto)]
 
 mod book;
-mod copying;
 #[cfg(test)]
 mod crash_tests;
 mod fault;

@@ -7,7 +7,6 @@ ghost use Rattle.search_book.specs.Fold.{IsFoldAt};
 ghost use Rattle.search_book.specs.Posts.{SpellPosts};
 ghost use Rattle.search_book.specs.Opening.{IsFound, HeadFails, OpenFails, KeepsContent, IsOldOrShort};
 
-use crate::copying::instance_copy;
 use crate::fault::BookFault;
 use crate::folding::fold_cost;
 use crate::reading::read_posts;
@@ -88,7 +87,7 @@ pub(crate) fn open_posts<D: Disk>(
     ensures faults { D.faults disk.old ≤ D.faults disk.new }
 {
     let head = canonical(alloc, instance)?;
-    let instance = instance_copy(alloc, instance)?;
+    let instance = instance.clone()?;
     let (journal, records) = open_journal(alloc, disk, &head, limit)?;
     let posts = read_posts(alloc, &records)?;
     let Some(cost) = fold_cost(alloc, &instance, &posts) else {

@@ -193,7 +193,7 @@ impl fmt::Display for InstanceFault {
 impl Error for InstanceFault {}
 
 /// An instance of the shift design problem: numbers within all limits, with their shift list.
-#[derive(Debug, Drop)]
+#[derive(Clone, Debug, Drop)]
 pub struct Instance {
     parts: Parts,
     shifts: Vec<Shift>,
