@@ -41,13 +41,7 @@ fn check(rt: HostRuntime, words: &[String]) -> Result<CheckStatus, AllocError> {
     let mut document = FileSource::new(rt, instance);
     let mut bundle = FileSource::new(rt, report);
     let mut out = StdSink::new(rt);
-    Ok(check_run(
-        rt.alloc(),
-        words,
-        &mut document,
-        &mut bundle,
-        &mut out,
-    ))
+    Ok(check_run(rt.alloc(), words, &mut document, &mut bundle, &mut out))
 }
 
 fn main(rt: HostRuntime) -> ExitCode {

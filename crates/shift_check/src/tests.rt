@@ -5,7 +5,8 @@ use plan_base::{MemSink, MemSource};
 use std::alloc::{AllocError, Global};
 use std::test::Fail;
 
-const DOCUMENT: &str = "{\"slot_minutes\":60,\"days\":1,\"need\":[0,0,0,0,0,0,0,0,1,1,1,1,0,0,0,0,0,0,0,0,0,0,0,0],\"max_heads\":1,\"weights\":{\"excess\":1,\"shortage\":2,\"shift\":3},\"types\":[{\"name\":\"M\",\"start_min\":8,\"start_max\":8,\"len_min\":4,\"len_max\":4,\"breaks\":null}]}";
+const DOCUMENT: &str =
+    "{\"slot_minutes\":60,\"days\":1,\"need\":[0,0,0,0,0,0,0,0,1,1,1,1,0,0,0,0,0,0,0,0,0,0,0,0],\"max_heads\":1,\"weights\":{\"excess\":1,\"shortage\":2,\"shift\":3},\"types\":[{\"name\":\"M\",\"start_min\":8,\"start_max\":8,\"len_min\":4,\"len_max\":4,\"breaks\":null}]}";
 
 const REPORT: &str =
     "shift-report 1\nstatus stopped\ncost 3\nbound 0\nrows 1\nrow 0 0 1 -\nproof 0\nend\n";
@@ -71,7 +72,12 @@ fn reports_are_counted_again(rt: HostRuntime) -> Result<(), Fail> {
         ("row 0 0 1 -", "row 0 1 1 -", 1, "refused 5 0\n"),
         ("row 0 0 1 -", "row 0 0 0 -", 1, "refused 5 0\n"),
         ("row 0 0 1 -", "row 0 0 1 1+1", 1, "refused 5 0\n"),
-        ("1\nrow 0 0 1 -", "2\nrow 0 0 1 -\nrow 0 0 1 -", 1, "refused 5 1\n"),
+        (
+            "1\nrow 0 0 1 -",
+            "2\nrow 0 0 1 -\nrow 0 0 1 -",
+            1,
+            "refused 5 1\n",
+        ),
         ("rows 1\nrow 0 0 1 -", "rows 0", 0, "cost 8\n"),
         ("end\n", "end\n# of no account\n", 0, "cost 3\n"),
         ("shift-report 1\n", "", 4, ""),
@@ -81,7 +87,14 @@ fn reports_are_counted_again(rt: HostRuntime) -> Result<(), Fail> {
     ] {
         let report = REPORT.replace(alloc, from, to)?;
         for most in [1usize, 7, 5000] {
-            let ran = run(alloc, "recount I R", DOCUMENT, report.as_str(), most, NO_FAULT)?;
+            let ran = run(
+                alloc,
+                "recount I R",
+                DOCUMENT,
+                report.as_str(),
+                most,
+                NO_FAULT,
+            )?;
             assert_eq!(rt; ran.0, number);
             assert_eq!(rt; ran.1.as_slice(), said.as_bytes());
         }
@@ -128,17 +141,26 @@ fn other_words_are_no_command(rt: HostRuntime) -> Result<(), Fail> {
 fn each_call_of_the_streams_may_fail(rt: HostRuntime) -> Result<(), Fail> {
     let alloc = rt.alloc();
     for at in 1..10u64 {
-        let document = Faults { document: at, ..NO_FAULT };
+        let document = Faults {
+            document: at,
+            ..NO_FAULT
+        };
         let ran = run(alloc, "recount I R", DOCUMENT, REPORT, 30, document)?;
         assert_eq!(rt; (ran.0, ran.1.len()), (5, 0));
     }
     for at in 1..5u64 {
-        let report = Faults { report: at, ..NO_FAULT };
+        let report = Faults {
+            report: at,
+            ..NO_FAULT
+        };
         let ran = run(alloc, "recount I R", DOCUMENT, REPORT, 30, report)?;
         assert_eq!(rt; (ran.0, ran.1.len()), (5, 0));
     }
     for (at, kept) in [(1u64, 0usize), (2, 2), (3, 4), (4, 6)] {
-        let write = Faults { write: at, ..NO_FAULT };
+        let write = Faults {
+            write: at,
+            ..NO_FAULT
+        };
         let ran = run(alloc, "recount I R", DOCUMENT, REPORT, 2, write)?;
         assert_eq!(rt; (ran.0, ran.1.len()), (6, kept));
     }
