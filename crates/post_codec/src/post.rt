@@ -2,7 +2,8 @@
 use head_splits::{Class, Prices};
 use shift_instance::Rows;
 
-/// A change of the book of a search. Each kind begins with the number of the worker that found it, from 0 on.
+/// A change of the book of a search. Each kind has the number of the worker that found it, from 0 on. The nodes of the search
+/// tree have numbers from 0, the root, on.
 #[derive(Clone, Debug, Drop)]
 pub enum Post {
     /// A better plan: the rows of its rota, and the rota's cost.
@@ -11,20 +12,20 @@ pub enum Post {
         rows: Rows,
         cost: u64,
     },
-    /// Prices of a node of the search tree, which bound the cost of every rota below the node's cuts.
+    /// Prices for a node, which bound the cost of every rota below the node's cuts.
     Priced {
         worker: u16,
         node: u32,
         prices: Prices,
     },
-    /// A node of the search tree, split by the number of a class's duties: at most `m` of them, or at least `m + 1`.
+    /// A node, split by the number of a class's duties into at most `m` and at least `m + 1`.
     Split {
         worker: u16,
         node: u32,
         class: Class,
         m: u16,
     },
-    /// A node of the search tree below whose cuts there is one rota at most.
+    /// A node whose cuts fix how often each legal duty stands in a rota below them.
     Settled {
         worker: u16,
         node: u32,
