@@ -7,9 +7,15 @@
 #![tactic(auto)]
 
 mod fault;
+pub mod laws;
+mod reading;
+#[cfg(test)]
+mod tests;
+mod words;
 mod writing;
 
 pub use fault::CertText;
+pub use reading::read;
 use shift_instance::Rows;
 pub use writing::write;
 

@@ -1,3 +1,4 @@
+pub mod Certs
 pub mod Duties
 pub mod Falls
 pub mod Leading
@@ -10,5 +11,4 @@ pub mod Rounds
 pub mod Sessions
 pub mod Steps
 pub mod Tallied
-pub mod Texts
 pub mod Windows
