@@ -19,7 +19,7 @@ use Rattle.head_splits.proofs.Nodes.{Has-slice_get}
 
 -- ---- folds of joined posts
 
-book_after-append : (i : Problem) (b : Book) (xs ys : List Post) → book_after i b (xs ++ ys) ≡ option_and_then (λ c. book_after i c ys) (book_after i b xs)
+pub book_after-append : (i : Problem) (b : Book) (xs ys : List Post) → book_after i b (xs ++ ys) ≡ option_and_then (λ c. book_after i c ys) (book_after i b xs)
 book_after-append i b [] ys = refl
 book_after-append i b (x ∷ xs) ys =
     elim (step i b x) as (λ o. option_and_then (λ next. book_after i next (xs ++ ys)) o ≡ option_and_then (λ c. book_after i c ys) (option_and_then (λ next. book_after i next xs) o))
@@ -61,14 +61,14 @@ no_hand (suc n) (suc w) x e = no_hand n w x e
 abbrev is_unsplit : Book → ℕ → Bool
 is_unsplit b x = is_node_and b x (λ n. not n.split)
 
-slice_get_other : {X : Type 0} (xs : List X) (k y : ℕ) (z : X) → y ≢ k → slice_get (set xs k z) y ≡ slice_get xs y
+pub slice_get_other : {X : Type 0} (xs : List X) (k y : ℕ) (z : X) → y ≢ k → slice_get (set xs k z) y ≡ slice_get xs y
 slice_get_other [] k y z h = refl
 slice_get_other (x ∷ xs) zero zero z h = absurd (h refl)
 slice_get_other (x ∷ xs) zero (suc y) z h = refl
 slice_get_other (x ∷ xs) (suc k) zero z h = refl
 slice_get_other (x ∷ xs) (suc k) (suc y) z h = slice_get_other xs k y z (λ e. h (ap suc e))
 
-slice_get_front : {X : Type 0} (xs ys : List X) (k : ℕ) (x : X) → slice_get xs k ≡ Some x → slice_get (xs ++ ys) k ≡ Some x
+pub slice_get_front : {X : Type 0} (xs ys : List X) (k : ℕ) (x : X) → slice_get xs k ≡ Some x → slice_get (xs ++ ys) k ≡ Some x
 slice_get_front [] ys k x e = absurd (cc)
 slice_get_front (y ∷ xs) ys zero x e = e
 slice_get_front (y ∷ xs) ys (suc k) x e = slice_get_front xs ys k x e

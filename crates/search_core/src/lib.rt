@@ -3,10 +3,14 @@
 
 mod event;
 pub mod laws;
+mod outline;
 mod posts;
+mod state;
 
 pub use event::Event;
+pub use outline::NodeState;
 pub use posts::Posts;
+pub use state::State;
 
 /// The most workers of a search.
 pub const WORKERS_MAX: u32 = 16;
