@@ -104,3 +104,11 @@ used_more i before d after h known none =
     ∙ one_more (is_used before s) (d.shift == s) (λ e. ap (is_used before) (sym (eqb-true d.shift s e)) ∙ unused)) in
     let once : count_by (λ s. d.shift == s) (below n) ≡ 1 = count_by-below d.shift n known in
     omega arith
+
+-- a duty is there that was added last but one
+pub is_there : (before after last : List Duty) (d e : Duty) → after ≡ before ++ d ∷ [] → last ≡ after ++ e ∷ [] → 0 < count_of last d
+is_there before after last d e first second =
+    let a : count_of after d ≡ count_of before d + cond (same_duty d d) 1 0 = ap (λ (ds : List Duty). count_of ds d) first ∙ (with_pushed before d).each (same_duty d) in
+    let b : count_of last d ≡ count_of after d + cond (same_duty d e) 1 0 = ap (λ (ds : List Duty). count_of ds d) second ∙ (with_pushed after e).each (same_duty d) in
+    let c : ◌≡◌ {A = ℕ} (cond (same_duty d d) 1 0) 1 = ap (λ b. cond b 1 0) ((same_duty_decides d d).1 refl) in
+    omega arith

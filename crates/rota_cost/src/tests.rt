@@ -1,3 +1,6 @@
+ghost use Rattle.std.specs.Prelude.{◌<◌, length};
+ghost use Rattle.shift_instance.specs.Problem.{shift_list};
+
 use crate::{Cover, RowFault, cost_rows, legal_rows};
 use break_rules::{Break, Breaks, Lunches, NoMemory, Rule, Totals};
 use shift_instance::{Duty, Instance, Parts, Row, Rows, TypeParts};
@@ -208,30 +211,48 @@ fn two_days(alloc: Global) -> Result<Parts, NoMemory> {
     })
 }
 
+/// What a cover costs with no duty in it, with one, with a second, and after that without the first.
+fn costs_of(
+    alloc: Global,
+    instance: &Instance,
+    first: &Duty,
+    second: &Duty,
+) -> Result<[u64; 4], NoMemory>
+    requires shifts { (first.now.shift < length (shift_list instance.now)) × (second.now.shift < length (shift_list instance.now)) }
+    requires days { (first.now.day < instance.now.days) × (second.now.day < instance.now.days) }
+{
+    let mut cover = Cover::new(alloc, instance)?;
+    let none = cover.cost();
+    cover.add(instance, first);
+    let one = cover.cost();
+    cover.add(instance, second);
+    let two = cover.cost();
+    cover.remove(instance, first);
+    Ok([none, one, two, cover.cost()])
+}
+
 #[test]
 fn a_cover_costs_what_its_duties_cost(rt: HostRuntime) -> Result<(), Fail> {
     let alloc = rt.alloc();
     let instance = Instance::new(alloc, two_days(alloc)?)?;
-    let mut cover = Cover::new(alloc, &instance)?;
-    assert_eq!(rt; cover.cost(), 9 * 2);
+    let first = Duty {
+        shift: 0,
+        day: 0,
+        breaks: Breaks::new(Vec::new(alloc)),
+    };
     // The second morning uses no further shift. The last night is worked in the first hours of the period, too.
-    for (adds, shift, day, start, cost) in [
-        (true, 0, 0, None, 5 * 2 + 3),
-        (true, 0, 1, None, 2 + 3),
-        (true, 1, 1, None, 3 + 2 * 3),
-        (false, 0, 0, None, 4 * 2 + 3 + 2 * 3),
-        (false, 0, 1, None, 8 * 2 + 3 + 3),
-        (true, 0, 0, Some(1), 6 * 2 + 3 + 2 * 3),
-        (false, 1, 1, None, 7 * 2 + 3),
+    for (shift, day, start, two, left) in [
+        (0, 0, None, 5 * 2 + 4 + 3, 5 * 2 + 3),
+        (0, 1, None, 2 + 3, 5 * 2 + 3),
+        (0, 1, Some(1), 3 * 2 + 3, 7 * 2 + 3),
+        (1, 0, None, 5 * 2 + 4 + 2 * 3, 9 * 2 + 4 + 3),
+        (1, 1, None, 4 * 2 + 3 + 2 * 3, 8 * 2 + 3 + 3),
     ] {
         let Row { breaks, .. } = row_of(alloc, shift, day, start, 1)?;
-        let duty = Duty { shift, day, breaks };
-        if adds {
-            cover.add(&instance, &duty);
-        } else {
-            cover.remove(&instance, &duty);
-        }
-        assert_eq!(rt; cover.cost(), cost);
+        let second = Duty { shift, day, breaks };
+        assert!(rt; usize::from(shift) < instance.shifts().len() && day < instance.days());
+        let costs = costs_of(alloc, &instance, &first, &second)?;
+        assert_eq!(rt; costs, [9 * 2, 5 * 2 + 3, two, left]);
     }
     Ok(())
 }

@@ -15,7 +15,14 @@ use instance_json::canonical;
 use plan_base::Disk;
 use post_codec::Post;
 use shift_instance::Instance;
-use std::alloc::Global;
+use std::alloc::{AllocError, Global};
+
+/// The same instance once more.
+fn copy_of(instance: &Instance) -> Result<Instance, AllocError>
+    ensures { IfOk result (λ copy. copy ≡ instance.now) }
+{
+    instance.clone()
+}
 
 /// Opens the journal with this head, or creates it in an empty file by four calls, and reads its records.
 pub(crate) fn open_journal<D: Disk>(
@@ -87,7 +94,7 @@ pub(crate) fn open_posts<D: Disk>(
     ensures faults { D.faults disk.old ≤ D.faults disk.new }
 {
     let head = canonical(alloc, instance)?;
-    let instance = instance.clone()?;
+    let instance = copy_of(instance)?;
     let (journal, records) = open_journal(alloc, disk, &head, limit)?;
     let posts = read_posts(alloc, &records)?;
     let Some(cost) = fold_cost(alloc, &instance, &posts) else {

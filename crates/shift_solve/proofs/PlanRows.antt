@@ -83,5 +83,5 @@ rows_legal i rota legal =
     (and_from _ _ (rows_ordered i rota) (rows_some i rota))
     (alike_legal i rota (rota_of (rows_of i rota)) (rows_alike i rota legal) legal)
 
-pub rows_cost : (i : Problem) (rota : List Duty) → is_legal_rota i rota ≡ true → cost i (rota_of (rows_of i rota)) ≡ cost i rota
-rows_cost i rota legal = sym (alike_cost i rota (rota_of (rows_of i rota)) (rows_alike i rota legal))
+pub rota_costs : (i : Problem) (rota : List Duty) → is_legal_rota i rota ≡ true → cost i (rota_of (rows_of i rota)) ≡ cost i rota
+rota_costs i rota legal = sym (alike_cost i rota (rota_of (rows_of i rota)) (rows_alike i rota legal))

@@ -1,8 +1,7 @@
--- Sums, counts and lists over the numbers below a number, with one number more.
-use Rattle.std.proofs.Common.{◌≡◌, ℕ, zero, suc, ◌+◌, ℤ, pos, ◌+ℤ◌, Bool, true, false, cond, ◌||◌, List, [], ◌∷◌, ◌++◌, map, filter, refl, ap, ◌∙◌, arith, sum_by, count_by}
+-- Sums and lists over the numbers below a number, with one number more.
+use Rattle.std.proofs.Common.{◌≡◌, ℕ, zero, suc, ◌+◌, ℤ, pos, ◌+ℤ◌, Bool, true, false, cond, ◌||◌, List, [], ◌∷◌, ◌++◌, map, filter, refl, ap, ◌∙◌, arith}
 use Rattle.std.specs.List.{list_any, range_with_len, flat_map}
 use Rattle.std.proofs.lemmas.Int.{ints}
-use Rattle.std.proofs.lemmas.List.Sums.{sum_by_push}
 use Rattle.std.proofs.lemmas.List.Folds.{list_any-append}
 use Rattle.break_rules.specs.Sums.{int_sum_by}
 use Rattle.break_rules.proofs.Sums.{int_sum_by-append}
@@ -21,12 +20,6 @@ pub int_sum_more : (f : ℕ → ℤ) (n : ℕ) → int_sum_by f (below (n + 1)) 
 int_sum_more f n =
     ap (int_sum_by f) (below_push n) ∙ int_sum_by-append f (below n) (n ∷ [])
     ∙ ap (λ z. int_sum_by f (below n) +ℤ z) (let e : pos 0 +ℤ f n ≡ f n = omega (arith, ints) in e)
-
-pub sum_more : (f : ℕ → ℕ) (n : ℕ) → sum_by f (below (n + 1)) ≡ sum_by f (below n) + f n
-sum_more f n = ap (sum_by f) (below_push n) ∙ sum_by_push f (below n) n
-
-pub count_more : (p : ℕ → Bool) (n : ℕ) → count_by p (below (n + 1)) ≡ count_by p (below n) + cond (p n) 1 0
-count_more p n = sum_more (λ k. cond (p k) 1 0) n
 
 pub any_more : (p : ℕ → Bool) (n : ℕ) → list_any p (below (n + 1)) ≡ (list_any p (below n) || p n)
 any_more p n =

@@ -1,6 +1,6 @@
 -- From a search over a book to what a run says of it.
-use Rattle.std.proofs.Common.{◌≡◌, ⊎_elim, inl, inr, ◌∙◌, sym, ap, subst, refl, ℕ, ◌+◌, ◌<◌, ◌≤◌, List, [], ◌∷◌, ◌++◌, length, arith}
-use Rattle.std.specs.Prelude.{Option, Some, None, OnSome, IfSome, IsSome, Bool, true, false, if◌then◌else◌}
+use Rattle.std.proofs.Common.{◌≡◌, ⊎_elim, inl, inr, ◌∙◌, sym, ap, subst, refl, ℕ, ◌+◌, ◌*◌, ◌<◌, ◌≤◌, List, [], ◌∷◌, ◌++◌, length, arith}
+use Rattle.std.specs.Prelude.{Option, Some, None, OnSome, IfSome, IsSome, Bool, true, if◌then◌else◌}
 use Rattle.std.proofs.lemmas.Bool.{lt-ltb, le-ltb, false≢true}
 use Rattle.std.proofs.lemmas.List.{append-nil}
 use Rattle.plan_base.specs.Causes.{Rose}
@@ -13,7 +13,7 @@ use Rattle.search_book.specs.declared.fault.Kept.{Kept}
 use Rattle.search_book.specs.declared.fault.Shutting.{Shutting}
 use Rattle.search_book.specs.declared.fault.Shutting.TheVariants.{DiskFault as ByDisk, Full as ByLimit}
 use Rattle.search_book.specs.Fold.{Book, book_of, IsFoldAt, IsSound}
-use Rattle.search_book.specs.Front.{Lasts, IsRunning}
+use Rattle.search_book.specs.Front.{HoldsFront, Lasts, IsRunning}
 use Rattle.search_book.specs.Opening.{IsOpenedFrom}
 use Rattle.search_book.specs.Posting.{Posts, PostFails, plan_of, rows_cost, with_plan, end_with}
 use Rattle.search_book.specs.View.{BookView}
@@ -101,14 +101,19 @@ pub record Known {D : Type 0} (reads : D → Option (List ℕ)) (images : D → 
   pub telling : TellsAlike (reads new.opened) (reads new.disk)
   pub lasts : Lasts reads images_since calls new
   pub running : new.in_flight ≡ [] → IsRunning reads images calls new
+  pub begun : calls entry ≤ calls old.disk
+  pub moment : calls new.opened + 4 * new.made ≤ calls new.disk
+  pub now_counts : (disk : D) (moment : ℕ) (image : List ℕ) → moment ≤ calls disk → images disk image → images_since disk moment image
 
 -- these facts, from what an opening says of a book
 pub known : {D : Type 0} (reads : D → Option (List ℕ)) (images : D → List ℕ → Type 0) (images_since : D → ℕ → List ℕ → Type 0) (calls : D → ℕ) (entry : D) (i : Problem) (old new : BookView D)
     → old.instance ≡ i → old.limit ≡ JOURNAL_MAX → old.opening ≡ length old.history → old.opened ≡ old.disk → old.made ≡ 0 → old.in_flight ≡ [] → old.shut ≡ None
     → IfSome (reads entry) (IsOpenedFrom JOURNAL_MAX i old.history old.used (reads old.disk)) → IsFoldAt old.instance old.history old.cost
     → TellsAlike (reads new.opened) (reads new.disk) → Lasts reads images_since calls new → (new.in_flight ≡ [] → IsRunning reads images calls new)
+    → calls entry ≤ calls old.disk → calls new.opened + 4 * new.made ≤ calls new.disk
+    → ((disk : D) (moment : ℕ) (image : List ℕ) → moment ≤ calls disk → images disk image → images_since disk moment image)
     → Known reads images images_since calls entry i old new
-known reads images images_since calls entry i old new of limit opening opened made flight shut found folds telling lasts running = record {
+known reads images images_since calls entry i old new of limit opening opened made flight shut found folds telling lasts running begun moment now_counts = record {
   same = ap (λ x. record old { instance = x }) of
       ∙ ap (λ x. record old { instance = i; limit = x }) limit
       ∙ ap (λ x. record old { instance = i; limit = JOURNAL_MAX; opening = x }) opening
@@ -121,6 +126,9 @@ known reads images images_since calls entry i old new of limit opening opened ma
   telling = telling;
   lasts = lasts;
   running = running;
+  begun = begun;
+  moment = moment;
+  now_counts = now_counts;
 }
 
 -- an opened disk tells its content where it did before
@@ -142,6 +150,14 @@ ends_of reads images images_since calls entry i old new added flight last known 
     subst (λ (v : BookView _). book_of v.instance (old.history ++ added) ≡ Some last) known.same
     (subst (λ (v : BookView _). book_of v.instance v.history ≡ Some last) grows ends)
 
+-- an image now is one since the last acknowledgment
+pub after_run : {D : Type 0} (images : D → List ℕ → Type 0) (images_since : D → ℕ → List ℕ → Type 0) (calls : D → ℕ) (disk : D) (reads : Option (List ℕ)) (since made limit : ℕ) (i : Problem) (run : List Post) (first : ℕ)
+    → ((disk : D) (moment : ℕ) (image : List ℕ) → moment ≤ calls disk → images disk image → images_since disk moment image) → since + 4 * made ≤ calls disk
+    → OnSome reads ((b : ℕ) (image : List ℕ) → b ≤ made → images_since disk (since + 4 * b) image → HoldsFront limit i run (first + b) image)
+    → OnSome reads ((image : List ℕ) → images disk image → HoldsFront limit i run (first + made) image)
+after_run images images_since calls disk None since made limit i run first counts moment lasts = tt
+after_run images images_since calls disk (Some file) since made limit i run first counts moment lasts = λ image now. lasts made image (omega arith) (counts disk (since + 4 * made) image moment now)
+
 -- the session of a book that grew
 abbrev pub session_of : {D : Type 0} (reads : D → Option (List ℕ)) (images : D → List ℕ → Type 0) (images_since : D → ℕ → List ℕ → Type 0) (calls faults : D → ℕ) (entry : D) (i : Problem) (old new : BookView D) (added flight : List Post) (last : Book)
     → Known reads images images_since calls entry i old new → Grows old new added flight → book_of i (old.history ++ added) ≡ Some last
@@ -149,6 +165,8 @@ abbrev pub session_of : {D : Type 0} (reads : D → Option (List ℕ)) (images :
 session_of reads images images_since calls faults entry i old new added flight last known grows ends =
     let running = subst (λ (v : BookView _). flight ≡ [] → IsRunning reads images calls (grown v new added flight)) known.same
     (subst (λ (v : BookView _). v.in_flight ≡ [] → IsRunning reads images calls v) grows known.running) in
+    let moment = subst (λ (v : BookView _). calls v.opened + 4 * length added ≤ calls new.disk) known.same (subst (λ (v : BookView _). calls v.opened + 4 * v.made ≤ calls v.disk) grows known.moment) in
+    let lasts = subst (λ (v : BookView _). Lasts reads images_since calls (grown v new added flight)) known.same (subst (Lasts reads images_since calls) grows known.lasts) in
     record {
       opening = old.history;
       first = record { best = known.folds.best; cost = old.cost };
@@ -161,10 +179,13 @@ session_of reads images images_since calls faults entry i old new added flight l
       last = last;
       ends = ends;
       since = calls old.disk;
+      begun = known.begun;
+      moment = moment;
       tells = tells_after (reads entry) (reads old.disk) (reads new.disk)
           (map_some (reads entry) (λ file found. opened_tells JOURNAL_MAX i old.history old.used (reads old.disk) file found) known.found)
           (subst (λ (v : BookView _). TellsAlike (reads v.opened) (reads new.disk)) known.same (subst (λ (v : BookView _). TellsAlike (reads v.opened) (reads new.disk)) grows known.telling));
-      lasts = subst (λ (v : BookView _). Lasts reads images_since calls (grown v new added flight)) known.same (subst (Lasts reads images_since calls) grows known.lasts);
+      lasts = lasts;
+      after = after_run images images_since calls new.disk (reads new.disk) (calls old.disk) (length added) JOURNAL_MAX i ((old.history ++ added) ++ flight) (length old.history) known.now_counts moment lasts;
       kept = λ none. map_some (reads new.disk) (λ file kept. record { only = kept.only; stands = record { used = new.used; journal = kept.journal } }) (running none).kept;
       time = λ none. (running none).time;
     }

@@ -1,5 +1,5 @@
 -- Steps of the greedy plan's loops.
-use Rattle.std.proofs.Common.{◌≡◌, inl, inr, ℕ, zero, suc, ◌+◌, ◌-◌, ◌*◌, ◌%◌, ◌<◌, ◌≤◌, ℤ, pos, neg_ℤ, ◌+ℤ◌, ◌-ℤ◌, ◌≤ℤ◌, Option, Some, None, not, Bool, true, false, cond, ◌||◌, ◌&&◌, ◌==◌, append_assoc, length-append, List, [], ◌∷◌, ◌++◌, map, filter, length, get_or, set, take, drop, sum_by, refl, sym, ap, ◌∙◌, subst, arith, count_by, nat_lt, eq-eqb}
+use Rattle.std.proofs.Common.{◌≡◌, inl, inr, ℕ, zero, suc, ◌+◌, ◌-◌, ◌*◌, ◌%◌, ◌<◌, ◌≤◌, ℤ, pos, neg_ℤ, ◌+ℤ◌, ◌-ℤ◌, ◌≤ℤ◌, Option, Some, None, not, Bool, true, false, cond, ◌||◌, ◌&&◌, ◌==◌, append_assoc, length-append, List, [], ◌∷◌, ◌++◌, map, filter, length, get_or, set, take, drop, refl, sym, ap, ◌∙◌, subst, arith, count_by, nat_lt, eq-eqb}
 use Rattle.std.proofs.lemmas.Int.{ints}
 use Rattle.std.specs.Prelude.{slice_get, IsSomeAnd, MatchBool, int_lt}
 use Rattle.std.specs.Option.{option_map_or}
@@ -18,21 +18,22 @@ use Rattle.shift_instance.specs.declared.Shift.{Shift}
 use Rattle.shift_instance.specs.declared.Duty.{Duty}
 use Rattle.shift_instance.specs.declared.Row.{Row}
 use Rattle.shift_instance.specs.Problem.{Problem, slots, need_at, shift_list, slot_of, below}
-use Rattle.shift_instance.specs.Rota.{slot_cost, shifts_used, is_used, is_on, heads_on, cost, rota_of, are_legal_rows}
+use Rattle.shift_instance.specs.Rota.{is_on, heads_on, cost, rota_of, are_legal_rows}
 use Rattle.shift_instance.proofs.Shifts.{some_at, get_or_some, is_some_and_at}
 use Rattle.shift_instance.specs.Valid.{IsValid}
+use Rattle.search_book.specs.Posting.{rows_cost}
 use Rattle.shift_solve.specs.Greedy.{duty, row_of, marginal_price, least_list, best_list, day_value, is_wanted, next_shift, new_duties, greedy_after, greedy_rota, greedy_rows, rows_of, first_greatest}
 use Rattle.shift_solve.specs.Least.{Working, least_duty, least_duties}
 use Rattle.shift_solve.specs.Sums.{IsWithin, ArePrices, sum_at, window_sum}
-use Rattle.shift_solve.specs.Tally.{Tallies, IsTally, Leads, LeadsToGreedy, heads_at, is_begun, is_counted, rows_with, shift_rows, tallied_gain, tallied_next, tallied_prices, tallied_cost}
+use Rattle.shift_solve.specs.Tally.{Tallies, IsTally, Leads, LeadsToGreedy, heads_at, is_begun, is_counted, rows_with, shift_rows, tallied_gain, tallied_next, tallied_prices}
 use Rattle.shift_solve.proofs.Falls.{greedy_cheaper}
 use Rattle.shift_solve.proofs.Leading.{leads_all}
 use Rattle.shift_solve.proofs.Lengths.{legal_length}
-use Rattle.shift_solve.proofs.PlanRows.{rows_legal, rows_cost}
+use Rattle.shift_solve.proofs.PlanRows.{rows_legal, rota_costs}
 use Rattle.shift_solve.proofs.Rounds.{HasBest, find_some, next_gains, round_legal, round_some, round_none, greedy_best, greedy_legal}
 use Rattle.shift_solve.proofs.LeastLists.{least_at, none_at, no_value, few_offsets, used_value, window_value}
-use Rattle.shift_solve.proofs.Ranges.{sum_more, int_sum_more, any_more, map_more, map_push, filter_more, flat_map_more}
-use Rattle.shift_solve.proofs.Tallied.{tallies_add, cover_short, tallied_prices_are, tallied_next_is, tallied_duties_are, tallied_cost_is, tallied_rows_are}
+use Rattle.shift_solve.proofs.Ranges.{int_sum_more, any_more, map_more, map_push, filter_more, flat_map_more}
+use Rattle.shift_solve.proofs.Tallied.{tallies_add, cover_short, tallied_prices_are, tallied_next_is, tallied_duties_are, tallied_rows_are}
 
 -- a marginal price is no larger than a weight
 price_small : (i : Problem) (t c : ℕ) → IsValid i → IsWithin 1000000 (marginal_price i t c)
@@ -135,18 +136,6 @@ pub begun_not : (i : Problem) (heads : List ℕ) (s day n : ℕ) → list_any (�
     → list_any (λ day. nat_lt 0 (heads_at i heads s day)) (below (day + 1)) ≡ false
 begun_not i heads s day n h e none =
     any_more (λ day. nat_lt 0 (heads_at i heads s day)) day ∙ ap (λ b. b || nat_lt 0 (heads_at i heads s day)) h ∙ le-ltb 0 (heads_at i heads s day) (omega arith)
-
--- a sum over slots, and a count, with one more
-pub total_more : (f : ℕ → ℕ) (t total v : ℕ) → total ≡ sum_by f (below t) → v ≡ f t → total + v ≡ sum_by f (below (t + 1))
-total_more f t total v h e = ap (λ n. n + v) h ∙ ap (λ n. sum_by f (below t) + n) e ∙ sym (sum_more f t)
-
--- the plan with no duties costs its shortage
-pub opening_is : (i : Problem) (total n : ℕ) → total ≡ sum_by (λ t. slot_cost i t 0) (below n) → n ≡ slots i → total ≡ cost i []
-opening_is i total n h e =
-    let none : shifts_used i [] ≡ 0 = count_by_none (is_used []) (below (length (shift_list i))) (λ s m. refl) in
-    h ∙ ap (λ k. sum_by (λ t. slot_cost i t 0) (below k)) e
-    ∙ (let z : sum_by (λ t. slot_cost i t 0) (below (slots i)) ≡ sum_by (λ t. slot_cost i t 0) (below (slots i)) + i.shift * 0 = omega arith in z)
-    ∙ ap (λ k. sum_by (λ t. slot_cost i t 0) (below (slots i)) + i.shift * k) (sym none)
 
 -- no slot's number is large
 pub index_short : (i : Problem) (spare : ℕ) (covers heads : List ℕ) (t c : ℕ) → IsTally i spare covers heads → t < slots i → c ≡ get_or covers t c → (c ≡ get_or covers t 0) × (c ≤ 2000000)
@@ -459,12 +448,6 @@ pub plan_legal : (i : Problem) (rows : List Row) → rows ≡ greedy_rows i → 
 unfolding greedy_rows
 plan_legal i rows e = ap (are_legal_rows i) e ∙ rows_legal i (greedy_rota i) (greedy_legal i)
 
-pub plan_cost : (i : Problem) (covers heads : List ℕ) (rows : List Row) (n : ℕ) → LeadsToGreedy i 0 covers heads → rows ≡ greedy_rows i → n ≡ tallied_cost i covers heads → n ≡ cost i (rota_of rows)
-unfolding greedy_rows greedy_after
-plan_cost i covers heads rows n h er en =
-    en ∙ tallied_cost_is i h.rota covers heads h.tallies h.legal ∙ ap (cost i) h.ahead
-    ∙ sym (rows_cost i (greedy_rota i) (greedy_legal i)) ∙ ap (λ zs. cost i (rota_of zs)) (sym er)
-
 -- the round that finds no shift to take
 pub last_round : (i : Problem) (n k : ℕ) (covers heads covers' heads' : List ℕ) (more : Bool) → k < n → more ≡ false
     → ((rounds : ℕ) → LeadsToGreedy i (rounds + 1) covers heads → MatchBool more (LeadsToGreedy i rounds covers' heads') (LeadsToGreedy i 0 covers' heads'))
@@ -474,9 +457,9 @@ last_round i n k covers heads covers' heads' more l e step h =
     subst (λ b. MatchBool b (LeadsToGreedy i (n - k - 1) covers' heads') (LeadsToGreedy i 0 covers' heads')) e
     (step (n - k - 1) (subst (λ (r : ℕ). LeadsToGreedy i r covers heads) one h))
 
-pub plan_cheaper : (i : Problem) (covers heads : List ℕ) (n opening : ℕ) → LeadsToGreedy i 0 covers heads → n ≡ tallied_cost i covers heads → opening ≡ cost i [] → n ≤ opening
-unfolding greedy_after
-plan_cheaper i covers heads n opening h en eo =
-    let e : n ≡ cost i (greedy_rota i) = en ∙ tallied_cost_is i h.rota covers heads h.tallies h.legal ∙ ap (cost i) h.ahead in
-    let l : cost i (greedy_rota i) ≤ cost i [] = greedy_cheaper i h.valid in
+pub plan_cheaper : (i : Problem) (rows : List Row) → IsValid i → rows ≡ greedy_rows i → rows_cost i rows ≤ rows_cost i []
+unfolding greedy_rows rows_cost
+plan_cheaper i rows valid e =
+    let same : cost i (rota_of rows) ≡ cost i (greedy_rota i) = ap (λ zs. cost i (rota_of zs)) e ∙ rota_costs i (greedy_rota i) (greedy_legal i) in
+    let l : cost i (greedy_rota i) ≤ cost i [] = greedy_cheaper i valid in
     omega arith

@@ -1,5 +1,5 @@
 -- What the numbers of a plan say of the plan.
-use Rattle.std.proofs.Common.{◌≡◌, inl, inr, ℕ, zero, suc, ◌+◌, ◌*◌, ◌/◌, ◌%◌, ◌<◌, ◌≤◌, ℤ, pos, ◌-ℤ◌, Bool, true, false, cond, ◌&&◌, ◌==◌, not, nat_lt, List, [], ◌∷◌, ◌++◌, map, filter, length, get_or, set, replicate, refl, sym, ap, ◌∙◌, subst, arith, count_by, sum_by, eq-eqb, Some}
+use Rattle.std.proofs.Common.{◌≡◌, inl, inr, ℕ, zero, suc, ◌+◌, ◌*◌, ◌/◌, ◌%◌, ◌<◌, ◌≤◌, ℤ, pos, ◌-ℤ◌, Bool, true, false, cond, ◌&&◌, ◌==◌, not, nat_lt, List, [], ◌∷◌, ◌++◌, map, filter, length, get_or, set, replicate, refl, sym, ap, ◌∙◌, subst, arith, count_by, eq-eqb, Some}
 use Rattle.std.specs.Prelude.{slice_get, int_lt, unwrap_or}
 use Rattle.std.specs.Option.{option_map_or}
 use Rattle.std.specs.List.{list_any, find, flat_map}
@@ -14,19 +14,19 @@ use Rattle.break_rules.specs.Breaks.{same_list}
 use Rattle.break_rules.specs.Sums.{int_sum_by}
 use Rattle.break_rules.proofs.LegalLists.{same_list_decides}
 use Rattle.break_rules.proofs.Lists.{Has, Has-below, from_below, from_filter, any_some, any_at, same_tests}
-use Rattle.break_rules.proofs.Counts.{count_by_none, count_by_same, sum_by_same, any_by_count, Has-from_count}
+use Rattle.break_rules.proofs.Counts.{count_by_none, count_by_same, any_by_count, Has-from_count}
 use Rattle.break_rules.proofs.Sums.{int_sum_by-same}
 use Rattle.shift_instance.specs.declared.Shift.{Shift}
 use Rattle.shift_instance.specs.declared.Duty.{Duty}
 use Rattle.shift_instance.specs.declared.Row.{Row}
 use Rattle.shift_instance.specs.Problem.{Problem, slots, shift_list, slot_of, below}
-use Rattle.shift_instance.specs.Rota.{lists_of, works, same_duty, count_of, is_on, heads_on, cover, slot_cost, is_used, cost, is_legal_rota}
+use Rattle.shift_instance.specs.Rota.{lists_of, works, same_duty, count_of, is_on, heads_on, cover, is_used, is_legal_rota}
 use Rattle.shift_instance.specs.Valid.{IsValid}
 use Rattle.shift_instance.proofs.Alike.{same_duty_decides}
 use Rattle.shift_instance.proofs.Rotas.{legal_duties, from_lists_of}
 use Rattle.shift_solve.specs.Greedy.{duty, row_of, rows_of, marginal_price, marginal_prices, day_value, best_list, value_on, is_wanted, counts, gain, first_greatest, next_shift, new_duties}
 use Rattle.shift_solve.specs.Least.{Working}
-use Rattle.shift_solve.specs.Tally.{Tallies, heads_at, is_begun, is_counted, tallied_gain, tallied_next, tallied_prices, rows_with, shift_rows, tallied_cost}
+use Rattle.shift_solve.specs.Tally.{Tallies, heads_at, is_begun, is_counted, tallied_gain, tallied_next, tallied_prices, rows_with, shift_rows}
 use Rattle.shift_solve.proofs.Duties.{once_of}
 use Rattle.shift_solve.proofs.LeastLists.{HasLeast, used_works, any_same}
 use Rattle.shift_solve.proofs.Rounds.{HasBest}
@@ -225,14 +225,6 @@ pub tallied_duties_are : (i : Problem) (rota : List Duty) (prices : List ℤ) (c
 unfolding new_duties
 tallied_duties_are i rota prices covers heads s h e hs =
     ap (map (λ day. duty s day (best_list i s))) (filter_same (is_counted i prices heads s) (counts i rota s) (below i.days) (λ day m. counted_counts i rota prices covers heads s day h e hs (from_below i.days day m)))
-
-pub tallied_cost_is : (i : Problem) (rota : List Duty) (covers heads : List ℕ) → Tallies i rota covers heads → is_legal_rota i rota ≡ true → tallied_cost i covers heads ≡ cost i rota
-unfolding tallied_cost
-tallied_cost_is i rota covers heads h legal =
-    ap (λ n. n + i.shift * count_by (is_begun i heads) (below (length (shift_list i))))
-    (sum_by_same (λ t. slot_cost i t (get_or covers t 0)) (λ t. slot_cost i t (cover i rota t)) (below (slots i)) (λ t m. ap (slot_cost i t) (h.covered t (from_below (slots i) t m))))
-    ∙ ap (λ n. sum_by (λ t. slot_cost i t (cover i rota t)) (below (slots i)) + i.shift * n)
-    (count_by_same (is_begun i heads) (is_used rota) (below (length (shift_list i))) (λ s m. begun_used i rota covers heads s h legal (from_below (length (shift_list i)) s m)))
 
 -- ---- rows
 -- where each duty has its shift's list, the duties with it are those of shift and day

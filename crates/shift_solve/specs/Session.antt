@@ -66,13 +66,18 @@ pub record Session (met : DiskMet) (i : Problem) : Type 0 where
   pub in_flight : List Post
   pub last : Book
   pub ends : book_of i (opening ++ added) ≡ Some last
-  -- the moment of the opening; each record takes four calls
+  -- the moment of the opening, in the run
   pub since : ℕ
+  pub begun : met.calls.0 ≤ since
+  -- each record is acknowledged with the fourth call after the one before it, the last of them in the run
+  pub moment : since + 4 * length added ≤ met.calls.1
   -- a disk that told its content before the run tells it after
   pub tells : OnSome met.file (IsSome met.file_after)
   -- each image since the b-th record was acknowledged holds a front of all posts with the opening ones and those b in it
   pub lasts : OnSome met.file_after ((b : ℕ) (image : List ℕ) → b ≤ length added → met.images_since (since + 4 * b) image
       → HoldsFront JOURNAL_MAX i ((opening ++ added) ++ in_flight) (length opening + b) image)
+  -- each image after the run holds a front of all posts with every acknowledged one in it
+  pub after : OnSome met.file_after ((image : List ℕ) → met.images_after image → HoldsFront JOURNAL_MAX i ((opening ++ added) ++ in_flight) (length opening + length added) image)
   -- where no record ended in a disk fault, the disk holds these posts and nothing else
   pub kept : in_flight ≡ [] → IfSome met.file_after (IsOnlyJournal met i (opening ++ added))
   pub time : in_flight ≡ [] → met.calls.1 ≡ since + 4 * length added

@@ -1,5 +1,5 @@
 -- A plan as numbers: how many duties work in each slot, and how many of each shift stand on each day.
-use Rattle.std.specs.Prelude.{◌≡◌, ℕ, ◌+◌, ◌*◌, ◌≤◌, ◌<◌, ℤ, pos, ◌-ℤ◌, ◌≤ℤ◌, ◌<ℤ◌, MatchOption, Bool, IsTrue, nat_lt, List, [], length, map, slice_index, sum_by, count_by, Option, if◌then◌else◌}
+use Rattle.std.specs.Prelude.{◌≡◌, ℕ, ◌+◌, ◌*◌, ◌≤◌, ◌<◌, ℤ, pos, ◌-ℤ◌, ◌≤ℤ◌, ◌<ℤ◌, MatchOption, Bool, IsTrue, nat_lt, List, [], length, map, slice_index, Option, if◌then◌else◌}
 use Rattle.std.specs.Option.{option_map_or}
 use Rattle.std.specs.List.{list_any, filter}
 use Rattle.break_rules.specs.declared.Break.{Break}
@@ -7,7 +7,7 @@ use Rattle.break_rules.specs.Sums.{int_sum_by}
 use Rattle.shift_instance.specs.declared.Duty.{Duty}
 use Rattle.shift_instance.specs.declared.Row.{Row}
 use Rattle.shift_instance.specs.Problem.{Problem, slots, shift_list, below}
-use Rattle.shift_instance.specs.Rota.{heads_on, cover, slot_cost, is_legal_rota}
+use Rattle.shift_instance.specs.Rota.{heads_on, cover, is_legal_rota}
 use Rattle.shift_instance.specs.Valid.{IsValid}
 use Rattle.shift_solve.specs.Greedy.{duty, row_of, marginal_price, least_list, day_value, is_wanted, first_greatest, greedy_after, greedy_rota}
 
@@ -59,12 +59,6 @@ rows_with i heads s list =
 -- the rows of a shift, by its numbers: none where no list is legal
 abbrev pub shift_rows : Problem → List ℕ → ℕ → List Row
 shift_rows i heads s = option_map_or (rows_with i heads s) (least_list i s) []
-
--- the cost of excess and shortage, and of the shifts used, by their numbers
-unfoldable pub tallied_cost : Problem → List ℕ → List ℕ → ℕ
-tallied_cost i covers heads =
-    sum_by (λ t. slot_cost i t (slice_index covers t)) (below (slots i))
-    + i.shift * count_by (is_begun i heads) (below (length (shift_list i)))
 
 -- the numbers are those of a legal plan of a valid instance, from which that many more rounds lead to the greedy plan
 pub record LeadsToGreedy (i : Problem) (rounds : ℕ) (covers heads : List ℕ) : Type 0 where

@@ -3,30 +3,19 @@ ghost use Rattle.std.specs.Prelude.{◌≡◌, ◌<◌, ◌≤◌, ◌*◌, ◌+
 ghost use Rattle.std.specs.List.{flat_map, filter};
 ghost use Rattle.shift_instance.specs.declared.Duty.{Duty};
 ghost use Rattle.shift_instance.specs.Problem.{shift_list, slots, below};
-ghost use Rattle.shift_instance.specs.Rota.{are_legal_rows, cost, rota_of};
+ghost use Rattle.shift_instance.specs.Rota.{are_legal_rows};
+ghost use Rattle.search_book.specs.Posting.{rows_cost};
 ghost use Rattle.shift_solve.specs.Greedy.{best_list, duty, day_value, greedy_rows, is_wanted, marginal_price};
 ghost use Rattle.shift_solve.specs.Least.{least_duties};
 ghost use Rattle.shift_solve.specs.Sums.{ArePrices, IsWithin};
 ghost use Rattle.shift_solve.specs.Tally.{IsTally, LeadsToGreedy, Tallies, is_counted, rows_with, shift_rows, tallied_gain, tallied_next, tallied_prices};
 
 use crate::least_duties::{LeastDuties, LeastDuty};
-use crate::plan_cost::{opening_cost, tally_cost};
 use crate::price_sums::PriceSums;
 use crate::tally::Tally;
 use break_rules::NoMemory;
 use shift_instance::{Instance, Row, Rows};
 use std::alloc::Global;
-
-/// The greedy plan of an instance.
-#[derive(Drop)]
-pub(crate) struct GreedyPlan {
-    /// The plan's rows, by shift, then by day, then by break list.
-    pub(crate) rows: Rows,
-    /// What the plan costs.
-    pub(crate) cost: u64,
-    /// What the plan with no duties costs.
-    pub(crate) opening: u64,
-}
 
 /// The marginal price of a slot where that many duties work.
 fn marginal_price(instance: &Instance, t: usize, cover: u32) -> i64
@@ -289,21 +278,15 @@ fn all_rows(
     Ok(Rows::new(rows))
 }
 
-/// The greedy plan of an instance: from no duties, in each round a duty of the shift that gains most at the marginal
-/// prices of the slots, on each day where it gains. Each shift is used with its least legal list, and a shift without
-/// one not at all.
-pub(crate) fn greedy_plan(alloc: Global, instance: &Instance) -> Result<GreedyPlan, NoMemory>
-    ensures rows { IfOk result (λ p. p.rows ≡ greedy_rows instance.now) }
-    ensures cost { IfOk result (λ p. p.cost ≡ cost instance.now (rota_of p.rows)) }
-    ensures legal { IfOk result (λ p. IsTrue (are_legal_rows instance.now p.rows)) }
-    ensures opening { IfOk result (λ p. p.opening ≡ cost instance.now []) }
-    ensures cheaper { IfOk result (λ p. p.cost ≤ p.opening) }
+/// The rows of the greedy plan of an instance, by shift, then by day: from no duties, in each round a duty of the shift
+/// that gains most at the marginal prices of the slots, on each day where it gains. Each shift is used with its least
+/// legal list, and a shift without one not at all.
+pub(crate) fn greedy_plan(alloc: Global, instance: &Instance) -> Result<Rows, NoMemory>
+    ensures rows { IfOk result (λ rows. rows ≡ greedy_rows instance.now) }
+    ensures legal { IfOk result (λ rows. IsTrue (are_legal_rows instance.now rows)) }
+    ensures cheaper { IfOk result (λ rows. rows_cost instance.now rows ≤ rows_cost instance.now []) }
 {
     let duties = LeastDuties::of(alloc, instance)?;
     let tally = greedy_tally(alloc, instance, &duties)?;
-    Ok(GreedyPlan {
-        rows: all_rows(alloc, instance, &duties, &tally)?,
-        cost: tally_cost(instance, &tally),
-        opening: opening_cost(instance),
-    })
+    all_rows(alloc, instance, &duties, &tally)
 }

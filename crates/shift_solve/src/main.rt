@@ -7,7 +7,6 @@ pub mod greedy_laws;
 #[cfg(test)]
 mod greedy_tests;
 mod least_duties;
-mod plan_cost;
 mod price_sums;
 mod report;
 mod run;

@@ -32,14 +32,16 @@ fn post_greedy<D: Disk>(
     ensures ok { IfOk result (λ full. MatchOption full (IsPosted book.old book.new instance.now) (λ o. Overflows book.old book.new instance.now o.end o.limit)) }
     ensures err { IfErr result (GreedyFails D.faults book.old book.new instance.now) }
 {
-    let Ok(plan) = greedy_plan(alloc, instance) else {
+    let Ok(rows) = greedy_plan(alloc, instance) else {
         return Err(Status::NoMemory);
     };
-    match book.post(plan.rows) {
+    match book.post(rows) {
         Ok(_) => Ok(None),
         Err(CommitFault::Full { end, limit }) => Ok(Some(Overflow { end, limit })),
         Err(CommitFault::DiskFault) => Err(Status::DiskFault),
-        Err(_) => Err(Status::NoMemory),
+        Err(CommitFault::NoMemory) => Err(Status::NoMemory),
+        // the book is open
+        Err(CommitFault::Shut) => unreachable!(),
     }
 }
 
