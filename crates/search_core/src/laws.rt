@@ -12,6 +12,8 @@ ghost use Rattle.search_core.specs.declared.event.Event.TheVariants.{Crash};
 ghost use Rattle.search_core.specs.Book.{Book, book_of, floor_of, is_open, is_finished, IsLeastFloor, IsSound};
 ghost use Rattle.search_core.specs.Core.{Core, start, run, happens, IsSoundCore, IsFront};
 
+use crate::State;
+
 /// Where posts make a book, it is sound.
 pub fn fold_is_sound()
     ensures { (i : Problem) (posts : List Post) (b : Book) → book_of i posts ≡ Some b → IsSound i b }
@@ -35,16 +37,22 @@ pub fn every_run()
         → IsFront (take c.acked c.history) d.history × IsFront d.history c.history }
 {}
 
-/// The best rota of a finished book is cheapest, and its cost is the book's floor. Two finished books of one instance have
-/// the same cost and the same floor.
-pub fn finished_agree()
+/// The best rota of a finished book is cheapest, and its cost is the book's floor.
+pub fn finished_is_cheapest()
     ensures cheapest { (i : Problem) (b : Book) (rota : List Duty) → IsSound i b → IsTrue (is_finished b) → IsTrue (is_legal_rota i rota) → b.cost ≤ cost i rota }
-    ensures closed { (b : Book) → IsTrue (is_finished b) → floor_of b ≡ b.cost }
-    ensures cost { (i : Problem) (one other : Book) → IsSound i one → IsSound i other
-        → IsTrue (is_finished one) → IsTrue (is_finished other) → one.cost ≡ other.cost }
-    ensures floor { (i : Problem) (one other : Book) → IsSound i one → IsSound i other
-        → IsTrue (is_finished one) → IsTrue (is_finished other) → floor_of one ≡ floor_of other }
+    ensures floor { (b : Book) → IsTrue (is_finished b) → floor_of b ≡ b.cost }
 {}
+
+/// Two states of one instance without an open node have the same cost and the same floor.
+pub fn finished_agree(one: &State, other: &State)
+    requires instance { one.now.instance ≡ other.now.instance }
+    requires one { IsTrue (is_finished one.now.book) }
+    requires other { IsTrue (is_finished other.now.book) }
+    ensures cost { one.now.book.cost ≡ other.now.book.cost }
+    ensures floor { floor_of one.now.book ≡ floor_of other.now.book }
+{
+    let _ = (one.cost(), other.cost());
+}
 
 /// The nodes of a book, and one more, are at most twice two to the power of the root's span.
 pub fn few_nodes()

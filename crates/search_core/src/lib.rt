@@ -2,12 +2,17 @@
 #![tactic(auto)]
 
 mod event;
+mod fault;
+mod judging;
 pub mod laws;
 mod outline;
 mod posts;
 mod state;
+#[cfg(test)]
+mod tests;
 
 pub use event::Event;
+pub use fault::StepFault;
 pub use outline::NodeState;
 pub use posts::Posts;
 pub use state::State;

@@ -177,12 +177,13 @@ impl Outline {
     {
         self.spare -= 1;
         self.nodes[node] = NodeState { floor, split: true };
-        let child = NodeState {
+        let at_most = NodeState {
             floor,
             split: false,
         };
-        self.nodes.push_reserved(child);
-        self.nodes.push_reserved(child);
+        let at_least = at_most;
+        self.nodes.push_reserved(at_most);
+        self.nodes.push_reserved(at_least);
         self.splits.push_reserved(at);
     }
 }

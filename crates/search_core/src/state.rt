@@ -1,12 +1,16 @@
 //! The state of a search.
-ghost use Rattle.std.specs.Prelude.{◌≡◌, ℕ, ◌-◌, ◌^◌, ◌<◌, ◌++◌, ◌∷◌, [], ◌==◌, Some, map, max, length, slice_get, IfOk, IsSome, IsSomeAnd, OnOk, OnErr};
+ghost use Rattle.std.specs.Prelude.{◌≡◌, ℕ, ◌-◌, ◌^◌, ◌<◌, ◌++◌, ◌∷◌, [], ◌==◌, Some, map, max, length, slice_get, IfOk, IfErr, IsSome, IsSomeAnd, OnOk, OnErr};
 ghost use Rattle.search_core.specs.Book.{book_of, floor_of, is_node_and, is_open, opening, step, IsSound};
+ghost use Rattle.post_codec.specs.declared.post.Post.TheVariants.{Plan, Split};
+ghost use Rattle.search_core.specs.Faults.{open_fault, plan_fault, split_fault, Refuses, Steps};
 ghost use Rattle.search_core.specs.Kept.{cuts_in, part_of, rows_in};
 ghost use Rattle.search_core.specs.State.{state_of, value_of};
 
+use crate::fault::StepFault;
+use crate::judging::{is_live_class, plan_fault};
 use crate::outline::{NodeState, Outline, least_floor};
 use break_rules::NoMemory;
-use head_splits::{Cut, Cuts, Side};
+use head_splits::{Class, Cut, Cuts, Side, range};
 use post_codec::Post;
 use rota_cost::recount;
 use shift_instance::{Instance, Rows};
@@ -207,5 +211,84 @@ impl State {
         let at = self.outline.splits()[(node - 1) / 2];
         let posts = &self.posts;
         part_of(&posts[at], node % 2 == 1)
+    }
+
+    /// Appends a worker's plan, where it is better than the best rota.
+    pub(crate) fn step_plan(
+        &mut self,
+        instance: &Instance,
+        worker: u16,
+        rows: Rows,
+        cost: u64,
+    ) -> Result<(), StepFault>
+        requires { instance.now ≡ self.old.instance }
+        ensures ok { OnOk result (Steps self.old self.new (Plan worker rows cost)) }
+        ensures unchanged { OnErr result (self.new ≡ self.old) }
+        ensures err { IfErr result (Refuses (plan_fault self.old.instance self.old.book.cost rows cost)) }
+    {
+        if let Some(fault) = plan_fault(instance, &rows, cost, self.cost()) {
+            return Err(fault);
+        }
+        self.reserve(1)?;
+        self.append(Post::Plan { worker, rows, cost }, cost);
+        Ok(())
+    }
+
+    /// Appends a worker's split of an open node by the number of a live class, where the node's cuts leave it open.
+    pub(crate) fn step_split(
+        &mut self,
+        instance: &Instance,
+        worker: u16,
+        node: u32,
+        class: Class,
+        m: u16,
+    ) -> Result<(), StepFault>
+        requires { instance.now ≡ self.old.instance }
+        ensures ok { OnOk result (Steps self.old self.new (Split worker node class m)) }
+        ensures unchanged { OnErr result (self.new ≡ self.old) }
+        ensures err { IfErr result (Refuses (split_fault self.old.instance self.old.book node class m)) }
+    {
+        if let Some(fault) = self.open_fault(node) {
+            return Err(fault);
+        }
+        if !is_live_class(self.alloc, instance, &class)? {
+            return Err(StepFault::NotLive { class });
+        }
+        let (lo, hi) = range(instance, &self.cuts_of(node)?, &class);
+        if m < lo || hi <= m {
+            return Err(StepFault::OutOfRange { lo, hi });
+        }
+        self.reserve(1)?;
+        let floor = self.nodes()[node as usize].floor;
+        let post = Post::Split {
+            worker,
+            node,
+            class,
+            m,
+        };
+        self.append(post, floor);
+        Ok(())
+    }
+
+    /// Why a node isn't open, if it isn't.
+    fn open_fault(&self, node: u32) -> Option<StepFault>
+        ensures { result ≡ open_fault self.now.book node }
+    {
+        let best = self.outline.cost();
+        match self.outline.nodes().get(node as usize) {
+            None => Some(StepFault::NoNode { node }),
+            Some(state) => {
+                if state.split {
+                    Some(StepFault::IsSplit { node })
+                } else if best <= state.floor {
+                    Some(StepFault::NotOpen {
+                        floor: state.floor,
+                        best,
+                    })
+                } else {
+                    None
+                }
+            }
+        }
     }
 }
