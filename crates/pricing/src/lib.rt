@@ -1,0 +1,4 @@
+//! The best break list of a duty at given prices.
+#![tactic(auto)]
+
+mod table;
