@@ -1,3 +1,4 @@
 pub mod Stretches
 pub mod Best
 pub mod Steps
+pub mod Tails

@@ -6,11 +6,12 @@ use Rattle.break_rules.specs.declared.Break.{Break}
 use Rattle.break_rules.specs.declared.Rule.{Rule}
 use Rattle.break_rules.specs.declared.Spot.{Spot}
 use Rattle.break_rules.specs.Breaks.{is_legal, is_live}
+use Rattle.break_rules.specs.Ranges.{IsRule}
 use Rattle.break_rules.specs.Walk.{spot_of, is_walk, end_of_all}
 use Rattle.break_rules.specs.Live.{place_of}
 use Rattle.break_rules.proofs.Lists.{Has}
 use Rattle.pricing.specs.declared.table.Choice.{Choice}
-use Rattle.pricing.specs.Rests.{sum_at, price_in, resumes, earned_from, Completes, IsBestRest}
+use Rattle.pricing.specs.Rests.{sum_at, price_in, AreSums, resumes, earned_from, Completes, IsBestRest}
 
 -- what a list's rest earns
 abbrev pub rest_worth : List ℤ → Rule → ℕ → List Break → List Break → ℤ
@@ -61,3 +62,27 @@ abbrev pub better_of : Option Choice → Option Choice → Option Choice
 better_of None other = other
 better_of (Some best) None = Some best
 better_of (Some best) (Some other) = if int_lt best.value other.value then Some other else Some best
+
+-- a best rest of a list
+abbrev pub IsBestTail : Rule → ℕ → List ℤ → List Break → List Break → Type 0
+IsBestTail rule len sums list rest = (value : ℤ) × IsBestRest (Completes rule len list) (rest_worth sums rule len list) value rest
+
+-- the first break of a best rest, and none of an empty one
+abbrev pub IsFirstOfBest : Rule → ℕ → List ℤ → List Break → Option Break → Type 0
+IsFirstOfBest rule len sums list first = (rest : List Break) × IsBestTail rule len sums list rest × (first ≡ slice_get rest 0)
+
+-- a list that ends with a best rest of another that it begins with
+abbrev pub IsBestFrom : Rule → ℕ → List ℤ → List Break → List Break → Type 0
+IsBestFrom rule len sums list whole = (rest : List Break) × (whole ≡ list ++ rest) × IsBestTail rule len sums list rest
+
+-- a rule, the length of the shifts that are meant, and the sums of the prices of their offsets
+pub record Priced : Type 0 where
+  pub rule : Rule
+  pub len : ℕ
+  pub sums : List ℤ
+
+-- what a table of best rests keeps
+pub record AreBestRests (rule : Rule) (len : ℕ) (sums : List ℤ) (entries : List (Option Choice)) : Type 0 where
+  pub well_formed : IsRule rule
+  pub small : AreSums len sums
+  pub known : AreEntries rule len sums (256 * (len + 1)) entries
