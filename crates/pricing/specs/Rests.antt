@@ -1,11 +1,14 @@
 -- What can still be earned behind the first breaks of a duty.
-use Rattle.std.specs.Prelude.{◌≡◌, ℕ, ◌+◌, ◌-◌, ◌≤◌, ◌<◌, ◌==◌, ℤ, pos, ◌-ℤ◌, ◌≤ℤ◌, List, [], ◌∷◌, ◌++◌, true, false, slice_index_or, if◌then◌else◌}
+use Rattle.std.specs.Prelude.{◌≡◌, ℕ, ◌+◌, ◌-◌, ◌≤◌, ◌<◌, ◌==◌, ℤ, pos, ◌-ℤ◌, ◌≤ℤ◌, List, [], ◌∷◌, ◌++◌, true, false, All, slice_index_or, if◌then◌else◌}
 use Rattle.std.specs.List.{range_with_len}
 use Rattle.std.specs.Int.RustNames.{unsigned_abs}
 use Rattle.break_rules.specs.declared.Break.{Break}
 use Rattle.break_rules.specs.declared.Rule.{Rule}
 use Rattle.break_rules.specs.Breaks.{is_legal, is_less_list, works_at}
 use Rattle.break_rules.specs.Sums.{int_sum_by}
+use Rattle.shift_instance.specs.declared.Shift.{Shift}
+use Rattle.shift_instance.specs.Problem.{Problem, slot_of}
+use Rattle.shift_instance.specs.Worth.{price_of}
 
 -- the sum of the prices of the offsets below one, in a list of such sums
 abbrev pub sum_at : List ℤ → ℕ → ℤ
@@ -38,3 +41,11 @@ pub record IsBestRest (Allowed : List Break → Type 0) (worth : List Break → 
   pub is_worth : worth rest ≡ value
   pub greatest : (other : List Break) → Allowed other → worth other ≤ℤ value
   pub least : (other : List Break) → Allowed other → worth other ≡ value → is_less_list other rest ≡ false
+
+-- the sums are those of the prices of the slots where a shift's offsets stand on a day
+abbrev pub ArePricesOf : Problem → Shift → ℕ → List ℤ → List ℤ → Type 0
+ArePricesOf i shift day prices sums = (offset : ℕ) → offset < shift.len → price_in sums offset ≡ price_of prices (slot_of i shift day offset)
+
+-- prices of at most 10^10 each
+abbrev pub AreSmallPrices : List ℤ → Type 0
+AreSmallPrices prices = All (λ p. unsigned_abs p ≤ 10000000000) prices

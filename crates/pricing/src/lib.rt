@@ -2,6 +2,7 @@
 #![tactic(auto)]
 
 mod rests;
+mod sums;
 mod table;
 
 pub use rests::BestRests;
