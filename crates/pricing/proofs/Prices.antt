@@ -1,15 +1,15 @@
 -- Sums of prices, one offset after another.
-use Rattle.std.proofs.Common.{◌≡◌, ◌⊎◌, inl, inr, ℕ, ◌+◌, ◌*◌, ◌<◌, ◌≤◌, ℤ, pos, ◌+ℤ◌, ◌-ℤ◌, List, [], ◌∷◌, ◌++◌, length, refl, sym, ap, ◌∙◌, subst, arith, Some, Option, FitsSigned, to_z, of_z, get_or}
+use Rattle.std.proofs.Common.{◌≡◌, ◌⊎◌, inl, inr, ℕ, ◌+◌, ◌*◌, ◌^◌, ◌<◌, ◌≤◌, ℤ, pos, ◌+ℤ◌, ◌-ℤ◌, List, [], ◌∷◌, ◌++◌, length, sym, ap, ◌∙◌, subst, arith, Some, Option, to_z, of_z, get_or}
 use Rattle.std.specs.Int.{w64}
+use mir.Syntax.{w128}
 use Rattle.std.specs.Int.RustNames.{unsigned_abs}
-use Rattle.std.specs.Prelude.{slice_get, All, IsSomeAnd}
+use Rattle.std.specs.Prelude.{IsSomeAnd}
 use Rattle.std.proofs.lemmas.Int.{ints, fits_signed_from_abs, to_z-of_z}
-use Rattle.std.proofs.lemmas.Bool.{cases_lt}
 use Rattle.std.proofs.lemmas.List.{get_or_append_left, get_or_push}
 use Rattle.std.proofs.lemmas.List.Elements.{All-get_or}
 use Rattle.break_rules.specs.declared.Rule.{Rule}
 use Rattle.shift_instance.specs.declared.Shift.{Shift}
-use Rattle.pricing.specs.Rests.{sum_at, price_in, AreSums, AreSmallPrices}
+use Rattle.pricing.specs.Rests.{sum_at, price_in, AreSmallPrices}
 use Rattle.pricing.proofs.Stretches.{abs_add}
 
 pub price_small : (prices : List ℤ) (t : ℕ) → t < length prices → AreSmallPrices prices → unsigned_abs (get_or prices t (pos 0)) ≤ 10000000000
@@ -56,3 +56,18 @@ module _ (sums : List ℤ) (offset : ℕ) (x : ℤ) (many : length sums ≡ offs
 
 pub some_at : (o : Option (Shift × Rule)) (x : Shift × Rule) (P : Shift × Rule → Type 0) → o ≡ Some x → IsSomeAnd o P → P x
 some_at o x P e h = subst (λ (q : Option (Shift × Rule)). IsSomeAnd q P) e h
+
+-- what a duty earns and its bonus, as their sum is kept
+pub kept_worth : (e f b : ℤ) → unsigned_abs e ≤ 10000000000 * 65535 → unsigned_abs b ≤ 2 ^ 33 * 1000000000000 → f ≡ to_z w64 (of_z w64 e)
+    → to_z w128 (of_z w128 (to_z w128 (of_z w128 f) +ℤ to_z w128 (of_z w128 b))) ≡ e +ℤ b
+kept_worth e f b small few is =
+    let wide : f ≡ e = is ∙ to_z-of_z w64 e (fits_signed_from_abs w64 e (omega arith)) in
+    let one : to_z w128 (of_z w128 f) ≡ e = ap (λ (z : ℤ). to_z w128 (of_z w128 z)) wide ∙ to_z-of_z w128 e (fits_signed_from_abs w128 e (omega arith)) in
+    let two : to_z w128 (of_z w128 b) ≡ b = to_z-of_z w128 b (fits_signed_from_abs w128 b (omega arith)) in
+    let both = abs_add e b (10000000000 * 65535) (2 ^ 33 * 1000000000000) small few in
+    ap (λ (z : ℤ). to_z w128 (of_z w128 (z +ℤ to_z w128 (of_z w128 b)))) one ∙ ap (λ (z : ℤ). to_z w128 (of_z w128 (e +ℤ z))) two
+    ∙ to_z-of_z w128 (e +ℤ b) (fits_signed_from_abs w128 (e +ℤ b) (omega arith))
+
+-- a small number, as it is kept
+pub kept_small : (x : ℤ) → unsigned_abs x ≤ 1000000000000 → to_z w64 (of_z w64 x) ≡ x
+kept_small x small = to_z-of_z w64 x (fits_signed_from_abs w64 x (omega arith))

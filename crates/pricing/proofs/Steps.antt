@@ -1,11 +1,10 @@
 -- The choice at a spot, from the choices behind the breaks that may come next.
-use Rattle.std.proofs.Common.{◌≡◌, ◌⊎◌, inl, inr, ℕ, ◌+◌, ◌-◌, ◌*◌, ◌<◌, ◌≤◌, ℤ, pos, ◌+ℤ◌, ◌-ℤ◌, ◌≤ℤ◌, Bool, true, false, ◌&&◌, List, [], ◌∷◌, ◌++◌, length, refl, sym, ap, ◌∙◌, subst, arith, append_assoc, append-nil, Option, Some, None, FitsSigned, int_lt, get_or}
+use Rattle.std.proofs.Common.{◌≡◌, inl, inr, ℕ, ◌+◌, ◌-◌, ◌*◌, ◌<◌, ◌≤◌, ℤ, pos, ◌+ℤ◌, ◌-ℤ◌, ◌≤ℤ◌, Bool, true, false, List, [], ◌∷◌, ◌++◌, length, refl, sym, ap, ◌∙◌, subst, arith, append_assoc, append-nil, Option, Some, None, FitsSigned, int_lt, get_or}
 use Rattle.std.specs.Int.{w64}
 use Rattle.std.specs.Int.RustNames.{unsigned_abs}
-use Rattle.std.specs.Prelude.{slice_get}
 use Rattle.std.proofs.lemmas.Int.{ints, fits_signed_from_abs}
 use Rattle.std.proofs.lemmas.List.Sums.{fold-append}
-use Rattle.std.proofs.lemmas.Bool.{and_parts, false≢true, cases_Bool, cases_lt, cond-true, cond-false}
+use Rattle.std.proofs.lemmas.Bool.{false≢true, cases_Bool, cases_lt, cond-true, cond-false}
 use Rattle.std.proofs.Math.ListN.{get_or-append}
 use Rattle.std.proofs.Math.Seq.{get_or-append_seam}
 use Rattle.break_rules.specs.declared.Break.{Break}
@@ -15,16 +14,16 @@ use Rattle.break_rules.specs.Breaks.{end_of, is_legal, is_live, is_less_break, i
 use Rattle.break_rules.specs.Ranges.{IsRule}
 use Rattle.break_rules.specs.Walk.{end_of_all, is_walk, nexts_of, spot_of}
 use Rattle.break_rules.specs.Live.{place_of}
-use Rattle.break_rules.proofs.Lists.{Has, Has-append_cases, from_filter}
+use Rattle.break_rules.proofs.Lists.{Has, Has-append_cases}
 use Rattle.break_rules.proofs.LegalLists.{live_from, no_longer_list}
 use Rattle.break_rules.proofs.Ordered.{Sorted, Sorted-filter, Sorted-breaks, IsLessBreak}
 use Rattle.break_rules.proofs.Reaching.{rest_first, live_cases, walk_on, later_place, walk_small}
 use Rattle.break_rules.proofs.Steps.{bounds, from_next}
 use Rattle.pricing.specs.declared.table.Choice.{Choice}
 use Rattle.pricing.specs.Rests.{sum_at, price_in, AreSums, resumes, earned_from, Completes, IsBestRest}
-use Rattle.pricing.specs.Choices.{rest_worth, IsChosen, IsEntry, entry_of, AreEntries, Through, IsBestSoFar, via_of, IsFit, better_of}
-use Rattle.pricing.proofs.Stretches.{Spaced, earned_more, earned_end, earned_small, spaced_rest, resumes_behind, abs_sub}
-use Rattle.pricing.proofs.Best.{Begin, Behind, best_dead, best_first, best_stays, best_moves, best_more, best_allowed}
+use Rattle.pricing.specs.Choices.{rest_worth, IsEntry, entry_of, AreEntries, Through, IsBestSoFar, via_of, IsFit, better_of}
+use Rattle.pricing.proofs.Stretches.{earned_more, earned_end, earned_small, spaced_rest, resumes_behind, abs_sub}
+use Rattle.pricing.proofs.Best.{Behind, best_dead, best_first, best_stays, best_moves, best_more, best_allowed}
 
 module _ (rule : Rule) (len : ℕ) (list : List Break) (b : Break) where
   longer : (bs : List Break) → is_legal rule len ((list ++ b ∷ []) ++ bs) ≡ is_legal rule len (list ++ b ∷ bs)
@@ -34,7 +33,7 @@ module _ (rule : Rule) (len : ℕ) (list : List Break) (b : Break) where
   dead_behind h bs c = false≢true (sym h ∙ live_from rule len (list ++ b ∷ []) bs (longer bs ∙ c))
 
   -- a rest that begins with a break earns the stretch before it and what is earned behind it
-  worth_more : (sums : List ℤ) (bs : List Break) → IsRule rule → Completes rule len list (b ∷ bs)
+  pub worth_more : (sums : List ℤ) (bs : List Break) → IsRule rule → Completes rule len list (b ∷ bs)
       → rest_worth sums rule len list (b ∷ bs) ≡ (sum_at sums b.start -ℤ sum_at sums (resumes rule (end_of_all list))) +ℤ rest_worth sums rule len (list ++ b ∷ []) bs
   worth_more sums bs r c =
       let end : end_of_all (list ++ b ∷ []) ≡ end_of b = fold-append (λ (at : ℕ) (c : Break). end_of c) 0 list (b ∷ []) in

@@ -1,5 +1,5 @@
 -- What is earned with a break more: a stretch of work, and what is earned behind the break.
-use Rattle.std.proofs.Common.{◌≡◌, inl, inr, ℕ, zero, suc, ◌+◌, ◌-◌, ◌*◌, ◌<◌, ◌≤◌, ℤ, pos, negsuc, ◌+ℤ◌, ◌-ℤ◌, ◌≤ℤ◌, Bool, true, false, cond, ◌&&◌, ◌||◌, ◌==◌, not, List, [], ◌∷◌, ◌++◌, refl, sym, ap, ◌∙◌, subst, arith, nat_le, nat_lt, fold, sum_by, length, eq-eqb}
+use Rattle.std.proofs.Common.{◌≡◌, inl, inr, ℕ, zero, suc, ◌+◌, ◌-◌, ◌*◌, ◌<◌, ◌≤◌, ℤ, pos, negsuc, ◌+ℤ◌, ◌-ℤ◌, ◌≤ℤ◌, Bool, true, false, cond, ◌&&◌, ◌||◌, ◌==◌, not, List, [], ◌∷◌, ◌++◌, refl, sym, ap, ◌∙◌, subst, arith, nat_le, nat_lt, fold, sum_by}
 use Rattle.std.specs.List.{list_all, list_any, range_with_len}
 use Rattle.std.specs.Int.RustNames.{unsigned_abs}
 use Rattle.std.proofs.lemmas.Int.{ints}
@@ -7,7 +7,7 @@ use Rattle.std.proofs.lemmas.List.Sums.{fold-append}
 use Rattle.std.proofs.lemmas.Bool.{and_parts, and_from, and_left, and_right, or_from, or_left, leb-true, le-leb, lt-leb, lt-ltb, le-ltb, ne_eqb, eqb-true, ltb-true, cases_Bool, cond-true, cond-false}
 use Rattle.break_rules.specs.declared.Break.{Break}
 use Rattle.break_rules.specs.declared.Rule.{Rule}
-use Rattle.break_rules.specs.Breaks.{end_of, has_work, is_off, works_at, is_legal, is_lunched, total_of}
+use Rattle.break_rules.specs.Breaks.{end_of, has_work, is_off, works_at, is_lunched, total_of}
 use Rattle.break_rules.specs.Ranges.{IsRule}
 use Rattle.break_rules.specs.Sums.{int_sum_by}
 use Rattle.break_rules.specs.Walk.{end_of_all, may_follow, is_walk, is_walk_from, may_end}
@@ -172,6 +172,14 @@ sum_small f a (suc n) m h =
     let same = ap unsigned_abs one in
     let product : m * suc n ≡ m + m * n = omega arith in
     omega arith
+
+-- the sum for one number more
+pub sum_below : (f : ℕ → ℤ) (n : ℕ) → int_sum_by f (range_with_len 0 (n + 1)) ≡ int_sum_by f (range_with_len 0 n) +ℤ f n
+sum_below f n =
+    let at : 0 + n ≡ n = omega arith in
+    ap (int_sum_by f) (range-append 0 n 1) ∙ int_sum_by-append f (range_with_len 0 n) (range_with_len (0 + n) 1)
+    ∙ ap (λ k. int_sum_by f (range_with_len 0 n) +ℤ int_sum_by f (range_with_len k 1)) at
+    ∙ ap (λ (z : ℤ). int_sum_by f (range_with_len 0 n) +ℤ z) (int_sum_by-cons f n [] ∙ (let e : f n +ℤ pos 0 ≡ f n = omega (arith, ints) in e))
 
 -- what is earned is small
 pub earned_small : (sums : List ℤ) (rule : Rule) (len from : ℕ) (rest : List Break) → AreSums len sums → unsigned_abs (earned_from (price_in sums) rule len from rest) ≤ 10000000000 * (len - from)

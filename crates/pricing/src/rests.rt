@@ -1,14 +1,16 @@
 //! The best rests of break lists at given prices.
 
-ghost use Rattle.std.specs.Prelude.{◌≡◌, ◌+◌, ◌*◌, ◌^◌, ◌<◌, List, IfOk, IsTrue, true};
-ghost use Rattle.break_rules.specs.Breaks.{is_live};
+ghost use Rattle.std.specs.Prelude.{◌≡◌, ◌+◌, ◌*◌, ◌^◌, ◌<◌, ◌≤◌, List, IfOk, IsTrue, true, pos, if◌then◌else◌};
+ghost use Rattle.break_rules.specs.Breaks.{is_live, works_at};
 ghost use Rattle.break_rules.specs.Ranges.{IsRule};
 ghost use Rattle.break_rules.specs.Walk.{spot_of, is_walk};
-ghost use Rattle.pricing.specs.Rests.{AreSums};
+ghost use Rattle.pricing.specs.Rests.{AreSums, earned_from, price_in};
+ghost use Rattle.std.specs.Int.RustNames.{unsigned_abs};
 ghost use Rattle.pricing.specs.Choices.{AreEntries, IsEntry, IsFirstOfBest, IsBestFrom};
 
-use crate::table::{Choice, choices, entry_at};
+use crate::table::{Choice, choices, entry_at, stretch};
 use break_rules::{Break, NoMemory, Rule, Spot, after};
+use patterns::works;
 use std::alloc::Global;
 use std::marker::Model;
 use std::snapshot::Snapshot;
@@ -30,6 +32,21 @@ impl Model for BestRests {
     ghost view = { λ r. record { rule = r.rule.value; len = r.len; sums = r.sums.items } };
 
     ghost invariant = { λ r. AreBestRests r.rule.value r.len r.sums.items r.entries.items };
+}
+
+/// The price of an offset, if a duty with these breaks works there, and else 0.
+fn earned_at(rule: &Rule, len: u16, list: &[Break], sums: &[i64], offset: u16) -> i64
+    requires sums { AreSums len sums.now }
+    requires offset { offset < len }
+    ensures earned { result ≡ (if works_at rule.now len list.now offset then price_in sums.now offset else pos 0) }
+    ensures small { unsigned_abs result ≤ 10000000000 }
+{
+    let offset_at = usize::from(offset);
+    if works(rule, len, list, offset) {
+        stretch(sums, offset_at, offset_at + 1)
+    } else {
+        0
+    }
 }
 
 impl BestRests {
@@ -88,5 +105,19 @@ impl BestRests {
             at = after(rule, at, next);
         }
         Ok(whole)
+    }
+
+    /// The prices of the offsets at which a duty with these breaks works. It takes no memory.
+    pub fn earned(&self, rule: &Rule, list: &[Break]) -> i64
+        ensures earned { result ≡ earned_from (price_in self.now.sums) rule.now self.now.len 0 list.now }
+        ensures small { unsigned_abs result ≤ 10000000000 * 65535 }
+    {
+        let sums = self.sums.as_slice();
+        let len = self.len;
+        let mut sum = 0;
+        for offset in 0..len {
+            sum += earned_at(rule, len, list, sums, offset);
+        }
+        sum
     }
 }

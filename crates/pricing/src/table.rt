@@ -57,7 +57,7 @@ fn sum_before(sums: &[i64], offset: usize) -> i64
 }
 
 /// The sum of the prices of a stretch of work.
-fn stretch(sums: &[i64], from: usize, to: usize) -> i64
+pub fn stretch(sums: &[i64], from: usize, to: usize) -> i64
     ensures { FitsSigned w64 (sum_at sums.now to -ℤ sum_at sums.now from) → result ≡ sum_at sums.now to -ℤ sum_at sums.now from }
 {
     sum_before(sums, to).saturating_sub(sum_before(sums, from))

@@ -1,13 +1,11 @@
-use Rattle.std.proofs.Common.{◌≡◌, ℕ, ℤ, pos, length-append, ◌+◌, ◌*◌, ◌+ℤ◌, ◌<◌, ◌≤◌, List, ◌++◌, ◌∷◌, [], length, sym, ap, subst, ◌∙◌, arith, get_or, to_z, of_z, Some}
+use Rattle.std.proofs.Common.{◌≡◌, ℤ, pos, length-append, ◌+◌, ◌*◌, ◌+ℤ◌, ◌<◌, ◌≤◌, List, ◌++◌, ◌∷◌, [], length, sym, ap, subst, ◌∙◌, arith, get_or, to_z, of_z}
 use Rattle.std.specs.Int.{w64}
 use Rattle.std.specs.Int.RustNames.{unsigned_abs}
-use Rattle.std.specs.Prelude.{slice_get}
 use Rattle.std.proofs.lemmas.Nat.{mod_below}
-use Rattle.break_rules.specs.declared.Rule.{Rule}
 use Rattle.shift_instance.specs.declared.Shift.{Shift}
-use Rattle.shift_instance.specs.Problem.{shift_list, slot_of, slots}
+use Rattle.shift_instance.specs.Problem.{slot_of, slots}
 use Rattle.shift_instance.specs.Worth.{price_of}
-use Rattle.pricing.specs.Rests.{sum_at, price_in, AreSums}
+use Rattle.pricing.specs.Rests.{sum_at, price_in}
 use Rattle.pricing.proofs.Prices.{price_small, next_size, next_sum, last_sum, prices_more, some_at}
 use Rattle.pricing.proofs.sums.price_sums.Goals as goal
 

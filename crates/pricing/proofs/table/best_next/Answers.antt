@@ -1,14 +1,12 @@
-use Rattle.std.proofs.Common.{◌≡◌, ◌++◌, [], ◌∷◌, sym, ap, subst, ◌∙◌, append_assoc, append-nil, List, Option}
+use Rattle.std.proofs.Common.{◌≡◌, ◌++◌, [], ◌∷◌, sym, ap, subst, ◌∙◌, append_assoc, append-nil, List}
 use Rattle.break_rules.specs.declared.Break.{Break}
 use Rattle.break_rules.specs.declared.Spot.{Spot}
 use Rattle.break_rules.specs.Walk.{nexts_of, spot_of, end_of_all}
-use Rattle.break_rules.specs.Live.{place_of}
 use Rattle.break_rules.proofs.Lists.{Has}
 use Rattle.break_rules.proofs.Steps.{from_next}
 use Rattle.break_rules.proofs.Reaching.{has_middle}
-use Rattle.pricing.specs.declared.table.Choice.{Choice}
 use Rattle.pricing.specs.Rests.{resumes}
-use Rattle.pricing.specs.Choices.{IsEntry, IsBestSoFar, entry_of, better_of, via_of, IsFit}
+use Rattle.pricing.specs.Choices.{IsEntry, IsBestSoFar, better_of, via_of, IsFit}
 use Rattle.pricing.proofs.Steps.{so_far_more, so_far_all, entry_behind, next_rises, fit}
 use Rattle.pricing.proofs.table.best_next.Goals as goal
 

@@ -1,6 +1,6 @@
 use Rattle.std.proofs.Common.{◌≡◌, ℤ, ap, ◌∙◌, ◌-ℤ◌, FitsSigned, arith, to_z, of_z}
 use Rattle.std.specs.Int.{w64, saturate_signed}
-use Rattle.std.proofs.lemmas.Int.{to_z-of_z, ints}
+use Rattle.std.proofs.lemmas.Int.{to_z-of_z}
 use Rattle.pricing.specs.Rests.{sum_at}
 use Rattle.pricing.proofs.table.stretch.Goals as goal
 

@@ -1,10 +1,10 @@
-use Rattle.std.proofs.Common.{◌≡◌, true, ◌<◌, ◌^◌, ◌++◌, [], ◌∷◌, ℕ, ℤ, List, Option, Some, None, sym, ap, subst, refl, ◌∙◌, append_assoc, append-nil}
+use Rattle.std.proofs.Common.{◌≡◌, true, ◌++◌, [], ◌∷◌, ℕ, ℤ, List, Some, None, sym, ap, subst, ◌∙◌, append_assoc}
 use Rattle.break_rules.specs.declared.Break.{Break}
 use Rattle.break_rules.specs.declared.Rule.{Rule}
 use Rattle.break_rules.specs.declared.Spot.{Spot}
 use Rattle.break_rules.specs.Breaks.{is_live}
 use Rattle.break_rules.specs.Ranges.{IsRule}
-use Rattle.break_rules.specs.Walk.{nexts_of, spot_of, is_walk, may_follow}
+use Rattle.break_rules.specs.Walk.{spot_of, is_walk, may_follow}
 use Rattle.break_rules.proofs.Steps.{from_next}
 use Rattle.break_rules.proofs.Reaching.{walk_on}
 use Rattle.break_rules.proofs.FirstList.{nearer}
