@@ -41,7 +41,7 @@ not_true true h = absurd (false≢true h)
 not_true false h = refl
 
 -- without bonuses a duty is worth what it earns
-worth_none : (i : Problem) (prices : List ℤ) (d : Duty) → worth i prices [] d ≡ earned i prices d
+pub worth_none : (i : Problem) (prices : List ℤ) (d : Duty) → worth i prices [] d ≡ earned i prices d
 worth_none i prices d = no_more (earned i prices d)
   where
     no_more : (z : ℤ) → z +ℤ pos 0 ≡ z

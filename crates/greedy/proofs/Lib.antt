@@ -5,6 +5,7 @@ pub mod Growing
 pub mod Leading
 pub mod Lengths
 pub mod Places
+pub mod PlainLists
 pub mod PlanRows
 pub mod Ranges
 pub mod Rounding

@@ -1,9 +1,11 @@
 //! The best lists of all shifts and days at slot prices.
-ghost use Rattle.std.specs.Prelude.{◌≡◌, ◌<◌, ◌*◌, pos, IfOk, length};
+ghost use Rattle.std.specs.Prelude.{◌≡◌, ◌<◌, ◌*◌, [], IfOk, OnOk, length};
+ghost use Rattle.std.specs.Bool.{OnFalse};
 ghost use Rattle.std.specs.Option.{option_copied};
 ghost use Rattle.shift_instance.specs.Problem.{shift_list};
+ghost use Rattle.shift_instance.specs.Worth.{earned};
 ghost use Rattle.greedy.specs.Bests.{AreBests, best_lists, best_of};
-ghost use Rattle.greedy.specs.Greedy.{day_value};
+ghost use Rattle.greedy.specs.Greedy.{day_value, duty};
 ghost use Rattle.greedy.specs.Sizes.{ArePrices, IsWithin};
 
 use break_rules::{Breaks, NoMemory};
@@ -31,7 +33,21 @@ pub(crate) struct Bests {
     pub(crate) entries: Vec<Option<Best>>,
 }
 
-/// The best list of a shift on a day.
+/// The prices of all slots of a shift on a day.
+fn whole_value(instance: &Instance, prices: &[i64], shift: u16, day: u8) -> i64
+    requires prices { ArePrices instance.now prices.now }
+    requires shift { shift < length (shift_list instance.now) }
+    ensures { result ≡ earned instance.now prices.now (duty shift day []) }
+{
+    let whole = instance.shift(shift);
+    let mut sum = 0;
+    for offset in 0..whole.len {
+        sum += prices[instance.slot_of(shift, day, offset)];
+    }
+    sum
+}
+
+/// The best list of a shift on a day. Under a plain rule that is the empty list, the only legal one.
 fn best_of(
     alloc: Global,
     instance: &Instance,
@@ -43,6 +59,11 @@ fn best_of(
     requires shift { shift < length (shift_list instance.now) }
     ensures { IfOk result (λ best. best ≡ best_of instance.now prices.now shift day) }
 {
+    if instance.rule_of(shift).is_plain() {
+        let list = Breaks::new(Vec::new(alloc));
+        let value = whole_value(instance, prices, shift, day);
+        return Ok(Some(Best { list, value }));
+    }
     match best_pattern(alloc, instance, shift, day, prices, &[])? {
         Some((pattern, value)) => {
             let Pattern { list, .. } = pattern;
@@ -72,6 +93,47 @@ fn entries(
     Ok(entries)
 }
 
+/// Whether the price of some slot of a shift on a day isn't what it was.
+fn is_priced_anew(instance: &Instance, before: &[i64], prices: &[i64], shift: u16, day: u8) -> bool
+    requires before { ArePrices instance.now before.now }
+    requires prices { ArePrices instance.now prices.now }
+    requires shift { shift < length (shift_list instance.now) }
+    ensures { OnFalse result (best_of instance.now before.now shift day ≡ best_of instance.now prices.now shift day) }
+{
+    let whole = instance.shift(shift);
+    for offset in 0..whole.len {
+        let slot = instance.slot_of(shift, day, offset);
+        if before[slot] != prices[slot] {
+            return true;
+        }
+    }
+    false
+}
+
+/// Makes the best lists at some prices those at other prices. Only those are looked for again that may have changed.
+fn renew(
+    alloc: Global,
+    instance: &Instance,
+    before: &[i64],
+    prices: &[i64],
+    entries: &mut Vec<Option<Best>>,
+) -> Result<(), NoMemory>
+    requires before { ArePrices instance.now before.now }
+    requires prices { ArePrices instance.now prices.now }
+    requires entries { entries.old.items ≡ best_lists instance.now before.now }
+    ensures { OnOk result (entries.new.items ≡ best_lists instance.now prices.now) }
+{
+    let days = usize::from(instance.days());
+    for place in 0..entries.len() {
+        let shift = (place / days) as u16;
+        let day = (place % days) as u8;
+        if is_priced_anew(instance, before, prices, shift, day) {
+            entries[place] = best_of(alloc, instance, prices, shift, day)?;
+        }
+    }
+    Ok(())
+}
+
 impl Bests {
     /// The best lists at these prices.
     pub(crate) fn of(
@@ -85,6 +147,23 @@ impl Bests {
     {
         let entries = entries(alloc, instance, &prices)?;
         Ok(Bests { prices, entries })
+    }
+
+    /// Makes them the best lists at other prices.
+    pub(crate) fn renew(
+        &mut self,
+        alloc: Global,
+        instance: &Instance,
+        prices: Vec<i64>,
+    ) -> Result<(), NoMemory>
+        requires bests { AreBests instance.now self.old.prices.items self.old.entries.items }
+        requires prices { ArePrices instance.now prices.items }
+        ensures prices { OnOk result (self.new.prices.items ≡ prices.items) }
+        ensures entries { OnOk result (AreBests instance.now self.new.prices.items self.new.entries.items) }
+    {
+        renew(alloc, instance, &self.prices, &prices, &mut self.entries)?;
+        self.prices = prices;
+        Ok(())
     }
 
     /// The best list of a shift on a day, and `None` where no list is legal.

@@ -108,18 +108,28 @@ fn add_days(
     Ok(())
 }
 
-/// One round: takes the shift of greatest gain, and says whether there was one.
-fn round(alloc: Global, instance: &Instance, draft: &mut Draft) -> Result<bool, NoMemory>
-    requires { IsDraft instance.now draft.old.cover draft.old.heads.items draft.old.rows.items }
+/// One round: takes the shift of greatest gain, and says whether there was one. The best lists are those at the plan's
+/// marginal prices, and stay so where there was one.
+fn round(
+    alloc: Global,
+    instance: &Instance,
+    draft: &mut Draft,
+    bests: &mut Bests,
+) -> Result<bool, NoMemory>
+    requires draft { IsDraft instance.now draft.old.cover draft.old.heads.items draft.old.rows.items }
+    requires bests { AreBests instance.now bests.old.prices.items bests.old.entries.items }
+    requires prices { bests.old.prices.items ≡ marginal_prices instance.now draft.old.cover.duties }
     ensures draft { OnOk result (IsDraft instance.now draft.new.cover draft.new.heads.items draft.new.rows.items) }
     ensures leads { IfOk result (λ more. (rounds : ℕ) → LeadsToGreedy instance.now (rounds + 1) draft.old.cover.duties
         → MatchBool more (LeadsToGreedy instance.now rounds draft.new.cover.duties) (LeadsToGreedy instance.now 0 draft.new.cover.duties)) }
+    ensures bests { OnOk result (AreBests instance.now bests.new.prices.items bests.new.entries.items) }
+    ensures prices { OnOk result (bests.new.prices.items ≡ marginal_prices instance.now draft.new.cover.duties) }
 {
-    let prices = marginal_prices(alloc, instance, &draft.cover)?;
-    let bests = Bests::of(alloc, instance, prices)?;
-    match best_shift(instance, draft, &bests) {
+    match best_shift(instance, draft, bests) {
         Some(shift) => {
-            add_days(alloc, instance, draft, &bests, shift)?;
+            add_days(alloc, instance, draft, bests, shift)?;
+            let prices = marginal_prices(alloc, instance, &draft.cover)?;
+            bests.renew(alloc, instance, prices)?;
             Ok(true)
         }
         None => Ok(false),
@@ -132,11 +142,13 @@ fn greedy_draft(alloc: Global, instance: &Instance) -> Result<Draft, NoMemory>
     ensures leads { IfOk result (λ d. LeadsToGreedy instance.now 0 d.cover.duties) }
 {
     let mut draft = Draft::empty(alloc, instance)?;
+    let prices = marginal_prices(alloc, instance, &draft.cover)?;
+    let mut bests = Bests::of(alloc, instance, prices)?;
     let most = instance.shifts().len()
         * usize::from(instance.days())
         * usize::from(instance.heads());
     'rounds: for _round in 0..most {
-        if !round(alloc, instance, &mut draft)? {
+        if !round(alloc, instance, &mut draft, &mut bests)? {
             return Ok(draft);
         }
     }

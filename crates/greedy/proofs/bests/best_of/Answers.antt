@@ -1,7 +1,10 @@
-use Rattle.std.proofs.Common.{◌≡◌, ◌≤ℤ◌, ◌∙◌, neg_ℤ, pos, FitsSigned, to_z, of_z, w64, sym, subst, rules}
+use Rattle.std.proofs.Common.{◌≡◌, ◌≤ℤ◌, ◌∙◌, neg_ℤ, pos, List, [], FitsSigned, to_z, of_z, w64, sym, subst, rules}
 use mir.Syntax.{w128}
 use Rattle.std.proofs.lemmas.Int.{to_z-of_z}
+use Rattle.break_rules.specs.declared.Break.{Break}
+use Rattle.shift_instance.specs.Worth.{IsBest}
 use Rattle.greedy.proofs.BestLists.{none_at, found_at, found_small, best_of_some, best_of_none}
+use Rattle.greedy.proofs.PlainLists.{plain_best}
 use Rattle.greedy.proofs.bests.best_of.Goals as goal
 
 pub overflow_cast-value : goal.overflow_cast-value
@@ -33,3 +36,16 @@ returns-in-Some c =
 
 pub returns-in-None : goal.returns-in-None
 returns-in-None c = best_of_none c.args.instance.now c.args.prices.now c.args.shift c.args.day (none_at c.in_ok-pattern.field-0 _ c.in-None.is c.in_ok-pattern.ensures.best)
+
+pub returns-then-is_plain : goal.returns-then-is_plain
+returns-then-is_plain c =
+    let i = c.args.instance.now in
+    let prices = c.args.prices.now in
+    let value = c.whole_value-value.result in
+    let found = plain_best i prices c.args.shift c.args.day c.rule_of.result.now value c.rule_of.ensures.valid c.requires.shift c.rule_of.ensures.rule (search rules) c.whole_value-value.ensures in
+    let small = found_small i prices c.args.shift c.args.day [] value c.requires.prices found in
+    let low : neg_ℤ (pos 2016000000) ≤ℤ value = small.above in
+    let high : value ≤ℤ pos 2016000000 = small.below in
+    let fits : FitsSigned w64 value = search rules in
+    let empty : c.new-list.result ≡ [] = search rules in
+    best_of_some i prices c.args.shift c.args.day c.new-list.result value _ (subst (λ (list : List Break). IsBest i c.args.shift c.args.day prices [] list value) (sym empty) found) (to_z-of_z w64 value fits)

@@ -1,16 +1,20 @@
-use Rattle.std.proofs.Common.{rules}
-use Rattle.greedy.proofs.Rounding.{last_round, next_round, rounds_done, opening_leads}
+use Rattle.std.proofs.Common.{◌∙◌, rules}
+use Rattle.greedy.proofs.Rounding.{prices_small, last_round, next_round, rounds_done, opening_leads}
 use Rattle.greedy.proofs.plan.greedy_draft.Goals as goal
 
 pub rounds-init : goal.rounds-init
 rounds-init c = record {
   draft = c.in_ok-draft.ensures.draft;
+  bests = c.in_ok-bests.ensures.entries;
+  prices = c.in_ok-bests.ensures.prices ∙ c.in_ok-prices.ensures;
   leads = opening_leads c.args.instance.now _ c.in_ok-draft.draft.cover.duties c.in_ok-draft.ensures.duties (search rules);
 }
 
 pub rounds-preserved : goal.rounds-preserved
 rounds-preserved c = record {
   draft = c.in_ok-round.ensures.draft;
+  bests = c.in_ok-round.ensures.bests;
+  prices = c.in_ok-round.ensures.prices;
   leads = next_round c.args.instance.now _ c.rounds._round c.rounds.draft.cover.duties c.round.new.draft.cover.duties c.in_ok-round.field-0
       c.rounds-test.true c.if-not-branch.false c.in_ok-round.ensures.leads c.rounds.invariant.leads;
 }
@@ -22,3 +26,6 @@ returns-then-not-branch-clause-leads c =
 
 pub returns-clause-leads : goal.returns-clause-leads
 returns-clause-leads c = rounds_done c.args.instance.now _ c.rounds._round c.rounds.draft.cover.duties c.rounds-test.false c.rounds.invariant.leads
+
+pub of-requires : goal.of-requires
+of-requires c = prices_small c.args.instance.now c.in_ok-draft.draft.cover.duties c.in_ok-prices.prices.items c.in_ok-draft.ensures.draft.valid c.in_ok-prices.ensures
