@@ -1,4 +1,4 @@
-use crate::{State, StepFault};
+use crate::{Hands, State, StepFault};
 use break_rules::{Breaks, Rule};
 use head_splits::{Class, Side};
 use shift_instance::{Instance, Parts, Row, Rows, TypeParts};
@@ -165,5 +165,17 @@ fn parts_have_their_cuts(rt: HostRuntime) -> Result<(), Fail> {
     let cut = state.cuts_of(2)?.into_vec().pop().ok_or("no cut")?;
     assert_eq!(rt; (cut.side, cut.m), (Side::AtLeast, 1));
     assert!(rt; !state.is_open(0) && state.is_open(1));
+    Ok(())
+}
+
+#[test]
+fn a_node_is_in_one_hand(rt: HostRuntime) -> Result<(), Fail> {
+    let mut hands = Hands::empty();
+    assert!(rt; !hands.holds(3));
+    hands.take(5, 3);
+    assert_eq!(rt; (hands.held(5), hands.held(4)), (Some(3), None));
+    assert!(rt; hands.holds(3) && !hands.holds(2));
+    hands.release(5);
+    assert!(rt; !hands.holds(3));
     Ok(())
 }
