@@ -1,5 +1,5 @@
 -- What a run of `solve` answers, and why.
-use Rattle.std.specs.Prelude.{◌≡◌, ◌⊎◌, ℕ, ◌+◌, ◌<◌, ◌≤◌, Bool, true, false, IsTrue, List, [], ◌∷◌, length, Option, None, Some, IsSome, IfSome, OnSome, Ok, Err, ◌≢◌}
+use Rattle.std.specs.Prelude.{◌≡◌, ◌⊎◌, ℕ, ◌+◌, ◌<◌, ◌≤◌, Bool, true, false, IsTrue, List, [], ◌∷◌, length, Option, None, Some, IsSome, IfSome, OnSome}
 use Rattle.std.specs.Io.KnownBytes.{Appends}
 use Rattle.plan_base.specs.Causes.{Rose}
 use Rattle.plan_base.specs.Streams.{AppendsPart}
@@ -76,9 +76,9 @@ OverDisk disk sink i table opened WriteFault = (opened ≡ true) × (s : Session
 OverDisk disk sink i table opened DiskFault = Rose disk.faults.0 disk.faults.1
     × (((opened ≡ false) × IsLeft disk i) ⊎ ((opened ≡ true) × (s : Session disk i) × IsTorn s))
 OverDisk disk sink i table opened NoMemory =
-    ((opened ≡ false) × ((disk.file_after ≡ disk.file) ⊎ ((disk.file ≡ Some []) × (disk.file_after ≡ Some (fresh (canonical_text i))))))
+    ((opened ≡ false) × IsLeft disk i × ((disk.file_after ≡ disk.file) ⊎ ((disk.file ≡ Some []) × (disk.file_after ≡ Some (fresh (canonical_text i))))))
     ⊎ ((opened ≡ true) × (s : Session disk i) × (s.in_flight ≡ []) × ((s.added ≡ []) ⊎ (s.added ≡ posts_over i s.first.cost)))
-OverDisk disk sink i table opened (Journal why) = (opened ≡ false) × (why ≡ NotYet) × IfSome disk.file (LacksBook JOURNAL_MAX i) × (disk.file_after ≡ disk.file)
+OverDisk disk sink i table opened (Journal why) = (opened ≡ false) × (why ≡ NotYet) × IfSome disk.file (LacksBook JOURNAL_MAX i) × IsLeft disk i × (disk.file_after ≡ disk.file)
 OverDisk disk sink i table opened Usage = ⊥
 OverDisk disk sink i table opened (Input why) = ⊥
 OverDisk disk sink i table opened ReadFault = ⊥
