@@ -1,15 +1,17 @@
 use crate::{PriceFault, Proved, prove};
-use break_rules::{Break, Breaks, NoMemory, Rule};
+use break_rules::{Break, Breaks, NoMemory, Rule, Totals};
 use head_splits::{Class, Cut, CutPrices, Cuts, Prices, Side, SlotPrices};
 use shift_instance::{Instance, Parts, TypeParts};
 use std::alloc::Global;
 use std::test::Fail;
 
-/// A day of hours that needs one employee from 8 to 12, with one shift for these hours.
-fn one_morning(alloc: Global, heads: u16, work_max: u16) -> Result<Parts, NoMemory> {
+/// A day of hours that needs one employee from 8 to 12, with one shift from 8 on, of so many hours. From 8 hours on it has
+/// a break of one hour.
+fn one_morning(alloc: Global, heads: u16, len: u16, work_max: u16) -> Result<Parts, NoMemory> {
     let mut rule = Rule::plain(alloc)?;
     rule.work_max = work_max;
     rule.long_work = work_max;
+    rule.totals = Totals::new(Vec::from_slice(alloc, &[(8, 1)])?);
     let mut need = vec![in alloc; 0; 24]?;
     need[8..12].fill(1);
     let mut types = Vec::new(alloc);
@@ -17,8 +19,8 @@ fn one_morning(alloc: Global, heads: u16, work_max: u16) -> Result<Parts, NoMemo
         name: String::from_str(alloc, "M")?,
         start_min: 8,
         start_max: 8,
-        len_min: 4,
-        len_max: 4,
+        len_min: len,
+        len_max: len,
         rule,
     })?;
     Ok(Parts {
@@ -60,11 +62,12 @@ fn cut_of(alloc: Global, has_break: bool, side: Side, m: u16) -> Result<Cut, NoM
 fn prove_with(
     alloc: Global,
     heads: u16,
+    len: u16,
     cuts: &[(bool, Side, u16, u64)],
     q: u16,
     price: i64,
 ) -> Result<Result<Proved, PriceFault>, Fail> {
-    let instance = Instance::new(alloc, one_morning(alloc, heads, 288)?)?;
+    let instance = Instance::new(alloc, one_morning(alloc, heads, len, 288)?)?;
     let mut list = Vec::new(alloc);
     let mut prices = Vec::new(alloc);
     for (has_break, side, m, price) in cuts {
@@ -81,25 +84,29 @@ fn bounds_of_a_morning(rt: HostRuntime) -> Result<(), Fail> {
     let alloc = rt.alloc();
     let one = (false, Side::AtLeast, 1, 0);
     let none = (false, Side::AtMost, 0, 0);
-    for (heads, cut, q, price, bound) in [
+    for (heads, len, cut, q, price, bound) in [
         // The duty earns 8 and costs 3, and the slots pay 8.
-        (1, None, 1, 2, 3),
+        (1, 4, None, 1, 2, 3),
         // The one duty costs 3, and its slots pay less by 4 than they should.
-        (1, Some(one), 1, -1, 3),
-        (2, Some(one), 1, -1, 3),
+        (1, 4, Some(one), 1, -1, 3),
+        (2, 4, Some(one), 1, -1, 3),
         // No duty can earn what the slots pay.
-        (1, Some(none), 1, 2, 8),
-        (1, None, 1, -1, 0),
+        (1, 4, Some(none), 1, 2, 8),
+        (1, 4, None, 1, -1, 0),
         // The total is 4, at scales of 2 and 3.
-        (1, None, 2, 1, 2),
-        (1, None, 3, 1, 2),
+        (1, 4, None, 2, 1, 2),
+        (1, 4, None, 3, 1, 2),
         // No list begins with the break of a cut, which pays 5 or takes 2.
-        (1, Some((true, Side::AtLeast, 1, 5)), 1, 2, 8),
-        (1, Some((true, Side::AtMost, 2, 1)), 1, 2, 1),
+        (1, 4, Some((true, Side::AtLeast, 1, 5)), 1, 2, 8),
+        (1, 4, Some((true, Side::AtMost, 2, 1)), 1, 2, 1),
+        // The slots and the cut pay 18. The duty with the break earns 6 and 5, any other 8.
+        (1, 8, Some((true, Side::AtLeast, 2, 5)), 1, 2, 10),
+        // A duty without the break earns 8.
+        (1, 8, Some((true, Side::AtMost, 0, 5)), 1, 2, 3),
     ] {
         let proved = match cut {
-            Some(cut) => prove_with(alloc, heads, &[cut], q, price)??,
-            None => prove_with(alloc, heads, &[], q, price)??,
+            Some(cut) => prove_with(alloc, heads, len, &[cut], q, price)??,
+            None => prove_with(alloc, heads, len, &[], q, price)??,
         };
         assert_eq!(rt; proved.bound(), bound);
         assert_eq!(rt; proved.prices().q, q);
@@ -111,7 +118,7 @@ fn bounds_of_a_morning(rt: HostRuntime) -> Result<(), Fail> {
 #[test]
 fn no_duty_without_a_legal_list(rt: HostRuntime) -> Result<(), Fail> {
     let alloc = rt.alloc();
-    let instance = Instance::new(alloc, one_morning(alloc, 1, 3)?)?;
+    let instance = Instance::new(alloc, one_morning(alloc, 1, 4, 3)?)?;
     let prices = Prices {
         q: 1,
         slots: slot_prices(alloc, 24, 2)?,
@@ -125,7 +132,7 @@ fn no_duty_without_a_legal_list(rt: HostRuntime) -> Result<(), Fail> {
 #[test]
 fn faults_of_prices(rt: HostRuntime) -> Result<(), Fail> {
     let alloc = rt.alloc();
-    let instance = Instance::new(alloc, one_morning(alloc, 1, 288)?)?;
+    let instance = Instance::new(alloc, one_morning(alloc, 1, 4, 288)?)?;
     for (q, count, price, fault) in [
         (0, 23, 3, PriceFault::Scale),
         (10_001, 24, 2, PriceFault::Scale),
@@ -173,7 +180,7 @@ fn faults_of_the_prices_of_cuts(rt: HostRuntime) -> Result<(), Fail> {
         } else {
             &cuts[..]
         };
-        let found = prove_with(alloc, 1, cuts, 1, 2)?;
+        let found = prove_with(alloc, 1, 4, cuts, 1, 2)?;
         assert!(rt; found.err() == fault);
     }
     Ok(())
