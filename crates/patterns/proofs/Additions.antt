@@ -218,3 +218,11 @@ module _ (es : List (List Break × ℤ)) (n : ℕ) (list : List Break) (at : ℕ
 
   pub sum_more : to_z w128 (of_z w128 (sum +ℤ to_z w128 (of_z w128 r))) ≡ bonus_of es (take (at + 1) list)
   sum_more = to_z-of_z w128 (sum +ℤ to_z w128 (of_z w128 r)) sum_fits ∙ sum_is
+
+-- the sum for a list is small
+pub all_small : (es : List (List Break × ℤ)) (n : ℕ) (list : List Break) (sum : ℤ) → AreSmall es n → sum ≡ bonus_of es list → unsigned_abs sum ≤ 2 ^ 33 * 1000000000000
+all_small es n list sum small is =
+    let size : unsigned_abs sum ≤ weight es = subst (λ (z : ℤ). unsigned_abs z ≤ weight es) (sym is) (bonus_size list es) in
+    let few = small.few in
+    let within = small.within in
+    omega arith

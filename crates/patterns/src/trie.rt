@@ -1,6 +1,6 @@
 //! Numbers that stand at prefixes of break lists, and their sum for a list.
 
-ghost use Rattle.std.specs.Prelude.{◌≡◌, ◌+◌, ◌^◌, ◌<◌, ◌≤◌, [], ◌∷◌, ◌++◌, List, OnOk, OnErr, IfOk, IsOk, map, pos, ◌+ℤ◌};
+ghost use Rattle.std.specs.Prelude.{◌≡◌, ◌+◌, ◌*◌, ◌^◌, ◌<◌, ◌≤◌, [], ◌∷◌, ◌++◌, List, OnOk, OnErr, IfOk, IsOk, map, pos, ◌+ℤ◌};
 ghost use Rattle.break_rules.specs.declared.Break.{Break};
 ghost use Rattle.patterns.specs.Bonuses.{Bonuses, bonus_of, with_added, AreSmall};
 ghost use Rattle.std.specs.Int.RustNames.{unsigned_abs};
@@ -71,7 +71,8 @@ impl Trie {
     /// The sum of the numbers of all prefixes with which a list begins, the empty one and the whole list included. It takes
     /// no memory.
     pub fn bonus_of(&self, list: &[Break]) -> i128
-        ensures { result ≡ bonus_of self.now.entries list.now }
+        ensures sum { result ≡ bonus_of self.now.entries list.now }
+        ensures small { unsigned_abs result ≤ 2 ^ 33 * 1000000000000 }
     {
         let mut sum = self.number_of(&list[..0]);
         for end in 0..list.len() {

@@ -1,0 +1,11 @@
+pub mod Stretches
+pub mod Best
+pub mod Steps
+pub mod Tails
+pub mod Prices
+pub mod Lesser
+pub mod Covered
+pub mod Leaving
+pub mod Tries
+pub mod Beyond
+pub mod Worths

@@ -1,0 +1,12 @@
+use Rattle.std.proofs.Common.{◌≡◌, List, take, true}
+use Rattle.break_rules.specs.declared.Break.{Break}
+use Rattle.patterns.specs.Bonuses.{bonus_of}
+use Rattle.pricing.specs.Found.{leads_further}
+use Rattle.pricing.proofs.search.trie_of.Given as goal
+
+abbrev pub invariant-loop-prefix : goal.invariant-loop-prefix
+invariant-loop-prefix l = record {
+  count : l.trie.additions ≡ l.prefix-index;
+  sums : (list : List Break) → bonus_of l.trie.entries list ≡ bonus_of (take l.prefix-index l.bonus) list;
+  prefixes : (front : List Break) → leads_further l.trie.entries front ≡ true → leads_further (take l.prefix-index l.bonus) front ≡ true;
+}
