@@ -1,9 +1,9 @@
 -- Prices without a fault are a price set.
 use Rattle.std.proofs.Common.{◌≡◌, ℕ, ◌+◌, Bool, true, false, not, ◌&&◌, ◌==◌, nat_le, List, [], ◌∷◌, ◌++◌, map, length, Some, None, refl, ap}
 use Rattle.std.specs.List.{list_all, zip, enumerate_from}
-use Rattle.std.proofs.lemmas.Bool.{not-false}
+use Rattle.std.proofs.lemmas.Bool.{not-false, not_from_true, and_parts}
 use Rattle.break_rules.specs.Causes.{first_cause}
-use Rattle.break_rules.proofs.Causes.{NoCause, no_cause}
+use Rattle.break_rules.proofs.Causes.{NoCause, no_cause, none_from_no_cause}
 use Rattle.shift_instance.specs.Problem.{Problem, slots}
 use Rattle.shift_instance.proofs.Judged.{causes_of_period, causes_of_needs, causes_of_sizes, causes_of_kinds}
 use Rattle.head_splits.specs.declared.Cut.{Cut}
@@ -65,3 +65,37 @@ passes i cuts prices h =
     let cut_count : (length prices.cuts == length cuts) ≡ true = not-false _ third.1.0 in
     let cut_each : list_all is_cut_price (zip cuts prices.cuts) ≡ true = all_pass is_cut_price (λ q. CutPrice q.0) 0 (zip cuts prices.cuts) last.1 in
     both _ _ (both _ _ (both _ _ (both _ _ scale count) each) cut_count) cut_each
+
+-- without a cause in each of two lists there is none in the joined list
+none_joined : {E : Type 0} (xs ys : List (Bool × E)) → NoCause xs → NoCause ys → NoCause (xs ++ ys)
+none_joined [] ys h g = g
+none_joined (x ∷ xs) ys h g = (h.0, none_joined xs ys h.1 g)
+
+-- where all elements pass there is no cause
+none_of_pass : {X E : Type 0} (p : X → Bool) (e : ℕ × X → E) (n : ℕ) (xs : List X) → list_all p xs ≡ true → NoCause (map (λ (q : ℕ × X). (not (p q.1), e q)) (enumerate_from n xs))
+none_of_pass p e n [] h = tt
+none_of_pass p e n (x ∷ xs) h =
+    let parts = and_parts (p x) (list_all p xs) h in
+    (not_from_true (p x) parts.0, none_of_pass p e (n + 1) xs parts.1)
+
+-- a price set has no fault
+pub faultless : (i : Problem) (cuts : List Cut) (prices : Prices) → are_prices i cuts prices ≡ true → first_cause (price_causes i cuts prices) ≡ None
+unfolding price_causes
+faultless i cuts prices h =
+    let scale = nat_le 1 prices.q && nat_le prices.q 10000 in
+    let count = length prices.slots == slots i in
+    let each = list_all (is_slot_price i prices.q) prices.slots in
+    let cut_count = length prices.cuts == length cuts in
+    let cut_each = list_all is_cut_price (zip cuts prices.cuts) in
+    let p4 = and_parts (scale && count && each && cut_count) cut_each h in
+    let p3 = and_parts (scale && count && each) cut_count p4.0 in
+    let p2 = and_parts (scale && count) each p3.0 in
+    let p1 = and_parts scale count p2.0 in
+    let sizes : NoCause (size_causes i prices) = (not_from_true scale p1.0, (not_from_true count p1.1, tt)) in
+    let of_slots : NoCause (slot_causes i prices.q prices.slots) = none_of_pass (is_slot_price i prices.q) (λ q. SlotPrice q.0) 0 prices.slots p2.1 in
+    let counts : NoCause (count_causes cuts prices.cuts) = (not_from_true cut_count p3.1, tt) in
+    let of_cuts : NoCause (cut_causes cuts prices.cuts) = none_of_pass is_cut_price (λ q. CutPrice q.0) 0 (zip cuts prices.cuts) p4.1 in
+    none_from_no_cause (size_causes i prices ++ slot_causes i prices.q prices.slots ++ count_causes cuts prices.cuts ++ cut_causes cuts prices.cuts)
+    (none_joined (size_causes i prices ++ slot_causes i prices.q prices.slots ++ count_causes cuts prices.cuts) (cut_causes cuts prices.cuts)
+    (none_joined (size_causes i prices ++ slot_causes i prices.q prices.slots) (count_causes cuts prices.cuts)
+    (none_joined (size_causes i prices) (slot_causes i prices.q prices.slots) sizes of_slots) counts) of_cuts)

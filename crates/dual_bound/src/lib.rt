@@ -2,12 +2,14 @@
 #![tactic(auto)]
 
 mod faults;
+mod laws;
 mod proving;
 mod terms;
 #[cfg(test)]
 mod tests;
 mod totals;
 
+pub use laws::faultless_prices;
 pub use proving::{Proved, prove};
 use std::error::Error;
 use std::fmt;
