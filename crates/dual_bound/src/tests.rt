@@ -1,3 +1,5 @@
+ghost use Rattle.std.specs.Prelude.{◌≤◌, length};
+
 use crate::{PriceFault, Proved, prove};
 use break_rules::{Break, Breaks, NoMemory, Rule, Totals};
 use head_splits::{Class, Cut, CutPrices, Cuts, Prices, Side, SlotPrices};
@@ -66,7 +68,9 @@ fn prove_with(
     cuts: &[(bool, Side, u16, u64)],
     q: u16,
     price: i64,
-) -> Result<Result<Proved, PriceFault>, Fail> {
+) -> Result<Result<Proved, PriceFault>, Fail>
+    requires { length cuts.now ≤ 2 }
+{
     let instance = Instance::new(alloc, one_morning(alloc, heads, len, 288)?)?;
     let mut list = Vec::new(alloc);
     let mut prices = Vec::new(alloc);
@@ -173,14 +177,8 @@ fn faults_of_the_prices_of_cuts(rt: HostRuntime) -> Result<(), Fail> {
         let cuts = [
             (true, Side::AtMost, 1, 7),
             (has_break, Side::AtLeast, 1, price),
-            (false, Side::AtMost, 1, 7),
         ];
-        let cuts = if fault.is_none() {
-            &cuts[..2]
-        } else {
-            &cuts[..]
-        };
-        let found = prove_with(alloc, 1, 4, cuts, 1, 2)?;
+        let found = prove_with(alloc, 1, 4, &cuts, 1, 2)?;
         assert!(rt; found.err() == fault);
     }
     Ok(())
