@@ -4,7 +4,7 @@ use Rattle.std.specs.Prelude.{◌≡◌, ℕ, ◌+◌, List, [], ◌∷◌, ◌+
 use Rattle.certificate.specs.declared.Cert.{Cert}
 use Rattle.certificate.specs.declared.fault.CertText.{CertText}
 use Rattle.certificate.specs.declared.fault.CertText.TheVariants.{Departs, NoMemory}
-use Rattle.certificate.specs.Text.{Line, cert_lines, lines_text, HasText}
+use Rattle.certificate.specs.Text.{Line, cert_lines, lines_text, cert_text, HasText}
 
 -- a line without a line feed in it
 abbrev pub IsLine : Line → Type 0
@@ -55,3 +55,19 @@ abbrev pub GivesCert : Result Cert CertText → Cert → Type 0
 GivesCert (Ok found) c = found ≡ c
 GivesCert (Err (Departs line)) c = ⊥
 GivesCert (Err NoMemory) c = ⊤
+
+-- what is written of a certificate is a text of it
+abbrev pub EachIsWritten : Type 0
+EachIsWritten = (c : Cert) → HasText c → Spells (cert_text c) c
+
+-- no bytes are texts of two certificates
+abbrev pub EachSpellsOnce : Type 0
+EachSpellsOnce = (bytes : List ℕ) (c d : Cert) → Spells bytes c → Spells bytes d → c ≡ d
+
+-- every text of a certificate is what is written of it, and notes behind that
+abbrev pub EachBeginsAlike : Type 0
+EachBeginsAlike = (bytes : List ℕ) (c : Cert) → Spells bytes c → (notes : List Line) × All IsNote notes × (bytes ≡ cert_text c ++ lines_text notes)
+
+-- no bytes depart behind two numbers of lines
+abbrev pub EachDepartsOnce : Type 0
+EachDepartsOnce = (bytes : List ℕ) (m n : ℕ) → DepartBehind bytes m → DepartBehind bytes n → m ≡ n

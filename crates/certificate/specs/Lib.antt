@@ -1,3 +1,4 @@
 pub mod Text
 pub mod Departing
 pub mod FaultText
+pub mod Reading

@@ -1,7 +1,7 @@
 -- The text of a certificate, line by line. A line stands without its line feed.
 -- Source: this project's own format.
 use Rattle.std.specs.Prelude.{◌≡◌, ℕ, ◌<◌, ◌^◌, List, [], ◌∷◌, ◌++◌, length, map, All, Option, Some, None, codes}
-use Rattle.std.specs.List.{flat_map}
+use Rattle.std.specs.List.{flat_map, join_with_byte}
 use Rattle.std.specs.Fmt.{decimal}
 use Rattle.break_rules.specs.declared.Break.{Break}
 use Rattle.shift_instance.specs.declared.Row.{Row}
@@ -12,12 +12,6 @@ use Rattle.certificate.specs.declared.CertStatus.TheVariants.{Optimal, Stopped, 
 -- the bytes of a line, without its line feed
 abbrev pub Line : Type 0
 Line = List ℕ
-
--- words with one byte between each two
-abbrev pub joined : ℕ → List (List ℕ) → List ℕ
-joined by [] = []
-joined by (word ∷ []) = word
-joined by (word ∷ next ∷ rest) = word ++ by ∷ joined by (next ∷ rest)
 
 -- a break as `start+length`
 abbrev pub break_text : Break → List ℕ
@@ -30,7 +24,7 @@ breaks_text (b ∷ bs) = break_text b ++ flat_map (λ next. 44 ∷ break_text ne
 
 -- the line of a row: `row SHIFT DAY COUNT BREAKS`
 abbrev pub row_line : Row → Line
-row_line r = joined 32 (codes "row" ∷ decimal r.shift ∷ decimal r.day ∷ decimal r.count ∷ breaks_text r.breaks ∷ [])
+row_line r = join_with_byte 32 (codes "row" ∷ decimal r.shift ∷ decimal r.day ∷ decimal r.count ∷ breaks_text r.breaks ∷ [])
 
 -- the word of a status
 abbrev pub status_text : CertStatus → List ℕ

@@ -7,9 +7,15 @@
 #![tactic(auto)]
 
 mod fault;
+pub mod laws;
+mod reading;
+#[cfg(test)]
+mod tests;
+mod words;
 mod writing;
 
 pub use fault::CertText;
+pub use reading::read;
 use shift_instance::Rows;
 pub use writing::write;
 
@@ -19,9 +25,9 @@ pub const BUNDLE_MAX: u64 = 268_435_456;
 /// What a certificate says of its plan.
 #[derive(Clone, Copy, Debug, PartialEq, Eq, Drop)]
 pub enum CertStatus {
-    /// The plan's cost is the bound, so no legal rota costs less.
+    /// The plan costs the bound: no legal rota is said to cost less.
     Optimal,
-    /// The search was stopped before: the bound is below the plan's cost.
+    /// The search was stopped before that: the bound is below the cost of the plan.
     Stopped,
     /// There is a bound, and no plan.
     Bound,

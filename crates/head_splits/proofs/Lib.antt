@@ -3,5 +3,6 @@ pub mod ByClasses
 pub mod Duality
 pub mod Examples
 pub mod Fixed
+pub mod Nodes
 pub mod Recursion
 pub mod Splits

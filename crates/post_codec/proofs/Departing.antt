@@ -1,22 +1,25 @@
 -- Where a list of posts is read, the fault is where the bytes depart from every spelling.
-use Rattle.std.proofs.Common.{◌≡◌, inl, inr, ℕ, zero, suc, ◌+◌, ◌-◌, ◌^◌, ◌<◌, ◌≤◌, Bool, true, false, cond, ltb, List, [], ◌∷◌, ◌++◌, length, take, Result, Ok, Err, refl, sym, ap, subst, ◌∙◌, arith, length-append}
-use Rattle.std.specs.Prelude.{Vec, IfErr}
+use Rattle.std.proofs.Common.{◌≡◌, ◌⊎◌, inl, inr, ℕ, ℤ, zero, suc, ◌+◌, ◌-◌, ◌^◌, ◌<◌, ◌≤◌, Bool, true, false, cond, ltb, List, [], ◌∷◌, ◌++◌, length, take, Result, Ok, Err, refl, sym, ap, subst, ◌∙◌, arith, length-append}
+use Rattle.std.specs.Prelude.{Vec, IfErr, FitsSigned}
 use Rattle.std.specs.declared.alloc.Global.{Global}
-use Rattle.std.specs.Int.{w16, w32, w64}
+use Rattle.std.specs.Int.{w16, w32, w64, cast_signed, cast_unsigned}
 use Rattle.std.proofs.lemmas.Bool.{ltb-true, ne_eqb, cases_eq, eq-eqb}
+use Rattle.std.proofs.lemmas.Int.{of_z-to_z}
 use Rattle.std.proofs.lemmas.List.{append-nil, take_at, take_all}
 use Rattle.break_rules.specs.declared.Break.{Break}
 use Rattle.shift_instance.specs.declared.Row.{Row}
+use Rattle.head_splits.specs.declared.Class.{Class}
+use Rattle.head_splits.specs.declared.Prices.{Prices}
 use Rattle.post_codec.specs.declared.post.Post.{Post}
-use Rattle.post_codec.specs.declared.post.Post.TheVariants.{Plan}
+use Rattle.post_codec.specs.declared.post.Post.TheVariants.{Plan, Priced, Split, Settled}
 use Rattle.post_codec.specs.declared.fault.CodecFault.{CodecFault}
 use Rattle.post_codec.specs.declared.fault.CodecFault.TheVariants.{Departs, NoMemory}
-use Rattle.post_codec.specs.Spelling.{u16_bytes, u32_bytes, u64_bytes, break_bytes, breaks_bytes, row_bytes, rows_bytes, post_bytes, spelling, FitsBreak, FitsBreaks, FitsRow, FitsRows, FitsPost, FitsPosts}
-use Rattle.post_codec.specs.Fields.{break_fields, breaks_fields, row_fields, rows_fields, post_fields, posts_fields, bytes_of, AreFirstFields, DepartAt, IsFaultOf, GivesPosts}
-use Rattle.post_codec.specs.Reading.{◌then◌, byte_at, number_at, to_break, break_at, breaks_at, to_row, row_at, rows_at, to_plan, plan_at, post_at, posts_at, ended, by_offset, whole, reading, IsRead}
+use Rattle.post_codec.specs.Spelling.{u16_bytes, u32_bytes, u64_bytes, break_bytes, breaks_bytes, row_bytes, rows_bytes, class_bytes, slot_bytes, slots_bytes, cuts_bytes, prices_bytes, post_bytes, spelling, FitsBreak, FitsBreaks, FitsRow, FitsRows, FitsClass, FitsSlots, FitsCuts, FitsPrices, FitsPost, FitsPosts}
+use Rattle.post_codec.specs.Fields.{break_fields, breaks_fields, row_fields, rows_fields, class_fields, slots_fields, cuts_fields, prices_fields, post_fields, posts_fields, bytes_of, AreFirstFields, DepartAt, IsFaultOf, GivesPosts}
+use Rattle.post_codec.specs.Reading.{Reader, ◌then◌, byte_at, number_at, to_break, break_at, breaks_at, to_row, row_at, rows_at, to_class, class_at, slot_at, slots_at, cuts_at, to_prices, prices_at, to_plan, plan_at, to_priced, priced_at, to_split, split_at, to_settled, settled_at, post_at, posts_at, ended, by_offset, whole, reading, IsRead}
 use Rattle.post_codec.proofs.Laws.{AreBytes, byte, number_16, number_32, number_64, tail_bytes}
-use Rattle.post_codec.proofs.Formats.{break, row, post, posts, reads_spelling}
-use Rattle.post_codec.proofs.Steers.{Begins, Steers, Field, left_of, no_fault, stopped, begins_none, leaves, made_steers, pair_steers, field_steers, counted_steers, many_joins}
+use Rattle.post_codec.proofs.Formats.{break, row, class, slot, slots, signed_fits, unsigned_fits, post, posts, reads_spelling}
+use Rattle.post_codec.proofs.Steers.{Begins, Steers, Field, left_of, no_fault, stopped, begins_none, bytes_more, leaves, part_steers, made_steers, pair_steers, field_steers, counted_steers, many_joins}
 
 -- ---- single fields
 guarded_fault : {A : Type 0} (b : Bool) (d left : ℕ) (x : A) → cond b (Err d) (Ok x) ≡ Err left → (b ≡ true) × (left ≡ d)
@@ -72,7 +75,7 @@ break_joins b = ap (λ (l : List ℕ). u16_bytes b.start ++ l) (append-nil (u16_
 
 break_steers : Steers FitsBreak break_fields break_at
 unfolding break_at
-break_steers = made_steers _ _ (number_at w16 then number_at w16) FitsBreak break_fields to_break (λ b. (b.start, b.len)) (λ a h. h) (λ a. refl) (λ b h. h) (λ b. refl)
+break_steers = made_steers _ _ (number_at w16 then number_at w16) FitsBreak break_fields to_break (λ b. (b.start, b.len)) (λ a h. h) (λ a h. refl) (λ b h. h) (λ b. refl)
     (pair_steers _ _ (λ n. u16_bytes n ∷ []) _ _ (λ n. u16_bytes n ∷ []) _ number_16 joins_16 steers_16 steers_16)
 
 breaks_joins : (bs : List Break) → bytes_of (breaks_fields bs) ≡ breaks_bytes bs
@@ -88,7 +91,7 @@ row_joins r = ap (λ (l : List ℕ). u16_bytes r.shift ++ (r.day ∷ []) ++ u16_
 
 row_steers : Steers FitsRow row_fields row_at
 unfolding row_at
-row_steers = made_steers _ _ (number_at w16 then (byte_at then (number_at w16 then breaks_at))) FitsRow row_fields to_row (λ r. (r.shift, (r.day, (r.count, r.breaks)))) (λ a h. (h.0, h.1.0, h.1.1.0, h.1.1.1)) (λ a. refl) (λ b h. (h.0, (h.1, (h.2, h.3)))) (λ b. refl)
+row_steers = made_steers _ _ (number_at w16 then (byte_at then (number_at w16 then breaks_at))) FitsRow row_fields to_row (λ r. (r.shift, (r.day, (r.count, r.breaks)))) (λ a h. (h.0, h.1.0, h.1.1.0, h.1.1.1)) (λ a h. refl) (λ b h. (h.0, (h.1, (h.2, h.3)))) (λ b. refl)
     (pair_steers _ _ (λ n. u16_bytes n ∷ []) _ _ _ _ number_16 joins_16 steers_16
     (pair_steers _ _ (λ n. in_byte n ∷ []) _ _ _ _ byte (λ n. append-nil (in_byte n)) (field_steers _ _ _ _ field_byte)
     (pair_steers _ _ (λ n. u16_bytes n ∷ []) _ _ _ _ number_16 joins_16 steers_16 breaks_steers)))
@@ -100,73 +103,218 @@ rows_steers : Steers FitsRows rows_fields rows_at
 unfolding rows_at
 rows_steers = counted_steers (2 ^ 32) 4 u32_bytes (number_at w32) FitsRow row_bytes row_fields row_at field_32 row row_joins row_steers
 
--- ---- posts, by their tags
-abbrev plan_fields : Post → List (List ℕ)
-plan_fields (Plan worker rs cost) = u16_bytes worker ∷ u64_bytes cost ∷ rows_fields rs
+-- ---- classes and prices
+class_joins : (c : Class) → bytes_of (class_fields c) ≡ class_bytes c
+unfolding u16_bytes
+class_joins c = ap (λ (l : List ℕ). u16_bytes c.shift ++ (c.day ∷ []) ++ l) (breaks_joins c.prefix)
 
-abbrev of_plan : Post → ℕ × (ℕ × List Row)
-of_plan (Plan worker rs cost) = (worker, (cost, rs))
-
-plan_fits : (p : Post) → FitsPost p → ((of_plan p).0 < 2 ^ 16) × (((of_plan p).1.0 < 2 ^ 64) × FitsRows (of_plan p).1.1)
-plan_fits (Plan worker rs cost) h = (h.0, (h.1, h.2))
-
-plan_back : (p : Post) → plan_fields p ≡ (u16_bytes (of_plan p).0 ∷ []) ++ ((u64_bytes (of_plan p).1.0 ∷ []) ++ rows_fields (of_plan p).1.1)
-plan_back (Plan worker rs cost) = refl
-
-plan_steers : Steers FitsPost plan_fields plan_at
-unfolding plan_at
-plan_steers = made_steers _ _ (number_at w16 then (number_at w64 then rows_at)) FitsPost plan_fields to_plan of_plan (λ a h. (h.0, h.1.0, h.1.1)) (λ a. refl) plan_fits plan_back
+class_steers : Steers FitsClass class_fields class_at
+unfolding class_at
+class_steers = made_steers _ _ (number_at w16 then (byte_at then breaks_at)) FitsClass class_fields to_class (λ c. (c.shift, (c.day, c.prefix))) (λ a h. (h.0, h.1.0, h.1.1)) (λ a h. refl) (λ b h. (h.0, (h.1, h.2))) (λ b. refl)
     (pair_steers _ _ (λ n. u16_bytes n ∷ []) _ _ _ _ number_16 joins_16 steers_16
-    (pair_steers _ _ (λ n. u64_bytes n ∷ []) _ _ _ _ number_64 (λ n. append-nil (u64_bytes n)) (field_steers _ _ _ _ field_64) rows_steers))
+    (pair_steers _ _ (λ n. in_byte n ∷ []) _ _ _ _ byte (λ n. append-nil (in_byte n)) (field_steers _ _ _ _ field_byte) breaks_steers))
 
-behind_tag : (p : Post) (k : ℕ) → bytes_of (take (suc k) (post_fields p)) ≡ 1 ∷ bytes_of (take k (plan_fields p))
+abbrev slot_field : ℤ → List (List ℕ)
+slot_field price = slot_bytes price ∷ []
+
+abbrev cut_field : ℕ → List (List ℕ)
+cut_field price = u64_bytes price ∷ []
+
+slot_joins : (price : ℤ) → bytes_of (slot_field price) ≡ slot_bytes price
+slot_joins price = append-nil (slot_bytes price)
+
+cut_joins : (price : ℕ) → bytes_of (cut_field price) ≡ u64_bytes price
+cut_joins price = append-nil (u64_bytes price)
+
+steers_64 : Steers (λ n. n < 2 ^ 64) cut_field (number_at w64)
+steers_64 = field_steers _ _ _ _ field_64
+
+slot_steers : Steers (FitsSigned w64) slot_field slot_at
+unfolding slot_at
+slot_steers = made_steers (λ n. n < 2 ^ 64) cut_field (number_at w64) (FitsSigned w64) slot_field (cast_signed w64) (cast_unsigned w64) signed_fits (λ a h. ap cut_field (of_z-to_z w64 a h)) unsigned_fits (λ b. refl) steers_64
+
+slots_joins : (prices : List ℤ) → bytes_of (slots_fields prices) ≡ slots_bytes prices
+slots_joins prices = many_joins u32_bytes slot_bytes slot_field slot_joins prices
+
+slots_steers : Steers FitsSlots slots_fields slots_at
+unfolding slots_at
+slots_steers = counted_steers (2 ^ 32) 4 u32_bytes (number_at w32) (FitsSigned w64) slot_bytes slot_field slot_at field_32 slot slot_joins slot_steers
+
+cuts_joins : (prices : List ℕ) → bytes_of (cuts_fields prices) ≡ cuts_bytes prices
+cuts_joins prices = many_joins u32_bytes u64_bytes cut_field cut_joins prices
+
+cuts_steers : Steers FitsCuts cuts_fields cuts_at
+unfolding cuts_at
+cuts_steers = counted_steers (2 ^ 32) 4 u32_bytes (number_at w32) (λ n. n < 2 ^ 64) u64_bytes cut_field (number_at w64) field_32 number_64 cut_joins steers_64
+
+prices_joins : (p : Prices) → bytes_of (prices_fields p) ≡ prices_bytes p
+unfolding u16_bytes u32_bytes
+prices_joins p =
+    let each : bytes_of (slots_fields p.slots ++ cuts_fields p.cuts) ≡ slots_bytes p.slots ++ cuts_bytes p.cuts =
+    bytes_more (slots_fields p.slots) (cuts_fields p.cuts) ∙ ap (λ (l : List ℕ). l ++ bytes_of (cuts_fields p.cuts)) (slots_joins p.slots) ∙ ap (λ (l : List ℕ). slots_bytes p.slots ++ l) (cuts_joins p.cuts) in
+    ap (λ (l : List ℕ). u16_bytes p.q ++ l) each
+
+prices_steers : Steers FitsPrices prices_fields prices_at
+unfolding prices_at
+prices_steers = made_steers _ _ (number_at w16 then (slots_at then cuts_at)) FitsPrices prices_fields to_prices (λ p. (p.q, (p.slots, p.cuts))) (λ a h. (h.0, h.1.0, h.1.1)) (λ a h. refl) (λ b h. (h.0, (h.1, h.2))) (λ b. refl)
+    (pair_steers _ _ (λ n. u16_bytes n ∷ []) _ _ _ _ number_16 joins_16 steers_16
+    (pair_steers _ _ slots_fields _ _ _ _ slots slots_joins slots_steers cuts_steers))
+
+-- ---- posts, by their tags
+-- the tag of a post's kind
+abbrev tag_of : Post → ℕ
+tag_of (Plan worker rs cost) = 1
+tag_of (Priced worker node prices) = 2
+tag_of (Split worker node c m) = 3
+tag_of (Settled worker node) = 4
+
+-- the fields behind a post's tag
+abbrev behind : Post → List (List ℕ)
+behind (Plan worker rs cost) = u16_bytes worker ∷ u64_bytes cost ∷ rows_fields rs
+behind (Priced worker node prices) = u16_bytes worker ∷ u32_bytes node ∷ prices_fields prices
+behind (Split worker node c m) = u16_bytes worker ∷ u32_bytes node ∷ class_fields c ++ u16_bytes m ∷ []
+behind (Settled worker node) = u16_bytes worker ∷ u32_bytes node ∷ []
+
+behind_tag : (p : Post) (k : ℕ) → bytes_of (take (suc k) (post_fields p)) ≡ tag_of p ∷ bytes_of (take k (behind p))
 behind_tag (Plan worker rs cost) k = refl
+behind_tag (Priced worker node prices) k = refl
+behind_tag (Split worker node c m) k = refl
+behind_tag (Settled worker node) k = refl
 
--- a tag of a plan
-tag_known : (b : ℕ) (bytes : List ℕ) → b ≡ 1 → post_at (b ∷ bytes) ≡ plan_at bytes
-unfolding post_at
-tag_known b bytes e = rw (eq-eqb b 1 e) refl
+-- a post of the tag's kind, each of its numbers fitting its field
+abbrev OfKind : ℕ → Post → Type 0
+OfKind tag p = FitsPost p × (tag_of p ≡ tag)
 
--- any other tag
-tag_unknown : (b : ℕ) (bytes : List ℕ) → (b ≡ 1 → ⊥) → post_at (b ∷ bytes) ≡ Err (length (b ∷ bytes))
+-- the fields of a worker and a node
+abbrev node_fields : {A : Type 0} → (A → List (List ℕ)) → ℕ × (ℕ × A) → List (List ℕ)
+node_fields fields x = (u16_bytes x.0 ∷ []) ++ ((u32_bytes x.1.0 ∷ []) ++ fields x.1.1)
+
+steers_32 : Steers (λ n. n < 2 ^ 32) (λ n. u32_bytes n ∷ []) (number_at w32)
+steers_32 = field_steers _ _ _ _ field_32
+
+node_steers : {A : Type 0} (F : A → Type 0) (fields : A → List (List ℕ)) (read : Reader A) → Steers F fields read → Steers (λ (x : ℕ × (ℕ × A)). (x.0 < 2 ^ 16) × ((x.1.0 < 2 ^ 32) × F x.1.1)) (node_fields fields) (number_at w16 then (number_at w32 then read))
+node_steers F fields read one =
+    pair_steers _ _ (λ n. u16_bytes n ∷ []) _ _ _ _ number_16 joins_16 steers_16
+    (pair_steers _ _ (λ n. u32_bytes n ∷ []) _ _ _ _ number_32 (λ n. append-nil (u32_bytes n)) steers_32 one)
+
+plan_back : (p : Post) → OfKind 1 p → (x : ℕ × (ℕ × List Row)) × ((x.0 < 2 ^ 16) × ((x.1.0 < 2 ^ 64) × FitsRows x.1.1)) × (behind p ≡ (u16_bytes x.0 ∷ []) ++ ((u64_bytes x.1.0 ∷ []) ++ rows_fields x.1.1))
+plan_back (Plan worker rs cost) h = ((worker, (cost, rs)), (h.0.0, (h.0.1, h.0.2)), refl)
+plan_back (Priced worker node prices) h = absurd (omega (arith, h.1))
+plan_back (Split worker node c m) h = absurd (omega (arith, h.1))
+plan_back (Settled worker node) h = absurd (omega (arith, h.1))
+
+plan_steers : Steers (OfKind 1) behind plan_at
+unfolding plan_at
+plan_steers = part_steers _ _ (number_at w16 then (number_at w64 then rows_at)) (OfKind 1) behind to_plan (λ a h. ((h.0, h.1.0, h.1.1), refl)) (λ a h. refl) plan_back
+    (pair_steers _ _ (λ n. u16_bytes n ∷ []) _ _ _ _ number_16 joins_16 steers_16
+    (pair_steers _ _ cut_field _ _ _ _ number_64 cut_joins steers_64 rows_steers))
+
+priced_back : (p : Post) → OfKind 2 p → (x : ℕ × (ℕ × Prices)) × ((x.0 < 2 ^ 16) × ((x.1.0 < 2 ^ 32) × FitsPrices x.1.1)) × (behind p ≡ node_fields prices_fields x)
+priced_back (Plan worker rs cost) h = absurd (omega (arith, h.1))
+priced_back (Priced worker node prices) h = ((worker, (node, prices)), (h.0.0, (h.0.1, h.0.2)), refl)
+priced_back (Split worker node c m) h = absurd (omega (arith, h.1))
+priced_back (Settled worker node) h = absurd (omega (arith, h.1))
+
+priced_steers : Steers (OfKind 2) behind priced_at
+unfolding priced_at
+priced_steers = part_steers _ _ (number_at w16 then (number_at w32 then prices_at)) (OfKind 2) behind to_priced (λ a h. ((h.0, h.1.0, h.1.1), refl)) (λ a h. refl) priced_back (node_steers _ _ _ prices_steers)
+
+abbrev class_and_number : Class × ℕ → List (List ℕ)
+class_and_number x = class_fields x.0 ++ u16_bytes x.1 ∷ []
+
+split_back : (p : Post) → OfKind 3 p → (x : ℕ × (ℕ × (Class × ℕ))) × ((x.0 < 2 ^ 16) × ((x.1.0 < 2 ^ 32) × (FitsClass x.1.1.0 × (x.1.1.1 < 2 ^ 16)))) × (behind p ≡ node_fields class_and_number x)
+split_back (Plan worker rs cost) h = absurd (omega (arith, h.1))
+split_back (Priced worker node prices) h = absurd (omega (arith, h.1))
+split_back (Split worker node c m) h = ((worker, (node, (c, m))), (h.0.0, (h.0.1, (h.0.2, h.0.3))), refl)
+split_back (Settled worker node) h = absurd (omega (arith, h.1))
+
+split_steers : Steers (OfKind 3) behind split_at
+unfolding split_at
+split_steers = part_steers _ _ (number_at w16 then (number_at w32 then (class_at then number_at w16))) (OfKind 3) behind to_split (λ a h. ((h.0, h.1.0, h.1.1.0, h.1.1.1), refl)) (λ a h. refl) split_back
+    (node_steers _ _ _ (pair_steers _ _ class_fields _ _ _ _ class class_joins class_steers steers_16))
+
+settled_back : (p : Post) → OfKind 4 p → (x : ℕ × ℕ) × ((x.0 < 2 ^ 16) × (x.1 < 2 ^ 32)) × (behind p ≡ (u16_bytes x.0 ∷ []) ++ (u32_bytes x.1 ∷ []))
+settled_back (Plan worker rs cost) h = absurd (omega (arith, h.1))
+settled_back (Priced worker node prices) h = absurd (omega (arith, h.1))
+settled_back (Split worker node c m) h = absurd (omega (arith, h.1))
+settled_back (Settled worker node) h = ((worker, node), (h.0.0, h.0.1), refl)
+
+settled_steers : Steers (OfKind 4) behind settled_at
+unfolding settled_at
+settled_steers = part_steers _ _ (number_at w16 then number_at w32) (OfKind 4) behind to_settled (λ a h. (h, refl)) (λ a h. refl) settled_back
+    (pair_steers _ _ (λ n. u16_bytes n ∷ []) _ _ _ _ number_16 joins_16 steers_16 steers_32)
+
+-- a byte that is a tag, with the reader behind it
+record Known (b : ℕ) (bytes : List ℕ) : Type 0 where
+  read : Reader Post
+  steers : Steers (OfKind b) behind read
+  reads : post_at (b ∷ bytes) ≡ read bytes
+
+-- a byte that is no tag
+record Unknown (b : ℕ) (bytes : List ℕ) : Type 0 where
+  none : (p : Post) → tag_of p ≡ b → ⊥
+  reads : post_at (b ∷ bytes) ≡ Err (length (b ∷ bytes))
+
+no_kind : (b : ℕ) → (b ≡ 1 → ⊥) → (b ≡ 2 → ⊥) → (b ≡ 3 → ⊥) → (b ≡ 4 → ⊥) → (p : Post) → tag_of p ≡ b → ⊥
+no_kind b one two three four (Plan worker rs cost) e = one (sym e)
+no_kind b one two three four (Priced worker node prices) e = two (sym e)
+no_kind b one two three four (Split worker node c m) e = three (sym e)
+no_kind b one two three four (Settled worker node) e = four (sym e)
+
+of_kind : (b tag : ℕ) (read : Reader Post) → b ≡ tag → Steers (OfKind tag) behind read → Steers (OfKind b) behind read
+of_kind b tag read is one = subst (λ (t : ℕ). Steers (OfKind t) behind read) (sym is) one
+
+known : (b : ℕ) (bytes : List ℕ) → Known b bytes ⊎ Unknown b bytes
 unfolding post_at
-tag_unknown b bytes ne = rw (ne_eqb b 1 ne) refl
+known b bytes = elim (cases_eq b 1) [
+  | inl one ↦ inl (record { read = plan_at; steers = of_kind b 1 plan_at one plan_steers; reads = rw (eq-eqb b 1 one) refl })
+  | inr not_1 ↦ elim (cases_eq b 2) [
+    | inl two ↦ inl (record { read = priced_at; steers = of_kind b 2 priced_at two priced_steers; reads = rw (ne_eqb b 1 not_1, eq-eqb b 2 two) refl })
+    | inr not_2 ↦ elim (cases_eq b 3) [
+      | inl three ↦ inl (record { read = split_at; steers = of_kind b 3 split_at three split_steers; reads = rw (ne_eqb b 1 not_1, ne_eqb b 2 not_2, eq-eqb b 3 three) refl })
+      | inr not_3 ↦ elim (cases_eq b 4) [
+        | inl four ↦ inl (record { read = settled_at; steers = of_kind b 4 settled_at four settled_steers; reads = rw (ne_eqb b 1 not_1, ne_eqb b 2 not_2, ne_eqb b 3 not_3, eq-eqb b 4 four) refl })
+        | inr not_4 ↦ inr (record { none = no_kind b not_1 not_2 not_3 not_4; reads = rw (ne_eqb b 1 not_1, ne_eqb b 2 not_2, ne_eqb b 3 not_3, ne_eqb b 4 not_4) refl })
+      ]
+    ]
+  ]
+]
 
 no_tag : post_at [] ≡ Err 0
 unfolding post_at
 no_tag = refl
 
 some_post : (p : Post) × FitsPost p
-some_post = plan_steers.some
+some_post = let plan = plan_steers.some in (plan.0, plan.1.0)
 
 post_least : (bytes : List ℕ) (left : ℕ) → AreBytes bytes → post_at bytes ≡ Err left → (at : ℕ) × (at + left ≡ length bytes) × Begins FitsPost post_fields (take at bytes)
 post_least [] left h e =
     let same : 0 ≡ left = let both = sym no_tag ∙ e in cc in
     (0, omega (arith, same), begins_none FitsPost post_fields [] some_post)
-post_least (b ∷ bytes) left h e = elim (cases_eq b 1) [
-  | inl is ↦
-      let l = plan_steers.least bytes left (tail_bytes b bytes h) (sym (tag_known b bytes is) ∙ e) in (
+post_least (b ∷ bytes) left h e = elim (known b bytes) [
+  | inl k ↦
+      let l = k.steers.least bytes left (tail_bytes b bytes h) (sym k.reads ∙ e) in (
         suc l.0,
         omega (arith, l.1),
         record {
           whole = l.2.whole;
-          fits = l.2.fits;
+          fits = l.2.fits.0;
           count = suc l.2.count;
-          is = ap (λ (t : ℕ). t ∷ take l.0 bytes) is ∙ ap (λ (x : List ℕ). 1 ∷ x) l.2.is ∙ sym (behind_tag l.2.whole l.2.count);
+          is = ap (λ (t : ℕ). t ∷ take l.0 bytes) (sym l.2.fits.1) ∙ ap (λ (x : List ℕ). tag_of l.2.whole ∷ x) l.2.is ∙ sym (behind_tag l.2.whole l.2.count);
         },
       )
-  | inr other ↦
-      let same : length (b ∷ bytes) ≡ left = let both = sym (tag_unknown b bytes other) ∙ e in cc in
+  | inr u ↦
+      let same : length (b ∷ bytes) ≡ left = let both = sym u.reads ∙ e in cc in
       (0, omega (arith, same), begins_none FitsPost post_fields (b ∷ bytes) some_post)
 ]
 
 post_leaves : (bytes : List ℕ) → AreBytes bytes → left_of (post_at bytes) ≤ length bytes
 post_leaves [] h = rw no_tag (omega arith)
-post_leaves (b ∷ bytes) h = elim (cases_eq b 1) [
-  | inl is ↦
-      let less : left_of (plan_at bytes) ≤ length bytes = leaves plan_steers bytes (tail_bytes b bytes h) in
-      rw (tag_known b bytes is) (omega arith)
-  | inr other ↦ rw (tag_unknown b bytes other) (omega arith)
+post_leaves (b ∷ bytes) h = elim (known b bytes) [
+  | inl k ↦
+      let less : left_of (k.read bytes) ≤ length bytes = leaves k.steers bytes (tail_bytes b bytes h) in
+      rw k.reads (omega arith)
+  | inr u ↦ rw u.reads (omega arith)
 ]
 
 none_begun : (bytes : List ℕ) (n : ℕ) → n ≤ length bytes → take n bytes ≡ [] → n ≡ 0
@@ -174,23 +322,27 @@ none_begun bytes zero le e = refl
 none_begun [] (suc n) le e = absurd (omega arith)
 none_begun (b ∷ bytes) (suc n) le e = absurd (cc)
 
-tag_begun : (b n : ℕ) (bytes front : List ℕ) → take n (b ∷ bytes) ≡ 1 ∷ front → (m : ℕ) × (n ≡ suc m) × (b ≡ 1) × (take m bytes ≡ front)
-tag_begun b zero bytes front e = absurd (cc)
-tag_begun b (suc m) bytes front e = (m, refl, cc, cc)
+tag_begun : (b n t : ℕ) (bytes front : List ℕ) → take n (b ∷ bytes) ≡ t ∷ front → (m : ℕ) × (n ≡ suc m) × (t ≡ b) × (take m bytes ≡ front)
+tag_begun b zero t bytes front e = absurd (cc)
+tag_begun b (suc m) t bytes front e = (m, refl, cc, cc)
 
 post_most : (bytes : List ℕ) (n : ℕ) → AreBytes bytes → n ≤ length bytes → Begins FitsPost post_fields (take n bytes) → n + left_of (post_at bytes) ≤ length bytes
 post_most bytes n h le begins = go begins.count begins.is
   where
-    tagged : (bytes : List ℕ) (k : ℕ) → AreBytes bytes → n ≤ length bytes → take n bytes ≡ 1 ∷ bytes_of (take k (plan_fields begins.whole)) → n + left_of (post_at bytes) ≤ length bytes
+    tagged : (bytes : List ℕ) (k : ℕ) → AreBytes bytes → n ≤ length bytes → take n bytes ≡ tag_of begins.whole ∷ bytes_of (take k (behind begins.whole)) → n + left_of (post_at bytes) ≤ length bytes
     tagged [] k h le e = absurd (no_front n e)
       where
-        no_front : (n : ℕ) → take n [] ≡ 1 ∷ bytes_of (take k (plan_fields begins.whole)) → ⊥
+        no_front : (n : ℕ) → take n [] ≡ tag_of begins.whole ∷ bytes_of (take k (behind begins.whole)) → ⊥
         no_front zero e = absurd (cc)
         no_front (suc m) e = absurd (cc)
     tagged (b ∷ bytes) k h le e =
-        let t = tag_begun b n bytes (bytes_of (take k (plan_fields begins.whole))) e in
-        let most : t.0 + left_of (plan_at bytes) ≤ length bytes = plan_steers.most bytes t.0 (tail_bytes b bytes h) (omega (arith, t.1)) (record { whole = begins.whole; fits = begins.fits; count = k; is = t.3 }) in
-        rw (tag_known b bytes t.2) (omega (arith, t.1))
+        let t = tag_begun b n (tag_of begins.whole) bytes (bytes_of (take k (behind begins.whole))) e in
+        elim (known b bytes) [
+          | inl kind ↦
+              let most : t.0 + left_of (kind.read bytes) ≤ length bytes = kind.steers.most bytes t.0 (tail_bytes b bytes h) (omega (arith, t.1)) (record { whole = begins.whole; fits = (begins.fits, t.2); count = k; is = t.3 }) in
+              rw kind.reads (omega (arith, t.1))
+          | inr u ↦ absurd (u.none begins.whole t.2)
+        ]
 
     go : (k : ℕ) → take n bytes ≡ bytes_of (take k (post_fields begins.whole)) → n + left_of (post_at bytes) ≤ length bytes
     go zero e = omega (arith, none_begun bytes n le e, post_leaves bytes h)
@@ -199,9 +351,15 @@ post_most bytes n h le begins = go begins.count begins.is
 post_steers : Steers FitsPost post_fields post_at
 post_steers = record { some = some_post; least = post_least; most = post_most }
 
+number_joins : (c : Class) (m : ℕ) → bytes_of (class_fields c ++ u16_bytes m ∷ []) ≡ class_bytes c ++ u16_bytes m
+number_joins c m = bytes_more (class_fields c) (u16_bytes m ∷ []) ∙ ap (λ (l : List ℕ). l ++ bytes_of (u16_bytes m ∷ [])) (class_joins c) ∙ ap (λ (l : List ℕ). class_bytes c ++ l) (joins_16 m)
+
 post_joins : (p : Post) → bytes_of (post_fields p) ≡ post_bytes p
-unfolding u16_bytes u64_bytes
+unfolding u16_bytes u32_bytes u64_bytes
 post_joins (Plan worker rs cost) = ap (λ (l : List ℕ). 1 ∷ u16_bytes worker ++ u64_bytes cost ++ l) (rows_joins rs)
+post_joins (Priced worker node prices) = ap (λ (l : List ℕ). 2 ∷ u16_bytes worker ++ u32_bytes node ++ l) (prices_joins prices)
+post_joins (Split worker node c m) = ap (λ (l : List ℕ). 3 ∷ u16_bytes worker ++ u32_bytes node ++ l) (number_joins c m)
+post_joins (Settled worker node) = refl
 
 posts_steers : Steers FitsPosts posts_fields posts_at
 unfolding posts_at

@@ -197,24 +197,28 @@ pair_steers {A} {B} F s fa f G fb g inverse joins one two =
     })
 
 -- ---- a value of what is read
-pub made_steers : {A B : Type 0} (F : A → Type 0) (fa : A → List (List ℕ)) (f : Reader A) (G : B → Type 0) (fb : B → List (List ℕ)) (to : A → B) (of : B → A) → ((a : A) → F a → G (to a)) → ((a : A) → fb (to a) ≡ fa a) → ((b : B) → G b → F (of b)) → ((b : B) → fb b ≡ fa (of b)) → Steers F fa f → Steers G fb (made to f)
-made_steers {A} {B} F fa f G fb to of fits fields fits_back fields_back one = record {
+pub part_steers : {A B : Type 0} (F : A → Type 0) (fa : A → List (List ℕ)) (f : Reader A) (G : B → Type 0) (fb : B → List (List ℕ)) (to : A → B) → ((a : A) → F a → G (to a)) → ((a : A) → F a → fb (to a) ≡ fa a) → ((b : B) → G b → (a : A) × F a × (fb b ≡ fa a)) → Steers F fa f → Steers G fb (made to f)
+part_steers {A} {B} F fa f G fb to fits fields back one = record {
   some = (to one.some.0, fits one.some.0 one.some.1);
   least = λ bytes left h e.
       elim (stopped (f bytes) (λ a. Ok (to a.0, a.1)) left e) [
         | inl fault ↦
             let l = one.least bytes left h fault in
-            (l.0, l.1, record { whole = to l.2.whole; fits = fits l.2.whole l.2.fits; count = l.2.count; is = l.2.is ∙ ap (λ (x : List (List ℕ)). bytes_of (take l.2.count x)) (sym (fields l.2.whole)) })
+            (l.0, l.1, record { whole = to l.2.whole; fits = fits l.2.whole l.2.fits; count = l.2.count; is = l.2.is ∙ ap (λ (x : List (List ℕ)). bytes_of (take l.2.count x)) (sym (fields l.2.whole l.2.fits)) })
         | inr never ↦ absurd (no_fault _ left never.2)
       ];
   most = λ bytes n h le begins.
-      let most : n + left_of (f bytes) ≤ length bytes = one.most bytes n h le (record { whole = of begins.whole; fits = fits_back begins.whole begins.fits; count = begins.count; is = begins.is ∙ ap (λ (x : List (List ℕ)). bytes_of (take begins.count x)) (fields_back begins.whole) }) in
+      let part = back begins.whole begins.fits in
+      let most : n + left_of (f bytes) ≤ length bytes = one.most bytes n h le (record { whole = part.0; fits = part.1; count = begins.count; is = begins.is ∙ ap (λ (x : List (List ℕ)). bytes_of (take begins.count x)) part.2 }) in
       omega (arith, left_same (f bytes));
 }
   where
     left_same : (r : Result (A × List ℕ) ℕ) → left_of (r >>= λ a. Ok (to a.0, a.1)) ≡ left_of r
     left_same (Ok x) = refl
     left_same (Err d) = refl
+
+pub made_steers : {A B : Type 0} (F : A → Type 0) (fa : A → List (List ℕ)) (f : Reader A) (G : B → Type 0) (fb : B → List (List ℕ)) (to : A → B) (of : B → A) → ((a : A) → F a → G (to a)) → ((a : A) → F a → fb (to a) ≡ fa a) → ((b : B) → G b → F (of b)) → ((b : B) → fb b ≡ fa (of b)) → Steers F fa f → Steers G fb (made to f)
+made_steers F fa f G fb to of fits fields fits_back fields_back one = part_steers F fa f G fb to fits fields (λ b h. (of b, fits_back b h, fields_back b)) one
 
 -- readers that give the same
 pub same_steers : {A : Type 0} (F : A → Type 0) (fa : A → List (List ℕ)) (f g : Reader A) → ((bytes : List ℕ) → g bytes ≡ f bytes) → Steers F fa f → Steers F fa g

@@ -1,15 +1,17 @@
 -- The fields of a spelling, and where bytes depart from every spelling.
 -- Source: this project's own format.
-use Rattle.std.specs.Prelude.{◌≡◌, ℕ, ◌≤◌, List, [], ◌∷◌, length, take, ⊤, Result, Ok, Err, Vec}
+use Rattle.std.specs.Prelude.{◌≡◌, ℕ, ℤ, ◌≤◌, List, [], ◌∷◌, ◌++◌, length, take, ⊤, Result, Ok, Err, Vec}
 use Rattle.std.specs.declared.alloc.Global.{Global}
 use Rattle.std.specs.List.{flat_map}
 use Rattle.break_rules.specs.declared.Break.{Break}
 use Rattle.shift_instance.specs.declared.Row.{Row}
+use Rattle.head_splits.specs.declared.Class.{Class}
+use Rattle.head_splits.specs.declared.Prices.{Prices}
 use Rattle.post_codec.specs.declared.post.Post.{Post}
-use Rattle.post_codec.specs.declared.post.Post.TheVariants.{Plan}
+use Rattle.post_codec.specs.declared.post.Post.TheVariants.{Plan, Priced, Split, Settled}
 use Rattle.post_codec.specs.declared.fault.CodecFault.{CodecFault}
 use Rattle.post_codec.specs.declared.fault.CodecFault.TheVariants.{Departs, NoMemory}
-use Rattle.post_codec.specs.Spelling.{u16_bytes, u32_bytes, u64_bytes, spelling, FitsPosts, Spells}
+use Rattle.post_codec.specs.Spelling.{u16_bytes, u32_bytes, u64_bytes, slot_bytes, spelling, FitsPosts, Spells}
 
 -- a break: its start and its length
 abbrev pub break_fields : Break → List (List ℕ)
@@ -27,9 +29,29 @@ row_fields r = u16_bytes r.shift ∷ (r.day ∷ []) ∷ u16_bytes r.count ∷ br
 abbrev pub rows_fields : List Row → List (List ℕ)
 rows_fields rs = u32_bytes (length rs) ∷ flat_map row_fields rs
 
--- a post: its tag, which alone is 1 for a plan, and then its worker, its cost and its rows
+-- a class: its shift, its day and its breaks
+abbrev pub class_fields : Class → List (List ℕ)
+class_fields c = u16_bytes c.shift ∷ (c.day ∷ []) ∷ breaks_fields c.prefix
+
+-- prices of slots: their number, and each of them
+abbrev pub slots_fields : List ℤ → List (List ℕ)
+slots_fields prices = u32_bytes (length prices) ∷ flat_map (λ price. slot_bytes price ∷ []) prices
+
+-- prices of cuts: their number, and each of them
+abbrev pub cuts_fields : List ℕ → List (List ℕ)
+cuts_fields prices = u32_bytes (length prices) ∷ flat_map (λ price. u64_bytes price ∷ []) prices
+
+-- prices: their scale, those of the slots and those of the cuts
+abbrev pub prices_fields : Prices → List (List ℕ)
+prices_fields p = u16_bytes p.q ∷ slots_fields p.slots ++ cuts_fields p.cuts
+
+-- a post: its tag, which is 1 for a plan, 2 for prices, 3 for a split and 4 for a settled node; its worker; and then the
+-- cost and the rows of a plan, or the node with its prices, or with its class and the number of its duties, or alone
 abbrev pub post_fields : Post → List (List ℕ)
 post_fields (Plan worker rows cost) = (1 ∷ []) ∷ u16_bytes worker ∷ u64_bytes cost ∷ rows_fields rows
+post_fields (Priced worker node prices) = (2 ∷ []) ∷ u16_bytes worker ∷ u32_bytes node ∷ prices_fields prices
+post_fields (Split worker node class m) = (3 ∷ []) ∷ u16_bytes worker ∷ u32_bytes node ∷ class_fields class ++ u16_bytes m ∷ []
+post_fields (Settled worker node) = (4 ∷ []) ∷ u16_bytes worker ∷ u32_bytes node ∷ []
 
 -- posts: their number, and the fields of each
 abbrev pub posts_fields : List Post → List (List ℕ)

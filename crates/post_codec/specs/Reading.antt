@@ -1,11 +1,13 @@
 -- How the parts of a spelling are read, one after the other. Contracts of private functions speak of it; what `read` answers is told without it.
-use Rattle.std.specs.Prelude.{◌≡◌, ℕ, zero, suc, ◌-◌, List, [], ◌∷◌, length, take, drop, Result, Ok, Err, Vec, nat_lt, ◌==◌, if◌then◌else◌}
+use Rattle.std.specs.Prelude.{◌≡◌, ℕ, ℤ, zero, suc, ◌-◌, List, [], ◌∷◌, length, take, drop, Result, Ok, Err, Vec, nat_lt, ◌==◌, if◌then◌else◌}
 use Rattle.std.specs.declared.alloc.Global.{Global}
-use Rattle.std.specs.Int.{Width, w16, w32, w64, byte_len, from_le_bytes}
+use Rattle.std.specs.Int.{Width, w16, w32, w64, byte_len, from_le_bytes, cast_signed}
 use Rattle.break_rules.specs.declared.Break.{Break}
 use Rattle.shift_instance.specs.declared.Row.{Row}
+use Rattle.head_splits.specs.declared.Class.{Class}
+use Rattle.head_splits.specs.declared.Prices.{Prices}
 use Rattle.post_codec.specs.declared.post.Post.{Post}
-use Rattle.post_codec.specs.declared.post.Post.TheVariants.{Plan}
+use Rattle.post_codec.specs.declared.post.Post.TheVariants.{Plan, Priced, Split, Settled}
 use Rattle.post_codec.specs.declared.fault.CodecFault.{CodecFault}
 use Rattle.post_codec.specs.declared.fault.CodecFault.TheVariants.{Departs, NoMemory}
 use Rattle.post_codec.specs.declared.fault.Stop.{Stop}
@@ -72,6 +74,34 @@ row_at bytes = made to_row (number_at w16 then (byte_at then (number_at w16 then
 unfoldable pub rows_at : Reader (List Row)
 rows_at bytes = counted (number_at w32) row_at bytes
 
+-- the class of a shift, a day and breaks
+abbrev pub to_class : ℕ × (ℕ × List Break) → Class
+to_class x = record { shift = x.0; day = x.1.0; prefix = x.1.1 }
+
+-- a class
+unfoldable pub class_at : Reader Class
+class_at bytes = made to_class (number_at w16 then (byte_at then breaks_at)) bytes
+
+-- the price of a slot
+unfoldable pub slot_at : Reader ℤ
+slot_at bytes = made (cast_signed w64) (number_at w64) bytes
+
+-- prices of slots
+unfoldable pub slots_at : Reader (List ℤ)
+slots_at bytes = counted (number_at w32) slot_at bytes
+
+-- prices of cuts
+unfoldable pub cuts_at : Reader (List ℕ)
+cuts_at bytes = counted (number_at w32) (number_at w64) bytes
+
+-- the prices of a scale, of slots and of cuts
+abbrev pub to_prices : ℕ × (List ℤ × List ℕ) → Prices
+to_prices x = record { q = x.0; slots = x.1.0; cuts = x.1.1 }
+
+-- prices
+unfoldable pub prices_at : Reader Prices
+prices_at bytes = made to_prices (number_at w16 then (slots_at then cuts_at)) bytes
+
 -- the plan of a worker, a cost and rows
 abbrev pub to_plan : ℕ × (ℕ × List Row) → Post
 to_plan x = Plan x.0 x.1.1 x.1.0
@@ -80,9 +110,37 @@ to_plan x = Plan x.0 x.1.1 x.1.0
 unfoldable pub plan_at : Reader Post
 plan_at bytes = made to_plan (number_at w16 then (number_at w64 then rows_at)) bytes
 
+-- the priced node of a worker, a node and prices
+abbrev pub to_priced : ℕ × (ℕ × Prices) → Post
+to_priced x = Priced x.0 x.1.0 x.1.1
+
+-- a priced node behind its tag
+unfoldable pub priced_at : Reader Post
+priced_at bytes = made to_priced (number_at w16 then (number_at w32 then prices_at)) bytes
+
+-- the split of a worker, a node, a class and a number of duties
+abbrev pub to_split : ℕ × (ℕ × (Class × ℕ)) → Post
+to_split x = Split x.0 x.1.0 x.1.1.0 x.1.1.1
+
+-- a split behind its tag
+unfoldable pub split_at : Reader Post
+split_at bytes = made to_split (number_at w16 then (number_at w32 then (class_at then number_at w16))) bytes
+
+-- the settled node of a worker and a node
+abbrev pub to_settled : ℕ × ℕ → Post
+to_settled x = Settled x.0 x.1
+
+-- a settled node behind its tag
+unfoldable pub settled_at : Reader Post
+settled_at bytes = made to_settled (number_at w16 then number_at w32) bytes
+
+-- the post behind that tag, where it is a tag
+abbrev pub tagged_at : ℕ → List ℕ → Result (Post × List ℕ) ℕ → Result (Post × List ℕ) ℕ
+tagged_at tag bytes none = if tag == 1 then plan_at bytes else (if tag == 2 then priced_at bytes else (if tag == 3 then split_at bytes else (if tag == 4 then settled_at bytes else none)))
+
 -- a tag, and the post of that tag; the fault of an unknown tag is at the tag
 unfoldable pub post_at : Reader Post
-post_at bytes = byte_at bytes >>= λ tag. if tag.0 == 1 then plan_at tag.1 else Err (length bytes)
+post_at bytes = byte_at bytes >>= λ tag. tagged_at tag.0 tag.1 (Err (length bytes))
 
 -- posts
 unfoldable pub posts_at : Reader (List Post)

@@ -1,8 +1,18 @@
 //! Posts, the changes of a book that a journal keeps, and their bytes.
 //!
-//! Numbers are written with the least byte first. A list of posts is the number of posts in two bytes, and then the posts. A
-//! plan is the byte 1, two bytes of worker, eight of cost, four of number of rows, and its rows. A row is two bytes of shift, one of day, two
-//! of count and its breaks. Breaks are one byte of number of breaks, and two of start and two of length for each.
+//! Numbers are written with the least byte first, and a number below 0 in two's complement. A list of posts is the number of
+//! posts in two bytes, and then the posts. Each post is a byte of its kind and two bytes of worker, and then:
+//!
+//! | Kind | Byte | Then |
+//! |---|---|---|
+//! | plan | 1 | eight bytes of cost, four of number of rows, and the rows |
+//! | priced node | 2 | four bytes of node, and its prices |
+//! | split | 3 | four bytes of node, the class, and two bytes of number of its duties |
+//! | settled node | 4 | four bytes of node |
+//!
+//! A row is two bytes of shift, one of day, two of count and its breaks. A class is two bytes of shift, one of day and its
+//! breaks. Breaks are one byte of number of breaks, and two of start and two of length for each. Prices are two bytes of scale,
+//! four of number of slots and eight for the price of each, and four of number of cuts and eight for the price of each.
 #![tactic(auto)]
 
 mod fault;

@@ -1,14 +1,15 @@
 //! Bytes read as posts.
-ghost use Rattle.std.specs.Prelude.{◌≡◌, List, IfOk, IfErr};
+ghost use Rattle.std.specs.Prelude.{◌≡◌, List, IfOk, IfErr, FitsSigned};
 ghost use Rattle.std.specs.Int.{w16, w32, w64};
 ghost use Rattle.post_codec.specs.declared.post.Post.{Post as APost};
 ghost use Rattle.post_codec.specs.Spelling.{Spells};
 ghost use Rattle.post_codec.specs.Fields.{IsFaultOf, GivesPosts};
-ghost use Rattle.post_codec.specs.Reading.{Gives, IsRead, byte_at, number_at, break_at, breaks_at, row_at, rows_at, times, plan_at, post_at, posts_at, whole, reading};
+ghost use Rattle.post_codec.specs.Reading.{Gives, IsRead, byte_at, number_at, break_at, breaks_at, row_at, rows_at, class_at, slot_at, slots_at, cuts_at, prices_at, times, plan_at, priced_at, split_at, settled_at, post_at, posts_at, whole, reading};
 
 use crate::fault::{CodecFault, Stop};
 use crate::post::Post;
 use break_rules::{Break, Breaks};
+use head_splits::{Class, CutPrices, Prices, SlotPrices};
 use shift_instance::{Row, Rows};
 use std::alloc::Global;
 
@@ -136,6 +137,86 @@ fn rows_of(alloc: Global, bytes: &[u8]) -> Result<(Rows, &[u8]), Stop>
     Ok((Rows::new(list), rest))
 }
 
+/// A class, and the bytes after it.
+#[tactic(auto, unfolding(crate::specs::Reading::class_at))]
+fn class_of(alloc: Global, bytes: &[u8]) -> Result<(Class, &[u8]), Stop>
+    ensures { Gives (λ x. (x.0, x.1.now)) result (class_at bytes.now) }
+{
+    let (shift, rest) = u16_of(bytes)?;
+    let (day, rest) = byte_of(rest)?;
+    let (prefix, rest) = breaks_of(alloc, rest)?;
+    Ok((Class { shift, day, prefix }, rest))
+}
+
+/// The price of a slot, and the bytes after it.
+#[tactic(auto, using(crate::proofs::Formats::signed_fits), unfolding(crate::specs::Reading::slot_at))]
+fn slot_of(bytes: &[u8]) -> Result<(i64, &[u8]), Stop>
+    ensures fits { IfOk result (λ x. FitsSigned w64 x.0) }
+    ensures is { Gives (λ x. (x.0, x.1.now)) result (slot_at bytes.now) }
+{
+    let (price, rest) = u64_of(bytes)?;
+    Ok((price.cast_signed(), rest))
+}
+
+/// So many prices of slots, and the bytes after them.
+fn slot_list(alloc: Global, count: u32, bytes: &[u8]) -> Result<(Vec<i64>, &[u8]), Stop>
+    ensures { Gives (λ x. (x.0.items, x.1.now)) result (times slot_at count bytes.now) }
+{
+    let mut list = Vec::new(alloc);
+    let mut rest = bytes;
+    for _ in 0..count {
+        let (item, after) = slot_of(rest)?;
+        list.push(item)?;
+        rest = after;
+    }
+    Ok((list, rest))
+}
+
+/// The prices of slots, and the bytes after them.
+#[tactic(auto, unfolding(crate::specs::Reading::slots_at))]
+fn slots_of(alloc: Global, bytes: &[u8]) -> Result<(SlotPrices, &[u8]), Stop>
+    ensures { Gives (λ x. (x.0, x.1.now)) result (slots_at bytes.now) }
+{
+    let (count, rest) = u32_of(bytes)?;
+    let (list, rest) = slot_list(alloc, count, rest)?;
+    Ok((SlotPrices::new(list), rest))
+}
+
+/// So many prices of cuts, and the bytes after them.
+fn cut_list(alloc: Global, count: u32, bytes: &[u8]) -> Result<(Vec<u64>, &[u8]), Stop>
+    ensures { Gives (λ x. (x.0.items, x.1.now)) result (times (number_at w64) count bytes.now) }
+{
+    let mut list = Vec::new(alloc);
+    let mut rest = bytes;
+    for _ in 0..count {
+        let (item, after) = u64_of(rest)?;
+        list.push(item)?;
+        rest = after;
+    }
+    Ok((list, rest))
+}
+
+/// The prices of cuts, and the bytes after them.
+#[tactic(auto, unfolding(crate::specs::Reading::cuts_at))]
+fn cuts_of(alloc: Global, bytes: &[u8]) -> Result<(CutPrices, &[u8]), Stop>
+    ensures { Gives (λ x. (x.0, x.1.now)) result (cuts_at bytes.now) }
+{
+    let (count, rest) = u32_of(bytes)?;
+    let (list, rest) = cut_list(alloc, count, rest)?;
+    Ok((CutPrices::new(list), rest))
+}
+
+/// Prices, and the bytes after them.
+#[tactic(auto, unfolding(crate::specs::Reading::prices_at))]
+fn prices_of(alloc: Global, bytes: &[u8]) -> Result<(Prices, &[u8]), Stop>
+    ensures { Gives (λ x. (x.0, x.1.now)) result (prices_at bytes.now) }
+{
+    let (q, rest) = u16_of(bytes)?;
+    let (slots, rest) = slots_of(alloc, rest)?;
+    let (cuts, rest) = cuts_of(alloc, rest)?;
+    Ok((Prices { q, slots, cuts }, rest))
+}
+
 /// A plan behind its tag, and the bytes after it.
 #[tactic(auto, unfolding(crate::specs::Reading::plan_at))]
 fn plan_of(alloc: Global, bytes: &[u8]) -> Result<(Post, &[u8]), Stop>
@@ -147,6 +228,50 @@ fn plan_of(alloc: Global, bytes: &[u8]) -> Result<(Post, &[u8]), Stop>
     Ok((Post::Plan { worker, rows, cost }, rest))
 }
 
+/// A priced node behind its tag, and the bytes after it.
+#[tactic(auto, unfolding(crate::specs::Reading::priced_at))]
+fn priced_of(alloc: Global, bytes: &[u8]) -> Result<(Post, &[u8]), Stop>
+    ensures { Gives (λ x. (x.0, x.1.now)) result (priced_at bytes.now) }
+{
+    let (worker, rest) = u16_of(bytes)?;
+    let (node, rest) = u32_of(rest)?;
+    let (prices, rest) = prices_of(alloc, rest)?;
+    let post = Post::Priced {
+        worker,
+        node,
+        prices,
+    };
+    Ok((post, rest))
+}
+
+/// A split behind its tag, and the bytes after it.
+#[tactic(auto, unfolding(crate::specs::Reading::split_at))]
+fn split_of(alloc: Global, bytes: &[u8]) -> Result<(Post, &[u8]), Stop>
+    ensures { Gives (λ x. (x.0, x.1.now)) result (split_at bytes.now) }
+{
+    let (worker, rest) = u16_of(bytes)?;
+    let (node, rest) = u32_of(rest)?;
+    let (class, rest) = class_of(alloc, rest)?;
+    let (m, rest) = u16_of(rest)?;
+    let post = Post::Split {
+        worker,
+        node,
+        class,
+        m,
+    };
+    Ok((post, rest))
+}
+
+/// A settled node behind its tag, and the bytes after it.
+#[tactic(auto, unfolding(crate::specs::Reading::settled_at))]
+fn settled_of(bytes: &[u8]) -> Result<(Post, &[u8]), Stop>
+    ensures { Gives (λ x. (x.0, x.1.now)) result (settled_at bytes.now) }
+{
+    let (worker, rest) = u16_of(bytes)?;
+    let (node, rest) = u32_of(rest)?;
+    Ok((Post::Settled { worker, node }, rest))
+}
+
 /// A post, and the bytes after it.
 #[tactic(auto, unfolding(crate::specs::Reading::post_at))]
 fn post_of(alloc: Global, bytes: &[u8]) -> Result<(Post, &[u8]), Stop>
@@ -155,6 +280,9 @@ fn post_of(alloc: Global, bytes: &[u8]) -> Result<(Post, &[u8]), Stop>
     let (tag, rest) = byte_of(bytes)?;
     match tag {
         1 => plan_of(alloc, rest),
+        2 => priced_of(alloc, rest),
+        3 => split_of(alloc, rest),
+        4 => settled_of(rest),
         _ => Err(Stop::Left(bytes.len())),
     }
 }

@@ -1,9 +1,11 @@
 //! Posts as bytes.
-ghost use Rattle.std.specs.Prelude.{◌≡◌, ◌<◌, ◌^◌, ◌++◌, ◌∷◌, length, OnOk, IfOk};
-ghost use Rattle.post_codec.specs.Spelling.{u16_bytes, u32_bytes, u64_bytes, break_bytes, breaks_bytes, row_bytes, rows_bytes, plan_bytes, post_bytes, FitsBreak, FitsBreaks, FitsRow, FitsRows, FitsPost, CountsFitRow, CountsFitRows, CountsFitPost, CountsFit, Spells};
+ghost use Rattle.std.specs.Prelude.{◌≡◌, ◌<◌, ◌^◌, ◌++◌, ◌∷◌, length, FitsSigned, OnOk, IfOk};
+ghost use Rattle.std.specs.Int.{w64};
+ghost use Rattle.post_codec.specs.Spelling.{u16_bytes, u32_bytes, u64_bytes, break_bytes, breaks_bytes, row_bytes, rows_bytes, class_bytes, slot_bytes, slots_bytes, cuts_bytes, prices_bytes, plan_bytes, priced_bytes, split_bytes, settled_bytes, post_bytes, FitsBreak, FitsBreaks, FitsRow, FitsRows, FitsClass, FitsSlots, FitsCuts, FitsPrices, FitsPost, CountsFitRow, CountsFitRows, CountsFitClass, CountsFitPrices, CountsFitPost, CountsFit, Spells};
 
 use crate::post::Post;
 use break_rules::{Break, NoMemory};
+use head_splits::{Class, Prices};
 use shift_instance::Row;
 use std::alloc::Global;
 
@@ -88,6 +90,68 @@ fn put_rows(out: &mut Vec<u8>, list: &[Row]) -> Result<(), NoMemory>
     Ok(())
 }
 
+/// Appends a class.
+fn put_class(out: &mut Vec<u8>, class: &Class) -> Result<(), NoMemory>
+    requires { CountsFitClass class.now }
+    ensures fits { OnOk result (FitsClass class.now) }
+    ensures put { OnOk result (out.new.items ≡ out.old.items ++ class_bytes class.now) }
+{
+    let Class { shift, day, prefix } = class;
+    put_u16(out, *shift)?;
+    out.push(*day)?;
+    put_breaks(out, prefix.as_slice())?;
+    Ok(())
+}
+
+/// Appends the price of a slot.
+fn put_slot(out: &mut Vec<u8>, item: &i64) -> Result<(), NoMemory>
+    ensures fits { FitsSigned w64 item.now }
+    ensures put { OnOk result (out.new.items ≡ out.old.items ++ slot_bytes item.now) }
+{
+    let price = *item;
+    put_u64(out, price.cast_unsigned())?;
+    Ok(())
+}
+
+/// Appends the number of slots, and the price of each.
+fn put_slots(out: &mut Vec<u8>, list: &[i64]) -> Result<(), NoMemory>
+    requires { length list.now < 2 ^ 32 }
+    ensures fits { OnOk result (FitsSlots list.now) }
+    ensures put { OnOk result (out.new.items ≡ out.old.items ++ slots_bytes list.now) }
+{
+    put_u32(out, list.len() as u32)?;
+    for item in list {
+        put_slot(out, item)?;
+    }
+    Ok(())
+}
+
+/// Appends the number of cuts, and the price of each.
+fn put_cuts(out: &mut Vec<u8>, list: &[u64]) -> Result<(), NoMemory>
+    requires { length list.now < 2 ^ 32 }
+    ensures fits { OnOk result (FitsCuts list.now) }
+    ensures put { OnOk result (out.new.items ≡ out.old.items ++ cuts_bytes list.now) }
+{
+    put_u32(out, list.len() as u32)?;
+    for item in list {
+        put_u64(out, *item)?;
+    }
+    Ok(())
+}
+
+/// Appends prices.
+fn put_prices(out: &mut Vec<u8>, prices: &Prices) -> Result<(), NoMemory>
+    requires { CountsFitPrices prices.now }
+    ensures fits { OnOk result (FitsPrices prices.now) }
+    ensures put { OnOk result (out.new.items ≡ out.old.items ++ prices_bytes prices.now) }
+{
+    let q = prices.q;
+    put_u16(out, q)?;
+    put_slots(out, prices.slots.as_slice())?;
+    put_cuts(out, prices.cuts.as_slice())?;
+    Ok(())
+}
+
 /// Appends a plan.
 fn put_plan(out: &mut Vec<u8>, worker: u16, cost: u64, rows: &[Row]) -> Result<(), NoMemory>
     requires { CountsFitRows rows.now }
@@ -101,6 +165,49 @@ fn put_plan(out: &mut Vec<u8>, worker: u16, cost: u64, rows: &[Row]) -> Result<(
     Ok(())
 }
 
+/// Appends a priced node.
+fn put_priced(out: &mut Vec<u8>, worker: u16, node: u32, prices: &Prices) -> Result<(), NoMemory>
+    requires { CountsFitPrices prices.now }
+    ensures fits { OnOk result (FitsPrices prices.now) }
+    ensures put { OnOk result (out.new.items ≡ out.old.items ++ priced_bytes worker node prices.now) }
+{
+    out.push(2)?;
+    put_u16(out, worker)?;
+    put_u32(out, node)?;
+    put_prices(out, prices)?;
+    Ok(())
+}
+
+/// Appends a split.
+fn put_split(
+    out: &mut Vec<u8>,
+    worker: u16,
+    node: u32,
+    class: &Class,
+    m: u16,
+) -> Result<(), NoMemory>
+    requires { CountsFitClass class.now }
+    ensures fits { OnOk result (FitsClass class.now) }
+    ensures put { OnOk result (out.new.items ≡ out.old.items ++ split_bytes worker node class.now m) }
+{
+    out.push(3)?;
+    put_u16(out, worker)?;
+    put_u32(out, node)?;
+    put_class(out, class)?;
+    put_u16(out, m)?;
+    Ok(())
+}
+
+/// Appends a settled node.
+fn put_settled(out: &mut Vec<u8>, worker: u16, node: u32) -> Result<(), NoMemory>
+    ensures { OnOk result (out.new.items ≡ out.old.items ++ settled_bytes worker node) }
+{
+    out.push(4)?;
+    put_u16(out, worker)?;
+    put_u32(out, node)?;
+    Ok(())
+}
+
 /// Appends a post.
 fn put_post(out: &mut Vec<u8>, item: &Post) -> Result<(), NoMemory>
     requires { CountsFitPost item.now }
@@ -109,11 +216,23 @@ fn put_post(out: &mut Vec<u8>, item: &Post) -> Result<(), NoMemory>
 {
     match item {
         Post::Plan { worker, rows, cost } => put_plan(out, *worker, *cost, rows.as_slice()),
+        Post::Priced {
+            worker,
+            node,
+            prices,
+        } => put_priced(out, *worker, *node, prices),
+        Post::Split {
+            worker,
+            node,
+            class,
+            m,
+        } => put_split(out, *worker, *node, class, *m),
+        Post::Settled { worker, node } => put_settled(out, *worker, *node),
     }
 }
 
-/// The one spelling of the posts, in their order. There are at most 65,535 posts, each plan has fewer than 2^32 rows, and each
-/// row has at most 255 breaks. The only refusal is want of memory. The work grows with the number of bytes.
+/// The one spelling of the posts, in their order. There are at most 65,535 posts, each plan has fewer than 2^32 rows, each
+/// price set has fewer than 2^32 prices of slots and as few of cuts, and each row and each class has at most 255 breaks. The only refusal is want of memory. The work grows with the number of bytes.
 pub fn write(alloc: Global, posts: &[Post]) -> Result<Vec<u8>, NoMemory>
     requires { CountsFit posts.now }
     ensures { IfOk result (λ bytes. Spells bytes.items posts.now) }

@@ -9,7 +9,7 @@ use Rattle.gated_journal.specs.Format.{StandsFor}
 use Rattle.gated_journal.specs.View.{IsStored, JournalView}
 use Rattle.instance_json.specs.Canonical.{canonical_text}
 use Rattle.post_codec.specs.declared.post.Post.{Post}
-use Rattle.post_codec.specs.declared.post.Post.TheVariants.{Plan}
+use Rattle.post_codec.specs.declared.post.Post.TheVariants.{Plan, Priced, Split, Settled}
 use Rattle.post_codec.specs.Spelling.{EachSpellsOnce, Spells}
 use Rattle.shift_instance.specs.declared.Row.{Row}
 use Rattle.shift_instance.specs.Problem.{Problem}
@@ -66,6 +66,9 @@ plan_sound i best c n rows b false e s = absurd (cc)
 
 step_sound : (i : Problem) (b c : Book) (post : Post) → step i b post ≡ Some c → IsSound i c
 step_sound i b c (Plan worker rows n) s = plan_sound i b.cost 0 n rows c (is_better i b.cost rows n) refl s
+step_sound i b c (Priced worker node prices) s = absurd (cc)
+step_sound i b c (Split worker node class m) s = absurd (cc)
+step_sound i b c (Settled worker node) s = absurd (cc)
 
 after_sound : (i : Problem) (o : Option Book) (c : Book) (posts : List Post) → ((b : Book) → o ≡ Some b → IsSound i b) → ((b : Book) → IsSound i b → book_after i b posts ≡ Some c → IsSound i c) → option_and_then (λ n. book_after i n posts) o ≡ Some c → IsSound i c
 after_sound i None c posts here later e = absurd (cc)
@@ -89,6 +92,9 @@ plan_best rows n b false e = absurd (cc)
 
 step_best : (i : Problem) (b c : Book) (post : Post) → step i b post ≡ Some c → c.best ≡ rows_in post
 step_best i b c (Plan worker rows n) s = plan_best rows n c (is_better i b.cost rows n) s
+step_best i b c (Priced worker node prices) s = absurd (cc)
+step_best i b c (Split worker node class m) s = absurd (cc)
+step_best i b c (Settled worker node) s = absurd (cc)
 
 one_best : (i : Problem) (o : Option Book) (c : Book) (post : Post) → ((b : Book) → o ≡ Some b → b.best ≡ rows_in post) → option_and_then (λ n. book_after i n []) o ≡ Some c → c.best ≡ rows_in post
 one_best i None c post here e = absurd (cc)

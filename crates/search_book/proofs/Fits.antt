@@ -27,9 +27,9 @@ use Rattle.shift_instance.proofs.Shifts.{Has_at, rule_passes}
 use Rattle.rota_cost.proofs.Counting.{Has_copy, legal_rows_parts}
 use Rattle.rota_cost.proofs.Coverage.{split_count}
 use Rattle.post_codec.specs.declared.post.Post.{Post}
-use Rattle.post_codec.specs.declared.post.Post.TheVariants.{Plan}
+use Rattle.post_codec.specs.declared.post.Post.TheVariants.{Plan, Priced, Split, Settled}
 use Rattle.post_codec.specs.Spelling.{CountsFitRow, CountsFitRows, CountsFitPost, CountsFit}
-use Rattle.search_book.specs.Posting.{rows_in}
+use Rattle.search_book.specs.Posting.{IsLegalPlan}
 
 -- ---- how many breaks a row has
 totals_small : (len : ℕ) (totals : List (ℕ × ℕ)) (t : ℕ) → t ≤ 48 → AllByRecursion IsTotal totals → fold (λ t e. cond (nat_le e.0 len) e.1 t) t totals ≤ 48
@@ -130,5 +130,8 @@ rows_fit i rows valid h =
           omega (arith, few_breaks i r.shift r.breaks valid duty.breaks))),
     )
 
-pub post_fits : (i : Problem) (post : Post) → IsValid i → are_legal_rows i (rows_in post) ≡ true → CountsFit (post ∷ [])
+pub post_fits : (i : Problem) (post : Post) → IsValid i → IsLegalPlan i post → CountsFit (post ∷ [])
 post_fits i (Plan worker rows cost) valid h = (omega arith, All-from_recursion CountsFitPost (Plan worker rows cost ∷ []) (rows_fit i rows valid h, tt))
+post_fits i (Priced worker node prices) valid h = absurd h
+post_fits i (Split worker node class m) valid h = absurd h
+post_fits i (Settled worker node) valid h = absurd h

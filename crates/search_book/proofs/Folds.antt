@@ -5,7 +5,7 @@ use Rattle.std.proofs.lemmas.List.{take_more, take-append-drop, take_all, drop_m
 use Rattle.shift_instance.specs.declared.Row.{Row}
 use Rattle.shift_instance.specs.Problem.{Problem}
 use Rattle.post_codec.specs.declared.post.Post.{Post}
-use Rattle.post_codec.specs.declared.post.Post.TheVariants.{Plan}
+use Rattle.post_codec.specs.declared.post.Post.TheVariants.{Plan, Priced, Split, Settled}
 use Rattle.search_book.specs.Fold.{Book, opening, is_better, step, cost_after, book_after, book_of, IsFoldAt}
 
 abbrev pub book_with : List Row → ℕ → Book
@@ -42,9 +42,15 @@ plan_none false rows n e = refl
 
 step_some : (i : Problem) (best : List Row) (cost : ℕ) (x : Post) (c : ℕ) → cost_after i cost x ≡ Some c → (rows : List Row) × (step i (book_with best cost) x ≡ Some (book_with rows c))
 step_some i best cost (Plan worker rows n) c e = plan_some (is_better i cost rows n) rows n c e
+step_some i best cost (Priced worker node prices) c e = absurd (cc)
+step_some i best cost (Split worker node class m) c e = absurd (cc)
+step_some i best cost (Settled worker node) c e = absurd (cc)
 
 step_none : (i : Problem) (best : List Row) (cost : ℕ) (x : Post) → cost_after i cost x ≡ None → step i (book_with best cost) x ≡ None
 step_none i best cost (Plan worker rows n) e = plan_none (is_better i cost rows n) rows n e
+step_none i best cost (Priced worker node prices) e = refl
+step_none i best cost (Split worker node class m) e = refl
+step_none i best cost (Settled worker node) e = refl
 
 pub fold_start : (i : Problem) → IsFoldAt i [] (opening i).cost
 fold_start i = record { best = (opening i).best; folds = refl }

@@ -5,7 +5,7 @@ use Rattle.shift_instance.specs.declared.Row.{Row}
 use Rattle.shift_instance.specs.Problem.{Problem}
 use Rattle.shift_instance.specs.Rota.{cost, rota_of, are_legal_rows}
 use Rattle.post_codec.specs.declared.post.Post.{Post}
-use Rattle.post_codec.specs.declared.post.Post.TheVariants.{Plan}
+use Rattle.post_codec.specs.declared.post.Post.TheVariants.{Plan, Priced, Split, Settled}
 
 -- the best rota so far, as rows, with what it costs
 pub record Book : Type 0 where
@@ -20,13 +20,19 @@ opening i = record { best = []; cost = cost i [] }
 unfoldable pub is_better : Problem → ℕ → List Row → ℕ → Bool
 is_better i best rows c = are_legal_rows i rows && (cost i (rota_of rows) == c) && nat_lt c best
 
--- the book after a post, where it is allowed: the rows of a better plan become best
+-- the book after a post, where it is allowed: the rows of a better plan become best, and no post of another kind is allowed
 abbrev pub step : Problem → Book → Post → Option Book
 step i b (Plan worker rows c) = if is_better i b.cost rows c then Some (record { best = rows; cost = c }) else None
+step i b (Priced worker node prices) = None
+step i b (Split worker node class m) = None
+step i b (Settled worker node) = None
 
 -- what the best rota costs after a post, where it is allowed
 abbrev pub cost_after : Problem → ℕ → Post → Option ℕ
 cost_after i best (Plan worker rows c) = if is_better i best rows c then Some c else None
+cost_after i best (Priced worker node prices) = None
+cost_after i best (Split worker node class m) = None
+cost_after i best (Settled worker node) = None
 
 -- the book after posts in order, where each is allowed
 abbrev pub book_after : Problem → Book → List Post → Option Book

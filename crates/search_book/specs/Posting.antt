@@ -1,12 +1,12 @@
 -- What a posted plan does to a book.
-use Rattle.std.specs.Prelude.{◌≡◌, ℕ, ◌+◌, ◌≤◌, ◌<◌, true, false, List, [], ◌∷◌, ◌++◌, length, Some, None, IsSome, ◌⊎◌}
+use Rattle.std.specs.Prelude.{◌≡◌, ℕ, ◌+◌, ◌≤◌, ◌<◌, true, false, IsTrue, List, [], ◌∷◌, ◌++◌, length, Some, None, IsSome, ◌⊎◌}
 use Rattle.plan_base.specs.Causes.{Rose}
 use Rattle.post_codec.specs.declared.post.Post.{Post}
-use Rattle.post_codec.specs.declared.post.Post.TheVariants.{Plan}
+use Rattle.post_codec.specs.declared.post.Post.TheVariants.{Plan, Priced, Split, Settled}
 use Rattle.post_codec.specs.Spelling.{spelling}
 use Rattle.shift_instance.specs.declared.Row.{Row}
 use Rattle.shift_instance.specs.Problem.{Problem}
-use Rattle.shift_instance.specs.Rota.{cost, rota_of}
+use Rattle.shift_instance.specs.Rota.{cost, rota_of, are_legal_rows}
 use Rattle.search_book.specs.declared.fault.CommitFault.{CommitFault}
 use Rattle.search_book.specs.declared.fault.CommitFault.TheVariants.{DiskFault, Full, Shut, NoMemory}
 use Rattle.search_book.specs.declared.fault.Shutting.TheVariants.{DiskFault as ByDisk, Full as ByLimit}
@@ -21,9 +21,19 @@ rows_cost i rows = cost i (rota_of rows)
 abbrev pub plan_of : Problem → List Row → Post
 plan_of i rows = Plan 0 rows (rows_cost i rows)
 
--- the rows of a plan
+-- the rows of a plan, and none of a post of another kind
 abbrev pub rows_in : Post → List Row
 rows_in (Plan worker rows cost) = rows
+rows_in (Priced worker node prices) = []
+rows_in (Split worker node class m) = []
+rows_in (Settled worker node) = []
+
+-- a post is a plan of legal rows
+abbrev pub IsLegalPlan : Problem → Post → Type 0
+IsLegalPlan i (Plan worker rows cost) = IsTrue (are_legal_rows i rows)
+IsLegalPlan i (Priced worker node prices) = ⊥
+IsLegalPlan i (Split worker node class m) = ⊥
+IsLegalPlan i (Settled worker node) = ⊥
 
 -- the bytes of the journal once a post is in it as a record of its own
 abbrev pub end_with : {D : Type 0} → BookView D → Post → ℕ

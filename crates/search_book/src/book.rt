@@ -64,8 +64,9 @@ impl<D: Disk> Model for Book<D> {
     ghost invariant = { λ b. IsBookInside b.log b.none (record { instance = b.instance; disk = b.log.disk; limit = b.log.limit; budget = b.budget; history = b.posts.items; cost = b.cost; opening = b.opening; opened = b.log.opened; made = b.log.added; used = bytes_used b.log.head b.log.records; in_flight = posts_in b.in_flight; shut = b.shut }) };
 }
 
-// The rows of a plan.
-fn rows_of(post: &Post) -> &Rows
+// The rows of a plan, and the empty ones of a post of another kind.
+fn rows_of<'a>(post: &'a Post, none: &'a Rows) -> &'a Rows
+    requires { none.now ≡ [] }
     ensures { result.now ≡ rows_in post.now }
 {
     match post {
@@ -74,6 +75,7 @@ fn rows_of(post: &Post) -> &Rows
             rows,
             cost: _,
         } => rows,
+        _ => none,
     }
 }
 
@@ -142,7 +144,7 @@ impl<D: Disk> Book<D> {
     {
         let posts = &self.posts;
         match posts.last() {
-            Some(post) => rows_of(post),
+            Some(post) => rows_of(post, &self.none),
             None => &self.none,
         }
     }

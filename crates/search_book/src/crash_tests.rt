@@ -154,8 +154,9 @@ fn records_that_are_no_posts_are_refused(rt: HostRuntime) -> Result<(), Fail> {
     let alloc = rt.alloc();
     let instance = one_shift(alloc, 3)?;
     let new = journal(&rt, alloc, &instance, false)?;
-    // an open gate over nothing, over a length that is too long, and over a record that spells no posts
-    for more in [[].as_slice(), &[255; 4], &[2, 0, 0, 0, 9, 9, 0]] {
+    // an open gate over nothing, over a length that is too long, over a record that spells no posts, and over a settled node
+    let settled = [9, 0, 0, 0, 1, 0, 4, 0, 0, 0, 0, 0, 0, 0];
+    for more in [[].as_slice(), &[255; 4], &[2, 0, 0, 0, 9, 9, 0], &settled] {
         refused(
             &rt,
             alloc,

@@ -38,6 +38,7 @@ fn cost_after(instance: &Instance, best: u64, post: &Post) -> Option<u64>
             rows,
             cost,
         } => is_better(instance, best, rows, *cost).then_some(*cost),
+        _ => None,
     }
 }
 

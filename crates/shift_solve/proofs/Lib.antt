@@ -1,14 +1,13 @@
+pub mod Certs
 pub mod Duties
 pub mod Falls
 pub mod Leading
 pub mod Lengths
 pub mod LeastLists
 pub mod PlanRows
-pub mod TooLong
 pub mod Ranges
 pub mod Rounds
 pub mod Sessions
 pub mod Steps
 pub mod Tallied
-pub mod Texts
 pub mod Windows

@@ -3,7 +3,9 @@ use Rattle.std.proofs.Common.{◌≡◌, ⊎_elim, inl, inr, ◌∙◌, sym, ap,
 use Rattle.std.specs.Prelude.{Option, Some, None, OnSome, IfSome, IsSome, Bool, true, if◌then◌else◌}
 use Rattle.std.proofs.lemmas.Bool.{lt-ltb, le-ltb, false≢true}
 use Rattle.std.proofs.lemmas.List.{append-nil}
+use Rattle.std.specs.Io.KnownBytes.{Appends}
 use Rattle.plan_base.specs.Causes.{Rose}
+use Rattle.plan_base.specs.Streams.{AppendsPart}
 use Rattle.plan_base.specs.Disk.{TellsAlike}
 use Rattle.gated_journal.specs.declared.TheConstants.{JOURNAL_MAX}
 use Rattle.post_codec.specs.declared.post.Post.{Post}
@@ -18,6 +20,7 @@ use Rattle.search_book.specs.Opening.{IsOpenedFrom}
 use Rattle.search_book.specs.Posting.{Posts, PostFails, plan_of, rows_cost, with_plan, end_with}
 use Rattle.search_book.specs.View.{BookView}
 use Rattle.shift_solve.specs.Greedy.{greedy_rows}
+use Rattle.shift_solve.specs.Report.{output_of}
 use Rattle.shift_solve.specs.Run.{SinkMet, OverDisk}
 use Rattle.shift_solve.specs.Search.{grown, Grows, IsPosted, Overflows, Tears, SearchEnds}
 use Rattle.shift_solve.specs.Session.{met_of, Session, greedy_post, greedy_cost, posts_over}
@@ -199,59 +202,61 @@ rose_before : (first before now : ℕ) → first ≤ before → Rose before now 
 rose_before first before now le rose = omega (arith, le, rose)
 
 -- what a search over a book says of the run
-pub over_disk : {D : Type 0} (reads : D → Option (List ℕ)) (images : D → List ℕ → Type 0) (images_since : D → ℕ → List ℕ → Type 0) (calls faults : D → ℕ) (entry : D) (i : Problem) (old new : BookView D) (sink : SinkMet) (status : Status)
+pub over_disk : {D : Type 0} (reads : D → Option (List ℕ)) (images : D → List ℕ → Type 0) (images_since : D → ℕ → List ℕ → Type 0) (calls faults : D → ℕ) (entry : D) (i : Problem) (old new : BookView D) (sink : SinkMet) (table : Bool) (status : Status)
     → Known reads images images_since calls entry i old new → IsFoldAt new.instance new.history new.cost → faults entry ≤ faults old.disk
-    → SearchEnds faults old new i sink.held sink.held_after sink.faults status
-    → OverDisk (met_of reads images images_since calls faults entry new.disk) sink i true status
-over_disk reads images images_since calls faults entry i old new sink Optimal known folds later e =
+    → SearchEnds faults old new i table sink.held sink.held_after sink.faults status
+    → OverDisk (met_of reads images images_since calls faults entry new.disk) sink i table true status
+over_disk reads images images_since calls faults entry i old new sink table Optimal known folds later e =
     let of : new.instance ≡ i = instance_of i old new (posts_over i old.cost) [] (ap (λ (v : BookView _). v.instance) known.same) e.0 in
     let last : Book = record { best = e.1.best; cost = new.cost } in
     let s = session_of reads images images_since calls faults entry i old new (posts_over i old.cost) [] last known e.0 (ends_of reads images images_since calls entry i old new (posts_over i old.cost) [] last known e.0 e.1.folds) in (
       refl,
       s,
       record { added = refl; landed = refl },
-      record { sound = subst (λ (j : Problem). IsSound j last) of e.1.sound; written = e.1.written },
+      record { sound = subst (λ (j : Problem). IsSound j last) of e.1.sound; written = subst (λ (j : Problem). Appends sink.held sink.held_after (output_of j table last)) of e.1.written },
       e.2,
       λ rota legal. omega (arith, e.2),
     )
-over_disk reads images images_since calls faults entry i old new sink Budget known folds later e =
+over_disk reads images images_since calls faults entry i old new sink table Budget known folds later e =
     let of : new.instance ≡ i = instance_of i old new (posts_over i old.cost) [] (ap (λ (v : BookView _). v.instance) known.same) e.0 in
     let last : Book = record { best = e.1.best; cost = new.cost } in
     let s = session_of reads images images_since calls faults entry i old new (posts_over i old.cost) [] last known e.0 (ends_of reads images images_since calls entry i old new (posts_over i old.cost) [] last known e.0 e.1.folds) in (
       refl,
       s,
       record { added = refl; landed = refl },
-      record { sound = subst (λ (j : Problem). IsSound j last) of e.1.sound; written = e.1.written },
+      record { sound = subst (λ (j : Problem). IsSound j last) of e.1.sound; written = subst (λ (j : Problem). Appends sink.held sink.held_after (output_of j table last)) of e.1.written },
       e.2,
     )
-over_disk reads images images_since calls faults entry i old new sink (Full end limit) known folds later e =
+over_disk reads images images_since calls faults entry i old new sink table (Full end limit) known folds later e =
     let of : new.instance ≡ i = instance_of i old new [] [] (ap (λ (v : BookView _). v.instance) known.same) e.0.grown in
     let last : Book = record { best = e.1.best; cost = new.cost } in
     let s = session_of reads images images_since calls faults entry i old new [] [] last known e.0.grown (ends_of reads images images_since calls entry i old new [] [] last known e.0.grown e.1.folds) in (
       refl,
       s,
       record { added = refl; landed = refl; cheaper = e.0.cheaper; ends = e.0.ends; most = e.0.most ∙ ap (λ (v : BookView _). v.limit) known.same; over = e.0.over },
-      record { sound = subst (λ (j : Problem). IsSound j last) of e.1.sound; written = e.1.written },
+      record { sound = subst (λ (j : Problem). IsSound j last) of e.1.sound; written = subst (λ (j : Problem). Appends sink.held sink.held_after (output_of j table last)) of e.1.written },
     )
-over_disk reads images images_since calls faults entry i old new sink WriteFault known folds later e =
+over_disk reads images images_since calls faults entry i old new sink table WriteFault known folds later e =
     let last : Book = record { best = e.1.best; cost = new.cost } in
     ⊎_elim
     (λ posted.
     let s = session_of reads images images_since calls faults entry i old new (posts_over i old.cost) [] last known posted (ends_of reads images images_since calls entry i old new (posts_over i old.cost) [] last known posted e.1.folds) in
-    (refl, s, inl (record { added = refl; landed = refl }), record { written = e.1.written; cause = e.1.cause }))
+    let of : new.instance ≡ i = instance_of i old new (posts_over i old.cost) [] (ap (λ (v : BookView _). v.instance) known.same) posted in
+    (refl, s, inl (record { added = refl; landed = refl }), record { written = subst (λ (j : Problem). AppendsPart sink.held sink.held_after (output_of j table last)) of e.1.written; cause = e.1.cause }))
     (λ full.
-    let s = session_of reads images images_since calls faults entry i old new [] [] last known full.2.grown (ends_of reads images images_since calls entry i old new [] [] last known full.2.grown e.1.folds) in (
+    let s = session_of reads images images_since calls faults entry i old new [] [] last known full.2.grown (ends_of reads images images_since calls entry i old new [] [] last known full.2.grown e.1.folds) in
+    let of : new.instance ≡ i = instance_of i old new [] [] (ap (λ (v : BookView _). v.instance) known.same) full.2.grown in (
       refl,
       s,
       inr (full.0, full.1, record { added = refl; landed = refl; cheaper = full.2.cheaper; ends = full.2.ends; most = full.2.most ∙ ap (λ (v : BookView _). v.limit) known.same; over = full.2.over }),
-      record { written = e.1.written; cause = e.1.cause },
+      record { written = subst (λ (j : Problem). AppendsPart sink.held sink.held_after (output_of j table last)) of e.1.written; cause = e.1.cause },
     ))
     e.0
-over_disk reads images images_since calls faults entry i old new sink DiskFault known folds later e =
+over_disk reads images images_since calls faults entry i old new sink table DiskFault known folds later e =
     let last : Book = record { best = folds.best; cost = new.cost } in
     let s = session_of reads images images_since calls faults entry i old new [] (greedy_post i ∷ []) last known e.grown (ends_of reads images images_since calls entry i old new [] (greedy_post i ∷ []) last known e.grown folds.folds) in
     (rose_before (faults entry) (faults old.disk) (faults new.disk) later e.cause, inr (refl, s, record { added = refl; torn = refl; cheaper = e.cheaper }))
-over_disk reads images images_since calls faults entry i old new sink NoMemory known folds later e =
+over_disk reads images images_since calls faults entry i old new sink table NoMemory known folds later e =
     let last : Book = record { best = folds.best; cost = new.cost } in
     ⊎_elim
     (λ none.
@@ -261,7 +266,7 @@ over_disk reads images images_since calls faults entry i old new sink NoMemory k
     let s = session_of reads images images_since calls faults entry i old new (posts_over i old.cost) [] last known posted (ends_of reads images images_since calls entry i old new (posts_over i old.cost) [] last known posted folds.folds) in
     inr (refl, s, refl, inr refl))
     e
-over_disk reads images images_since calls faults entry i old new sink Usage known folds later e = absurd e
-over_disk reads images images_since calls faults entry i old new sink (Input why) known folds later e = absurd e
-over_disk reads images images_since calls faults entry i old new sink ReadFault known folds later e = absurd e
-over_disk reads images images_since calls faults entry i old new sink (Journal why) known folds later e = absurd e
+over_disk reads images images_since calls faults entry i old new sink table Usage known folds later e = absurd e
+over_disk reads images images_since calls faults entry i old new sink table (Input why) known folds later e = absurd e
+over_disk reads images images_since calls faults entry i old new sink table ReadFault known folds later e = absurd e
+over_disk reads images images_since calls faults entry i old new sink table (Journal why) known folds later e = absurd e

@@ -10,17 +10,17 @@ use Rattle.shift_instance.specs.declared.Duty.{Duty}
 use Rattle.shift_instance.specs.Problem.{Problem}
 use Rattle.shift_instance.specs.Rota.{cost, is_legal_rota}
 use Rattle.instance_json.specs.Canonical.{canonical_text}
-use Rattle.instance_json.specs.declared.ReadRefusal.TheVariants.{NoMemory as NoMemoryToRead}
-use Rattle.instance_json.specs.Reading.{reading_of}
+use Rattle.instance_input.specs.declared.Unread.TheVariants.{Refused as DocumentRefused}
+use Rattle.instance_input.specs.Unread.{IsReadAs, WhyUnread}
 use Rattle.search_book.specs.declared.fault.BookFault.{BookFault}
 use Rattle.search_book.specs.declared.fault.BookFault.TheVariants.{NotYet, DiskFault as BooksDisk, NoMemory as BooksMemory}
-use Rattle.search_book.specs.Fold.{Book, IsSound}
+use Rattle.search_book.specs.Fold.{IsSound}
 use Rattle.search_book.specs.Opening.{LacksBook, IsOldOrShort}
 use Rattle.shift_solve.specs.declared.status.Status.{Status}
 use Rattle.shift_solve.specs.declared.status.Status.TheVariants.{Optimal, Budget, Full, Usage, Input, ReadFault, WriteFault, DiskFault, NoMemory, Journal}
-use Rattle.shift_solve.specs.Report.{report_text}
+use Rattle.shift_solve.specs.Report.{output_of}
 use Rattle.shift_solve.specs.Session.{DiskMet, Session, greedy_post, greedy_cost, posts_over}
-use Rattle.shift_solve.specs.Words.{journal_of}
+use Rattle.shift_solve.specs.Words.{command_of}
 
 -- no legal rota costs less
 abbrev pub IsUnbeaten : Problem → ℕ → Type 0
@@ -31,10 +31,6 @@ pub record SinkMet : Type 0 where
   pub held : Option (List ℕ)
   pub held_after : Option (List ℕ)
   pub faults : ℕ × ℕ
-
--- the report of a book, with the bound 0 that every plan keeps to
-abbrev pub report_of : Book → List ℕ
-report_of book = report_text book.best book.cost 0
 
 -- the session's posts are the greedy plan where it is cheaper than the best plan that was found, and else none
 pub record KeepsGreedy {disk : DiskMet} {i : Problem} (session : Session disk i) : Type 0 where
@@ -56,14 +52,14 @@ pub record IsTorn {disk : DiskMet} {i : Problem} (session : Session disk i) : Ty
   pub torn : session.in_flight ≡ greedy_post i ∷ []
   pub cheaper : greedy_cost i < session.first.cost
 
--- the report of the book at the end was written, and its plan is legal at its cost
-pub record Reports (sink : SinkMet) {disk : DiskMet} {i : Problem} (session : Session disk i) : Type 0 where
+-- the report of the book at the end was written, with its table where that was asked for, and its plan is legal at its cost
+pub record Reports (sink : SinkMet) (table : Bool) {disk : DiskMet} {i : Problem} (session : Session disk i) : Type 0 where
   pub sound : IsSound i session.last
-  pub written : Appends sink.held sink.held_after (report_of session.last)
+  pub written : Appends sink.held sink.held_after (output_of i table session.last)
 
--- the beginning of that report was written, and the sink had a fault
-pub record ReportsPart (sink : SinkMet) {disk : DiskMet} {i : Problem} (session : Session disk i) : Type 0 where
-  pub written : AppendsPart sink.held sink.held_after (report_of session.last)
+-- the beginning of that was written, and the sink had a fault
+pub record ReportsPart (sink : SinkMet) (table : Bool) {disk : DiskMet} {i : Problem} (session : Session disk i) : Type 0 where
+  pub written : AppendsPart sink.held sink.held_after (output_of i table session.last)
   pub cause : Rose sink.faults.0 sink.faults.1
 
 -- a disk on which no book was opened: each image since the run began was one before, or is no longer than the new journal that
@@ -71,21 +67,21 @@ pub record ReportsPart (sink : SinkMet) {disk : DiskMet} {i : Problem} (session 
 abbrev pub IsLeft : DiskMet → Problem → Type 0
 IsLeft disk i = OnSome disk.file ((image : List ℕ) → disk.images_since disk.calls.0 image → IsOldOrShort disk.file disk.images (13 + length (canonical_text i)) image)
 
--- how a run ends that has read an instance, whether it opened a book, and what the book says
-abbrev pub OverDisk : DiskMet → SinkMet → Problem → Bool → Status → Type 0
-OverDisk disk sink i opened Optimal = (opened ≡ true) × (s : Session disk i) × KeepsGreedy s × Reports sink s × (s.last.cost ≡ 0) × IsUnbeaten i s.last.cost
-OverDisk disk sink i opened Budget = (opened ≡ true) × (s : Session disk i) × KeepsGreedy s × Reports sink s × (0 < s.last.cost)
-OverDisk disk sink i opened (Full end limit) = (opened ≡ true) × (s : Session disk i) × IsFull s end limit × Reports sink s
-OverDisk disk sink i opened WriteFault = (opened ≡ true) × (s : Session disk i) × (KeepsGreedy s ⊎ ((end : ℕ) × (limit : ℕ) × IsFull s end limit)) × ReportsPart sink s
-OverDisk disk sink i opened DiskFault = Rose disk.faults.0 disk.faults.1
+-- how a run ends that has read an instance, whether the table is asked for, whether it opened a book, and what the book says
+abbrev pub OverDisk : DiskMet → SinkMet → Problem → Bool → Bool → Status → Type 0
+OverDisk disk sink i table opened Optimal = (opened ≡ true) × (s : Session disk i) × KeepsGreedy s × Reports sink table s × (s.last.cost ≡ 0) × IsUnbeaten i s.last.cost
+OverDisk disk sink i table opened Budget = (opened ≡ true) × (s : Session disk i) × KeepsGreedy s × Reports sink table s × (0 < s.last.cost)
+OverDisk disk sink i table opened (Full end limit) = (opened ≡ true) × (s : Session disk i) × IsFull s end limit × Reports sink table s
+OverDisk disk sink i table opened WriteFault = (opened ≡ true) × (s : Session disk i) × (KeepsGreedy s ⊎ ((end : ℕ) × (limit : ℕ) × IsFull s end limit)) × ReportsPart sink table s
+OverDisk disk sink i table opened DiskFault = Rose disk.faults.0 disk.faults.1
     × (((opened ≡ false) × IsLeft disk i) ⊎ ((opened ≡ true) × (s : Session disk i) × IsTorn s))
-OverDisk disk sink i opened NoMemory =
+OverDisk disk sink i table opened NoMemory =
     ((opened ≡ false) × ((disk.file_after ≡ disk.file) ⊎ ((disk.file ≡ Some []) × (disk.file_after ≡ Some (fresh (canonical_text i))))))
     ⊎ ((opened ≡ true) × (s : Session disk i) × (s.in_flight ≡ []) × ((s.added ≡ []) ⊎ (s.added ≡ posts_over i s.first.cost)))
-OverDisk disk sink i opened (Journal why) = (opened ≡ false) × (why ≡ NotYet) × IfSome disk.file (LacksBook JOURNAL_MAX i) × (disk.file_after ≡ disk.file)
-OverDisk disk sink i opened Usage = ⊥
-OverDisk disk sink i opened (Input why) = ⊥
-OverDisk disk sink i opened ReadFault = ⊥
+OverDisk disk sink i table opened (Journal why) = (opened ≡ false) × (why ≡ NotYet) × IfSome disk.file (LacksBook JOURNAL_MAX i) × (disk.file_after ≡ disk.file)
+OverDisk disk sink i table opened Usage = ⊥
+OverDisk disk sink i table opened (Input why) = ⊥
+OverDisk disk sink i table opened ReadFault = ⊥
 
 -- what a run meets: its words, what the source has left (none where it doesn't tell) and its counts of faults before and after the
 -- run, what shows of its sink and of its disk, and whether it opened a book there
@@ -99,23 +95,22 @@ pub record Met : Type 1 where
 
 -- the words are a command
 abbrev pub IsCommand : Met → Type 0
-IsCommand met = IsSome (journal_of met.words)
+IsCommand met = IsSome (command_of met.words)
 
--- the words are a command, and the bytes that the source gave up to its end make that instance
-pub record Reads (met : Met) (i : Problem) : Type 0 where
-  pub command : IsCommand met
-  pub bytes : List ℕ
-  pub all : IfSome met.left (λ left. bytes ≡ left)
-  pub reads : reading_of bytes ≡ Ok i
+-- the words are a command, which asks for the table or doesn't, and the bytes that the source gave up to its end make that instance
+pub record Reads (met : Met) (table : Bool) (i : Problem) : Type 0 where
+  pub journal : List ℕ
+  pub command : command_of met.words ≡ Some (record { journal = journal; table = table })
+  pub document : IsReadAs met.left i
 
 -- how a run ends that has read an instance
 abbrev pub EndsOver : Met → Status → Type 0
-EndsOver met status = (i : Problem) × Reads met i × OverDisk met.disk met.sink i met.opened status
+EndsOver met status = (table : Bool) × (i : Problem) × Reads met table i × OverDisk met.disk met.sink i table met.opened status
 
 -- when each status comes, and what it says
 abbrev pub Explains : Met → Status → Type 0
-Explains met Usage = (met.opened ≡ false) × (journal_of met.words ≡ None)
-Explains met (Input why) = (met.opened ≡ false) × IsCommand met × (why ≢ NoMemoryToRead) × IfSome met.left (λ left. reading_of left ≡ Err why)
+Explains met Usage = (met.opened ≡ false) × (command_of met.words ≡ None)
+Explains met (Input why) = (met.opened ≡ false) × IsCommand met × WhyUnread met.left met.read_faults.0 met.read_faults.1 (DocumentRefused why)
 Explains met ReadFault = (met.opened ≡ false) × IsCommand met × Rose met.read_faults.0 met.read_faults.1
 Explains met NoMemory = IsCommand met × (((met.opened ≡ false) × (met.disk.file_after ≡ met.disk.file)) ⊎ EndsOver met NoMemory)
 Explains met Optimal = EndsOver met Optimal

@@ -1,40 +1,20 @@
 //! The run of `solve`.
 
-ghost use Rattle.std.specs.Prelude.{◌≡◌, ◌<◌, ◌^◌, List, ℕ, map, string_bytes, IfOk, IfErr, Ok};
-ghost use Rattle.instance_json.specs.Reading.{reading_of};
-ghost use Rattle.shift_solve.specs.Reading.{IsAllOf, Unread};
+ghost use Rattle.std.specs.Prelude.{◌≡◌, ◌<◌, ◌^◌, map, string_bytes};
 ghost use Rattle.shift_solve.specs.Run.{Explains, OverDisk, status_of};
 ghost use Rattle.shift_solve.specs.Session.{met_of};
 ghost use Rattle.shift_solve.specs.Status.{EndsEarly, EndsUnwritten};
 
 use crate::search::search;
 use crate::status::Status;
-use crate::words::journal_word;
+use crate::words::command_of;
 use gated_journal::JOURNAL_MAX;
+use instance_input::{Unread, read_instance};
 use instance_json::laws::canonical_text_is_short;
-use instance_json::{INSTANCE_MAX, ReadRefusal, read};
-use plan_base::{Disk, ReadEnd, Sink, Source, read_all};
+use plan_base::{Disk, Sink, Source};
 use search_book::{Book, BookFault};
 use shift_instance::Instance;
 use std::alloc::Global;
-
-/// Reads a source to its end and makes the instance of its document, or says how the run ends.
-fn read_instance<S: Source>(alloc: Global, input: &mut S) -> Result<Instance, Status>
-    ensures ok { IfOk result (λ i. (bytes : List ℕ) × IsAllOf (S.left input.old) bytes × (reading_of bytes ≡ Ok i)) }
-    ensures err { IfErr result (Unread (S.left input.old) (S.faults input.old) (S.faults input.new)) }
-{
-    let bytes = match read_all(alloc, input, INSTANCE_MAX) {
-        Ok(bytes) => bytes,
-        Err(ReadEnd::ReadFault) => return Err(Status::ReadFault),
-        Err(ReadEnd::TooLong) => return Err(Status::Input(ReadRefusal::TooLong)),
-        Err(ReadEnd::NoMemory) => return Err(Status::NoMemory),
-    };
-    match read(alloc, bytes.as_slice()) {
-        Ok(instance) => Ok(instance),
-        Err(ReadRefusal::NoMemory) => Err(Status::NoMemory),
-        Err(why) => Err(Status::Input(why)),
-    }
-}
 
 /// How a run ends whose book isn't opened.
 fn unopened(fault: BookFault) -> Status
@@ -51,6 +31,7 @@ fn unopened(fault: BookFault) -> Status
 fn run_book<K: Sink, D: Disk>(
     alloc: Global,
     instance: &Instance,
+    table: bool,
     out: &mut K,
     disk: D,
 ) -> (Status, D, bool)
@@ -58,7 +39,7 @@ fn run_book<K: Sink, D: Disk>(
     ensures status { OverDisk
         (met_of D.reads D.images D.images_since D.calls D.faults disk result.1)
         (record { held = K.held out.old; held_after = K.held out.new; faults = (K.faults out.old, K.faults out.new) })
-        instance.now result.2 result.0 }
+        instance.now table result.2 result.0 }
     ensures unwritten { EndsUnwritten result.0 → out.new ≡ out.old }
 {
     canonical_text_is_short(instance);
@@ -67,20 +48,21 @@ fn run_book<K: Sink, D: Disk>(
         Ok(mut book) => {
             // what these answers say is what is known of the book
             let _best = book.best_cost();
-            let status = search(alloc, instance, &mut book, out);
+            let status = search(alloc, instance, &mut book, table, out);
             let (_best, _made) = (book.best_cost(), book.batches());
             (status, book.into_disk(), true)
         }
     }
 }
 
-/// The run of `solve JOURNAL`: reads the instance document from `input` to its end, opens the book of its search on the
-/// disk, posts the greedy plan where it is cheaper than the best plan there, and writes the report of the book to `out`. The
-/// disk is handed back, with whether a book was opened on it.
+/// The run of `solve JOURNAL` or `solve JOURNAL --table`: reads the instance document from `input` to its end, opens the book
+/// of its search on the disk, posts the greedy plan where it is cheaper than the best plan there, and writes the report of the
+/// book to `out`, with the table of its plan behind it where that is asked for. The disk is handed back, with whether a book was
+/// opened on it.
 ///
 /// The book may have `JOURNAL_MAX` bytes. The status is `Optimal` where the best plan costs nothing and `Budget` where it
 /// costs more, both where the whole report was written; `Full` where there was no room for the greedy plan, and the report
-/// was written; `Usage` where the words aren't `solve JOURNAL`; `Input` where the document is refused; `Journal` where
+/// was written; `Usage` where the words are no such command; `Input` where the document is refused; `Journal` where
 /// the disk's file isn't empty and doesn't hold the posts of a search for this instance; `ReadFault`, `WriteFault` and
 /// `DiskFault` only where a fault of the source, the sink or the disk was counted. `NoMemory` may come at any step after
 /// the words. Nothing is written before the report, and the disk isn't called before the document is read.
@@ -109,11 +91,13 @@ pub fn solve_run<S: Source, K: Sink, D: Disk>(
     ensures unwritten { EndsUnwritten result.0 → out.new ≡ out.old }
     ensures untouched { EndsEarly result.0 → result.1 ≡ disk }
 {
-    if journal_word(words).is_none() {
+    let Some(command) = command_of(words) else {
         return (Status::Usage, disk, false);
-    }
+    };
     match read_instance(alloc, input) {
-        Ok(instance) => run_book(alloc, &instance, out, disk),
-        Err(status) => (status, disk, false),
+        Ok(instance) => run_book(alloc, &instance, command.table, out, disk),
+        Err(Unread::Refused(why)) => (Status::Input(why), disk, false),
+        Err(Unread::ReadFault) => (Status::ReadFault, disk, false),
+        Err(Unread::NoMemory) => (Status::NoMemory, disk, false),
     }
 }

@@ -191,6 +191,22 @@ fn other_files_are_refused_and_left(rt: HostRuntime) -> Result<(), Fail> {
 }
 
 #[test]
+fn the_table_stands_behind_the_report(rt: HostRuntime) -> Result<(), Fail> {
+    let alloc = rt.alloc();
+    for (needs, report, table) in [
+        (MORNING, MORNING_REPORT, "# day 1 08:00-12:00 x1 M -\n"),
+        (NOTHING, NOTHING_REPORT, ""),
+    ] {
+        let text = document(alloc, needs, "null")?;
+        let ran = run(alloc, "solve J --table", text.as_bytes(), 100000, 0, 0)?;
+        let wanted = format!(in alloc; "{report}{table}")?;
+        assert_eq!(rt; ran.written.as_slice(), wanted.as_bytes());
+        assert_eq!(rt; ran.disk.calls(), if table.is_empty() { 4 } else { 8 });
+    }
+    Ok(())
+}
+
+#[test]
 fn other_words_are_usage(rt: HostRuntime) -> Result<(), Fail> {
     let alloc = rt.alloc();
     let text = document(alloc, MORNING, "null")?;
@@ -202,6 +218,9 @@ fn other_words_are_usage(rt: HostRuntime) -> Result<(), Fail> {
         "solve J K",
         "solve J --steps 1",
         "solve J --",
+        "solve J --tables",
+        "solve --table J",
+        "solve J --table K",
     ] {
         let ran = run(alloc, words, text.as_bytes(), 100000, 0, 0)?;
         assert_eq!(rt;

@@ -5,7 +5,7 @@ ghost use Rattle.shift_solve.specs.Search.{GreedyFails, IsPosted, IsReported, Ov
 ghost use Rattle.shift_solve.specs.Status.{EndsUnwritten};
 
 use crate::greedy::greedy_plan;
-use crate::report::report;
+use crate::report::output_of;
 use crate::status::Status;
 use plan_base::{Disk, Failed, Sink, write_all};
 use search_book::{Book, CommitFault};
@@ -45,16 +45,23 @@ fn post_greedy<D: Disk>(
     }
 }
 
-/// Writes the report of a book's best plan.
-fn write_report<K: Sink, D: Disk>(alloc: Global, book: &Book<D>, out: &mut K) -> Result<(), Status>
-    ensures ok { OnOk result (IsReported book.now (K.held out.old) (K.held out.new)) }
-    ensures err { IfErr result (Unwritten book.now (K.held out.old) (K.held out.new) (K.faults out.old, K.faults out.new)) }
+/// Writes the report of a book's best plan, with its table where that is asked for.
+fn write_report<K: Sink, D: Disk>(
+    alloc: Global,
+    instance: &Instance,
+    book: &Book<D>,
+    table: bool,
+    out: &mut K,
+) -> Result<(), Status>
+    requires same { book.now.instance ≡ instance.now }
+    ensures ok { OnOk result (IsReported book.now table (K.held out.old) (K.held out.new)) }
+    ensures err { IfErr result (Unwritten book.now table (K.held out.old) (K.held out.new) (K.faults out.old, K.faults out.new)) }
     ensures unwritten { IfErr result (λ status. EndsUnwritten status → out.new ≡ out.old) }
 {
-    let Ok(text) = report(alloc, book.best(), book.best_cost(), book.floor()) else {
+    let Ok(bytes) = output_of(alloc, instance, book, table) else {
         return Err(Status::NoMemory);
     };
-    match write_all(out, text.as_bytes()) {
+    match write_all(out, bytes.as_slice()) {
         Ok(()) => Ok(()),
         Err(Failed) => Err(Status::WriteFault),
     }
@@ -65,20 +72,21 @@ pub(crate) fn search<K: Sink, D: Disk>(
     alloc: Global,
     instance: &Instance,
     book: &mut Book<D>,
+    table: bool,
     out: &mut K,
 ) -> Status
     requires same { book.old.instance ≡ instance.now }
     requires running { book.old.shut ≡ None }
     requires landed { book.old.in_flight ≡ [] }
     requires opened { book.old.made ≡ 0 }
-    ensures status { SearchEnds D.faults book.old book.new instance.now (K.held out.old) (K.held out.new) (K.faults out.old, K.faults out.new) result }
+    ensures status { SearchEnds D.faults book.old book.new instance.now table (K.held out.old) (K.held out.new) (K.faults out.old, K.faults out.new) result }
     ensures unwritten { EndsUnwritten result → out.new ≡ out.old }
 {
     let full = match post_greedy(alloc, instance, book) {
         Ok(full) => full,
         Err(status) => return status,
     };
-    if let Err(status) = write_report(alloc, book, out) {
+    if let Err(status) = write_report(alloc, instance, book, table, out) {
         return status;
     }
     match full {

@@ -21,7 +21,7 @@ pub enum Status {
     /// The report was written, and the journal had no room for a better plan: with it the file would have ended at `end`,
     /// which is past `limit`. Both are lengths in bytes.
     Full { end: u64, limit: u32 },
-    /// The words aren't `solve JOURNAL`, with a JOURNAL that isn't empty and doesn't begin with `-`.
+    /// The words aren't `solve JOURNAL` or `solve JOURNAL --table`, with a JOURNAL that isn't empty and doesn't begin with `-`.
     Usage,
     /// The document that was read is refused.
     Input(ReadRefusal),

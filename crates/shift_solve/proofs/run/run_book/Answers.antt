@@ -15,6 +15,6 @@ returns-in-Ok-clause-status g c =
     begins.0 begins.1 begins.3 begins.4 begins.5 begins.6 begins.7
     c.in-Ok.ensures.found c.best_cost-best.ensures.folds c.batches-made.ensures.telling c.batches-made.ensures.lasts c.batches-made.ensures.running
     c.in-Ok.ensures.least c.batches-made.ensures.moment g.met.D.Disk.now_counts in
-    subst (λ disk. OverDisk (met_of K.reads K.images K.images_since K.calls K.faults c.args.disk disk) sink c.args.instance.now true c.search-status.result) (sym c.into_disk.ensures)
-    (over_disk K.reads K.images K.images_since K.calls K.faults c.args.disk c.args.instance.now old new sink c.search-status.result
+    subst (λ disk. OverDisk (met_of K.reads K.images K.images_since K.calls K.faults c.args.disk disk) sink c.args.instance.now c.args.table true c.search-status.result) (sym c.into_disk.ensures)
+    (over_disk K.reads K.images K.images_since K.calls K.faults c.args.disk c.args.instance.now old new sink c.args.table c.search-status.result
     facts c.best_cost-best-in-Ok.ensures.folds c.in-Ok.ensures.faults c.search-status.ensures.status)

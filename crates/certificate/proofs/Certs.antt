@@ -1,0 +1,349 @@
+-- The lines of a certificate are read exactly where they are spelled so.
+use Rattle.std.proofs.Common.{◌≡◌, ℕ, ◌-◌, ◌^◌, ◌<◌, ◌≤◌, Bool, true, false, cond, eqb, not, ◌&&◌, List, [], ◌∷◌, ◌++◌, length, map, Option, Some, None, option_map, refl, sym, ap, subst, arith, inl, inr, codes}
+use Rattle.std.specs.Prelude.{bytes_eq}
+use Rattle.std.specs.List.{AllByRecursion, flat_map}
+use Rattle.std.specs.Fmt.{decimal}
+use Rattle.std.proofs.lemmas.Bool.{ltb-true, lt-ltb, eqb-true, eq-eqb, cases_Bool, and_parts}
+use Rattle.std.proofs.lemmas.List.Elements.{All-nil, All-cons, All-head, All-append, All-from_recursion, recursion_from_All}
+use Rattle.break_rules.specs.declared.Break.{Break}
+use Rattle.shift_instance.specs.declared.Row.{Row}
+use Rattle.certificate.specs.declared.Cert.{Cert}
+use Rattle.certificate.specs.declared.CertStatus.{CertStatus}
+use Rattle.certificate.specs.declared.CertStatus.TheVariants.{Optimal, Stopped, Bound}
+use Rattle.certificate.specs.Text.{Line, break_text, breaks_text, row_line, status_text, rows_of, cert_lines, AgreesWith, FitsBreak, FitsRow, HasText}
+use Rattle.certificate.specs.Departing.{IsLine}
+use Rattle.certificate.specs.Reading.{number_in, word_in, number_or_dash, status_word_in, status_in, allows_cost, cost_in, allows_bound, bound_in, go_together, count_in, line_at, opening_at, limits_at, or_zero, rows_at, closing_at, plan_of, to_cert, cert_at}
+use Rattle.certificate.proofs.Spelling.{Exact, Lacks, some_of, same_some, chosen, same_text, text_same, text_other, decimal_lacks, mapped_some, kept_exact, led_exact}
+use Rattle.certificate.proofs.Spelled.{number_below, break_lacks, row_exact}
+use Rattle.certificate.proofs.Lines.{Reads, SoMany, lacks_line, line_reads, next_reads, made_reads, times_reads, some_list}
+
+-- ---- no line feed
+
+-- whether no byte is a line feed
+abbrev has_no_feed : List ℕ → Bool
+has_no_feed [] = true
+has_no_feed (b ∷ bs) = not (eqb b 10) && has_no_feed bs
+
+not_true : (b : Bool) → not b ≡ true → b ≡ false
+not_true true e = absurd cc
+not_true false e = refl
+
+plain : (text : List ℕ) → has_no_feed text ≡ true → Lacks 10 text
+plain [] e = All-nil (λ b. eqb b 10 ≡ false)
+plain (b ∷ bs) e = let p = and_parts (not (eqb b 10)) (has_no_feed bs) e in All-cons (λ b. eqb b 10 ≡ false) b bs (not_true (eqb b 10) p.0) (plain bs p.1)
+
+joins : (a b : List ℕ) → Lacks 10 a → Lacks 10 b → Lacks 10 (a ++ b)
+joins a b h k = All-append (λ b. eqb b 10 ≡ false) a b h k
+
+behind_byte : (b : ℕ) (text : List ℕ) → eqb b 10 ≡ false → Lacks 10 text → Lacks 10 (b ∷ text)
+behind_byte b text e h = All-cons (λ b. eqb b 10 ≡ false) b text e h
+
+further_lack : (bs : List Break) → AllByRecursion FitsBreak bs → Lacks 10 (flat_map (λ next. 44 ∷ break_text next) bs)
+further_lack [] h = All-nil (λ b. eqb b 10 ≡ false)
+further_lack (b ∷ bs) h = behind_byte 44 (break_text b ++ flat_map (λ next. 44 ∷ break_text next) bs) refl (joins (break_text b) (flat_map (λ next. 44 ∷ break_text next) bs) (break_lacks 10 b (omega arith) h.0) (further_lack bs h.1))
+
+breaks_lack : (bs : List Break) → AllByRecursion FitsBreak bs → Lacks 10 (breaks_text bs)
+breaks_lack [] h = plain (codes "-") refl
+breaks_lack (b ∷ bs) h = joins (break_text b) (flat_map (λ next. 44 ∷ break_text next) bs) (break_lacks 10 b (omega arith) h.0) (further_lack bs h.1)
+
+row_is_line : (r : Row) → FitsRow r → IsLine (row_line r)
+row_is_line r h = lacks_line (row_line r)
+    (joins (codes "row ") (decimal r.shift ++ 32 ∷ (decimal r.day ++ 32 ∷ (decimal r.count ++ 32 ∷ breaks_text r.breaks))) (plain (codes "row ") refl)
+    (joins (decimal r.shift) (32 ∷ (decimal r.day ++ 32 ∷ (decimal r.count ++ 32 ∷ breaks_text r.breaks))) (decimal_lacks 10 r.shift (omega arith) (omega (arith, h.0)))
+    (behind_byte 32 (decimal r.day ++ 32 ∷ (decimal r.count ++ 32 ∷ breaks_text r.breaks)) refl
+    (joins (decimal r.day) (32 ∷ (decimal r.count ++ 32 ∷ breaks_text r.breaks)) (decimal_lacks 10 r.day (omega arith) (omega (arith, h.1)))
+    (behind_byte 32 (decimal r.count ++ 32 ∷ breaks_text r.breaks) refl
+    (joins (decimal r.count) (32 ∷ breaks_text r.breaks) (decimal_lacks 10 r.count (omega arith) (omega (arith, h.2)))
+    (behind_byte 32 (breaks_text r.breaks) refl (breaks_lack r.breaks (recursion_from_All FitsBreak r.breaks h.3)))))))))
+
+-- ---- words
+
+abbrev Anything : {A : Type 0} → A → Type 0
+Anything a = Unit {0}
+
+word_exact : (word : List ℕ) → Exact (λ (x : Unit {0}). Unit {0}) (λ x. word) (word_in word)
+word_exact word = record {
+  takes = λ text x e. (same_text text word (chosen (bytes_eq text word) tt x e).0, tt);
+  again = λ x h. let same : bytes_eq word word ≡ true = text_same word word refl in rw same refl;
+}
+
+status_takes : (text : List ℕ) (s : CertStatus) → status_word_in text ≡ Some s → (text ≡ status_text s) × Unit {0}
+status_takes text s e = elim (cases_Bool (bytes_eq text (codes "optimal"))) [
+  | inl one ↦
+      let is : some_of Optimal ≡ Some s = rw one at e in
+      subst (λ (y : CertStatus). (text ≡ status_text y) × Unit {0}) (same_some Optimal s is) (same_text text (codes "optimal") one, tt)
+  | inr other ↦
+      let left : cond (bytes_eq text (codes "stopped")) (some_of Stopped) (cond (bytes_eq text (codes "bound")) (some_of Bound) None) ≡ Some s = rw other at e in
+      elim (cases_Bool (bytes_eq text (codes "stopped"))) [
+        | inl two ↦
+            let is : some_of Stopped ≡ Some s = rw two at left in
+            subst (λ (y : CertStatus). (text ≡ status_text y) × Unit {0}) (same_some Stopped s is) (same_text text (codes "stopped") two, tt)
+        | inr another ↦
+            let last : cond (bytes_eq text (codes "bound")) (some_of Bound) None ≡ Some s = rw another at left in
+            let g = chosen (bytes_eq text (codes "bound")) Bound s last in
+            subst (λ (y : CertStatus). (text ≡ status_text y) × Unit {0}) g.1 (same_text text (codes "bound") g.0, tt)
+      ]
+]
+
+status_again : (s : CertStatus) → Unit {0} → status_word_in (status_text s) ≡ Some s
+status_again Optimal h = refl
+status_again Stopped h = refl
+status_again Bound h = refl
+
+status_exact : Exact (λ (s : CertStatus). Unit {0}) (λ s. codes "status " ++ status_text s) status_in
+unfolding status_in
+status_exact = let words : Exact (λ (s : CertStatus). Unit {0}) status_text status_word_in = record { takes = status_takes; again = status_again } in led_exact (codes "status ") words
+
+status_is_line : (s : CertStatus) → Unit {0} → IsLine (codes "status " ++ status_text s)
+status_is_line Optimal h = lacks_line (codes "status optimal") (plain (codes "status optimal") refl)
+status_is_line Stopped h = lacks_line (codes "status stopped") (plain (codes "status stopped") refl)
+status_is_line Bound h = lacks_line (codes "status bound") (plain (codes "status bound") refl)
+
+-- a number, and `-` for none
+abbrev pub dash_text : Option ℕ → List ℕ
+dash_text None = codes "-"
+dash_text (Some n) = decimal n
+
+abbrev pub FitsDash : ℕ → Option ℕ → Type 0
+FitsDash most None = Unit {0}
+FitsDash most (Some n) = n ≤ most
+
+number_no_dash : (n : ℕ) → n < 2 ^ 64 → decimal n ≡ codes "-" → ⊥
+number_no_dash n lt e =
+    let h = All-head (λ b. eqb b 45 ≡ false) 45 [] (subst (λ (l : List ℕ). Lacks 45 l) e (decimal_lacks 45 n (omega arith) lt)) in
+    absurd (let never : true ≡ false = h in cc)
+
+dash_takes : (most : ℕ) → most < 2 ^ 64 → (text : List ℕ) (o : Option ℕ) → number_or_dash most text ≡ Some o → (text ≡ dash_text o) × FitsDash most o
+unfolding number_or_dash
+dash_takes most small text o e = elim (cases_Bool (bytes_eq text (codes "-"))) [
+  | inl one ↦
+      let nothing : Option ℕ = None in
+      let is : some_of nothing ≡ Some o = rw one at e in
+      subst (λ (y : Option ℕ). (text ≡ dash_text y) × FitsDash most y) (same_some nothing o is) (same_text text (codes "-") one, tt)
+  | inr other ↦
+      let is : option_map some_of (number_in most text) ≡ Some o = rw other at e in
+      let m = mapped_some some_of (number_in most text) o is in
+      let t = (number_below most small).takes text m.0 m.1 in
+      subst (λ (y : Option ℕ). (text ≡ dash_text y) × FitsDash most y) m.2 t
+]
+
+dash_again : (most : ℕ) → most < 2 ^ 64 → (o : Option ℕ) → FitsDash most o → number_or_dash most (dash_text o) ≡ Some o
+unfolding number_or_dash
+dash_again most small None h = refl
+dash_again most small (Some n) h =
+    let other : bytes_eq (decimal n) (codes "-") ≡ false = text_other (decimal n) (codes "-") (number_no_dash n (omega arith)) in
+    rw other (ap (option_map some_of) ((number_below most small).again n h))
+
+dash_exact : (most : ℕ) → most < 2 ^ 64 → Exact (FitsDash most) dash_text (number_or_dash most)
+dash_exact most small = record { takes = dash_takes most small; again = dash_again most small }
+
+dash_lacks : (most : ℕ) → most < 2 ^ 64 → (o : Option ℕ) → FitsDash most o → Lacks 10 (dash_text o)
+dash_lacks most small None h = plain (codes "-") refl
+dash_lacks most small (Some n) h = decimal_lacks 10 n (omega arith) (omega arith)
+
+-- ---- cost, bound and number of rows
+
+abbrev pub FitsCostOf : CertStatus → Option ℕ → Type 0
+FitsCostOf s o = FitsDash (2 ^ 64 - 1) o × (allows_cost s o ≡ true)
+
+abbrev pub FitsBoundOf : CertStatus → Option ℕ → ℕ → Type 0
+FitsBoundOf s o n = (n ≤ 2 ^ 64 - 1) × (allows_bound s o n ≡ true)
+
+abbrev pub FitsCountOf : Option ℕ → Option ℕ → Type 0
+FitsCountOf o k = FitsDash (2 ^ 32 - 1) k × (go_together o k ≡ true)
+
+cost_exact : (s : CertStatus) → Exact (FitsCostOf s) (λ o. codes "cost " ++ dash_text o) (cost_in s)
+unfolding cost_in
+cost_exact s = kept_exact (allows_cost s) (led_exact (codes "cost ") (dash_exact (2 ^ 64 - 1) (omega arith)))
+
+cost_is_line : (s : CertStatus) (o : Option ℕ) → FitsCostOf s o → IsLine (codes "cost " ++ dash_text o)
+cost_is_line s o h = lacks_line (codes "cost " ++ dash_text o) (joins (codes "cost ") (dash_text o) (plain (codes "cost ") refl) (dash_lacks (2 ^ 64 - 1) (omega arith) o h.0))
+
+bound_exact : (s : CertStatus) (o : Option ℕ) → Exact (FitsBoundOf s o) (λ n. codes "bound " ++ decimal n) (bound_in s o)
+unfolding bound_in
+bound_exact s o = kept_exact (allows_bound s o) (led_exact (codes "bound ") (number_below (2 ^ 64 - 1) (omega arith)))
+
+bound_is_line : (s : CertStatus) (o : Option ℕ) (n : ℕ) → FitsBoundOf s o n → IsLine (codes "bound " ++ decimal n)
+bound_is_line s o n h = lacks_line (codes "bound " ++ decimal n) (joins (codes "bound ") (decimal n) (plain (codes "bound ") refl) (decimal_lacks 10 n (omega arith) (omega (arith, h.0))))
+
+count_exact : (o : Option ℕ) → Exact (FitsCountOf o) (λ k. codes "rows " ++ dash_text k) (count_in o)
+unfolding count_in
+count_exact o = kept_exact (go_together o) (led_exact (codes "rows ") (dash_exact (2 ^ 32 - 1) (omega arith)))
+
+count_is_line : (o : Option ℕ) (k : Option ℕ) → FitsCountOf o k → IsLine (codes "rows " ++ dash_text k)
+count_is_line o k h = lacks_line (codes "rows " ++ dash_text k) (joins (codes "rows ") (dash_text k) (plain (codes "rows ") refl) (dash_lacks (2 ^ 32 - 1) (omega arith) k h.0))
+
+-- some cost, bound and number of rows
+some_cost : (s : CertStatus) → (o : Option ℕ) × FitsCostOf s o
+some_cost Optimal = (Some 0, (omega arith, refl))
+some_cost Stopped = (Some 1, (omega arith, refl))
+some_cost Bound = (None, (tt, refl))
+
+some_bound : (s : CertStatus) (o : Option ℕ) → FitsCostOf s o → (n : ℕ) × FitsBoundOf s o n
+some_bound Optimal None h = absurd (let never = h.1 in cc)
+some_bound Optimal (Some n) h = (n, (h.0, eq-eqb n n refl))
+some_bound Stopped None h = absurd (let never = h.1 in cc)
+some_bound Stopped (Some n) h = (0, (omega arith, h.1))
+some_bound Bound None h = (0, (omega arith, refl))
+some_bound Bound (Some n) h = absurd (let never = h.1 in cc)
+
+some_count : (o : Option ℕ) → (k : Option ℕ) × FitsCountOf o k
+some_count None = (None, (tt, refl))
+some_count (Some n) = (Some 0, (omega arith, refl))
+
+-- ---- the parts of a certificate, line by line
+
+word_reads : (word : List ℕ) → IsLine word → Reads (λ (x : Unit {0}). Unit {0}) (λ x. word ∷ []) (line_at (word_in word))
+word_reads word h = line_reads (word_exact word) (λ x k. h) tt tt
+
+abbrev opening_lines : CertStatus → List Line
+opening_lines s = codes "shift-report 1" ∷ (codes "status " ++ status_text s) ∷ []
+
+pub opening_reads : Reads (λ (s : CertStatus). Unit {0}) opening_lines opening_at
+unfolding opening_at
+opening_reads = made_reads (λ (s : CertStatus). Unit {0}) opening_lines (λ x. x.1) (λ s. (tt, s)) (λ x h. (refl, tt)) (λ s h. (refl, refl, (tt, tt)))
+    (next_reads (word_reads (codes "shift-report 1") (lacks_line (codes "shift-report 1") (plain (codes "shift-report 1") refl))) (λ x h. line_reads status_exact status_is_line Optimal tt) (λ x h. (Optimal, tt)))
+
+abbrev pub FitsLimits : CertStatus → Option ℕ × ℕ → Type 0
+FitsLimits s x = FitsCostOf s x.0 × FitsBoundOf s x.0 x.1
+
+abbrev limits_lines : Option ℕ × ℕ → List Line
+limits_lines x = (codes "cost " ++ dash_text x.0) ∷ (codes "bound " ++ decimal x.1) ∷ []
+
+pub limits_reads : (s : CertStatus) → Reads (FitsLimits s) limits_lines (limits_at s)
+unfolding limits_at
+limits_reads s = next_reads
+    (line_reads (cost_exact s) (cost_is_line s) (some_cost s).0 (some_cost s).1)
+    (λ o h. line_reads (bound_exact s o) (bound_is_line s o) (some_bound s o h).0 (some_bound s o h).1)
+    (some_bound s)
+
+-- rows, where there is a cost
+abbrev pub FitsRowsOf : Option ℕ → List Row → Type 0
+FitsRowsOf None rows = (length rows ≡ 0) × AllByRecursion FitsRow rows
+FitsRowsOf (Some n) rows = (length rows ≤ 2 ^ 32 - 1) × AllByRecursion FitsRow rows
+
+abbrev pub count_of : Option ℕ → List Row → Option ℕ
+count_of None rows = None
+count_of (Some n) rows = Some (length rows)
+
+abbrev rows_lines : Option ℕ → List Row → List Line
+rows_lines o rows = (codes "rows " ++ dash_text (count_of o rows)) ∷ map row_line rows
+
+abbrev CountAndRows : Option ℕ → Option ℕ × List Row → Type 0
+CountAndRows o x = FitsCountOf o x.0 × SoMany FitsRow (or_zero x.0) x.1
+
+abbrev count_and_rows : Option ℕ × List Row → List Line
+count_and_rows x = ((codes "rows " ++ dash_text x.0) ∷ []) ++ map row_line x.1
+
+rows_fit : (o k : Option ℕ) (rows : List Row) → CountAndRows o (k, rows) → (rows_lines o rows ≡ count_and_rows (k, rows)) × FitsRowsOf o rows
+rows_fit None None rows h = (refl, h.1)
+rows_fit None (Some k) rows h = absurd (let never = h.0.1 in cc)
+rows_fit (Some n) None rows h = absurd (let never = h.0.1 in cc)
+rows_fit (Some n) (Some k) rows h =
+    let len : length rows ≡ k = h.1.0 in
+    (ap (λ (m : ℕ). (codes "rows " ++ decimal m) ∷ map row_line rows) len, (subst (λ (m : ℕ). m ≤ 2 ^ 32 - 1) (sym len) h.0.0, h.1.1))
+
+rows_back : (o : Option ℕ) (rows : List Row) → FitsRowsOf o rows → CountAndRows o (count_of o rows, rows)
+rows_back None rows h = ((tt, refl), h)
+rows_back (Some n) rows h = ((h.0, refl), (refl, h.1))
+
+zero_row : Row
+zero_row = record { shift = 0; day = 0; breaks = []; count = 0 }
+
+zero_fits : FitsRow zero_row
+unfolding zero_row
+zero_fits = (omega arith, omega arith, omega arith, All-nil FitsBreak)
+
+pub rows_reads : (o : Option ℕ) → Reads (FitsRowsOf o) (rows_lines o) (rows_at o)
+unfolding rows_at
+rows_reads o = made_reads (FitsRowsOf o) (rows_lines o) (λ x. x.1) (λ rows. (count_of o rows, rows)) (λ x h. rows_fit o x.0 x.1 h) (λ rows h. (refl, refl, rows_back o rows h))
+    (next_reads (line_reads (count_exact o) (count_is_line o) (some_count o).0 (some_count o).1)
+    (λ k h. times_reads (line_reads row_exact row_is_line zero_row zero_fits) zero_row zero_fits (or_zero k))
+    (λ k h. some_list FitsRow zero_row zero_fits (or_zero k)))
+
+abbrev closing_lines : Unit {0} → List Line
+closing_lines x = codes "proof 0" ∷ codes "end" ∷ []
+
+pub closing_reads : Reads (λ (x : Unit {0}). Unit {0}) closing_lines closing_at
+unfolding closing_at
+closing_reads = made_reads (λ (x : Unit {0}). Unit {0}) closing_lines (λ x. tt) (λ x. (tt, tt)) (λ x h. (refl, tt)) (λ x h. (refl, refl, (tt, tt)))
+    (next_reads (word_reads (codes "proof 0") (lacks_line (codes "proof 0") (plain (codes "proof 0") refl))) (λ x h. word_reads (codes "end") (lacks_line (codes "end") (plain (codes "end") refl))) (λ x h. (tt, tt)))
+
+-- ---- a certificate
+
+abbrev Fields : Type 0
+Fields = CertStatus × ((Option ℕ × ℕ) × (List Row × Unit {0}))
+
+abbrev FitsFields : Fields → Type 0
+FitsFields x = Unit {0} × (FitsLimits x.0 x.1.0 × (FitsRowsOf x.1.0.0 x.1.1.0 × Unit {0}))
+
+abbrev fields_lines : Fields → List Line
+fields_lines x = opening_lines x.0 ++ (limits_lines x.1.0 ++ (rows_lines x.1.0.0 x.1.1.0 ++ closing_lines x.1.1.1))
+
+abbrev cost_of : Option (ℕ × List Row) → Option ℕ
+cost_of None = None
+cost_of (Some p) = Some p.0
+
+abbrev of_cert : Cert → Fields
+of_cert c = (c.status, ((cost_of c.plan, c.bound), (rows_of c.plan, tt)))
+
+empty_rows : (rows : List Row) → length rows ≡ 0 → [] ≡ rows
+empty_rows [] h = refl
+empty_rows (r ∷ rows) h = absurd (omega arith)
+
+spelled : (s : CertStatus) (o : Option ℕ) (bound : ℕ) (rows : List Row) → FitsRowsOf o rows → cert_lines (to_cert (s, ((o, bound), (rows, tt)))) ≡ fields_lines (s, ((o, bound), (rows, tt)))
+spelled s None bound rows h = ap (λ (l : List Row). opening_lines s ++ (limits_lines (None, bound) ++ (rows_lines None l ++ closing_lines tt))) (empty_rows rows h.0)
+spelled s (Some n) bound rows h = refl
+
+agrees : (s : CertStatus) (o : Option ℕ) (bound : ℕ) (rows : List Row) → FitsLimits s (o, bound) → AgreesWith s (plan_of o rows) bound
+agrees Optimal None bound rows h = absurd (let never = h.0.1 in cc)
+agrees Optimal (Some n) bound rows h = eqb-true n bound h.1.1
+agrees Stopped None bound rows h = absurd (let never = h.0.1 in cc)
+agrees Stopped (Some n) bound rows h = ltb-true bound n h.1.1
+agrees Bound None bound rows h = tt
+agrees Bound (Some n) bound rows h = absurd (let never = h.0.1 in cc)
+
+has_text : (s : CertStatus) (o : Option ℕ) (bound : ℕ) (rows : List Row) → FitsLimits s (o, bound) → FitsRowsOf o rows → HasText (to_cert (s, ((o, bound), (rows, tt))))
+has_text s None bound rows h k = record {
+  agrees = record { status = agrees s None bound rows h; few = omega arith };
+  fits = record { cost = tt; bound = omega (arith, h.1.0); rows = All-nil FitsRow };
+}
+has_text s (Some n) bound rows h k = record {
+  agrees = record { status = agrees s (Some n) bound rows h; few = omega (arith, k.0) };
+  fits = record { cost = omega (arith, h.0.0); bound = omega (arith, h.1.0); rows = All-from_recursion FitsRow rows k.1 };
+}
+
+fits_limits : (s : CertStatus) (plan : Option (ℕ × List Row)) (bound : ℕ) → HasText (record { status = s; plan = plan; bound = bound }) → FitsLimits s (cost_of plan, bound)
+fits_limits Optimal None bound h = absurd h.agrees.status
+fits_limits Optimal (Some p) bound h = ((omega (arith, h.fits.cost), refl), (omega (arith, h.fits.bound), eq-eqb p.0 bound h.agrees.status))
+fits_limits Stopped None bound h = absurd h.agrees.status
+fits_limits Stopped (Some p) bound h = ((omega (arith, h.fits.cost), lt-ltb 0 p.0 (omega (arith, h.agrees.status))), (omega (arith, h.fits.bound), lt-ltb bound p.0 h.agrees.status))
+fits_limits Bound None bound h = ((tt, refl), (omega (arith, h.fits.bound), refl))
+fits_limits Bound (Some p) bound h = absurd h.agrees.status
+
+fits_rows : (s : CertStatus) (plan : Option (ℕ × List Row)) (bound : ℕ) → HasText (record { status = s; plan = plan; bound = bound }) → FitsRowsOf (cost_of plan) (rows_of plan)
+fits_rows s None bound h = (refl, tt)
+fits_rows s (Some p) bound h = (omega (arith, h.agrees.few), recursion_from_All FitsRow p.1 h.fits.rows)
+
+made_again : (s : CertStatus) (plan : Option (ℕ × List Row)) (bound : ℕ) → (to_cert (of_cert (record { status = s; plan = plan; bound = bound })) ≡ record { status = s; plan = plan; bound = bound }) × (cert_lines (record { status = s; plan = plan; bound = bound }) ≡ fields_lines (of_cert (record { status = s; plan = plan; bound = bound })))
+made_again s None bound = (refl, refl)
+made_again s (Some p) bound = (refl, refl)
+
+cert_back : (c : Cert) → HasText c → (to_cert (of_cert c) ≡ c) × (cert_lines c ≡ fields_lines (of_cert c)) × FitsFields (of_cert c)
+cert_back c h =
+    let m = made_again c.status c.plan c.bound in
+    (m.0, m.1, (tt, (fits_limits c.status c.plan c.bound h, (fits_rows c.status c.plan c.bound h, tt))))
+
+some_limits : (s : CertStatus) → (x : Option ℕ × ℕ) × FitsLimits s x
+some_limits s = let o = some_cost s in let n = some_bound s o.0 o.1 in ((o.0, n.0), (o.1, n.1))
+
+some_rows : (o : Option ℕ) → (rows : List Row) × FitsRowsOf o rows
+some_rows None = ([], (refl, tt))
+some_rows (Some n) = ([], (omega arith, tt))
+
+pub cert_reads : Reads HasText cert_lines cert_at
+unfolding cert_at
+cert_reads = made_reads HasText cert_lines to_cert of_cert (λ x h. (spelled x.0 x.1.0.0 x.1.0.1 x.1.1.0 h.1.1.0, has_text x.0 x.1.0.0 x.1.0.1 x.1.1.0 h.1.0 h.1.1.0)) cert_back
+    (next_reads opening_reads
+    (λ s h. next_reads (limits_reads s) (λ l k. next_reads (rows_reads l.0) (λ rows i. closing_reads) (λ rows i. (tt, tt))) (λ l k. let r = some_rows l.0 in ((r.0, tt), (r.1, tt))))
+    (λ s h. let l = some_limits s in let r = some_rows l.0.0 in ((l.0, (r.0, tt)), (l.1, (r.1, tt)))))

@@ -1,0 +1,272 @@
+-- How the lines of a text are read, one after the other. Contracts of private functions speak of it; what `read` answers is told without it.
+use Rattle.std.specs.Prelude.{◌≡◌, ℕ, zero, suc, ◌-◌, ◌^◌, ◌<◌, Bool, true, false, not, ◌&&◌, nat_lt, nat_le, ◌==◌, if◌then◌else◌, List, [], ◌∷◌, ◌++◌, length, take, drop, bytes_eq, All, Option, Some, None, option_map, Result, Ok, Err, codes}
+use Rattle.std.specs.List.{slice_split}
+use Rattle.std.specs.Char.{is_ascii_digit}
+use Rattle.std.specs.Fmt.{decimal}
+use Rattle.std.specs.Str.Parse.{digits_value}
+use Rattle.break_rules.specs.declared.Break.{Break}
+use Rattle.shift_instance.specs.declared.Row.{Row}
+use Rattle.certificate.specs.declared.Cert.{Cert}
+use Rattle.certificate.specs.declared.CertStatus.{CertStatus}
+use Rattle.certificate.specs.declared.CertStatus.TheVariants.{Optimal, Stopped, Bound}
+use Rattle.certificate.specs.declared.fault.Stop.{Stop}
+use Rattle.certificate.specs.declared.fault.Stop.TheVariants.{Memory, Left}
+use Rattle.certificate.specs.Text.{Line, lines_text}
+use Rattle.certificate.specs.Departing.{IsLine, IsNote}
+
+-- ---- a whole text as a value
+
+-- the value that a text is the spelling of
+abbrev pub Words : Type 0 → Type 0
+Words A = List ℕ → Option A
+
+-- the next step, where there is a value
+abbrev pub given : {A B : Type 0} → Option A → (A → Option B) → Option B
+given None f = None
+given (Some x) f = f x
+
+-- a value that passes a test
+abbrev pub kept : {A : Type 0} → (A → Bool) → Option A → Option A
+kept test None = None
+kept test (Some x) = if test x then Some x else None
+
+-- the text before the first such byte, and the text behind it
+unfoldable pub cut_at : ℕ → List ℕ → Option (List ℕ × List ℕ)
+cut_at by [] = None
+cut_at by (b ∷ bs) = if b == by then Some ([], bs) else option_map (λ p. (b ∷ p.0, p.1)) (cut_at by bs)
+
+-- whether a text begins with a digit, which stands alone where it is 0
+abbrev pub begins_number : List ℕ → Bool
+begins_number [] = false
+begins_number (b ∷ []) = is_ascii_digit b
+begins_number (b ∷ c ∷ rest) = is_ascii_digit b && not (b == 48)
+
+-- a number below 2^64
+unfoldable pub plain_number : Words ℕ
+plain_number text = if bytes_eq text (decimal (digits_value 10 text)) && nat_lt (digits_value 10 text) (2 ^ 64) then Some (digits_value 10 text) else None
+
+-- a number up to a limit
+abbrev pub number_in : ℕ → Words ℕ
+number_in most text = kept (λ n. nat_le n most) (plain_number text)
+
+-- nothing but a word
+abbrev pub word_in : List ℕ → Words (Unit {0})
+word_in word text = if bytes_eq text word then Some tt else None
+
+-- the text behind a beginning
+abbrev pub behind : List ℕ → Words (List ℕ)
+behind front text = if bytes_eq (take (length front) text) front then Some (drop (length front) text) else None
+
+-- a value behind a beginning
+abbrev pub led_by : {A : Type 0} → List ℕ → Words A → Words A
+led_by front read text = given (behind front text) read
+
+-- a value on each side of the first such byte
+abbrev pub both_sides : {A B : Type 0} → ℕ → Words A → Words B → Words (A × B)
+both_sides by f g text = given (cut_at by text) (λ p. given (f p.0) (λ a. given (g p.1) (λ b. Some (a, b))))
+
+-- a value for each word
+abbrev pub each_in : {A : Type 0} → Words A → List (List ℕ) → Option (List A)
+each_in read [] = Some []
+each_in read (w ∷ ws) = given (read w) (λ a. given (each_in read ws) (λ others. Some (a ∷ others)))
+
+-- the break of a start and a length
+abbrev pub to_break : ℕ × ℕ → Break
+to_break x = record { start = x.0; len = x.1 }
+
+-- a break
+unfoldable pub break_in : Words Break
+break_in text = option_map to_break (both_sides 43 (number_in 65535) (number_in 65535) text)
+
+-- breaks
+unfoldable pub breaks_in : Words (List Break)
+breaks_in text = if bytes_eq text (codes "-") then Some [] else each_in break_in (slice_split (λ b. b == 44) text)
+
+-- the row of a shift, a day, a count and breaks
+abbrev pub to_row : ℕ × (ℕ × (ℕ × List Break)) → Row
+to_row x = record { shift = x.0; day = x.1.0; breaks = x.1.1.1; count = x.1.1.0 }
+
+-- a row
+unfoldable pub row_in : Words Row
+row_in line = option_map to_row (led_by (codes "row ") (both_sides 32 (number_in 65535) (both_sides 32 (number_in 255) (both_sides 32 (number_in 65535) breaks_in))) line)
+
+-- the word of a status
+abbrev pub status_word_in : Words CertStatus
+status_word_in text = if bytes_eq text (codes "optimal") then Some Optimal else (if bytes_eq text (codes "stopped") then Some Stopped else (if bytes_eq text (codes "bound") then Some Bound else None))
+
+-- a status
+unfoldable pub status_in : Words CertStatus
+status_in line = led_by (codes "status ") status_word_in line
+
+-- a number up to a limit, or `-`
+unfoldable pub number_or_dash : ℕ → Words (Option ℕ)
+number_or_dash most text = if bytes_eq text (codes "-") then Some None else option_map Some (number_in most text)
+
+-- whether a status allows a cost: a bound alone has none, and a bound is to be below the cost of a search that was stopped
+abbrev pub allows_cost : CertStatus → Option ℕ → Bool
+allows_cost Optimal None = false
+allows_cost Optimal (Some cost) = true
+allows_cost Stopped None = false
+allows_cost Stopped (Some cost) = nat_lt 0 cost
+allows_cost Bound None = true
+allows_cost Bound (Some cost) = false
+
+-- a cost that the status allows
+unfoldable pub cost_in : CertStatus → Words (Option ℕ)
+cost_in status line = kept (allows_cost status) (led_by (codes "cost ") (number_or_dash (2 ^ 64 - 1)) line)
+
+-- whether a status allows a bound with a cost
+abbrev pub allows_bound : CertStatus → Option ℕ → ℕ → Bool
+allows_bound Optimal None bound = false
+allows_bound Optimal (Some cost) bound = cost == bound
+allows_bound Stopped None bound = false
+allows_bound Stopped (Some cost) bound = nat_lt bound cost
+allows_bound Bound None bound = true
+allows_bound Bound (Some cost) bound = false
+
+-- a bound that the status allows with the cost
+unfoldable pub bound_in : CertStatus → Option ℕ → Words ℕ
+bound_in status cost line = kept (allows_bound status cost) (led_by (codes "bound ") (number_in (2 ^ 64 - 1)) line)
+
+-- whether there is a number of rows exactly where there is a cost
+abbrev pub go_together : Option ℕ → Option ℕ → Bool
+go_together None None = true
+go_together None (Some count) = false
+go_together (Some cost) None = false
+go_together (Some cost) (Some count) = true
+
+-- a number of rows, where there is a cost
+unfoldable pub count_in : Option ℕ → Words (Option ℕ)
+count_in cost line = kept (go_together cost) (led_by (codes "rows ") (number_or_dash (2 ^ 32 - 1)) line)
+
+-- ---- lines
+
+-- the value at the front and the bytes after it, or the number of bytes from the faulty line to the end
+abbrev pub Reader : Type 0 → Type 0
+Reader A = List ℕ → Result (A × List ℕ) ℕ
+
+-- the next step, where this one met no fault
+abbrev pub later : {A B : Type 0} → Result A ℕ → (A → Result B ℕ) → Result B ℕ
+later (Ok x) f = f x
+later (Err e) f = Err e
+
+-- a value with the bytes after its line, or a fault
+abbrev pub or_fault : {A : Type 0} → ℕ → List ℕ → Option A → Result (A × List ℕ) ℕ
+or_fault left rest None = Err left
+or_fault left rest (Some a) = Ok (a, rest)
+
+-- the value of a line, if there is a line
+abbrev pub on_line : {A : Type 0} → ℕ → Words A → Option (List ℕ × List ℕ) → Result (A × List ℕ) ℕ
+on_line left read None = Err left
+on_line left read (Some p) = or_fault left p.1 (read p.0)
+
+-- the value of the first line; a fault is at its first byte
+abbrev pub line_at : {A : Type 0} → Words A → Reader A
+line_at read bytes = on_line (length bytes) read (cut_at 10 bytes)
+
+-- one value, and another that may depend on it
+abbrev pub next : {A B : Type 0} → Reader A → (A → Reader B) → Reader (A × B)
+next f g bytes = later (f bytes) (λ a. later (g a.0 a.1) (λ b. Ok ((a.0, b.0), b.1)))
+
+-- a value that is made of what is read
+abbrev pub made : {A B : Type 0} → (A → B) → Reader A → Reader B
+made f read bytes = later (read bytes) (λ a. Ok (f a.0, a.1))
+
+-- so many values
+unfoldable pub times : {A : Type 0} → Reader A → ℕ → Reader (List A)
+times read zero bytes = Ok ([], bytes)
+times read (suc n) bytes = made (λ p. p.0 ∷ p.1) (next read (λ _. times read n)) bytes
+
+-- the title and the status
+unfoldable pub opening_at : Reader CertStatus
+opening_at bytes = made (λ x. x.1) (next (line_at (word_in (codes "shift-report 1"))) (λ _. line_at status_in)) bytes
+
+-- the cost and the bound
+unfoldable pub limits_at : CertStatus → Reader (Option ℕ × ℕ)
+limits_at status bytes = next (line_at (cost_in status)) (λ cost. line_at (bound_in status cost)) bytes
+
+-- a number, or 0
+abbrev pub or_zero : Option ℕ → ℕ
+or_zero None = 0
+or_zero (Some n) = n
+
+-- the number of rows, and the rows
+unfoldable pub rows_at : Option ℕ → Reader (List Row)
+rows_at cost bytes = made (λ x. x.1) (next (line_at (count_in cost)) (λ count. times (line_at row_in) (or_zero count))) bytes
+
+-- the number of proof lines, and the end
+unfoldable pub closing_at : Reader (Unit {0})
+closing_at bytes = made (λ _. tt) (next (line_at (word_in (codes "proof 0"))) (λ _. line_at (word_in (codes "end")))) bytes
+
+-- the plan of a cost and rows
+abbrev pub plan_of : Option ℕ → List Row → Option (ℕ × List Row)
+plan_of None rows = None
+plan_of (Some cost) rows = Some (cost, rows)
+
+-- the certificate of a status, a cost, a bound and rows
+abbrev pub to_cert : CertStatus × ((Option ℕ × ℕ) × (List Row × Unit {0})) → Cert
+to_cert x = record { status = x.0; plan = plan_of x.1.0.0 x.1.1.0; bound = x.1.0.1 }
+
+-- a certificate
+unfoldable pub cert_at : Reader Cert
+cert_at bytes = made to_cert (next opening_at (λ status. next (limits_at status) (λ limits. next (rows_at limits.0) (λ _. closing_at)))) bytes
+
+-- ---- what a function returned
+
+-- a reason to stop is that the text has no value, with so many bytes left, or want of memory
+abbrev pub Misses : {Y : Type 0} → ℕ → Stop → Option Y → Type 0
+Misses left Memory read = Unit {0}
+Misses left (Left n) read = (n ≡ left) × (read ≡ None)
+
+-- what a function returned, seen by view, is the value of a text, unless memory ran out
+abbrev pub Finds : {X Y : Type 0} → (X → Y) → ℕ → Result X Stop → Option Y → Type 0
+Finds view left (Ok x) read = read ≡ Some (view x)
+Finds view left (Err e) read = Misses left e read
+
+-- a reason to stop is the fault that was met, or want of memory
+abbrev pub Stops : {Y : Type 0} → Stop → Result Y ℕ → Type 0
+Stops Memory read = Unit {0}
+Stops (Left n) read = read ≡ Err n
+
+-- what a function returned, seen by view, is what was to be read, unless memory ran out
+abbrev pub Gives : {X Y : Type 0} → (X → Y) → Result X Stop → Result Y ℕ → Type 0
+Gives view (Ok x) read = read ≡ Ok (view x)
+Gives view (Err e) read = Stops e read
+
+-- whether a line begins with `#`
+abbrev pub begins_note : Line → Bool
+begins_note [] = false
+begins_note (b ∷ rest) = b == 35
+
+-- the bytes are these notes
+pub record AreNotes (bytes : List ℕ) : Type 0 where
+  pub notes : List Line
+  pub are : All IsNote notes
+  pub is : bytes ≡ lines_text notes
+
+-- the bytes are notes, and behind them other bytes, which begin with no note
+pub record LeaveNotes (bytes : List ℕ) (left : ℕ) : Type 0 where
+  pub notes : List Line
+  pub are : All IsNote notes
+  pub rest : List ℕ
+  pub is : bytes ≡ lines_text notes ++ rest
+  pub length_left : length rest ≡ left
+  pub some : 0 < left
+  pub no_note : (line : Line) (more : List ℕ) → IsLine line → rest ≡ line ++ 10 ∷ more → IsNote line → ⊥
+
+-- bytes are notes, or stop to be so many bytes before their end, or memory ran out
+abbrev pub AnswersNotes : List ℕ → Result (Unit {0}) Stop → Type 0
+AnswersNotes bytes (Ok x) = AreNotes bytes
+AnswersNotes bytes (Err Memory) = Unit {0}
+AnswersNotes bytes (Err (Left n)) = LeaveNotes bytes n
+
+-- a certificate's lines stop so many bytes before the end, or the notes behind them do
+pub data IsStopped (bytes : List ℕ) (left : ℕ) : Type 0 where
+  InLines : cert_at bytes ≡ Err left → IsStopped bytes left
+  InNotes : (c : Cert) → (rest : List ℕ) → cert_at bytes ≡ Ok (c, rest) → LeaveNotes rest left → IsStopped bytes left
+
+-- the certificate of a text with its notes, or where the text stops to be one, or want of memory
+abbrev pub AnswersWhole : List ℕ → Result Cert Stop → Type 0
+AnswersWhole bytes (Ok c) = (rest : List ℕ) × (cert_at bytes ≡ Ok (c, rest)) × AreNotes rest
+AnswersWhole bytes (Err Memory) = Unit {0}
+AnswersWhole bytes (Err (Left n)) = IsStopped bytes n

@@ -1,0 +1,10 @@
+//! Texts of rotas: the report of a search, and a table for people to read.
+#![tactic(auto)]
+
+mod reports;
+mod table_lines;
+#[cfg(test)]
+mod tests;
+
+pub use reports::report;
+pub use table_lines::table;

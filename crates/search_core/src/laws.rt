@@ -1,0 +1,60 @@
+//! Laws of books and of runs. Each function's contract is the law; the functions do nothing.
+ghost use Rattle.std.specs.Prelude.{◌≡◌, ◌+◌, ◌*◌, ◌^◌, ◌<◌, ◌≤◌, ℕ, Any, IsTrue, IsFalse, List, [], Some, length, take};
+ghost use Rattle.shift_instance.specs.declared.Duty.{Duty};
+ghost use Rattle.shift_instance.specs.Problem.{Problem};
+ghost use Rattle.shift_instance.specs.Rota.{is_legal_rota, cost};
+ghost use Rattle.head_splits.specs.Cuts.{meets};
+ghost use Rattle.head_splits.specs.Nodes.{Node};
+ghost use Rattle.head_splits.specs.Settled.{span};
+ghost use Rattle.post_codec.specs.declared.post.Post.{Post};
+ghost use Rattle.search_core.specs.declared.event.Event.{Event};
+ghost use Rattle.search_core.specs.declared.event.Event.TheVariants.{Crash};
+ghost use Rattle.search_core.specs.Book.{Book, book_of, floor_of, is_open, is_finished, IsLeastFloor, IsSound};
+ghost use Rattle.search_core.specs.Core.{Core, start, run, happens, IsSoundCore, IsFront};
+
+use crate::State;
+
+/// Where posts make a book, it is sound.
+pub fn fold_is_sound()
+    ensures { (i : Problem) (posts : List Post) (b : Book) → book_of i posts ≡ Some b → IsSound i b }
+{}
+
+/// The floor of a book is the least of the cost of its best rota and the floors of its unsplit nodes. No legal rota costs
+/// less than the floor of a sound book, and each legal rota that is cheaper than the best lies below an open node.
+pub fn floor_is_least()
+    ensures least { (b : Book) → IsLeastFloor b (floor_of b) }
+    ensures bound { (i : Problem) (b : Book) (rota : List Duty) → IsSound i b → IsTrue (is_legal_rota i rota) → floor_of b ≤ cost i rota }
+    ensures cheaper { (i : Problem) (b : Book) (rota : List Duty) → IsSound i b → IsTrue (is_legal_rota i rota) → cost i rota < b.cost
+        → Any (λ (n : Node). IsTrue (is_open b n) × IsTrue (meets rota n.cuts)) b.nodes }
+{}
+
+/// Each core of each run has posts that make a sound book, hands that hold distinct unsplit nodes of it, and no more
+/// acknowledged posts than posts. A crash leaves the first of the posts, with all that were acknowledged among them.
+pub fn every_run()
+    ensures sound { (i : Problem) (events : List Event) (c : Core) → run i start events ≡ Some c → IsSoundCore i c }
+    ensures crash { (i : Problem) (events : List Event) (c d : Core) (keep : ℕ)
+        → run i start events ≡ Some c → happens i c (Crash keep) ≡ Some d
+        → IsFront (take c.acked c.history) d.history × IsFront d.history c.history }
+{}
+
+/// The best rota of a finished book is cheapest, and its cost is the book's floor.
+pub fn finished_is_cheapest()
+    ensures cheapest { (i : Problem) (b : Book) (rota : List Duty) → IsSound i b → IsTrue (is_finished b) → IsTrue (is_legal_rota i rota) → b.cost ≤ cost i rota }
+    ensures floor { (b : Book) → IsTrue (is_finished b) → floor_of b ≡ b.cost }
+{}
+
+/// Two states of one instance without an open node have the same cost and the same floor.
+pub fn finished_agree(one: &State, other: &State)
+    requires instance { one.now.instance ≡ other.now.instance }
+    requires one { IsTrue (is_finished one.now.book) }
+    requires other { IsTrue (is_finished other.now.book) }
+    ensures cost { one.now.book.cost ≡ other.now.book.cost }
+    ensures floor { floor_of one.now.book ≡ floor_of other.now.book }
+{
+    let _ = (one.cost(), other.cost());
+}
+
+/// The nodes of a book, and one more, are at most twice two to the power of the root's span.
+pub fn few_nodes()
+    ensures { (i : Problem) (posts : List Post) (b : Book) → book_of i posts ≡ Some b → length b.nodes + 1 ≤ 2 * 2 ^ span i [] }
+{}

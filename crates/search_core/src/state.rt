@@ -1,0 +1,295 @@
+//! The state of a search.
+ghost use Rattle.std.specs.Prelude.{◌≡◌, ℕ, ◌-◌, ◌^◌, ◌<◌, ◌++◌, ◌∷◌, [], ◌==◌, Some, map, max, length, slice_get, IfOk, IfErr, IsSome, IsSomeAnd, OnOk, OnErr};
+ghost use Rattle.search_core.specs.Book.{book_of, floor_of, is_node_and, is_open, opening, step, IsSound};
+ghost use Rattle.post_codec.specs.declared.post.Post.TheVariants.{Plan, Split};
+ghost use Rattle.search_core.specs.Faults.{open_fault, plan_fault, split_fault, Refuses, Steps};
+ghost use Rattle.search_core.specs.Kept.{cuts_in, part_of, rows_in};
+ghost use Rattle.search_core.specs.State.{state_of, value_of};
+
+use crate::fault::StepFault;
+use crate::judging::{is_live_class, plan_fault};
+use crate::outline::{NodeState, Outline, least_floor};
+use break_rules::NoMemory;
+use head_splits::{Class, Cut, Cuts, Side, range};
+use post_codec::Post;
+use rota_cost::recount;
+use shift_instance::{Instance, Rows};
+use std::alloc::Global;
+use std::marker::Model;
+use std::snapshot::Snapshot;
+
+/// The posts of a search for an instance, and the book that they make.
+///
+/// Contracts see the instance, the posts in order, the book, and how many posts may be appended without memory.
+#[derive(Drop)]
+pub struct State {
+    alloc: Global,
+    instance: Snapshot<Instance>,
+    posts: Vec<Post>,
+    outline: Outline,
+    // the empty rota, which is best where there is no plan
+    none: Rows,
+}
+
+impl Model for State {
+    ghost use Rattle.search_core.specs.State.{StateView};
+
+    ghost Value = { StateView };
+
+    ghost use Rattle.std.specs.Prelude.{◌+◌, ◌≤◌, vec_len, vec_capacity};
+    ghost use Rattle.search_core.specs.State.{book_or_opening};
+    ghost use Rattle.search_core.specs.Kept.{IsKept};
+
+    ghost view = { λ s. record { instance = s.instance.value; history = s.posts.items; book = book_or_opening s.instance.value s.posts.items; spare = s.outline.spare } };
+
+    ghost invariant = { λ s. IsKept s.instance.value s.posts.items s.none s.outline (book_or_opening s.instance.value s.posts.items) × (vec_len s.posts + s.outline.spare ≤ vec_capacity s.posts) };
+}
+
+/// The rows of a plan.
+fn rows_of(post: &Post) -> &Rows
+    requires { IsSome (rows_in post.now) }
+    ensures { rows_in post.now ≡ Some result.now }
+{
+    match post {
+        Post::Plan {
+            worker: _,
+            rows,
+            cost: _,
+        } => rows,
+        _ => unreachable!(),
+    }
+}
+
+/// The node that a post splits, and the cut of its first or second part.
+fn part_of(post: &Post, first: bool) -> Result<(usize, Cut), NoMemory>
+    requires { IsSomeAnd (part_of first post.now) (λ p. p.1.m < 2 ^ 16) }
+    ensures { IfOk result (λ p. part_of first post.now ≡ Some p) }
+{
+    match post {
+        Post::Split {
+            worker: _,
+            node,
+            class,
+            m,
+        } => {
+            let class = class.clone()?;
+            let (side, m) = if first {
+                (Side::AtMost, *m)
+            } else {
+                (Side::AtLeast, *m + 1)
+            };
+            Ok((*node as usize, Cut { class, side, m }))
+        }
+        _ => unreachable!(),
+    }
+}
+
+impl State {
+    /// The state without posts: the empty rota is best, and the one node has no cuts and the floor 0.
+    pub fn new(alloc: Global, instance: &Instance) -> Result<State, NoMemory>
+        ensures { IfOk result (λ s. s ≡ record { instance = instance.now; history = []; book = opening instance.now; spare = 0 }) }
+    {
+        let _days = instance.days();
+        let none = Rows::new(Vec::new(alloc));
+        let outline = Outline::opening(alloc, recount(instance, &none))?;
+        Ok(State {
+            alloc,
+            instance: Snapshot::of(instance),
+            posts: Vec::new(alloc),
+            outline,
+            none,
+        })
+    }
+
+    /// Makes room for so many posts to be appended. It never lowers the room.
+    pub fn reserve(&mut self, posts: u32) -> Result<(), NoMemory>
+        ensures ok { OnOk result (self.new ≡ record self.old { spare = max self.old.spare posts }) }
+        ensures err { OnErr result (self.new ≡ self.old) }
+    {
+        self.posts.reserve(posts as usize)?;
+        self.outline.reserve(posts)
+    }
+
+    /// Appends a post that the book allows, with the number that goes with it: what a plan costs, the bound of prices below
+    /// their node's cuts, the floor of a node that is split, or the floor that a settled node gets. It takes no memory.
+    pub fn append(&mut self, post: Post, value: u64)
+        requires room { 0 < self.old.spare }
+        requires allowed { IsSome (step self.old.instance self.old.book post) }
+        requires value { value ≡ value_of self.old.instance self.old.book post }
+        ensures step { step self.old.instance self.old.book post ≡ Some self.new.book }
+        ensures rest { self.new ≡ record self.old { history = self.old.history ++ post ∷ []; book = self.new.book; spare = self.old.spare - 1 } }
+    {
+        let at = self.posts.len();
+        self.outline.act(&post, value, at);
+        self.posts.push_reserved(post);
+    }
+
+    /// The rows of the best rota.
+    pub fn best(&self) -> &Rows
+        ensures best { result.now ≡ self.now.book.best }
+        ensures sound { IsSound self.now.instance self.now.book }
+    {
+        let posts = &self.posts;
+        match self.outline.best_at() {
+            Some(at) => rows_of(&posts[at]),
+            None => &self.none,
+        }
+    }
+
+    /// What the best rota costs.
+    pub fn cost(&self) -> u64
+        ensures cost { result ≡ self.now.book.cost }
+        ensures sound { IsSound self.now.instance self.now.book }
+    {
+        self.outline.cost()
+    }
+
+    /// The nodes, by number.
+    pub fn nodes(&self) -> &[NodeState]
+        ensures nodes { result.now ≡ map state_of self.now.book.nodes }
+        ensures count { length result.now ≡ length self.now.book.nodes }
+        ensures sound { IsSound self.now.instance self.now.book }
+    {
+        self.outline.nodes()
+    }
+
+    /// The posts, from the first one on.
+    pub fn history(&self) -> &[Post]
+        ensures history { result.now ≡ self.now.history }
+        ensures folds { book_of self.now.instance self.now.history ≡ Some self.now.book }
+    {
+        self.posts.as_slice()
+    }
+
+    /// The least of the best cost and the floors of the unsplit nodes: no legal rota costs less.
+    pub fn floor(&self) -> u64
+        ensures floor { result ≡ floor_of self.now.book }
+        ensures sound { IsSound self.now.instance self.now.book }
+    {
+        least_floor(self.outline.nodes(), self.outline.cost())
+    }
+
+    /// Whether a node, by its number, is there and open: it isn't split, and its floor is below the best cost.
+    pub fn is_open(&self, node: u32) -> bool
+        ensures { result ≡ is_node_and self.now.book node (is_open self.now.book) }
+    {
+        let cost = self.outline.cost();
+        match self.outline.nodes().get(node as usize) {
+            Some(node) => !node.split && node.floor < cost,
+            None => false,
+        }
+    }
+
+    /// How many posts may be appended without memory.
+    pub fn spare(&self) -> usize
+        ensures { result ≡ self.now.spare }
+    {
+        self.outline.spare()
+    }
+
+    /// The cuts of a node, by its number, from the root on.
+    pub fn cuts_of(&self, node: u32) -> Result<Cuts, NoMemory>
+        requires { node < length self.now.book.nodes }
+        ensures { IfOk result (λ cuts. IsSomeAnd (slice_get self.now.book.nodes node) (λ n. cuts ≡ n.cuts)) }
+    {
+        let mut list = Vec::new(self.alloc);
+        let mut at = node as usize;
+        while at > 0 {
+            let (above, cut) = self.cut_above(at)?;
+            list.push(cut)?;
+            at = above;
+        }
+        list.reverse();
+        Ok(Cuts::new(list))
+    }
+
+    /// The node of which a node is a part, and the cut that it has beside those of that node.
+    fn cut_above(&self, node: usize) -> Result<(usize, Cut), NoMemory>
+        requires below { 0 < node }
+        requires there { node < length self.now.book.nodes }
+        ensures { IfOk result (λ p. (p.0 < node) × (cuts_in self.now.book.nodes node ≡ cuts_in self.now.book.nodes p.0 ++ p.1 ∷ [])) }
+    {
+        let at = self.outline.splits()[(node - 1) / 2];
+        let posts = &self.posts;
+        part_of(&posts[at], node % 2 == 1)
+    }
+
+    /// Appends a worker's plan, where it is better than the best rota.
+    pub(crate) fn step_plan(
+        &mut self,
+        instance: &Instance,
+        worker: u16,
+        rows: Rows,
+        cost: u64,
+    ) -> Result<(), StepFault>
+        requires { instance.now ≡ self.old.instance }
+        ensures ok { OnOk result (Steps self.old self.new (Plan worker rows cost)) }
+        ensures unchanged { OnErr result (self.new ≡ self.old) }
+        ensures err { IfErr result (Refuses (plan_fault self.old.instance self.old.book.cost rows cost)) }
+    {
+        if let Some(fault) = plan_fault(instance, &rows, cost, self.cost()) {
+            return Err(fault);
+        }
+        self.reserve(1)?;
+        self.append(Post::Plan { worker, rows, cost }, cost);
+        Ok(())
+    }
+
+    /// Appends a worker's split of an open node by the number of a live class, where the node's cuts leave it open.
+    pub(crate) fn step_split(
+        &mut self,
+        instance: &Instance,
+        worker: u16,
+        node: u32,
+        class: Class,
+        m: u16,
+    ) -> Result<(), StepFault>
+        requires { instance.now ≡ self.old.instance }
+        ensures ok { OnOk result (Steps self.old self.new (Split worker node class m)) }
+        ensures unchanged { OnErr result (self.new ≡ self.old) }
+        ensures err { IfErr result (Refuses (split_fault self.old.instance self.old.book node class m)) }
+    {
+        if let Some(fault) = self.open_fault(node) {
+            return Err(fault);
+        }
+        if !is_live_class(self.alloc, instance, &class)? {
+            return Err(StepFault::NotLive { class });
+        }
+        let (lo, hi) = range(instance, &self.cuts_of(node)?, &class);
+        if m < lo || hi <= m {
+            return Err(StepFault::OutOfRange { lo, hi });
+        }
+        self.reserve(1)?;
+        let floor = self.nodes()[node as usize].floor;
+        let post = Post::Split {
+            worker,
+            node,
+            class,
+            m,
+        };
+        self.append(post, floor);
+        Ok(())
+    }
+
+    /// Why a node isn't open, if it isn't.
+    fn open_fault(&self, node: u32) -> Option<StepFault>
+        ensures { result ≡ open_fault self.now.book node }
+    {
+        let best = self.outline.cost();
+        match self.outline.nodes().get(node as usize) {
+            None => Some(StepFault::NoNode { node }),
+            Some(state) => {
+                if state.split {
+                    Some(StepFault::IsSplit { node })
+                } else if best <= state.floor {
+                    Some(StepFault::NotOpen {
+                        floor: state.floor,
+                        best,
+                    })
+                } else {
+                    None
+                }
+            }
+        }
+    }
+}

@@ -1,0 +1,53 @@
+//! The checker: `shift_check recount INSTANCE REPORT` judges the rows of a report and counts their cost again.
+#![tactic(auto)]
+
+mod checking;
+mod recounting;
+mod status;
+#[cfg(test)]
+mod tests;
+mod words;
+
+pub use checking::check_run;
+use plan_base::{FileSource, StdSink};
+pub use status::{BundleFault, CheckStatus};
+use std::alloc::AllocError;
+use std::process::ExitCode;
+use std::{env, io};
+pub use words::{Files, files_of};
+
+/// The words of the command line, without the program's name. Words that aren't UTF-8 are no command.
+fn command_words(rt: &HostRuntime) -> Result<Vec<String>, CheckStatus> {
+    let args = match env::args(rt) {
+        Ok(args) => args,
+        Err(fault) if fault.kind() == io::ErrorKind::OutOfMemory => {
+            return Err(CheckStatus::NoMemory);
+        }
+        Err(_) => return Err(CheckStatus::Usage),
+    };
+    args.skip(1)
+        .collect(rt.alloc())
+        .map_err(|_| CheckStatus::NoMemory)
+}
+
+/// The run of these words over the files that they name, or over files without a name, which aren't touched.
+fn check(rt: HostRuntime, words: &[String]) -> Result<CheckStatus, AllocError> {
+    let files = files_of(words).unwrap_or(Files {
+        instance: "",
+        report: "",
+    });
+    let instance = String::from_str(rt.alloc(), files.instance)?;
+    let report = String::from_str(rt.alloc(), files.report)?;
+    let mut document = FileSource::new(rt, instance);
+    let mut bundle = FileSource::new(rt, report);
+    let mut out = StdSink::new(rt);
+    Ok(check_run(rt.alloc(), words, &mut document, &mut bundle, &mut out))
+}
+
+fn main(rt: HostRuntime) -> ExitCode {
+    let status = match command_words(&rt) {
+        Ok(words) => check(rt, words.as_slice()).unwrap_or(CheckStatus::NoMemory),
+        Err(status) => status,
+    };
+    ExitCode::from(status.number())
+}

@@ -1,7 +1,0 @@
-use Rattle.std.proofs.Common.{◌≡◌, ◌++◌, ◌∷◌, take, string_bytes}
-use Rattle.std.specs.List.{flat_map}
-use Rattle.shift_solve.specs.Report.{break_text}
-use Rattle.shift_solve.proofs.report.add_further.Given as goal
-
-abbrev pub invariant-loop-next : goal.invariant-loop-next
-invariant-loop-next l = string_bytes l.text ≡ string_bytes l.fn.text ++ flat_map (λ b. 44 ∷ break_text b) (take l.next-index l.breaks)
