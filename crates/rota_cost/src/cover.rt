@@ -1,7 +1,7 @@
 //! The running cover of a rota that grows and shrinks.
 ghost use Rattle.std.specs.Prelude.{◌≡◌, ℕ, ◌+◌, ◌*◌, ◌^◌, ◌<◌, ◌≤◌, ◌++◌, ◌∷◌, [], length, slice_index, slice_set, IfOk, if◌then◌else◌};
 ghost use Rattle.shift_instance.specs.Problem.{shift_list, slots};
-ghost use Rattle.shift_instance.specs.Rota.{cost, count_of, works};
+ghost use Rattle.shift_instance.specs.Rota.{cost, count_of, cover, works};
 ghost use Rattle.shift_instance.specs.Valid.{IsValid};
 ghost use Rattle.rota_cost.specs.Cover.{without};
 ghost use Rattle.rota_cost.specs.Counted.{changed, shift_cost, slots_cost};
@@ -200,6 +200,14 @@ impl Cover {
             self.slot_part,
         );
         self.covered = Covered::without(&self.covered, duty);
+    }
+
+    /// How many duties of the cover work in a slot. It takes no memory.
+    pub fn working(&self, t: usize) -> u32
+        requires { t < slots self.now.instance }
+        ensures { result ≡ cover self.now.instance self.now.duties t }
+    {
+        self.working[t]
     }
 
     /// What the rota of the duties costs that are in the cover. It takes no memory.

@@ -95,8 +95,8 @@ fn is_less_list(a: &[Break], b: &[Break]) -> bool
     a.len() < b.len()
 }
 
-/// Whether a row comes before another.
-fn is_before(a: &Row, b: &Row) -> bool
+/// Whether a row comes before another: by shift, then by day, then by break list. It takes no memory.
+pub fn is_before(a: &Row, b: &Row) -> bool
     ensures { result ≡ is_before a.now b.now }
 {
     a.shift < b.shift

@@ -12,7 +12,7 @@ mod tests;
 
 pub use costed::{Costed, cost_rows};
 pub use cover::Cover;
-pub use judging::legal_rows;
+pub use judging::{is_before, legal_rows};
 pub use laws::{cost_knows_no_order, costs_below_top};
 pub use recounting::recount;
 use std::error::Error;

@@ -1,0 +1,171 @@
+-- The best list of a shift on a day: the least of those that earn most.
+use Rattle.std.proofs.Common.{◌≡◌, inl, inr, ℕ, zero, suc, ◌+◌, ◌*◌, ◌≤◌, ℤ, pos, neg_ℤ, ◌+ℤ◌, ◌≤ℤ◌, ◌<ℤ◌, Bool, true, false, cond, not, Option, Some, None, List, [], ◌∷◌, refl, sym, ap, ◌∙◌, subst, arith}
+use Rattle.std.specs.Prelude.{int_lt, slice_get, MatchOption}
+use Rattle.std.specs.Option.{option_map, option_map_or}
+use Rattle.std.specs.List.{list_any, find}
+use Rattle.std.proofs.lemmas.Int.{ints}
+use Rattle.std.proofs.lemmas.Bool.{cases_Bool, false≢true}
+use Rattle.break_rules.specs.declared.Break.{Break}
+use Rattle.break_rules.specs.Sums.{int_sum_by}
+use Rattle.break_rules.proofs.Lists.{Has, any_some, any_none}
+use Rattle.break_rules.proofs.Ordered.{Sorted, IsLess}
+use Rattle.shift_instance.specs.declared.Duty.{Duty}
+use Rattle.shift_instance.specs.Problem.{Problem, slots, shift_list, below}
+use Rattle.shift_instance.specs.Rota.{lists_of, is_list_of, works}
+use Rattle.shift_instance.specs.Worth.{price_of, earned, worth, IsBest}
+use Rattle.shift_instance.proofs.Rotas.{Has-lists_of, from_lists_of}
+use Rattle.patterns.specs.declared.Pattern.{Pattern}
+use Rattle.greedy.specs.declared.bests.Best.{Best}
+use Rattle.greedy.specs.Bests.{earning, best_of}
+use Rattle.greedy.specs.Greedy.{duty, earned_with, is_greatest, best_list, day_value}
+use Rattle.greedy.specs.Sizes.{IsWithin, ArePrices}
+use Rattle.greedy.proofs.Duties.{Sorted-lists_of}
+use Rattle.greedy.proofs.Leading.{find_none}
+use Rattle.greedy.proofs.Ranges.{int_sum_more}
+use Rattle.greedy.proofs.Rounds.{lt_true, lt_false}
+
+-- in a list that is in order, an element that passes is found where none before it passes
+find_least : {X : Type 0} (R : X → X → Type 0) (p : X → Bool) (xs : List X) (x : X) → Sorted R xs → Has xs x → p x ≡ true → ((y : X) → Has xs y → p y ≡ true → R y x → ⊥) → find p xs ≡ Some x
+find_least R p [] x s m t least = absurd m
+find_least R p (y ∷ ys) x s m t least =
+    elim m [
+      | inl e ↦ ap (λ b. cond b (Some y) (find p ys)) (ap p e ∙ t) ∙ ap (λ z. Some z) e
+      | inr r ↦ elim (cases_Bool (p y)) [
+        | inl h ↦ absurd (least y (inl refl) h (s.0 x r))
+        | inr f ↦ ap (λ b. cond b (Some y) (find p ys)) f ∙ find_least R p ys x s.1 r t (λ z n. least z (inr n))
+      ]
+    ]
+
+not_true : (b : Bool) → not b ≡ true → b ≡ false
+not_true true h = absurd (false≢true h)
+not_true false h = refl
+
+-- without bonuses a duty is worth what it earns
+worth_none : (i : Problem) (prices : List ℤ) (d : Duty) → worth i prices [] d ≡ earned i prices d
+worth_none i prices d = no_more (earned i prices d)
+  where
+    no_more : (z : ℤ) → z +ℤ pos 0 ≡ z
+    no_more z = omega (arith, ints)
+
+-- a list that is the least of greatest worth is the best list
+pub best_found : (i : Problem) (prices : List ℤ) (s day : ℕ) (list : List Break) (value : ℤ) → IsBest i s day prices [] list value → (best_list i prices s day ≡ Some list) × (value ≡ earned_with i prices s day list)
+unfolding best_list
+best_found i prices s day list value b =
+    let f : List Break → ℤ = earned_with i prices s day in
+    let lists = lists_of i s in
+    let worths : List Break → ℤ = λ l. worth i prices [] (duty s day l) in
+    let is : value ≡ f list = b.is_worth ∙ worth_none i prices (duty s day list) in (
+      find_least IsLess (is_greatest i prices s day) lists list (Sorted-lists_of (slice_get (shift_list i) s)) (Has-lists_of i s list b.legal)
+          (elim (cases_Bool (list_any (λ other. int_lt (f list) (f other)) lists)) [
+            | inl t ↦
+                let other = any_some (λ other. int_lt (f list) (f other)) lists t in
+                let more : f list <ℤ f other.0 = lt_true (f list) (f other.0) other.2 in
+                let most : worths other.0 ≤ℤ value = b.greatest other.0 (from_lists_of i s other.0 other.1) in
+                let e : worths other.0 ≡ f other.0 = worth_none i prices (duty s day other.0) in
+                absurd (beyond (f list) (f other.0) (worths other.0) value more most e is)
+            | inr e ↦ ap not e
+          ])
+          (λ y m g less.
+          let none : list_any (λ other. int_lt (f y) (f other)) lists ≡ false = not_true (list_any (λ other. int_lt (f y) (f other)) lists) g in
+          let up : f list ≤ℤ f y = lt_false (f y) (f list) (any_none (λ other. int_lt (f y) (f other)) lists list none (Has-lists_of i s list b.legal)) in
+          let legal = from_lists_of i s y m in
+          let most : worths y ≤ℤ value = b.greatest y legal in
+          let e : worths y ≡ f y = worth_none i prices (duty s day y) in
+          false≢true (sym (b.least y legal (same (f list) (f y) (worths y) value up most e is)) ∙ less)),
+      is,
+    )
+  where
+    beyond : (a b w v : ℤ) → a <ℤ b → w ≤ℤ v → w ≡ b → v ≡ a → ⊥
+    beyond a b w v h m e f = omega (arith, ints)
+
+    same : (a b w v : ℤ) → a ≤ℤ b → w ≤ℤ v → w ≡ b → v ≡ a → w ≡ v
+    same a b w v h m e f = omega (arith, ints)
+
+-- and where no list is legal there is none
+pub best_missing : (i : Problem) (prices : List ℤ) (s day : ℕ) → ((list : List Break) → is_list_of i s list ≡ false) → best_list i prices s day ≡ None
+unfolding best_list
+best_missing i prices s day h = find_none (is_greatest i prices s day) (lists_of i s) (λ list m. absurd (false≢true (sym (h list) ∙ from_lists_of i s list m)))
+
+-- a list with a value
+abbrev pub best_with : List Break → ℤ → Best
+best_with list value = record { list = list; value = value }
+
+-- so it is the entry of shift and day
+pub best_of_some : (i : Problem) (prices : List ℤ) (s day : ℕ) (list : List Break) (value v : ℤ) → IsBest i s day prices [] list value → v ≡ value → Some (best_with list v) ≡ best_of i prices s day
+unfolding best_of
+best_of_some i prices s day list value v b same =
+    let f = best_found i prices s day list value b in
+    ap (λ z. Some (best_with list z)) (same ∙ f.1) ∙ sym (ap (option_map (earning i prices s day)) f.0)
+
+pub best_of_none : (i : Problem) (prices : List ℤ) (s day : ℕ) → ((list : List Break) → is_list_of i s list ≡ false) → None ≡ best_of i prices s day
+unfolding best_of
+best_of_none i prices s day h = sym (ap (option_map (earning i prices s day)) (best_missing i prices s day h))
+
+-- ---- sizes
+sum_within : (f : ℕ → ℤ) (b n : ℕ) → ((t : ℕ) → IsWithin b (f t)) → IsWithin (n * b) (int_sum_by f (below n))
+sum_within f b zero h = record { above = omega (arith, ints); below = omega (arith, ints) }
+sum_within f b (suc n) h =
+    let r = sum_within f b n h in
+    let low : neg_ℤ (pos (n * b)) ≤ℤ int_sum_by f (below n) = r.above in
+    let high : int_sum_by f (below n) ≤ℤ pos (n * b) = r.below in
+    let one : neg_ℤ (pos b) ≤ℤ f n = (h n).above in
+    let two : f n ≤ℤ pos b = (h n).below in
+    let m : int_sum_by f (below (n + 1)) ≡ int_sum_by f (below n) +ℤ f n = int_sum_more f n in
+    let e : int_sum_by f (below (suc n)) ≡ int_sum_by f (below (n + 1)) = ap (λ k. int_sum_by f (below k)) (let s : suc n ≡ n + 1 = omega arith in s) in
+    let p : suc n * b ≡ n * b + b = omega arith in
+    record { above = omega (arith, ints); below = omega (arith, ints) }
+
+widen : (a b : ℕ) (z : ℤ) → a ≤ b → IsWithin a z → IsWithin b z
+widen a b z h w =
+    let low : neg_ℤ (pos a) ≤ℤ z = w.above in
+    let high : z ≤ℤ pos a = w.below in
+    record { above = omega (arith, ints); below = omega (arith, ints) }
+
+-- what a duty earns is no more than the weight of all slots
+pub earned_small : (i : Problem) (prices : List ℤ) (d : Duty) → ArePrices i prices → IsWithin (2016 * 1000000) (earned i prices d)
+earned_small i prices d h =
+    let few : slots i ≤ 2016 = h.valid.few_slots in
+    widen (slots i * 1000000) (2016 * 1000000) (earned i prices d) (omega arith)
+    (sum_within (λ t. cond (works i d t) (price_of prices t) (pos 0)) 1000000 (slots i) (λ t. elim (works i d t) as (λ b. IsWithin 1000000 (cond b (price_of prices t) (pos 0))) [
+      | true ↦ h.small t
+      | false ↦ record { above = omega (arith, ints); below = omega (arith, ints) }
+    ]))
+
+-- the value of a best list is small
+pub found_small : (i : Problem) (prices : List ℤ) (s day : ℕ) (list : List Break) (value : ℤ) → ArePrices i prices → IsBest i s day prices [] list value → IsWithin (2016 * 1000000) value
+found_small i prices s day list value h b =
+    subst (IsWithin (2016 * 1000000)) (sym (best_found i prices s day list value b).1) (earned_small i prices (duty s day list) h)
+
+-- what holds where nothing was found
+pub none_at : {X : Type 0} {A : Type 0} (o : Option X) (B : X → Type 0) → o ≡ None → MatchOption o A B → A
+none_at {X} {A} o B e h = subst (λ o. MatchOption o A B) e h
+
+-- what was found, as a pair
+pub found_at : (i : Problem) (prices : List ℤ) (s day : ℕ) (o : Option (Pattern × ℤ)) (p : Pattern) (value : ℤ) (A : Type 0) → o ≡ Some (p, value) → MatchOption o A (λ q. IsBest i s day prices [] q.0.list q.1) → IsBest i s day prices [] p.list value
+found_at i prices s day o p value A e h = subst (λ o. MatchOption o A (λ q. IsBest i s day prices [] q.0.list q.1)) e h
+
+-- ---- the entries
+-- the value of a shift on a day, by its entry
+pub value_some : (i : Problem) (prices : List ℤ) (s day : ℕ) (best : Best) → Some best ≡ best_of i prices s day → (best_list i prices s day ≡ Some best.list) × (best.value ≡ day_value i prices s day) × (best.value ≡ earned i prices (duty s day best.list))
+unfolding best_of day_value
+value_some i prices s day best e = parts (best_list i prices s day) e
+  where
+    parts : (o : Option (List Break)) → Some best ≡ option_map (earning i prices s day) o
+        → (o ≡ Some best.list) × (best.value ≡ option_map_or (earned_with i prices s day) o (pos 0)) × (best.value ≡ earned i prices (duty s day best.list))
+    parts None h = absurd (cc)
+    parts (Some list) h =
+        let made : Best = earning i prices s day list in
+        let same : best ≡ made = (let g : Some best ≡ Some made = h in cc) in (
+          ap (λ (b : Best). Some b.list) (sym same),
+          ap (λ (b : Best). b.value) same,
+          ap (λ (b : Best). b.value) same ∙ ap (λ (b : Best). earned_with i prices s day b.list) (sym same),
+        )
+
+pub value_none : (i : Problem) (prices : List ℤ) (s day : ℕ) → None ≡ best_of i prices s day → (best_list i prices s day ≡ None) × (pos 0 ≡ day_value i prices s day)
+unfolding best_of day_value
+value_none i prices s day e = parts (best_list i prices s day) e
+  where
+    parts : (o : Option (List Break)) → None ≡ option_map (earning i prices s day) o
+        → (o ≡ None) × (pos 0 ≡ option_map_or (earned_with i prices s day) o (pos 0))
+    parts None h = (refl, refl)
+    parts (Some list) h = absurd (cc)

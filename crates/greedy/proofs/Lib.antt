@@ -1,0 +1,12 @@
+pub mod BestLists
+pub mod Duties
+pub mod Falls
+pub mod Growing
+pub mod Leading
+pub mod Lengths
+pub mod Places
+pub mod PlanRows
+pub mod Ranges
+pub mod Rounding
+pub mod Rounds
+pub mod RowSteps

@@ -1,0 +1,260 @@
+-- Steps of the rounds of the greedy plan.
+use Rattle.std.proofs.Common.{◌≡◌, inl, inr, ℕ, suc, ◌+◌, ◌-◌, ◌*◌, ◌/◌, ◌%◌, ◌<◌, ◌≤◌, ℤ, pos, neg_ℤ, ◌+ℤ◌, ◌-ℤ◌, ◌≤ℤ◌, Bool, true, false, cond, not, ◌&&◌, Option, Some, None, List, [], ◌∷◌, ◌++◌, map, filter, length, get_or, refl, sym, ap, ◌∙◌, subst, arith}
+use Rattle.std.specs.Prelude.{int_lt, nat_lt, MatchBool}
+use Rattle.std.specs.List.{list_any}
+use Rattle.std.proofs.lemmas.Int.{ints}
+use Rattle.std.proofs.lemmas.Bool.{and_parts, ltb-true, cases_lt}
+use Rattle.std.proofs.Math.Nat.{div-lt_iff_lt-mul}
+use Rattle.std.proofs.lemmas.List.{append-nil, get_or_past}
+use Rattle.std.proofs.lemmas.List.FromFn.{length-map-range_with_len, get_or-map-range_with_len}
+use Rattle.std.proofs.lemmas.Nat.{div-mul-add, mod-mul-add, mul-add-lt}
+use Rattle.break_rules.specs.declared.Break.{Break}
+use Rattle.break_rules.specs.Sums.{int_sum_by}
+use Rattle.break_rules.proofs.Lists.{from_below}
+use Rattle.shift_instance.specs.declared.Duty.{Duty}
+use Rattle.shift_instance.specs.declared.Row.{Row}
+use Rattle.shift_instance.specs.Problem.{Problem, slots, need_at, shift_list, below}
+use Rattle.shift_instance.specs.Rota.{cover, heads_on, is_used, are_legal_rows, cost, rota_of}
+use Rattle.shift_instance.specs.Valid.{IsValid}
+use Rattle.greedy.specs.declared.bests.Best.{Best}
+use Rattle.greedy.specs.Bests.{AreBests, best_of, best_at, best_lists}
+use Rattle.greedy.specs.Drafts.{Leads, LeadsToGreedy}
+use Rattle.greedy.specs.Greedy.{duty, marginal_price, marginal_prices, best_list, best_duty, day_value, value_on, is_wanted, counts, gain, first_greatest, next_shift, new_duties, greedy_after, greedy_rota, greedy_rows, rows_of}
+use Rattle.greedy.specs.Sizes.{IsWithin, ArePrices}
+use Rattle.greedy.proofs.Falls.{greedy_cheaper}
+use Rattle.greedy.proofs.Growing.{heads_before}
+use Rattle.greedy.proofs.Leading.{leads_all}
+use Rattle.greedy.proofs.PlanRows.{rows_legal, rota_costs}
+use Rattle.greedy.proofs.Ranges.{int_sum_more, map_more, map_push, filter_more}
+use Rattle.greedy.proofs.Rounds.{used_is, find_some, round_some, round_none, greedy_legal}
+
+-- ---- prices and entries
+-- a marginal price is no larger than a weight
+price_small : (i : Problem) (t c : ℕ) → IsValid i → IsWithin 1000000 (marginal_price i t c)
+price_small i t c valid =
+    let a : i.excess ≤ 1000000 = valid.excess in
+    let b : i.shortage ≤ 1000000 = valid.shortage in
+    elim (nat_lt c (need_at i t)) as (λ b. IsWithin 1000000 (cond b (pos i.shortage) (neg_ℤ (pos i.excess)))) [
+      | true ↦ record { above = omega (arith, ints); below = omega (arith, ints) }
+      | false ↦ record { above = omega (arith, ints); below = omega (arith, ints) }
+    ]
+
+pub prices_small : (i : Problem) (rota : List Duty) (prices : List ℤ) → IsValid i → prices ≡ marginal_prices i rota → ArePrices i prices
+unfolding marginal_prices
+prices_small i rota prices valid e =
+    let f : ℕ → ℤ = λ t. marginal_price i t (cover i rota t) in
+    let n : length (map f (below (slots i))) ≡ slots i = length-map-range_with_len f 0 (slots i) in
+    record {
+      valid = valid;
+      all_slots = ap (λ (ps : List ℤ). length ps) e ∙ n;
+      small = λ t. subst (λ (ps : List ℤ). IsWithin 1000000 (get_or ps t (pos 0))) (sym e) (elim (cases_lt t (slots i)) [
+        | inl l ↦ subst (IsWithin 1000000) (sym (get_or-map-range_with_len f 0 (slots i) t t (pos 0) l (omega arith))) (price_small i t (cover i rota t) valid)
+        | inr g ↦ subst (IsWithin 1000000) (sym (get_or_past (map f (below (slots i))) t (pos 0) (omega arith))) (record { above = omega (arith, ints); below = omega (arith, ints) })
+      ]);
+    }
+
+-- there is an entry for each shift and day
+pub entries_all : (i : Problem) (prices : List ℤ) (entries : List (Option Best)) → AreBests i prices entries → length entries ≡ length (shift_list i) * i.days
+unfolding best_lists
+entries_all i prices entries h = ap (λ (es : List (Option Best)). length es) h.all ∙ length-map-range_with_len (best_at i prices) 0 (length (shift_list i) * i.days)
+
+pub entry_is : (i : Problem) (prices : List ℤ) (entries : List (Option Best)) (s day at : ℕ) (v : Option Best) → AreBests i prices entries → s < length (shift_list i) → day < i.days → at ≡ s * i.days + day → v ≡ get_or entries at v → v ≡ best_of i prices s day
+unfolding best_lists
+entry_is i prices entries s day at v h hs hd e read =
+    let small : s * i.days + day < i.days * length (shift_list i) = mul-add-lt s i.days day (length (shift_list i)) hs hd in
+    read ∙ ap (λ es. get_or es at v) h.all
+    ∙ get_or-map-range_with_len (best_at i prices) 0 (length (shift_list i) * i.days) at at v (omega arith) (omega arith)
+    ∙ ap (best_at i prices) e
+    ∙ ap (λ k. best_of i prices k ((s * i.days + day) % i.days)) (div-mul-add s i.days day hd)
+    ∙ ap (best_of i prices s) (mod-mul-add s i.days day hd)
+
+pub entries_done : (i : Problem) (prices : List ℤ) (entries : List (Option Best)) (n : ℕ) → entries ≡ map (best_at i prices) (below n) → n ≡ length (shift_list i) * i.days → entries ≡ best_lists i prices
+unfolding best_lists
+entries_done i prices entries n h e = h ∙ ap (λ k. map (best_at i prices) (below k)) e
+
+-- ---- gains
+pub counts_is : (i : Problem) (rota : List Duty) (prices : List ℤ) (s day n : ℕ) (v : ℤ) (b : Bool) → b ≡ is_wanted i n v → n ≡ heads_on rota s day → v ≡ day_value i prices s day → prices ≡ marginal_prices i rota → counts i rota s day ≡ b
+unfolding counts
+counts_is i rota prices s day n v b h en ev ep =
+    sym (h ∙ ap (λ k. is_wanted i k v) en ∙ ap (is_wanted i (heads_on rota s day)) (ev ∙ ap (λ p. day_value i p s day) ep))
+
+-- the gain over the days so far, with one more day
+pub gain_more : (i : Problem) (rota : List Duty) (prices : List ℤ) (s day : ℕ) (gain v w : ℤ) (b : Bool)
+    → gain ≡ int_sum_by (λ day. cond (counts i rota s day) (value_on i rota s day) (pos 0)) (below day)
+    → counts i rota s day ≡ b → v ≡ day_value i prices s day → prices ≡ marginal_prices i rota → w ≡ gain +ℤ cond b v (pos 0)
+    → w ≡ int_sum_by (λ day. cond (counts i rota s day) (value_on i rota s day) (pos 0)) (below (day + 1))
+gain_more i rota prices s day gain v w b h eb ev ep ew =
+    let f : ℕ → ℤ = λ day. cond (counts i rota s day) (value_on i rota s day) (pos 0) in
+    ew ∙ ap (λ z. z +ℤ cond b v (pos 0)) h ∙ ap (λ z. int_sum_by f (below day) +ℤ cond b z (pos 0)) (ev ∙ ap (λ p. day_value i p s day) ep)
+    ∙ ap (λ c. int_sum_by f (below day) +ℤ cond c (value_on i rota s day) (pos 0)) (sym eb) ∙ sym (int_sum_more f day)
+
+pub within_more : (day b : ℕ) (gain v : ℤ) → IsWithin (day * b) gain → IsWithin b v → IsWithin ((day + 1) * b) (gain +ℤ v)
+within_more day b gain v g w =
+    let a : neg_ℤ (pos (day * b)) ≤ℤ gain = g.above in
+    let c : gain ≤ℤ pos (day * b) = g.below in
+    let d : neg_ℤ (pos b) ≤ℤ v = w.above in
+    let e : v ≤ℤ pos b = w.below in
+    let m : (day + 1) * b ≡ day * b + b = omega arith in
+    record { above = omega (arith, ints); below = omega (arith, ints) }
+
+pub within_same : (day b : ℕ) (gain : ℤ) → IsWithin (day * b) gain → IsWithin ((day + 1) * b) gain
+within_same day b gain g =
+    let a : neg_ℤ (pos (day * b)) ≤ℤ gain = g.above in
+    let c : gain ≤ℤ pos (day * b) = g.below in
+    let m : (day + 1) * b ≡ day * b + b = omega arith in
+    record { above = omega (arith, ints); below = omega (arith, ints) }
+
+-- the gain over all days
+pub gain_all : (i : Problem) (rota : List Duty) (s n : ℕ) (g w : ℤ) (b : Bool)
+    → g ≡ int_sum_by (λ day. cond (counts i rota s day) (value_on i rota s day) (pos 0)) (below n) → n ≡ i.days
+    → b ≡ is_used rota s → w ≡ g -ℤ cond b (pos 0) (pos i.shift)
+    → w ≡ gain i rota s
+unfolding gain
+gain_all i rota s n g w b h en eb ew =
+    let f : ℕ → ℤ = λ day. cond (counts i rota s day) (value_on i rota s day) (pos 0) in
+    ew ∙ ap (λ z. z -ℤ cond b (pos 0) (pos i.shift)) (h ∙ ap (λ k. int_sum_by f (below k)) en)
+    ∙ ap (λ c. int_sum_by f (below i.days) -ℤ cond c (pos 0) (pos i.shift)) eb
+
+-- what leads all shifts is the next shift
+pub next_all : (i : Problem) (rota : List Duty) (n : ℕ) (best : Option ℕ) (top : ℤ) → Leads (gain i rota) n best top → n ≡ length (shift_list i) → best ≡ next_shift i rota
+unfolding next_shift
+next_all i rota n best top h e = leads_all (gain i rota) n best top h ∙ ap (first_greatest (gain i rota)) e
+
+-- the shift that a round takes is in the shift list
+pub taken_below : (i : Problem) (rota : List Duty) (s : ℕ) → Some s ≡ next_shift i rota → s < length (shift_list i)
+unfolding next_shift
+taken_below i rota s e =
+    let f = gain i rota in
+    let n = length (shift_list i) in
+    from_below n s (find_some (λ s. int_lt (pos 0) (f s) && not (list_any (λ k. int_lt (f s) (f k)) (below n))) (below n) s (sym e)).0
+
+-- ---- new duties
+-- the duties of the days so far, with one more day
+pub duties_more : (i : Problem) (rota now next : List Duty) (prices : List ℤ) (s day : ℕ) → prices ≡ marginal_prices i rota
+    → now ≡ rota ++ map (best_duty i prices s) (filter (counts i rota s) (below day))
+    → next ≡ now ++ cond (is_wanted i (heads_on now s day) (day_value i prices s day)) (best_duty i prices s day ∷ []) []
+    → next ≡ rota ++ map (best_duty i prices s) (filter (counts i rota s) (below (day + 1)))
+unfolding counts
+duties_more i rota now next prices s day ep h e =
+    let of = best_duty i prices s in
+    let p = counts i rota s in
+    let done = map of (filter p (below day)) in
+    let heads : heads_on now s day ≡ heads_on rota s day = ap (λ ds. heads_on ds s day) h ∙ heads_before rota s day p (λ day. (of day).breaks) in
+    let test : is_wanted i (heads_on now s day) (day_value i prices s day) ≡ p day =
+    ap (λ n. is_wanted i n (day_value i prices s day)) heads ∙ ap (λ ps. is_wanted i (heads_on rota s day) (day_value i ps s day)) ep in
+    e ∙ ap (λ b. now ++ cond b (of day ∷ []) []) test
+    ∙ ap (λ zs. zs ++ cond (p day) (of day ∷ []) []) h
+    ∙ join (p day) rota done (of day)
+    ∙ ap (λ zs. rota ++ zs) (sym (ap (map of) (filter_more p day) ∙ last (p day) (filter p (below day))))
+  where
+    assoc : (xs ys zs : List Duty) → (xs ++ ys) ++ zs ≡ xs ++ (ys ++ zs)
+    assoc [] ys zs = refl
+    assoc (x ∷ xs) ys zs = ap (λ ws. x ∷ ws) (assoc xs ys zs)
+
+    join : (b : Bool) (xs ys : List Duty) (d : Duty) → (xs ++ ys) ++ cond b (d ∷ []) [] ≡ xs ++ (ys ++ cond b (d ∷ []) [])
+    join b xs ys d = assoc xs ys (cond b (d ∷ []) [])
+
+    last : (b : Bool) (days : List ℕ) → map (best_duty i prices s) (days ++ cond b (day ∷ []) []) ≡ map (best_duty i prices s) days ++ cond b (best_duty i prices s day ∷ []) []
+    last true days = map_push (best_duty i prices s) days day
+    last false days = ap (map (best_duty i prices s)) (append-nil days) ∙ sym (append-nil (map (best_duty i prices s) days))
+
+pub duties_all : (i : Problem) (rota now : List Duty) (prices : List ℤ) (s day : ℕ) → prices ≡ marginal_prices i rota
+    → now ≡ rota ++ map (best_duty i prices s) (filter (counts i rota s) (below day)) → day ≡ i.days → now ≡ rota ++ new_duties i rota s
+unfolding new_duties
+duties_all i rota now prices s day ep h e =
+    h ∙ ap (λ n. rota ++ map (best_duty i prices s) (filter (counts i rota s) (below n))) e
+    ∙ ap (λ ps. rota ++ map (best_duty i ps s) (filter (counts i rota s) (below i.days))) ep
+
+-- a day that counts has room
+pub wanted_room : (i : Problem) (rota : List Duty) (s day n : ℕ) (v : ℤ) (b : Bool) → b ≡ is_wanted i n v → b ≡ true → n ≡ heads_on rota s day → heads_on rota s day < i.heads
+wanted_room i rota s day n v b h t e =
+    let r : n < i.heads = ltb-true n i.heads (and_parts (nat_lt n i.heads) (int_lt (pos 0) v) (sym h ∙ t)).0 in
+    omega arith
+
+-- a day that counts has a new duty
+pub day_added : (i : Problem) (prices : List ℤ) (s day n : ℕ) (v : ℤ) (b : Bool) (list : List Break) (old new : List Duty) → b ≡ is_wanted i n v → b ≡ true → n ≡ heads_on old s day → v ≡ day_value i prices s day
+    → best_list i prices s day ≡ Some list → new ≡ old ++ duty s day list ∷ []
+    → new ≡ old ++ cond (is_wanted i (heads_on old s day) (day_value i prices s day)) (best_duty i prices s day ∷ []) []
+day_added i prices s day n v b list old new h t en ev best e =
+    e ∙ ap (λ l. old ++ duty s day l ∷ []) (sym (used_is i prices s day list best))
+    ∙ ap (λ c. old ++ cond c (best_duty i prices s day ∷ []) []) (sym (sym (h ∙ ap (λ k. is_wanted i k v) en ∙ ap (is_wanted i (heads_on old s day)) ev) ∙ t))
+
+-- another day has none
+pub day_left : (i : Problem) (prices : List ℤ) (s day n : ℕ) (v : ℤ) (b : Bool) (old new : List Duty) → b ≡ is_wanted i n v → b ≡ false → n ≡ heads_on old s day → v ≡ day_value i prices s day → new ≡ old
+    → new ≡ old ++ cond (is_wanted i (heads_on old s day) (day_value i prices s day)) (best_duty i prices s day ∷ []) []
+day_left i prices s day n v b old new h f en ev e =
+    e ∙ sym (append-nil old)
+    ∙ ap (λ c. old ++ cond c (best_duty i prices s day ∷ []) []) (sym (sym (h ∙ ap (λ k. is_wanted i k v) en ∙ ap (is_wanted i (heads_on old s day)) ev) ∙ f))
+
+-- without a legal list no day counts
+pub not_wanted : (i : Problem) (prices : List ℤ) (s day n : ℕ) (v : ℤ) (b : Bool) → b ≡ is_wanted i n v → v ≡ day_value i prices s day → pos 0 ≡ day_value i prices s day → b ≡ false
+not_wanted i prices s day n v b h ev none = h ∙ ap (is_wanted i n) (ev ∙ sym none) ∙ and_no (nat_lt n i.heads)
+  where
+    and_no : (b : Bool) → (b && false) ≡ false
+    and_no true = refl
+    and_no false = refl
+
+-- the entries so far, with one more
+pub entries_more : (i : Problem) (prices : List ℤ) (entries more : List (Option Best)) (v : Option Best) (k s day : ℕ) → entries ≡ map (best_at i prices) (below k) → more ≡ entries ++ v ∷ [] → v ≡ best_of i prices s day → s ≡ k / i.days → day ≡ k % i.days
+    → more ≡ map (best_at i prices) (below (k + 1))
+entries_more i prices entries more v k s day h e ev es ed =
+    e ∙ ap (λ zs. zs ++ v ∷ []) h
+    ∙ ap (λ z. map (best_at i prices) (below k) ++ z ∷ []) (ev ∙ ap (λ n. best_of i prices n day) es ∙ ap (best_of i prices (k / i.days)) ed)
+    ∙ sym (map_more (best_at i prices) k)
+
+pub place_shift : (k n d : ℕ) → k < n * d → 0 < d → k / d < n
+place_shift k n d h some = (div-lt_iff_lt-mul some).1 h
+
+-- ---- rounds
+pub opening_leads : (i : Problem) (n : ℕ) (rota : List Duty) → rota ≡ [] → n ≡ length (shift_list i) * i.days * i.heads → LeadsToGreedy i n rota
+unfolding greedy_rota
+opening_leads i n rota none e = ap (λ k. greedy_after i k rota) e ∙ ap (greedy_after i (length (shift_list i) * i.days * i.heads)) none
+
+-- a round that finds no shift to take leaves the greedy plan
+pub round_ends : (i : Problem) (rounds : ℕ) (rota : List Duty) → None ≡ next_shift i rota → LeadsToGreedy i (rounds + 1) rota → LeadsToGreedy i 0 rota
+unfolding greedy_after
+round_ends i rounds rota e h = sym (round_none i (rounds + 1) rota (sym e)) ∙ h
+
+-- a round that takes a shift leaves one round less
+pub round_goes_on : (i : Problem) (rounds s : ℕ) (rota next : List Duty) → Some s ≡ next_shift i rota → next ≡ rota ++ new_duties i rota s → LeadsToGreedy i (rounds + 1) rota → LeadsToGreedy i rounds next
+round_goes_on i rounds s rota next e step h =
+    let one : rounds + 1 ≡ suc rounds = omega arith in
+    ap (greedy_after i rounds) step ∙ sym (round_some i rounds rota s (sym e)) ∙ ap (λ k. greedy_after i k rota) (sym one) ∙ h
+
+-- the round that finds no shift to take
+pub last_round : (i : Problem) (n k : ℕ) (rota next : List Duty) (more : Bool) → k < n → more ≡ false
+    → ((rounds : ℕ) → LeadsToGreedy i (rounds + 1) rota → MatchBool more (LeadsToGreedy i rounds next) (LeadsToGreedy i 0 next))
+    → LeadsToGreedy i (n - k) rota → LeadsToGreedy i 0 next
+last_round i n k rota next more l e step h =
+    let one : n - k ≡ n - k - 1 + 1 = omega arith in
+    subst (λ b. MatchBool b (LeadsToGreedy i (n - k - 1) next) (LeadsToGreedy i 0 next)) e
+    (step (n - k - 1) (subst (λ (r : ℕ). LeadsToGreedy i r rota) one h))
+
+-- a round that takes one
+pub next_round : (i : Problem) (n k : ℕ) (rota next : List Duty) (more : Bool) → k < n → more ≡ true
+    → ((rounds : ℕ) → LeadsToGreedy i (rounds + 1) rota → MatchBool more (LeadsToGreedy i rounds next) (LeadsToGreedy i 0 next))
+    → LeadsToGreedy i (n - k) rota → LeadsToGreedy i (n - (k + 1)) next
+next_round i n k rota next more l e step h =
+    let one : n - k ≡ n - (k + 1) + 1 = omega arith in
+    subst (λ b. MatchBool b (LeadsToGreedy i (n - (k + 1)) next) (LeadsToGreedy i 0 next)) e
+    (step (n - (k + 1)) (subst (λ (r : ℕ). LeadsToGreedy i r rota) one h))
+
+-- no round is ahead when all are made
+pub rounds_done : (i : Problem) (n k : ℕ) (rota : List Duty) → n ≤ k → LeadsToGreedy i (n - k) rota → LeadsToGreedy i 0 rota
+rounds_done i n k rota l h = let none : n - k ≡ 0 = omega arith in subst (λ (r : ℕ). LeadsToGreedy i r rota) none h
+
+-- ---- the plan
+pub plan_rows : (i : Problem) (rota : List Duty) (rows : List Row) → LeadsToGreedy i 0 rota → rows ≡ rows_of i rota → rows ≡ greedy_rows i
+unfolding greedy_rows greedy_after
+plan_rows i rota rows h e = e ∙ ap (rows_of i) h
+
+pub plan_legal : (i : Problem) (rows : List Row) → rows ≡ greedy_rows i → are_legal_rows i rows ≡ true
+unfolding greedy_rows
+plan_legal i rows e = ap (are_legal_rows i) e ∙ rows_legal i (greedy_rota i) (greedy_legal i)
+
+pub plan_cheaper : (i : Problem) (rows : List Row) → IsValid i → rows ≡ greedy_rows i → cost i (rota_of rows) ≤ cost i []
+unfolding greedy_rows
+plan_cheaper i rows valid e =
+    let same : cost i (rota_of rows) ≡ cost i (greedy_rota i) = ap (λ zs. cost i (rota_of zs)) e ∙ rota_costs i (greedy_rota i) (greedy_legal i) in
+    let l : cost i (greedy_rota i) ≤ cost i [] = greedy_cheaper i valid in
+    omega arith

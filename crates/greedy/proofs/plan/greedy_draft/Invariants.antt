@@ -1,0 +1,9 @@
+use Rattle.std.proofs.Common.{◌-◌}
+use Rattle.greedy.specs.Drafts.{IsDraft, LeadsToGreedy}
+use Rattle.greedy.proofs.plan.greedy_draft.Given as goal
+
+abbrev pub invariant-rounds : goal.invariant-rounds
+invariant-rounds l = record {
+  draft : IsDraft l.instance l.draft.cover l.draft.heads.items l.draft.rows.items;
+  leads : LeadsToGreedy l.instance (l.most - l._round) l.draft.cover.duties;
+}
