@@ -28,7 +28,7 @@ pub enum Unread {
 /// The instance of the document that a source gives up to its end.
 ///
 /// `Refused` comes exactly where the bytes are refused as a document, `ReadFault` only where a fault of the source was
-/// counted. No more than `INSTANCE_MAX` bytes and one piece are read.
+/// counted. `NoMemory` may come at any point.
 pub fn read_instance<S: Source>(alloc: Global, input: &mut S) -> Result<Instance, Unread>
     ensures ok { IfOk result (IsReadAs (S.left input.old)) }
     ensures end { OnOk result (IsAtEnd (S.left input.new)) }

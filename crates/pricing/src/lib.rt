@@ -9,6 +9,4 @@ mod table;
 #[cfg(test)]
 mod tests;
 
-pub use rests::BestRests;
 pub use search::best_pattern;
-pub use table::Choice;

@@ -215,7 +215,9 @@ fn best_list(
 }
 
 /// The least legal break list of greatest reduced value of a shift on a day, with that value: the prices of the slots in
-/// which a duty with it works, and the numbers of the bonuses with whose prefix it begins. `None` where no list is legal.
+/// which a duty with it works, and the numbers of the bonuses with whose prefix it begins. Of lists of one value the least
+/// in the order of lists is meant (break by break, a proper prefix first). `None` where no list is legal. There is a price
+/// for each slot of the planning period, of at most 10^10 in size, and a bonus is at most 10^12 in size.
 pub fn best_pattern(
     alloc: Global,
     instance: &Instance,

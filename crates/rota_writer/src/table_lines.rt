@@ -147,10 +147,12 @@ fn add_row(text: &mut String, instance: &Instance, row: &Row) -> Result<(), NoMe
     add_line(text, instance, shift, row)
 }
 
-/// The table of legal rows, as bytes: for each row one line `# day DAY HH:MM-HH:MM xCOUNT NAME BREAKS`.
+/// The table of legal rows, as bytes: for each row, in the order of the rows, one line
+/// `# day DAY HH:MM-HH:MM xCOUNT NAME BREAKS` with its line feed.
 ///
 /// DAY is the day on which the shift starts, counted from 1, and the times are those of the shift's beginning and end.
-/// BREAKS is `-` where there are none, else their beginnings and ends in the same form, joined by commas.
+/// BREAKS is `-` where there are none, else their beginnings and ends in the same form, joined by commas. Times are those of a
+/// clock: midnight is `00:00`, also as an end.
 pub fn table(alloc: Global, instance: &Instance, rows: &Rows) -> Result<Vec<u8>, NoMemory>
     requires { IsTrue (are_legal_rows instance.now rows.now) }
     ensures { IfOk result (λ text. text.items ≡ table_text instance.now rows.now) }

@@ -120,7 +120,8 @@ impl<D: Disk> Book<D> {
     /// where the disk failed. After `Full` and `DiskFault` the book's posts are as before, and it is shut.
     pub fn post(&mut self, rows: Rows) -> Result<Kept, CommitFault>
         requires { IsTrue (are_legal_rows self.old.instance rows) }
-        ensures { MatchResult result (Posts D.calls self.old self.new rows) (PostFails D.faults self.old self.new rows) }
+        ensures posted { MatchResult result (Posts D.calls self.old self.new rows) (PostFails D.faults self.old self.new rows) }
+        ensures open { IfOk result (λ _. self.old.shut ≡ None) }
     {
         if self.shut.is_some() {
             return Err(CommitFault::Shut);

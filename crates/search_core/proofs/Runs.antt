@@ -12,7 +12,7 @@ use Rattle.post_codec.specs.declared.post.Post.TheVariants.{Plan, Priced, Split,
 use Rattle.search_core.specs.declared.event.Event.{Event}
 use Rattle.search_core.specs.declared.event.Event.TheVariants.{Take, Commit, Yield, Crash}
 use Rattle.search_core.specs.Book.{Book, opening, is_open, is_node_and, priced, divided, settled, is_better, step, book_after, book_of}
-use Rattle.search_core.specs.Core.{Core, start, empty_hands, hand, is_node, is_of, may_take, may_commit, happens, run, HoldsApart, IsSoundCore, IsFront}
+use Rattle.search_core.specs.Core.{Core, start, empty_hands, hand, is_node, is_of, may_take, may_commit, happens, run, AreApart, HoldsApart, IsSoundCore, IsFront}
 use Rattle.search_core.proofs.Sound.{cond_some, bind_some, at_node_some, fold_sound}
 use Rattle.head_splits.specs.Nodes.{Node}
 use Rattle.head_splits.proofs.Nodes.{Has-slice_get}
@@ -55,6 +55,33 @@ no_hand : (n w x : ℕ) → hand (replicate n None) w ≡ Some x → ⊥
 no_hand zero w x e = cc
 no_hand (suc n) zero x e = cc
 no_hand (suc n) (suc w) x e = no_hand n w x e
+
+-- hands stay apart where one is emptied, and where one takes a node that is in no hand
+pub empty_apart : AreApart empty_hands
+empty_apart = λ v w x p q. absurd (no_hand 16 v x p)
+
+pub emptied_apart : (hands : List (Option ℕ)) (w : ℕ) → AreApart hands → AreApart (set hands w None)
+emptied_apart hands w h u v x p q =
+    elim (hand_set hands w u None x p) [
+      | inl a ↦ absurd (cc (a.1))
+      | inr a ↦ elim (hand_set hands w v None x q) [ inl c ↦ absurd (cc (c.1)) | inr c ↦ h u v x a.1 c.1 ]
+    ]
+
+in_no_hand : (hands : List (Option ℕ)) (k v : ℕ) → list_any (is_node k) hands ≡ false → hand hands v ≡ Some k → ⊥
+in_no_hand hands k v free q = false≢true (sym (any_none (is_node k) hands (Some k) free (Has-slice_get hands v (Some k) (hand_some hands v k q))) ∙ eq-eqb k k refl)
+
+pub taken_apart : (hands : List (Option ℕ)) (w k : ℕ) → AreApart hands → list_any (is_node k) hands ≡ false → AreApart (set hands w (Some k))
+taken_apart hands w k h free u v x p q =
+    elim (hand_set hands w u (Some k) x p) [
+      | inl a ↦ elim (hand_set hands w v (Some k) x q) [
+        | inl f ↦ a.0 ∙ sym f.0
+        | inr f ↦ let e : x ≡ k = cc (a.1) in absurd (in_no_hand hands k v free (subst (λ z. hand hands v ≡ Some z) e f.1))
+      ]
+      | inr a ↦ elim (hand_set hands w v (Some k) x q) [
+        | inl f ↦ let e : x ≡ k = cc (f.1) in absurd (in_no_hand hands k u free (subst (λ z. hand hands u ≡ Some z) e a.1))
+        | inr f ↦ h u v x a.1 f.1
+      ]
+    ]
 
 -- ---- nodes that are unsplit
 
@@ -130,11 +157,7 @@ open_unsplit b k h =
 
 dropped : (b : Book) (hands : List (Option ℕ)) (w : ℕ) → HoldsApart b hands → HoldsApart b (set hands w None)
 dropped b hands w h = record {
-  distinct = λ u v x p q.
-      elim (hand_set hands w u None x p) [
-        | inl a ↦ absurd (cc (a.1))
-        | inr a ↦ elim (hand_set hands w v None x q) [ inl c ↦ absurd (cc (c.1)) | inr c ↦ h.distinct u v x a.1 c.1 ]
-      ];
+  distinct = emptied_apart hands w h.distinct;
   unsplit = λ v x p. elim (hand_set hands w v None x p) [ inl a ↦ absurd (cc (a.1)) | inr a ↦ h.unsplit v x a.1 ];
 }
 
@@ -146,24 +169,12 @@ event_sound i c d (Take w k) s e =
     let free : list_any (is_node k) c.hands ≡ false = not-true (list_any (is_node k) c.hands) p3.1 in
     let b = book_some (λ b. is_node_and b k (is_open b)) (book_of i c.history) p2.1 in
     let same : b.0 ≡ s.book = cc (b.1, s.folds) in
-    let fresh : (v : ℕ) → hand c.hands v ≡ Some k → ⊥ = λ v q.
-    false≢true (sym (any_none (is_node k) c.hands (Some k) free (Has-slice_get c.hands v (Some k) (hand_some c.hands v k q))) ∙ eq-eqb k k refl) in
     subst (IsSoundCore i) r.1 (record {
       book = s.book;
       folds = s.folds;
       sound = s.sound;
       hands = record {
-        distinct = λ u v x p q.
-            elim (hand_set c.hands w u (Some k) x p) [
-              | inl a ↦ elim (hand_set c.hands w v (Some k) x q) [
-                | inl f ↦ a.0 ∙ sym f.0
-                | inr f ↦ let e : x ≡ k = cc (a.1) in absurd (fresh v (subst (λ z. hand c.hands v ≡ Some z) e f.1))
-              ]
-              | inr a ↦ elim (hand_set c.hands w v (Some k) x q) [
-                | inl f ↦ let e : x ≡ k = cc (f.1) in absurd (fresh u (subst (λ z. hand c.hands u ≡ Some z) e a.1))
-                | inr f ↦ s.hands.distinct u v x a.1 f.1
-              ]
-            ];
+        distinct = taken_apart c.hands w k s.hands.distinct free;
         unsplit = λ v x p.
             elim (hand_set c.hands w v (Some k) x p) [
               | inl a ↦ let e : k ≡ x = cc (a.1) in subst (λ z. is_unsplit s.book z ≡ true) e (open_unsplit s.book k (subst (λ z. is_node_and z k (is_open z) ≡ true) same b.2))

@@ -75,9 +75,13 @@ abbrev pub run : Problem → Core → List Event → Option Core
 run i c [] = Some c
 run i c (event ∷ events) = option_and_then (λ next. run i next events) (happens i c event)
 
+-- no node is in two hands
+abbrev pub AreApart : List (Option ℕ) → Type 0
+AreApart hands = (v w x : ℕ) → hand hands v ≡ Some x → hand hands w ≡ Some x → v ≡ w
+
 -- the nodes in the hands are distinct, and unsplit nodes of the book
 pub record HoldsApart (b : Book) (hands : List (Option ℕ)) : Type 0 where
-  pub distinct : (v w x : ℕ) → hand hands v ≡ Some x → hand hands w ≡ Some x → v ≡ w
+  pub distinct : AreApart hands
   pub unsplit : (w x : ℕ) → hand hands w ≡ Some x → IsTrue (is_node_and b x (λ n. not n.split))
 
 -- the history folds to a sound book, and the hands hold distinct unsplit nodes of it

@@ -3,6 +3,7 @@
 
 mod event;
 mod fault;
+mod hands;
 mod judging;
 pub mod laws;
 mod outline;
@@ -13,6 +14,7 @@ mod tests;
 
 pub use event::Event;
 pub use fault::StepFault;
+pub use hands::Hands;
 pub use outline::NodeState;
 pub use posts::Posts;
 pub use state::State;

@@ -147,6 +147,7 @@ impl State {
     /// The nodes, by number.
     pub fn nodes(&self) -> &[NodeState]
         ensures nodes { result.now ≡ map state_of self.now.book.nodes }
+        ensures count { length result.now ≡ length self.now.book.nodes }
         ensures sound { IsSound self.now.instance self.now.book }
     {
         self.outline.nodes()

@@ -1,4 +1,4 @@
-use crate::{State, StepFault};
+use crate::{Hands, State, StepFault};
 use break_rules::{Breaks, Rule};
 use head_splits::{Class, Side};
 use shift_instance::{Instance, Parts, Row, Rows, TypeParts};
@@ -88,46 +88,94 @@ fn refusal(answer: &Result<(), StepFault>) -> u8 {
     }
 }
 
+/// What a state answers to a plan at its beginning: the refusal, what its best rota costs then, and of how many rows it is.
+fn plan_answer(
+    alloc: Global,
+    instance: &Instance,
+    rows: Rows,
+    cost: u64,
+) -> Result<(u8, u64, usize), Fail> {
+    let mut state = State::new(alloc, instance)?;
+    let answer = refusal(&state.step_plan(instance, 0, rows, cost));
+    Ok((answer, state.cost(), state.best().len()))
+}
+
 #[test]
 fn better_plans_are_stepped(rt: HostRuntime) -> Result<(), Fail> {
     let alloc = rt.alloc();
     let instance = one_shift(alloc)?;
-    for (count, cost, number) in [(2, 3, 1), (1, 4, 2), (1, 2, 2), (1, 3, 0)] {
-        let mut state = State::new(alloc, &instance)?;
-        let answer = state.step_plan(&instance, 0, duties(alloc, count)?, cost);
-        assert_eq!(rt; refusal(&answer), number);
-        let kept = number == 0;
-        assert_eq!(rt; state.cost(), if kept { 3 } else { 8 });
-        assert_eq!(rt; state.best().len(), usize::from(kept));
+    for (count, cost, answer) in [
+        (2, 3, (1, 8, 0)),
+        (1, 4, (2, 8, 0)),
+        (1, 2, (2, 8, 0)),
+        (1, 3, (0, 3, 1)),
+    ] {
+        let rows = duties(alloc, count)?;
+        assert_eq!(rt; plan_answer(alloc, &instance, rows, cost)?, answer);
     }
-    let mut state = State::new(alloc, &instance)?;
-    let answer = state.step_plan(&instance, 0, Rows::new(Vec::new(alloc)), 8);
-    assert_eq!(rt; refusal(&answer), 3);
+    let rows = Rows::new(Vec::new(alloc));
+    assert_eq!(rt; plan_answer(alloc, &instance, rows, 8)?, (3, 8, 0));
     Ok(())
+}
+
+/// What a state answers to a split at its beginning: the refusal, and how many nodes it has then.
+fn split_answer(
+    alloc: Global,
+    instance: &Instance,
+    node: u32,
+    class: Class,
+    m: u16,
+) -> Result<(u8, usize), Fail> {
+    let mut state = State::new(alloc, instance)?;
+    let answer = refusal(&state.step_split(instance, 0, node, class, m));
+    Ok((answer, state.nodes().len()))
 }
 
 #[test]
 fn open_nodes_are_split(rt: HostRuntime) -> Result<(), Fail> {
     let alloc = rt.alloc();
     let instance = one_shift(alloc)?;
-    for (node, shift, day, m, number) in [
-        (1, 0, 0, 0, 4),
-        (0, 1, 0, 0, 7),
-        (0, 0, 1, 0, 7),
-        (0, 0, 0, 1, 8),
+    for (node, shift, day, m, answer) in [
+        (1, 0, 0, 0, (4, 1)),
+        (0, 1, 0, 0, (7, 1)),
+        (0, 0, 1, 0, (7, 1)),
+        (0, 0, 0, 1, (8, 1)),
+        (0, 0, 0, 0, (0, 3)),
     ] {
-        let mut state = State::new(alloc, &instance)?;
-        let answer = state.step_split(&instance, 0, node, class(alloc, shift, day), m);
-        assert_eq!(rt; refusal(&answer), number);
+        let class = class(alloc, shift, day);
+        assert_eq!(rt; split_answer(alloc, &instance, node, class, m)?, answer);
     }
-    let mut state = State::new(alloc, &instance)?;
-    let answer = state.step_split(&instance, 0, 0, class(alloc, 0, 0), 0);
-    assert_eq!(rt; refusal(&answer), 0);
-    let answer = state.step_split(&instance, 0, 0, class(alloc, 0, 0), 0);
-    assert_eq!(rt; refusal(&answer), 5);
-    assert_eq!(rt; (state.nodes().len(), state.history().len()), (3, 1));
+    Ok(())
+}
+
+/// A state whose first node was split, and the refusal of the same split again.
+fn split_twice(alloc: Global, instance: &Instance) -> Result<(State, u8), Fail> {
+    let mut state = State::new(alloc, instance)?;
+    let _first = state.step_split(instance, 0, 0, class(alloc, 0, 0), 0);
+    let again = refusal(&state.step_split(instance, 0, 0, class(alloc, 0, 0), 0));
+    Ok((state, again))
+}
+
+#[test]
+fn parts_have_their_cuts(rt: HostRuntime) -> Result<(), Fail> {
+    let alloc = rt.alloc();
+    let (state, again) = split_twice(alloc, &one_shift(alloc)?)?;
+    assert_eq!(rt; (again, state.history().len()), (5, 1));
+    assert!(rt; state.nodes().len() == 3);
     let cut = state.cuts_of(2)?.into_vec().pop().ok_or("no cut")?;
     assert_eq!(rt; (cut.side, cut.m), (Side::AtLeast, 1));
-    assert!(rt; !state.is_open(0) && state.is_open(1) && state.is_open(2));
+    assert!(rt; !state.is_open(0) && state.is_open(1));
+    Ok(())
+}
+
+#[test]
+fn a_node_is_in_one_hand(rt: HostRuntime) -> Result<(), Fail> {
+    let mut hands = Hands::empty();
+    assert!(rt; !hands.holds(3));
+    hands.take(5, 3);
+    assert_eq!(rt; (hands.held(5), hands.held(4)), (Some(3), None));
+    assert!(rt; hands.holds(3) && !hands.holds(2));
+    hands.release(5);
+    assert!(rt; !hands.holds(3));
     Ok(())
 }

@@ -1,5 +1,5 @@
 -- What a run of the checker answers, and why.
-use Rattle.std.specs.Prelude.{◌≡◌, ◌⊎◌, ℕ, ◌<◌, Bool, true, false, List, length, Option, None, IsSome, IfSome}
+use Rattle.std.specs.Prelude.{◌≡◌, ◌⊎◌, ℕ, ◌<◌, ◌≤◌, Bool, true, false, List, length, Option, None, IsSome, IfSome}
 use Rattle.std.specs.Option.{option_map}
 use Rattle.std.specs.Io.KnownBytes.{Appends}
 use Rattle.plan_base.specs.Causes.{Rose}
@@ -47,9 +47,9 @@ pub record ReadsInstance (met : Met) (i : Problem) : Type 0 where
   pub command : IsCommand met
   pub document : IsReadAs met.document.left i
 
--- the certificate is that of the text which the source had left
+-- the certificate is that of the text which the source had left, and the text isn't too long
 abbrev pub IsReportOf : Option (List ℕ) → Cert → Type 0
-IsReportOf left c = (bytes : List ℕ) × IsAllOf left bytes × Spells bytes c
+IsReportOf left c = (bytes : List ℕ) × IsAllOf left bytes × (length bytes ≤ BUNDLE_MAX) × Spells bytes c
 
 -- the rows of a certificate's plan, where it has one
 abbrev pub plan_rows : Cert → Option (List Row)
@@ -67,10 +67,10 @@ Says i report sink accepted = (c : Cert) × IsReportOf report.left c × (is_acce
 abbrev pub SaysPart : Problem → SourceMet → SinkMet → Type 0
 SaysPart i report sink = (c : Cert) × IsReportOf report.left c × AppendsPart sink.held sink.held_after (recount_line i c) × Rose sink.faults.0 sink.faults.1
 
--- why a report can't be judged: it is too long, or its text departs at that line
+-- why a report can't be judged: it is too long, or it isn't and its text departs at that line
 abbrev pub WhyUnjudged : List ℕ → BundleFault → Type 0
 WhyUnjudged bytes TooLong = BUNDLE_MAX < length bytes
-WhyUnjudged bytes (Text line) = IsFaultOf bytes (Departs line)
+WhyUnjudged bytes (Text line) = (length bytes ≤ BUNDLE_MAX) × IsFaultOf bytes (Departs line)
 
 -- how a run ends that has read that instance
 abbrev pub Recounted : Problem → SourceMet → SinkMet → CheckStatus → Type 0

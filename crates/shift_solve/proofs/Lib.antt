@@ -5,7 +5,6 @@ pub mod Leading
 pub mod Lengths
 pub mod LeastLists
 pub mod PlanRows
-pub mod TooLong
 pub mod Ranges
 pub mod Rounds
 pub mod Sessions

@@ -1,6 +1,5 @@
 pub mod Greedy
 pub mod Least
-pub mod Reading
 pub mod Report
 pub mod Run
 pub mod Search

@@ -1,5 +1,5 @@
 -- What a run of `solve` answers, and why.
-use Rattle.std.specs.Prelude.{◌≡◌, ◌⊎◌, ℕ, ◌+◌, ◌<◌, ◌≤◌, Bool, true, false, IsTrue, List, [], ◌∷◌, length, Option, None, Some, IsSome, IfSome, OnSome, Ok, Err, ◌≢◌}
+use Rattle.std.specs.Prelude.{◌≡◌, ◌⊎◌, ℕ, ◌+◌, ◌<◌, ◌≤◌, Bool, true, false, IsTrue, List, [], ◌∷◌, length, Option, None, Some, IsSome, IfSome, OnSome}
 use Rattle.std.specs.Io.KnownBytes.{Appends}
 use Rattle.plan_base.specs.Causes.{Rose}
 use Rattle.plan_base.specs.Streams.{AppendsPart}
@@ -10,8 +10,8 @@ use Rattle.shift_instance.specs.declared.Duty.{Duty}
 use Rattle.shift_instance.specs.Problem.{Problem}
 use Rattle.shift_instance.specs.Rota.{cost, is_legal_rota}
 use Rattle.instance_json.specs.Canonical.{canonical_text}
-use Rattle.instance_json.specs.declared.ReadRefusal.TheVariants.{NoMemory as NoMemoryToRead}
-use Rattle.instance_json.specs.Reading.{reading_of}
+use Rattle.instance_input.specs.declared.Unread.TheVariants.{Refused as DocumentRefused}
+use Rattle.instance_input.specs.Unread.{IsReadAs, WhyUnread}
 use Rattle.search_book.specs.declared.fault.BookFault.{BookFault}
 use Rattle.search_book.specs.declared.fault.BookFault.TheVariants.{NotYet, DiskFault as BooksDisk, NoMemory as BooksMemory}
 use Rattle.search_book.specs.Fold.{IsSound}
@@ -76,9 +76,9 @@ OverDisk disk sink i table opened WriteFault = (opened ≡ true) × (s : Session
 OverDisk disk sink i table opened DiskFault = Rose disk.faults.0 disk.faults.1
     × (((opened ≡ false) × IsLeft disk i) ⊎ ((opened ≡ true) × (s : Session disk i) × IsTorn s))
 OverDisk disk sink i table opened NoMemory =
-    ((opened ≡ false) × ((disk.file_after ≡ disk.file) ⊎ ((disk.file ≡ Some []) × (disk.file_after ≡ Some (fresh (canonical_text i))))))
+    ((opened ≡ false) × IsLeft disk i × ((disk.file_after ≡ disk.file) ⊎ ((disk.file ≡ Some []) × (disk.file_after ≡ Some (fresh (canonical_text i))))))
     ⊎ ((opened ≡ true) × (s : Session disk i) × (s.in_flight ≡ []) × ((s.added ≡ []) ⊎ (s.added ≡ posts_over i s.first.cost)))
-OverDisk disk sink i table opened (Journal why) = (opened ≡ false) × (why ≡ NotYet) × IfSome disk.file (LacksBook JOURNAL_MAX i) × (disk.file_after ≡ disk.file)
+OverDisk disk sink i table opened (Journal why) = (opened ≡ false) × (why ≡ NotYet) × IfSome disk.file (LacksBook JOURNAL_MAX i) × IsLeft disk i × (disk.file_after ≡ disk.file)
 OverDisk disk sink i table opened Usage = ⊥
 OverDisk disk sink i table opened (Input why) = ⊥
 OverDisk disk sink i table opened ReadFault = ⊥
@@ -101,9 +101,7 @@ IsCommand met = IsSome (command_of met.words)
 pub record Reads (met : Met) (table : Bool) (i : Problem) : Type 0 where
   pub journal : List ℕ
   pub command : command_of met.words ≡ Some (record { journal = journal; table = table })
-  pub bytes : List ℕ
-  pub all : IfSome met.left (λ left. bytes ≡ left)
-  pub reads : reading_of bytes ≡ Ok i
+  pub document : IsReadAs met.left i
 
 -- how a run ends that has read an instance
 abbrev pub EndsOver : Met → Status → Type 0
@@ -112,7 +110,7 @@ EndsOver met status = (table : Bool) × (i : Problem) × Reads met table i × Ov
 -- when each status comes, and what it says
 abbrev pub Explains : Met → Status → Type 0
 Explains met Usage = (met.opened ≡ false) × (command_of met.words ≡ None)
-Explains met (Input why) = (met.opened ≡ false) × IsCommand met × (why ≢ NoMemoryToRead) × IfSome met.left (λ left. reading_of left ≡ Err why)
+Explains met (Input why) = (met.opened ≡ false) × IsCommand met × WhyUnread met.left met.read_faults.0 met.read_faults.1 (DocumentRefused why)
 Explains met ReadFault = (met.opened ≡ false) × IsCommand met × Rose met.read_faults.0 met.read_faults.1
 Explains met NoMemory = IsCommand met × (((met.opened ≡ false) × (met.disk.file_after ≡ met.disk.file)) ⊎ EndsOver met NoMemory)
 Explains met Optimal = EndsOver met Optimal

@@ -1,8 +1,6 @@
 //! The run of `solve`.
 
-ghost use Rattle.std.specs.Prelude.{◌≡◌, ◌<◌, ◌^◌, List, ℕ, map, string_bytes, IfOk, IfErr, Ok};
-ghost use Rattle.instance_json.specs.Reading.{reading_of};
-ghost use Rattle.shift_solve.specs.Reading.{IsAllOf, Unread};
+ghost use Rattle.std.specs.Prelude.{◌≡◌, ◌<◌, ◌^◌, map, string_bytes};
 ghost use Rattle.shift_solve.specs.Run.{Explains, OverDisk, status_of};
 ghost use Rattle.shift_solve.specs.Session.{met_of};
 ghost use Rattle.shift_solve.specs.Status.{EndsEarly, EndsUnwritten};
@@ -11,30 +9,12 @@ use crate::search::search;
 use crate::status::Status;
 use crate::words::command_of;
 use gated_journal::JOURNAL_MAX;
+use instance_input::{Unread, read_instance};
 use instance_json::laws::canonical_text_is_short;
-use instance_json::{INSTANCE_MAX, ReadRefusal, read};
-use plan_base::{Disk, ReadEnd, Sink, Source, read_all};
+use plan_base::{Disk, Sink, Source};
 use search_book::{Book, BookFault};
 use shift_instance::Instance;
 use std::alloc::Global;
-
-/// Reads a source to its end and makes the instance of its document, or says how the run ends.
-fn read_instance<S: Source>(alloc: Global, input: &mut S) -> Result<Instance, Status>
-    ensures ok { IfOk result (λ i. (bytes : List ℕ) × IsAllOf (S.left input.old) bytes × (reading_of bytes ≡ Ok i)) }
-    ensures err { IfErr result (Unread (S.left input.old) (S.faults input.old) (S.faults input.new)) }
-{
-    let bytes = match read_all(alloc, input, INSTANCE_MAX) {
-        Ok(bytes) => bytes,
-        Err(ReadEnd::ReadFault) => return Err(Status::ReadFault),
-        Err(ReadEnd::TooLong) => return Err(Status::Input(ReadRefusal::TooLong)),
-        Err(ReadEnd::NoMemory) => return Err(Status::NoMemory),
-    };
-    match read(alloc, bytes.as_slice()) {
-        Ok(instance) => Ok(instance),
-        Err(ReadRefusal::NoMemory) => Err(Status::NoMemory),
-        Err(why) => Err(Status::Input(why)),
-    }
-}
 
 /// How a run ends whose book isn't opened.
 fn unopened(fault: BookFault) -> Status
@@ -116,6 +96,8 @@ pub fn solve_run<S: Source, K: Sink, D: Disk>(
     };
     match read_instance(alloc, input) {
         Ok(instance) => run_book(alloc, &instance, command.table, out, disk),
-        Err(status) => (status, disk, false),
+        Err(Unread::Refused(why)) => (Status::Input(why), disk, false),
+        Err(Unread::ReadFault) => (Status::ReadFault, disk, false),
+        Err(Unread::NoMemory) => (Status::NoMemory, disk, false),
     }
 }

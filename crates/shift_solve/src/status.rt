@@ -23,7 +23,7 @@ pub enum Status {
     Full { end: u64, limit: u32 },
     /// The words aren't `solve JOURNAL` or `solve JOURNAL --table`, with a JOURNAL that isn't empty and doesn't begin with `-`.
     Usage,
-    /// The document that was read is refused.
+    /// The document that was read is refused. Never holds `NoMemory`.
     Input(ReadRefusal),
     /// A read of the document failed.
     ReadFault,

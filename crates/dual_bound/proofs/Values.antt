@@ -1,0 +1,116 @@
+-- The value of a duty, and the term of a shift by the values of its days.
+use Rattle.std.proofs.Common.{◌≡◌, inl, ℕ, zero, suc, ◌+◌, ◌*◌, ◌^◌, ◌≤◌, ℤ, pos, ◌-ℤ◌, ◌*ℤ◌, Bool, true, false, cond, List, [], ◌∷◌, length, refl, sym, ap, ◌∙◌, subst, arith}
+use Rattle.std.specs.Prelude.{Option, Some, None, MatchOption}
+use Rattle.std.specs.Option.{option_map}
+use Rattle.std.specs.Int.{int_max, int_min}
+use Rattle.std.specs.Int.RustNames.{unsigned_abs}
+use Rattle.std.specs.List.{zip, range_with_len}
+use Rattle.std.proofs.lemmas.Bool.{false≢true}
+use Rattle.break_rules.specs.declared.Break.{Break}
+use Rattle.break_rules.specs.Breaks.{begins_with}
+use Rattle.break_rules.specs.Sums.{int_sum_by}
+use Rattle.break_rules.proofs.Lists.{Has}
+use Rattle.shift_instance.specs.declared.Duty.{Duty}
+use Rattle.shift_instance.specs.Problem.{Problem, slots, below}
+use Rattle.shift_instance.specs.Rota.{lists_of, is_list_of, works}
+use Rattle.shift_instance.specs.Worth.{price_of, earned, bonus_of, worth, IsBest}
+use Rattle.shift_instance.specs.Valid.{IsValid}
+use Rattle.shift_instance.proofs.Rotas.{Has-lists_of, from_lists_of}
+use Rattle.head_splits.specs.declared.Cut.{Cut}
+use Rattle.head_splits.specs.declared.Prices.{Prices}
+use Rattle.head_splits.specs.Cuts.{low, high, whole_class}
+use Rattle.head_splits.specs.Bound.{is_nil, entries_of, is_forced, day_value, free_day_value, term, are_prices}
+use Rattle.patterns.specs.declared.Pattern.{Pattern}
+use Rattle.head_splits.proofs.Best.{best_is_value}
+use Rattle.dual_bound.specs.Values.{IsValue}
+use Rattle.dual_bound.proofs.Sizes.{abs_add, sum_size}
+use Rattle.dual_bound.proofs.Priced.{priced, slot_small, entry_small, entries_few}
+
+not_nil : {X : Type 0} (xs : List X) (x : X) → Has xs x → is_nil xs ≡ false
+not_nil [] x h = absurd h
+not_nil (y ∷ ys) x h = refl
+
+-- a shift none of whose lists is legal has no list
+pub nil_without : (i : Problem) (s : ℕ) → ((list : List Break) → is_list_of i s list ≡ false) → is_nil (lists_of i s) ≡ true
+nil_without i s none = go (lists_of i s) (λ x h. false≢true (sym (none x) ∙ from_lists_of i s x h))
+  where
+    go : (xs : List (List Break)) → ((x : List Break) → Has xs x → ⊥) → is_nil xs ≡ true
+    go [] h = refl
+    go (x ∷ xs) h = absurd (h x (inl refl))
+
+picked : (b : Bool) (z : ℤ) (n : ℕ) → unsigned_abs z ≤ n → unsigned_abs (cond b z (pos 0)) ≤ n
+picked true z n h = h
+picked false z n h = omega arith
+
+length_below : (a n : ℕ) → length (range_with_len a n) ≡ n
+length_below a zero = refl
+length_below a (suc n) = let r = length_below (a + 1) n in omega arith
+
+-- the size of a duty's worth
+worth_small : (i : Problem) (cuts : List Cut) (prices : Prices) (d : Duty) → IsValid i → are_prices i cuts prices ≡ true → length cuts ≤ 2 ^ 33 → unsigned_abs (worth i prices.slots (entries_of (zip cuts prices.cuts) d.shift d.day) d) ≤ 2 ^ 74
+worth_small i cuts prices d valid h few =
+    let entries = entries_of (zip cuts prices.cuts) d.shift d.day in
+    let one : unsigned_abs (earned i prices.slots d) ≤ length (below (slots i)) * 10000000000 =
+    sum_size (λ t. cond (works i d t) (price_of prices.slots t) (pos 0)) (below (slots i)) 10000000000 (λ t m. picked (works i d t) (price_of prices.slots t) 10000000000 (slot_small i cuts prices valid h t)) in
+    let two : unsigned_abs (bonus_of entries d.breaks) ≤ length entries * 1000000000000 =
+    sum_size (λ (e : List Break × ℤ). cond (begins_with d.breaks e.0) e.1 (pos 0)) entries 1000000000000 (λ e m. picked (begins_with d.breaks e.0) e.1 1000000000000 (entry_small cuts prices.cuts d.shift d.day (priced i cuts prices h).cut_prices e m)) in
+    let all = abs_add (earned i prices.slots d) (bonus_of entries d.breaks) (length (below (slots i)) * 10000000000) (length entries * 1000000000000) one two in
+    let count = length_below 0 (slots i) in
+    let short = valid.few_slots in
+    let some = entries_few cuts prices.cuts d.shift d.day in
+    omega arith
+
+-- the worth of the best list is the value
+pub value_of_best : (i : Problem) (cuts : List Cut) (prices : Prices) (s day : ℕ) (list : List Break) (v : ℤ) → IsValid i → are_prices i cuts prices ≡ true → length cuts ≤ 2 ^ 33
+    → IsBest i s day prices.slots (entries_of (zip cuts prices.cuts) s day) list v → IsValue i cuts prices s day v
+value_of_best i cuts prices s day list v valid h few best =
+    let d : Duty = record { shift = s; day = day; breaks = list } in
+    record {
+      some = not_nil (lists_of i s) list (Has-lists_of i s list best.legal);
+      is = best_is_value i cuts prices s day list v best;
+      small = subst (λ (z : ℤ). unsigned_abs z ≤ 2 ^ 74) (sym best.is_worth) (worth_small i cuts prices d valid h few);
+    }
+
+module _ (i : Problem) (cuts : List Cut) (prices : Prices) (s day : ℕ) (v : ℤ) (lo hi : ℕ) (value : IsValue i cuts prices s day v) (is_low : lo ≡ low cuts (whole_class s day)) (is_high : hi ≡ high i cuts (whole_class s day)) where
+  pub day_worth : int_max (v *ℤ pos lo) (v *ℤ pos hi) ≡ day_value i cuts prices s day
+  day_worth =
+      ap (λ (n : ℕ). int_max (v *ℤ pos n) (v *ℤ pos hi)) is_low
+      ∙ ap (λ (n : ℕ). int_max (v *ℤ pos (low cuts (whole_class s day))) (v *ℤ pos n)) is_high
+      ∙ ap (λ (z : ℤ). int_max (z *ℤ pos (low cuts (whole_class s day))) (z *ℤ pos (high i cuts (whole_class s day)))) value.is
+
+  pub free_worth : int_max (pos 0) (v *ℤ pos hi) ≡ free_day_value i cuts prices s day
+  free_worth =
+      ap (λ (n : ℕ). int_max (pos 0) (v *ℤ pos n)) is_high
+      ∙ ap (λ (z : ℤ). int_max (pos 0) (z *ℤ pos (high i cuts (whole_class s day)))) value.is
+
+-- the term by the sums over the days
+pub term_is : (i : Problem) (cuts : List Cut) (prices : Prices) (s : ℕ) (z ranged free : ℤ) (forced : Bool) (paid : ℕ)
+    → is_nil (lists_of i s) ≡ false
+    → z ≡ cond forced (pos paid -ℤ ranged) (int_min (pos 0) (pos paid -ℤ free))
+    → forced ≡ is_forced i cuts s → ranged ≡ int_sum_by (day_value i cuts prices s) (below i.days) → free ≡ int_sum_by (free_day_value i cuts prices s) (below i.days)
+    → paid ≡ prices.q * i.shift → z ≡ term i cuts prices s
+term_is i cuts prices s z ranged free forced paid some is is_forced_ is_ranged is_free is_paid =
+    let rest : ℤ = cond (is_forced i cuts s) (pos (prices.q * i.shift) -ℤ int_sum_by (day_value i cuts prices s) (below i.days)) (int_min (pos 0) (pos (prices.q * i.shift) -ℤ int_sum_by (free_day_value i cuts prices s) (below i.days))) in
+    is
+    ∙ ap (λ (b : Bool). cond b (pos paid -ℤ ranged) (int_min (pos 0) (pos paid -ℤ free))) is_forced_
+    ∙ ap (λ (n : ℕ). cond (is_forced i cuts s) (pos n -ℤ ranged) (int_min (pos 0) (pos n -ℤ free))) is_paid
+    ∙ ap (λ (y : ℤ). cond (is_forced i cuts s) (pos (prices.q * i.shift) -ℤ y) (int_min (pos 0) (pos (prices.q * i.shift) -ℤ free))) is_ranged
+    ∙ ap (λ (y : ℤ). cond (is_forced i cuts s) (pos (prices.q * i.shift) -ℤ int_sum_by (day_value i cuts prices s) (below i.days)) (int_min (pos 0) (pos (prices.q * i.shift) -ℤ y))) is_free
+    ∙ sym (ap (λ (b : Bool). cond b (pos 0) rest) some)
+
+-- what the search finds as a value
+pub found_value : (i : Problem) (cuts : List Cut) (prices : Prices) (s day : ℕ) (slots : List ℤ) (entries : List (List Break × ℤ)) (found : Option (Pattern × ℤ)) (r : Option ℤ)
+    → IsValid i → are_prices i cuts prices ≡ true → length cuts ≤ 2 ^ 33 → slots ≡ prices.slots → entries ≡ entries_of (zip cuts prices.cuts) s day
+    → MatchOption found ((list : List Break) → is_list_of i s list ≡ false) (λ p. IsBest i s day slots entries p.0.list p.1)
+    → r ≡ option_map (λ p. p.1) found
+    → MatchOption r (is_nil (lists_of i s) ≡ true) (IsValue i cuts prices s day)
+found_value i cuts prices s day slots entries None r valid h few same_slots same_entries best is =
+    subst (λ (o : Option ℤ). MatchOption o (is_nil (lists_of i s) ≡ true) (IsValue i cuts prices s day)) (sym is) (nil_without i s best)
+found_value i cuts prices s day slots entries (Some p) r valid h few same_slots same_entries best is =
+    subst (λ (o : Option ℤ). MatchOption o (is_nil (lists_of i s) ≡ true) (IsValue i cuts prices s day)) (sym is)
+    (value_of_best i cuts prices s day p.0.list p.1 valid h few
+    (subst (λ (xs : List ℤ). IsBest i s day xs (entries_of (zip cuts prices.cuts) s day) p.0.list p.1) same_slots
+    (subst (λ (es : List (List Break × ℤ)). IsBest i s day slots es p.0.list p.1) same_entries best)))
+
+pub at_some : {A : Type 0} (o : Option A) (x : A) (P : Type 0) (Q : A → Type 0) → o ≡ Some x → MatchOption o P Q → Q x
+at_some o x P Q is h = subst (λ (o : Option _). MatchOption o P Q) is h

@@ -1,0 +1,9 @@
+use Rattle.std.proofs.Common.{◌≡◌, map}
+use Rattle.std.specs.List.{enumerate_from}
+use Rattle.break_rules.specs.Causes.{first_cause}
+use Rattle.dual_bound.specs.Faults.{cut_cause, cut_causes}
+use Rattle.dual_bound.proofs.Pairs.{pairs_from}
+use Rattle.dual_bound.proofs.faults.judge_cuts.Given as goal
+
+abbrev pub invariant-loop-k : goal.invariant-loop-k
+invariant-loop-k l = first_cause (map cut_cause (enumerate_from l.k (pairs_from l.cuts l.prices l.k))) ≡ first_cause (cut_causes l.cuts l.prices)

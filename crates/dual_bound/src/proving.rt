@@ -1,0 +1,95 @@
+//! Bounds with what proves them.
+ghost use Rattle.std.specs.Prelude.{◌≡◌, ◌≤◌, ◌^◌, IsTrue, IfOk, List, MatchResult, None, length};
+ghost use Rattle.break_rules.specs.Causes.{first_cause};
+ghost use Rattle.shift_instance.specs.declared.Duty.{Duty};
+ghost use Rattle.shift_instance.specs.Rota.{cost, is_legal_rota};
+ghost use Rattle.head_splits.specs.Cuts.{meets};
+ghost use Rattle.head_splits.specs.Bound.{bound_of};
+ghost use Rattle.dual_bound.specs.Faults.{Answers, price_causes};
+ghost use Rattle.dual_bound.specs.Proved.{IsProved};
+
+use crate::PriceFault;
+use crate::faults::first_fault;
+use crate::totals::{bound, total};
+use head_splits::{Cuts, Prices};
+use shift_instance::Instance;
+use std::alloc::Global;
+use std::marker::Model;
+use std::snapshot::Snapshot;
+
+/// A price set for cuts, with the bound that it gives on the cost of the legal rotas of an instance below them.
+#[derive(Drop)]
+pub struct Proved {
+    cuts: Cuts,
+    prices: Prices,
+    bound: u64,
+    instance: Snapshot<Instance>,
+}
+
+impl Model for Proved {
+    ghost use Rattle.dual_bound.specs.Proved.{Proving, IsProved};
+
+    ghost Value = { Proving };
+
+    ghost view = { λ p. record { instance = p.instance.value; cuts = p.cuts; prices = p.prices; bound = p.bound } };
+
+    ghost invariant = { λ p. IsProved (record { instance = p.instance.value; cuts = p.cuts; prices = p.prices; bound = p.bound }) };
+}
+
+/// The bound of prices for cuts, or their first fault: first that of the scale, then of the slots' prices their number and
+/// the first one outside its range, and then the same of the cuts' prices. Where no fault applies, only want of memory is
+/// left as a refusal.
+pub fn prove(
+    alloc: Global,
+    instance: &Instance,
+    cuts: Cuts,
+    prices: Prices,
+) -> Result<Proved, PriceFault>
+    requires { length cuts ≤ 2 ^ 33 }
+    ensures ok { IfOk result (λ p. (p.instance ≡ instance.now) × (p.cuts ≡ cuts) × (p.prices ≡ prices)) }
+    ensures bound { IfOk result (λ p. p.bound ≡ bound_of instance.now cuts prices) }
+    ensures fault { MatchResult result (λ _. first_cause (price_causes instance.now cuts prices) ≡ None) (λ e. Answers e (first_cause (price_causes instance.now cuts prices))) }
+{
+    match first_fault(instance, &cuts, &prices) {
+        Some(fault) => return Err(fault),
+        None => {}
+    }
+    let total = match total(alloc, instance, &cuts, &prices) {
+        Ok(total) => total,
+        Err(_) => return Err(PriceFault::NoMemory),
+    };
+    let bound = bound(prices.q, total);
+    Ok(Proved {
+        cuts,
+        prices,
+        bound,
+        instance: Snapshot::of(instance),
+    })
+}
+
+impl Proved {
+    /// The cuts, from the root on.
+    pub fn cuts(&self) -> &Cuts
+        ensures cuts { result.now ≡ self.now.cuts }
+        ensures proved { IsProved self.now }
+    {
+        &self.cuts
+    }
+
+    /// The prices, which are a price set for the cuts.
+    pub fn prices(&self) -> &Prices
+        ensures prices { result.now ≡ self.now.prices }
+        ensures proved { IsProved self.now }
+    {
+        &self.prices
+    }
+
+    /// The bound of the prices: every legal rota of the instance that meets the cuts costs at least that much.
+    pub fn bound(&self) -> u64
+        ensures bound { result ≡ self.now.bound }
+        ensures proved { IsProved self.now }
+        ensures below { (rota : List Duty) → IsTrue (is_legal_rota self.now.instance rota) → IsTrue (meets rota self.now.cuts) → result ≤ cost self.now.instance rota }
+    {
+        self.bound
+    }
+}
