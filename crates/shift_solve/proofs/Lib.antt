@@ -1,13 +1,2 @@
 pub mod Certs
-pub mod Duties
-pub mod Falls
-pub mod Leading
-pub mod Lengths
-pub mod LeastLists
-pub mod PlanRows
-pub mod Ranges
-pub mod Rounds
 pub mod Sessions
-pub mod Steps
-pub mod Tallied
-pub mod Windows

@@ -19,7 +19,7 @@ use Rattle.search_book.specs.Front.{HoldsFront, Lasts, IsRunning}
 use Rattle.search_book.specs.Opening.{IsOpenedFrom}
 use Rattle.search_book.specs.Posting.{Posts, PostFails, plan_of, rows_cost, with_plan, end_with}
 use Rattle.search_book.specs.View.{BookView}
-use Rattle.shift_solve.specs.Greedy.{greedy_rows}
+use Rattle.greedy.specs.Greedy.{greedy_rows}
 use Rattle.shift_solve.specs.Report.{output_of}
 use Rattle.shift_solve.specs.Run.{SinkMet, OverDisk}
 use Rattle.shift_solve.specs.Search.{grown, Grows, IsPosted, Overflows, Tears, SearchEnds}

@@ -1,10 +1,6 @@
-pub mod Greedy
-pub mod Least
 pub mod Report
 pub mod Run
 pub mod Search
 pub mod Session
 pub mod Status
-pub mod Sums
-pub mod Tally
 pub mod Words

@@ -9,7 +9,7 @@ use Rattle.search_book.specs.Front.{HoldsFront}
 use Rattle.search_book.specs.Opening.{IsOpenedFrom}
 use Rattle.search_book.specs.Posting.{plan_of, rows_cost}
 use Rattle.search_book.specs.Posts.{StandsForPosts}
-use Rattle.shift_solve.specs.Greedy.{greedy_rows}
+use Rattle.greedy.specs.Greedy.{greedy_rows}
 
 -- what shows of a run's disk: its content before and after the run (none where it doesn't tell), what a crash may leave before
 -- and after it and since a moment, and the numbers of its calls and of its faults before and after

@@ -2,19 +2,12 @@
 //! and prints its report.
 #![tactic(auto)]
 
-mod greedy;
-pub mod greedy_laws;
-#[cfg(test)]
-mod greedy_tests;
-mod least_duties;
-mod price_sums;
 mod report;
 mod run;
 #[cfg(test)]
 mod run_tests;
 mod search;
 mod status;
-mod tally;
 mod words;
 
 use plan_base::{FileDisk, StdSink, StdSource};

@@ -4,9 +4,9 @@ ghost use Rattle.std.specs.Prelude.{◌≡◌, [], None, MatchOption, OnOk, IfOk
 ghost use Rattle.shift_solve.specs.Search.{GreedyFails, IsPosted, IsReported, Overflows, SearchEnds, Unwritten};
 ghost use Rattle.shift_solve.specs.Status.{EndsUnwritten};
 
-use crate::greedy::greedy_plan;
 use crate::report::output_of;
 use crate::status::Status;
+use greedy::greedy_plan;
 use plan_base::{Disk, Failed, Sink, write_all};
 use search_book::{Book, CommitFault};
 use shift_instance::Instance;

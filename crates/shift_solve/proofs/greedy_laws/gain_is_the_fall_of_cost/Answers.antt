@@ -1,5 +1,0 @@
-use Rattle.shift_solve.proofs.Falls.{cost_falls}
-use Rattle.shift_solve.proofs.greedy_laws.gain_is_the_fall_of_cost.Goals as goal
-
-pub returns : goal.returns
-returns c = cost_falls
