@@ -1,5 +1,5 @@
 -- The first number of greatest value, found one number after another.
-use Rattle.std.proofs.Common.{◌≡◌, inl, inr, ℕ, zero, suc, ◌+◌, ◌<◌, ◌≤◌, ℤ, pos, ◌≤ℤ◌, ◌<ℤ◌, Bool, true, false, cond, ◌&&◌, not, List, [], ◌∷◌, refl, sym, ap, ◌∙◌, subst, arith, Option, Some, None}
+use Rattle.std.proofs.Common.{◌≡◌, inl, inr, ℕ, zero, suc, ◌+◌, ◌<◌, ◌≤◌, ℤ, pos, ◌≤ℤ◌, ◌<ℤ◌, Bool, true, false, cond, ◌&&◌, not, List, [], ◌∷◌, refl, sym, ap, ◌∙◌, arith, Option, Some, None}
 use Rattle.std.specs.Prelude.{int_lt}
 use Rattle.std.specs.List.{list_any, find, range_with_len}
 use Rattle.std.proofs.lemmas.Int.{ints}
@@ -17,28 +17,6 @@ lt_not a b h = grind (arith, ints)
 
 lt_is : (a b : ℤ) → int_lt a b ≡ true → a <ℤ b
 lt_is a b h = grind (arith, ints)
-
--- one number more
-bounds_more : (f : ℕ → ℤ) (k : ℕ) (top : ℤ) → ((j : ℕ) → j < k → f j ≤ℤ top) → f k ≤ℤ top → (j : ℕ) → j < k + 1 → f j ≤ℤ top
-bounds_more f k top h l j m = elim (cases_eq j k) [ inl e ↦ subst (λ n. f n ≤ℤ top) (sym e) l | inr ne ↦ h j (omega arith) ]
-
-pub leads_none : (f : ℕ → ℤ) → Leads f 0 None (pos 0)
-leads_none f = record { some = omega (arith, ints); bounds = λ j h. absurd (omega arith); first = refl }
-
-pub leads_keeps : (f : ℕ → ℤ) (k : ℕ) (best : Option ℕ) (top : ℤ) → Leads f k best top → f k ≤ℤ top → Leads f (k + 1) best top
-leads_keeps f k None top h l = record { some = h.some; bounds = bounds_more f k top h.bounds l; first = h.first }
-leads_keeps f k (Some b) top h l =
-    let p = h.first in
-    record { some = h.some; bounds = bounds_more f k top h.bounds l; first = (let m : b < k = p.0 in omega arith, p.1, p.2, p.3) }
-
-pub leads_takes : (f : ℕ → ℤ) (k : ℕ) (best : Option ℕ) (top : ℤ) → Leads f k best top → top <ℤ f k → Leads f (k + 1) (Some k) (f k)
-leads_takes f k best top h l =
-    let some : pos 0 ≤ℤ top = h.some in
-    record {
-      some = omega (arith, ints);
-      bounds = bounds_more f k (f k) (λ j m. let b : f j ≤ℤ top = h.bounds j m in omega (arith, ints)) (omega (arith, ints));
-      first = (omega arith, refl, omega (arith, ints), λ j m. let b : f j ≤ℤ top = h.bounds j m in omega (arith, ints));
-    }
 
 pub find_none : {X : Type 0} (p : X → Bool) (xs : List X) → ((x : X) → Has xs x → p x ≡ false) → find p xs ≡ None
 find_none p [] h = refl

@@ -1,8 +1,7 @@
 -- Sums and lists over the numbers below a number, with one number more.
-use Rattle.std.proofs.Common.{◌≡◌, ℕ, zero, suc, ◌+◌, ℤ, pos, ◌+ℤ◌, Bool, true, false, cond, ◌||◌, List, [], ◌∷◌, ◌++◌, map, filter, refl, ap, ◌∙◌, arith}
-use Rattle.std.specs.List.{list_any, range_with_len, flat_map}
+use Rattle.std.proofs.Common.{◌≡◌, ℕ, zero, suc, ◌+◌, ℤ, pos, ◌+ℤ◌, Bool, true, false, cond, List, [], ◌∷◌, ◌++◌, map, filter, refl, ap, ◌∙◌, arith}
+use Rattle.std.specs.List.{range_with_len}
 use Rattle.std.proofs.lemmas.Int.{ints}
-use Rattle.std.proofs.lemmas.List.Folds.{list_any-append}
 use Rattle.break_rules.specs.Sums.{int_sum_by}
 use Rattle.break_rules.proofs.Sums.{int_sum_by-append}
 use Rattle.shift_instance.specs.Problem.{below}
@@ -21,14 +20,6 @@ int_sum_more f n =
     ap (int_sum_by f) (below_push n) ∙ int_sum_by-append f (below n) (n ∷ [])
     ∙ ap (λ z. int_sum_by f (below n) +ℤ z) (let e : pos 0 +ℤ f n ≡ f n = omega (arith, ints) in e)
 
-pub any_more : (p : ℕ → Bool) (n : ℕ) → list_any p (below (n + 1)) ≡ (list_any p (below n) || p n)
-any_more p n =
-    ap (list_any p) (below_push n) ∙ list_any-append p (below n) (n ∷ []) ∙ ap (λ b. list_any p (below n) || b) (or_no (p n))
-  where
-    or_no : (b : Bool) → (b || false) ≡ b
-    or_no true = refl
-    or_no false = refl
-
 pub map_push : {Y X : Type 0} (f : Y → X) (xs : List Y) (x : Y) → map f (xs ++ x ∷ []) ≡ map f xs ++ f x ∷ []
 map_push f [] x = refl
 map_push f (y ∷ ys) x = ap (λ zs. f y ∷ zs) (map_push f ys x)
@@ -46,18 +37,3 @@ filter_push p (y ∷ ys) x =
 
 pub filter_more : (p : ℕ → Bool) (n : ℕ) → filter p (below (n + 1)) ≡ filter p (below n) ++ cond (p n) (n ∷ []) []
 filter_more p n = ap (filter p) (below_push n) ∙ filter_push p (below n) n
-
-flat_map_push : {X : Type 0} (f : ℕ → List X) (xs : List ℕ) (x : ℕ) → flat_map f (xs ++ x ∷ []) ≡ flat_map f xs ++ f x
-flat_map_push f [] x = nil_right (f x)
-  where
-    nil_right : {X : Type 0} (xs : List X) → xs ++ [] ≡ xs
-    nil_right [] = refl
-    nil_right (x ∷ xs) = ap (λ zs. x ∷ zs) (nil_right xs)
-flat_map_push f (y ∷ ys) x = ap (λ zs. f y ++ zs) (flat_map_push f ys x) ∙ join (f y) (flat_map f ys) (f x)
-  where
-    join : {X : Type 0} (xs ys zs : List X) → xs ++ (ys ++ zs) ≡ (xs ++ ys) ++ zs
-    join [] ys zs = refl
-    join (x ∷ xs) ys zs = ap (λ ws. x ∷ ws) (join xs ys zs)
-
-pub flat_map_more : {X : Type 0} (f : ℕ → List X) (n : ℕ) → flat_map f (below (n + 1)) ≡ flat_map f (below n) ++ f n
-flat_map_more f n = ap (flat_map f) (below_push n) ∙ flat_map_push f (below n) n

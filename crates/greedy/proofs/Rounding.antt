@@ -3,8 +3,7 @@ use Rattle.std.proofs.Common.{◌≡◌, inl, inr, ℕ, suc, ◌+◌, ◌-◌, �
 use Rattle.std.specs.Prelude.{int_lt, nat_lt, MatchBool}
 use Rattle.std.specs.List.{list_any}
 use Rattle.std.proofs.lemmas.Int.{ints}
-use Rattle.std.proofs.lemmas.Bool.{and_parts, ltb-true, cases_lt}
-use Rattle.std.proofs.Math.Nat.{div-lt_iff_lt-mul}
+use Rattle.std.proofs.lemmas.Bool.{cases_lt}
 use Rattle.std.proofs.lemmas.List.{append-nil, get_or_past}
 use Rattle.std.proofs.lemmas.List.FromFn.{length-map-range_with_len, get_or-map-range_with_len}
 use Rattle.std.proofs.lemmas.Nat.{div-mul-add, mod-mul-add, mul-add-lt}
@@ -165,12 +164,6 @@ duties_all i rota now prices s day ep h e =
     h ∙ ap (λ n. rota ++ map (best_duty i prices s) (filter (counts i rota s) (below n))) e
     ∙ ap (λ ps. rota ++ map (best_duty i ps s) (filter (counts i rota s) (below i.days))) ep
 
--- a day that counts has room
-pub wanted_room : (i : Problem) (rota : List Duty) (s day n : ℕ) (v : ℤ) (b : Bool) → b ≡ is_wanted i n v → b ≡ true → n ≡ heads_on rota s day → heads_on rota s day < i.heads
-wanted_room i rota s day n v b h t e =
-    let r : n < i.heads = ltb-true n i.heads (and_parts (nat_lt n i.heads) (int_lt (pos 0) v) (sym h ∙ t)).0 in
-    omega arith
-
 -- a day that counts has a new duty
 pub day_added : (i : Problem) (prices : List ℤ) (s day n : ℕ) (v : ℤ) (b : Bool) (list : List Break) (old new : List Duty) → b ≡ is_wanted i n v → b ≡ true → n ≡ heads_on old s day → v ≡ day_value i prices s day
     → best_list i prices s day ≡ Some list → new ≡ old ++ duty s day list ∷ []
@@ -201,9 +194,6 @@ entries_more i prices entries more v k s day h e ev es ed =
     e ∙ ap (λ zs. zs ++ v ∷ []) h
     ∙ ap (λ z. map (best_at i prices) (below k) ++ z ∷ []) (ev ∙ ap (λ n. best_of i prices n day) es ∙ ap (best_of i prices (k / i.days)) ed)
     ∙ sym (map_more (best_at i prices) k)
-
-pub place_shift : (k n d : ℕ) → k < n * d → 0 < d → k / d < n
-place_shift k n d h some = (div-lt_iff_lt-mul some).1 h
 
 -- ---- rounds
 pub opening_leads : (i : Problem) (n : ℕ) (rota : List Duty) → rota ≡ [] → n ≡ length (shift_list i) * i.days * i.heads → LeadsToGreedy i n rota
