@@ -13,10 +13,9 @@ fn a_document_is_read_piece_by_piece(rt: HostRuntime) -> Result<(), Fail> {
     for most in [1usize, 100, 5000] {
         let bytes = Vec::from_slice(alloc, DOCUMENT.as_bytes())?;
         let mut source = MemSource::new(alloc, bytes, Vec::new(alloc), most);
-        let read = read_instance(alloc, &mut source);
-        assert!(rt;
-            matches!(read, Ok(instance) if instance.slots() == 24 && instance.need(11) == 1)
-        );
+        let instance = read_instance(alloc, &mut source).ok().ok_or("no instance")?;
+        assert_eq!(rt; instance.slots(), 24);
+        assert_eq!(rt; instance.need(11), 1);
     }
     Ok(())
 }

@@ -1,5 +1,7 @@
 //! Runs of the checker over sources and sinks in memory.
 
+ghost use Rattle.std.specs.Prelude.{◌<◌};
+
 use crate::{check_run, files_of};
 use plan_base::{MemSink, MemSource};
 use std::alloc::{AllocError, Global};
