@@ -1,0 +1,82 @@
+//! The graph of the spots of a shift's break lists: where a walk from break to break may stand, and by which breaks some
+//! legal list goes on from there. It depends on a rule and a length alone, and answers for every start, day and price.
+#![tactic(auto)]
+
+ghost use Rattle.std.specs.Prelude.{◌≡◌};
+
+use break_rules::{Break, Spot};
+use std::marker::Model;
+
+/// A break with which some legal list goes on from a spot.
+#[derive(Clone, Copy, Debug, PartialEq, Eq, Drop)]
+pub struct Edge {
+    /// The break.
+    pub stop: Break,
+    /// The number of the node behind it.
+    pub next: u32,
+}
+
+/// The edges of a node, by their breaks in rising order.
+#[derive(Clone, Debug, Drop)]
+pub struct Edges {
+    list: Vec<Edge>,
+}
+
+impl Model for Edges {
+    ghost use Rattle.std.specs.Prelude.{List};
+    ghost use Rattle.break_graph.specs.declared.Edge.{Edge};
+
+    ghost Value = { List Edge };
+
+    ghost view = { λ t. t.list.items };
+}
+
+impl Edges {
+    /// These edges, in their order.
+    pub fn new(list: Vec<Edge>) -> Edges
+        ensures { result ≡ list.items }
+    {
+        Edges { list }
+    }
+
+    /// The edges in their order.
+    pub fn as_slice(&self) -> &[Edge]
+        ensures { result.now ≡ self.now }
+    {
+        self.list.as_slice()
+    }
+}
+
+/// A spot at which walks stand with which some legal list begins.
+#[derive(Clone, Debug, Drop)]
+pub struct Node {
+    /// The spot.
+    pub spot: Spot,
+    /// The breaks with which some legal list goes on; none where the walks themselves are legal lists.
+    pub edges: Edges,
+}
+
+/// The nodes of a rule and a length. Each edge leads to a node before its own; the empty list stands at the last node, and
+/// there is no node where no list is legal.
+#[derive(Clone, Debug, Drop)]
+pub struct Graph {
+    nodes: Vec<Node>,
+}
+
+impl Model for Graph {
+    ghost use Rattle.std.specs.Prelude.{List};
+    ghost use Rattle.break_graph.specs.declared.Node.{Node};
+
+    ghost Value = { List Node };
+
+    ghost view = { λ g. g.nodes.items };
+}
+
+impl Graph {
+    /// The nodes, by number.
+    pub fn nodes(&self) -> &[Node]
+        ensures { result.now ≡ self.now }
+    {
+        self.nodes.as_slice()
+    }
+}
