@@ -1,6 +1,8 @@
 //! The bound that a price set gives on the cost of the legal rotas below some cuts.
 #![tactic(auto)]
 
+#[cfg(test)]
+mod enumeration_tests;
 mod faults;
 mod laws;
 mod proving;
