@@ -4,6 +4,7 @@
 mod faults;
 mod laws;
 mod proving;
+mod settling;
 mod terms;
 #[cfg(test)]
 mod tests;
@@ -11,6 +12,7 @@ mod totals;
 
 pub use laws::faultless_prices;
 pub use proving::{Proved, prove};
+pub use settling::{Fixing, SettledNode};
 use std::error::Error;
 use std::fmt;
 
