@@ -7,3 +7,5 @@ pub mod Nodes
 pub mod Recursion
 pub mod Splits
 pub mod PlanRows
+pub mod ListsBelow
+pub mod Walked

@@ -6,6 +6,7 @@ pub mod laws;
 mod meeting;
 mod price_lists;
 mod ranges;
+mod settling;
 #[cfg(test)]
 mod tests;
 
