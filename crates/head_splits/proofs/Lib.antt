@@ -9,3 +9,5 @@ pub mod Splits
 pub mod PlanRows
 pub mod ListsBelow
 pub mod Walked
+pub mod WholeWalk
+pub mod SplitPlaces

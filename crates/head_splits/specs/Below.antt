@@ -1,13 +1,13 @@
 -- The legal duties below a class, in order, and what a walk over them finds.
 use Rattle.std.specs.Prelude.{◌≡◌, ℕ, ◌<◌, Bool, not, ◌||◌, nat_lt, List, ◌++◌, Option, None, IsSomeAnd, length, take, map, slice_get}
-use Rattle.std.specs.List.{filter, find}
+use Rattle.std.specs.List.{filter, find, flat_map}
 use Rattle.break_rules.specs.declared.Break.{Break}
 use Rattle.break_rules.specs.Breaks.{begins_with}
 use Rattle.break_graph.specs.declared.Node.{Node}
 use Rattle.break_graph.specs.Graph.{IsGraph, StandsAt}
 use Rattle.shift_instance.specs.declared.Duty.{Duty}
 use Rattle.shift_instance.specs.declared.Row.{Row}
-use Rattle.shift_instance.specs.Problem.{Problem, shift_list}
+use Rattle.shift_instance.specs.Problem.{Problem, shift_list, below}
 use Rattle.shift_instance.specs.Rota.{lists_of}
 use Rattle.head_splits.specs.declared.Cut.{Cut}
 use Rattle.head_splits.specs.Cuts.{high}
@@ -41,3 +41,11 @@ StandsOn i s nodes k list = IsSomeAnd (slice_get (shift_list i) s) (λ x. IsGrap
 -- cuts leave room to each proper prefix of a list
 abbrev pub IsClear : Problem → List Cut → ℕ → ℕ → List Break → Type 0
 IsClear i cuts s day list = (n : ℕ) → n < length list → 0 < high i cuts (class_of s day (take n list))
+
+-- the legal duties of a shift
+abbrev pub shift_duties : Problem → ℕ → List Duty
+shift_duties i s = flat_map (λ day. map (λ list. record { shift = s; day = day; breaks = list }) (lists_of i s)) (below i.days)
+
+-- nodes are the graph of a shift
+abbrev pub IsGraphOf : Problem → ℕ → List Node → Type 0
+IsGraphOf i s nodes = IsSomeAnd (slice_get (shift_list i) s) (λ x. IsGraph x.1 x.0.len nodes)
