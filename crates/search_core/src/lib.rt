@@ -2,6 +2,7 @@
 #![tactic(auto)]
 
 mod board;
+mod class_text;
 mod event;
 mod fault;
 mod hands;
