@@ -4,6 +4,8 @@
 
 mod building;
 mod places;
+#[cfg(test)]
+mod tests;
 
 ghost use Rattle.std.specs.Prelude.{◌≡◌};
 
