@@ -174,14 +174,6 @@ sum_small f a (suc n) m h =
     let product : m * suc n ≡ m + m * n = omega arith in
     omega arith
 
--- the sum for one number more
-pub sum_below : (f : ℕ → ℤ) (n : ℕ) → int_sum_by f (range_with_len 0 (n + 1)) ≡ int_sum_by f (range_with_len 0 n) +ℤ f n
-sum_below f n =
-    let at : 0 + n ≡ n = omega arith in
-    ap (int_sum_by f) (range-append 0 n 1) ∙ int_sum_by-append f (range_with_len 0 n) (range_with_len (0 + n) 1)
-    ∙ ap (λ k. int_sum_by f (range_with_len 0 n) +ℤ int_sum_by f (range_with_len k 1)) at
-    ∙ ap (λ (z : ℤ). int_sum_by f (range_with_len 0 n) +ℤ z) (int_sum_by-cons f n [] ∙ (let e : f n +ℤ pos 0 ≡ f n = omega (arith, ints) in e))
-
 -- what is earned is small
 pub earned_small : (sums : List ℤ) (rule : Rule) (len from : ℕ) (rest : List Break) → AreSums len sums → unsigned_abs (earned_from (price_in sums) rule len from rest) ≤ 10000000000 * (len - from)
 earned_small sums rule len from rest s = sum_small (λ o. cond (works_at rule len rest o) (price_in sums o) (pos 0)) from (len - from) 10000000000 (λ o l. at o)

@@ -207,7 +207,12 @@ pub fn best_pattern(
     ensures best { IfOk result (λ found. MatchOption found ((list : List Break) → is_list_of instance.now shift list ≡ false) (λ p. IsBest instance.now shift day prices.now bonus.now p.0.list p.1)) }
     ensures len { IfOk result (λ found. MatchOption found (Unit {0}) (λ p. IsSomeAnd (slice_get (shift_list instance.now) shift) (λ x. p.0.len ≡ x.0.len))) }
 {
-    let len = instance.shift(shift).len;
-    let graph = Graph::new(alloc, instance.rule_of(shift), len)?;
-    best_over(alloc, instance, &graph, shift, day, prices, bonus)
+    match instance.graph(shift) {
+        Some(kept) => best_over(alloc, instance, kept, shift, day, prices, bonus),
+        None => {
+            let len = instance.shift(shift).len;
+            let made = Graph::new(alloc, instance.rule_of(shift), len)?;
+            best_over(alloc, instance, &made, shift, day, prices, bonus)
+        }
+    }
 }
