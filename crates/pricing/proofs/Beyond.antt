@@ -1,87 +1,53 @@
 -- The breaks that may come next behind some breaks, and the best lists that go on with one.
-use Rattle.std.proofs.Common.{◌≡◌, ◌⊎◌, inl, inr, ℕ, zero, suc, ◌+◌, ◌<◌, ◌≤◌, get_or, ℤ, pos, ◌+ℤ◌, true, false, List, [], ◌∷◌, ◌++◌, length, take, refl, sym, ap, ◌∙◌, subst, arith, append_assoc, append-nil, Option, Some, None, is_some}
+use Rattle.std.proofs.Common.{◌≡◌, ◌⊎◌, inl, inr, ℕ, zero, suc, ◌+◌, ◌<◌, ◌≤◌, get_or, ℤ, pos, ◌+ℤ◌, true, false, List, [], ◌∷◌, ◌++◌, length, take, refl, sym, ap, ◌∙◌, subst, arith, append_assoc, append-nil, Option}
 use Rattle.std.proofs.lemmas.Int.{ints}
 use Rattle.std.proofs.lemmas.Bool.{false≢true, false_from_ne_true}
 use Rattle.break_rules.specs.declared.Break.{Break}
 use Rattle.break_rules.specs.declared.Rule.{Rule}
-use Rattle.break_rules.specs.declared.Spot.{Spot}
 use Rattle.break_rules.specs.Breaks.{is_legal, is_live, begins_with}
 use Rattle.break_rules.specs.Ranges.{IsRule}
-use Rattle.break_rules.specs.Walk.{is_walk, nexts_of, spot_of}
+use Rattle.break_rules.specs.Walk.{nexts_of, spot_of}
 use Rattle.std.specs.Prelude.{Result, Ok, Err, IfOk}
-use Rattle.break_rules.proofs.Lists.{Has, Has-append_cases, any_some}
+use Rattle.break_rules.proofs.Lists.{Has, Has-append_cases, Has-filter, any_some}
 use Rattle.break_rules.proofs.LegalLists.{live_from, no_longer_list}
-use Rattle.break_rules.proofs.Reaching.{rest_first, walk_on, front_walks}
-use Rattle.pricing.specs.declared.table.Choice.{Choice}
+use Rattle.break_rules.proofs.Reaching.{rest_first}
+use Rattle.break_graph.specs.Graph.{live_nexts}
 use Rattle.pricing.specs.declared.found.Found.{Found}
 use Rattle.pricing.specs.Rests.{Completes, IsBestRest}
-use Rattle.pricing.specs.Choices.{Priced, rest_worth, IsEntry, IsBestFrom}
+use Rattle.pricing.specs.Values.{Priced, rest_worth, IsValue, IsBestFrom}
 use Rattle.pricing.specs.Found.{IsLegal, worth_of, IsFound, Covers, Keeps, CoversFrom, CoversAlong, IsBestFound, leads_further}
 use Rattle.pricing.proofs.Best.{best_more}
-use Rattle.pricing.proofs.Tails.{same_worth}
+use Rattle.pricing.proofs.Steps.{same_worth}
 use Rattle.pricing.proofs.Covered.{keeps_from, best_found}
 use Rattle.pricing.proofs.Leaving.{covers_tail, all_covered, first_of, place_in}
-
-pub live_some : (rule : Rule) (len : ℕ) (sums : List ℤ) (list : List Break) (e : Option Choice) → IsEntry rule len sums list e → is_some e ≡ true → is_live rule len list ≡ true
-live_some rule len sums list None h s = absurd (false≢true s)
-live_some rule len sums list (Some c) h s = live_from rule len list h.0 h.1.allowed
-
-pub dead_none : (rule : Rule) (len : ℕ) (sums : List ℤ) (list : List Break) (e : Option Choice) → IsEntry rule len sums list e → is_some e ≡ false → is_live rule len list ≡ false
-dead_none rule len sums list None h s = h
-dead_none rule len sums list (Some c) h s = absurd (false≢true (sym s))
 
 -- where no legal list begins with none, none is legal
 pub none_legal : (rule : Rule) (len : ℕ) → is_live rule len [] ≡ false → (list : List Break) → is_legal rule len list ≡ false
 none_legal rule len dead list = false_from_ne_true (is_legal rule len list) (λ h. false≢true (sym dead ∙ live_from rule len [] list h))
 
--- what is known by the rule that a table was made with is known by one that is the same
-pub as_passed : (P : Rule → ℕ → Type 0) (rule own : Rule) (len own_len : ℕ) → rule ≡ own → len ≡ own_len → P own own_len → P rule len
-as_passed P rule own len own_len same same_len h = subst (λ r. P r len) (sym same) (subst (P own) (sym same_len) h)
-
 -- the best list by prices
-pub best_prices : (p : Priced) (rule : Rule) (c : Choice) (value : ℤ) (new whole list : List Break) → rule ≡ p.rule → new ≡ [] → list ≡ whole → value ≡ c.value
-    → IsEntry p.rule p.len p.sums [] (Some c) → IsBestFrom rule p.len p.sums new whole → IsBestRest (IsLegal p) (worth_of p []) value list
-best_prices p rule c value new whole list same none is kept entry from =
-    let own : IsBestFrom p.rule p.len p.sums [] whole = subst (λ (r : Rule). IsBestFrom r p.len p.sums [] whole) same (subst (λ (l : List Break). IsBestFrom rule p.len p.sums l whole) none from) in
+pub best_prices : (p : Priced) (v value : ℤ) (new whole list : List Break) → new ≡ [] → list ≡ whole → value ≡ v
+    → IsValue p.rule p.len p.sums [] v → IsBestFrom p.rule p.len p.sums new whole → IsBestRest (IsLegal p) (worth_of p []) value list
+best_prices p v value new whole list none is kept own_value from =
+    let own : IsBestFrom p.rule p.len p.sums [] whole = subst (λ (l : List Break). IsBestFrom p.rule p.len p.sums l whole) none from in
     let worth : ℤ = own.2.0 in
     let best : IsBestRest (Completes p.rule p.len []) (rest_worth p.sums p.rule p.len []) worth own.0 = own.2.1 in
-    let equal : worth ≡ c.value = same_worth (Completes p.rule p.len []) (rest_worth p.sums p.rule p.len []) worth c.value own.0 entry.0 best entry.1 in
+    let equal : worth ≡ v = same_worth (Completes p.rule p.len []) (rest_worth p.sums p.rule p.len []) worth v own.0 own_value.0 best own_value.1 in
     let at : list ≡ own.0 = is ∙ own.1 in
-    let v : value ≡ pos 0 +ℤ worth = omega (arith, ints) in
+    let more : value ≡ pos 0 +ℤ worth = omega (arith, ints) in
     subst (IsBestRest (IsLegal p) (worth_of p []) value) (sym at)
     (best_more (Completes p.rule p.len []) (rest_worth p.sums p.rule p.len []) (worth_of p []) worth value (pos 0) own.0
-    (λ r h. let x = rest_worth p.sums p.rule p.len [] r in let k : x +ℤ pos 0 ≡ pos 0 +ℤ x = omega (arith, ints) in k) v best)
-
-module _ (p : Priced) (rule : Rule) (len : ℕ) (same : rule ≡ p.rule) (same_len : len ≡ p.len) (front : List Break) (spot : Spot) (walk : is_walk rule len front ≡ true) (is : spot ≡ spot_of rule front)
-    (next : Break) (has : Has (nexts_of rule len spot) next) (behind : Spot) (at : behind ≡ spot_of rule (front ++ next ∷ [])) where
-  on : is_walk rule len (front ++ next ∷ []) ≡ true
-  on = walk_on rule len front next walk (subst (λ (s : Spot). Has (nexts_of rule len s) next) is has)
-
-  own_on : is_walk p.rule p.len (front ++ next ∷ []) ≡ true
-  own_on = subst (λ (r : Rule). is_walk r p.len (front ++ next ∷ []) ≡ true) same (subst (λ n. is_walk rule n (front ++ next ∷ []) ≡ true) same_len on)
-
-  pub entry_on : (choice : Option Choice) → ((list : List Break) → is_walk p.rule p.len list ≡ true → behind ≡ spot_of p.rule list → IsEntry p.rule p.len p.sums list choice) → IsEntry p.rule p.len p.sums (front ++ next ∷ []) choice
-  entry_on choice h = h (front ++ next ∷ []) own_on (at ∙ ap (λ (r : Rule). spot_of r (front ++ next ∷ [])) same)
-
-  module _ (list : List Break) (longer : list ≡ front ++ next ∷ []) where
-    pub walk_at : is_walk rule p.len list ≡ true
-    walk_at = ap (is_walk rule p.len) longer ∙ subst (λ n. is_walk rule n (front ++ next ∷ []) ≡ true) same_len on
-
-    pub spot_at : behind ≡ spot_of rule list
-    spot_at = at ∙ ap (spot_of rule) (sym longer)
-
-    pub live_at : (choice : Option Choice) → IsEntry p.rule p.len p.sums (front ++ next ∷ []) choice → is_some choice ≡ true → is_live rule p.len list ≡ true
-    live_at choice e some = ap (λ (r : Rule). is_live r p.len list) same ∙ ap (is_live p.rule p.len) longer ∙ live_some p.rule p.len p.sums (front ++ next ∷ []) choice e some
+    (λ r h. let x = rest_worth p.sums p.rule p.len [] r in let k : x +ℤ pos 0 ≡ pos 0 +ℤ x = omega (arith, ints) in k) more best)
 
 -- what goes on with one break more is covered
-pub covers_next : (p : Priced) (entries : List (List Break × ℤ)) (rule : Rule) (best : Option Found) (front : List Break) (next : Break) (list whole : List Break) → IsRule rule → rule ≡ p.rule
-    → list ≡ front ++ next ∷ [] → IsBestFrom rule p.len p.sums list whole → Covers p entries best whole
+pub covers_next : (p : Priced) (entries : List (List Break × ℤ)) (best : Option Found) (front : List Break) (next : Break) (list whole : List Break) → IsRule p.rule
+    → list ≡ front ++ next ∷ [] → IsBestFrom p.rule p.len p.sums list whole → Covers p entries best whole
     → (bs : List Break) → IsLegal p (front ++ next ∷ bs) → leads_further entries (front ++ next ∷ []) ≡ false → Covers p entries best (front ++ next ∷ bs)
-covers_next p entries rule best front next list whole r same longer from c bs legal none =
+covers_next p entries best front next list whole r longer from c bs legal none =
     let q = front ++ next ∷ [] in
-    let own : IsBestFrom p.rule p.len p.sums q whole = subst (λ (r : Rule). IsBestFrom r p.len p.sums q whole) same (subst (λ (l : List Break). IsBestFrom rule p.len p.sums l whole) longer from) in
+    let own : IsBestFrom p.rule p.len p.sums q whole = subst (λ (l : List Break). IsBestFrom p.rule p.len p.sums l whole) longer from in
     subst (Covers p entries best) (append_assoc front (next ∷ []) bs)
-    (covers_tail p entries (subst IsRule same r) best q bs own.0 whole none own.2 own.1 (ap (is_legal p.rule p.len) (append_assoc front (next ∷ []) bs) ∙ legal) c)
+    (covers_tail p entries r best q bs own.0 whole none own.2 own.1 (ap (is_legal p.rule p.len) (append_assoc front (next ∷ []) bs) ∙ legal) c)
 
 -- the covered lists of the breaks so far and of one more
 pub covers_more : (p : Priced) (entries : List (List Break × ℤ)) (best : Option Found) (front done : List Break) (next : Break)
@@ -97,30 +63,28 @@ covers_more p entries best front done next before here b m =
       ]
     ]
 
--- behind a list that isn't legal each legal list goes on with a break that may come next
-pub covers_nexts : (p : Priced) (entries : List (List Break × ℤ)) (rule : Rule) (len : ℕ) (best : Option Found) (front : List Break) (spot : Spot) → rule ≡ p.rule → len ≡ p.len → spot ≡ spot_of rule front → is_legal rule len front ≡ false
-    → ((b : Break) → Has (nexts_of rule len spot) b → (bs : List Break) → IsLegal p (front ++ b ∷ bs) → leads_further entries (front ++ b ∷ []) ≡ false → Covers p entries best (front ++ b ∷ bs))
+-- behind a list that isn't legal each legal list goes on with a break with which some legal list goes on
+pub covers_nexts : (p : Priced) (entries : List (List Break × ℤ)) (best : Option Found) (front : List Break) → is_legal p.rule p.len front ≡ false
+    → ((b : Break) → Has (live_nexts p.rule p.len front) b → (bs : List Break) → IsLegal p (front ++ b ∷ bs) → leads_further entries (front ++ b ∷ []) ≡ false → Covers p entries best (front ++ b ∷ bs))
     → CoversFrom p entries best front
-covers_nexts p entries rule len best front spot same same_len is none h = by
+covers_nexts p entries best front none h = by
   where
-    as_own : (list : List Break) → IsLegal p list → is_legal rule len list ≡ true
-    as_own list k = as_passed (λ r n. is_legal r n list ≡ true) rule p.rule len p.len same same_len k
-
     by : CoversFrom p entries best front
-    by [] legal leaving = absurd (false≢true (sym none ∙ sym (ap (is_legal rule len) (append-nil front)) ∙ as_own (front ++ []) legal))
-    by (b ∷ bs) legal leaving = h b (subst (λ (s : Spot). Has (nexts_of rule len s) b) (sym is) (rest_first rule len front b bs (as_own (front ++ b ∷ bs) legal)).1) bs legal leaving
+    by [] legal leaving = absurd (false≢true (sym none ∙ sym (ap (is_legal p.rule p.len) (append-nil front)) ∙ legal))
+    by (b ∷ bs) legal leaving =
+        let first = rest_first p.rule p.len front b bs legal in
+        h b (Has-filter (λ c. is_live p.rule p.len (front ++ c ∷ [])) (nexts_of p.rule p.len (spot_of p.rule front)) b first.1 first.0) bs legal leaving
 
--- behind a legal list there is no other, and behind breaks that are no walk there is none
-pub covers_legal : (p : Priced) (entries : List (List Break × ℤ)) (rule : Rule) (len : ℕ) (best : Option Found) (front list : List Break) → rule ≡ p.rule → len ≡ p.len → is_legal rule len front ≡ true → list ≡ front
+-- behind a legal list there is no other
+pub covers_legal : (p : Priced) (entries : List (List Break × ℤ)) (best : Option Found) (front list : List Break) → is_legal p.rule p.len front ≡ true → list ≡ front
     → Covers p entries best list → CoversFrom p entries best front
-covers_legal p entries rule len best front list same same_len legal is c rest whole leaving =
-    let own : is_legal p.rule p.len front ≡ true = subst (λ (r : Rule). is_legal r p.len front ≡ true) same (subst (λ n. is_legal rule n front ≡ true) same_len legal) in
-    let empty : rest ≡ [] = no_longer_list p.rule p.len front rest own whole in
+covers_legal p entries best front list legal is c rest whole leaving =
+    let empty : rest ≡ [] = no_longer_list p.rule p.len front rest legal whole in
     subst (Covers p entries best) (is ∙ sym (append-nil front) ∙ ap (λ (l : List Break). front ++ l) (sym empty)) c
 
-pub covers_none : (p : Priced) (entries : List (List Break × ℤ)) (rule : Rule) (len : ℕ) (best : Option Found) (front : List Break) → rule ≡ p.rule → len ≡ p.len → is_walk rule len front ≡ false → CoversFrom p entries best front
-covers_none p entries rule len best front same same_len none rest whole leaving =
-    absurd (false≢true (sym none ∙ as_passed (λ r n. is_walk r n front ≡ true) rule p.rule len p.len same same_len (front_walks p.rule p.len front rest whole)))
+-- behind breaks with which no legal list begins there is none
+pub covers_none : (p : Priced) (entries : List (List Break × ℤ)) (best : Option Found) (front : List Break) → is_live p.rule p.len front ≡ false → CoversFrom p entries best front
+covers_none p entries best front dead rest whole leaving = absurd (false≢true (sym dead ∙ live_from p.rule p.len front rest whole))
 
 any_default : {X : Type 0} (xs : List X) (i : ℕ) (d e : X) → i < length xs → get_or xs i d ≡ get_or xs i e
 any_default [] i d e h = absurd (omega arith)

@@ -10,11 +10,10 @@ use Rattle.std.proofs.lemmas.Int.{ints}
 use Rattle.std.proofs.lemmas.Bool.{false≢true, cases_Bool, or_cases, or_parts, and_parts}
 use Rattle.std.proofs.lemmas.Bool.Decides.{Decides-int_eq}
 use Rattle.break_rules.specs.declared.Break.{Break}
-use Rattle.break_rules.specs.declared.Rule.{Rule}
 use Rattle.break_rules.specs.Breaks.{is_legal, is_less_list}
 use Rattle.pricing.specs.declared.found.Found.{Found}
 use Rattle.pricing.specs.Rests.{price_in, earned_from}
-use Rattle.pricing.specs.Choices.{Priced}
+use Rattle.pricing.specs.Values.{Priced}
 use Rattle.pricing.specs.Found.{IsLegal, worth_of, IsFound, Covers, is_better, Keeps, CoversFrom, IsBestFound}
 use Rattle.pricing.proofs.Best.{not_less}
 use Rattle.pricing.proofs.Lesser.{not_less_on, not_less_itself}
@@ -88,10 +87,10 @@ best_same p entries others (Some f) same b = record {
 }
 
 -- the worth of a list, as it is made of its parts
-pub worth_made : (p : Priced) (entries : List (List Break × ℤ)) (rule : Rule) (list xs ys : List Break) (e f b : ℤ) → rule ≡ p.rule → xs ≡ list → ys ≡ list
-    → e ≡ earned_from (price_in p.sums) rule p.len 0 xs → unsigned_abs e ≤ 10000000000 * 65535 → b ≡ bonus_of entries ys → unsigned_abs b ≤ 2 ^ 33 * 1000000000000 → f ≡ to_z w64 (of_z w64 e)
+pub worth_made : (p : Priced) (entries : List (List Break × ℤ)) (list xs ys : List Break) (e f b : ℤ) → xs ≡ list → ys ≡ list
+    → e ≡ earned_from (price_in p.sums) p.rule p.len 0 xs → unsigned_abs e ≤ 10000000000 * 65535 → b ≡ bonus_of entries ys → unsigned_abs b ≤ 2 ^ 33 * 1000000000000 → f ≡ to_z w64 (of_z w64 e)
     → to_z w128 (of_z w128 (to_z w128 (of_z w128 f) +ℤ to_z w128 (of_z w128 b))) ≡ worth_of p entries list
-worth_made p entries rule list xs ys e f b same one two is small sum few wide =
+worth_made p entries list xs ys e f b one two is small sum few wide =
     kept_worth e f b small few wide
-    ∙ ap (λ (z : ℤ). z +ℤ b) (is ∙ ap (λ (r : Rule). earned_from (price_in p.sums) r p.len 0 xs) same ∙ ap (earned_from (price_in p.sums) p.rule p.len 0) one)
+    ∙ ap (λ (z : ℤ). z +ℤ b) (is ∙ ap (earned_from (price_in p.sums) p.rule p.len 0) one)
     ∙ ap (λ (z : ℤ). earned_from (price_in p.sums) p.rule p.len 0 list +ℤ z) (sum ∙ ap (bonus_of entries) two)

@@ -14,7 +14,7 @@ use Rattle.break_rules.proofs.Sums.{int_sum_by-same}
 use Rattle.patterns.specs.Bonuses.{bonus_of, share_of}
 use Rattle.pricing.specs.declared.found.Found.{Found}
 use Rattle.pricing.specs.Rests.{sum_at, price_in, earned_from, resumes, Completes}
-use Rattle.pricing.specs.Choices.{Priced, rest_worth, IsBestTail}
+use Rattle.pricing.specs.Values.{Priced, rest_worth, IsBestTail}
 use Rattle.pricing.specs.Found.{IsLegal, Covers, CoversFrom, IsLeaving, leads_further}
 use Rattle.pricing.proofs.Lesser.{less_behind}
 use Rattle.pricing.proofs.Steps.{worth_more}

@@ -1,7 +1,9 @@
 pub mod Stretches
 pub mod Best
 pub mod Steps
-pub mod Tails
+pub mod Fronts
+pub mod Walks
+pub mod Most
 pub mod Prices
 pub mod Lesser
 pub mod Covered

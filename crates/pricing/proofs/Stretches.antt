@@ -1,13 +1,14 @@
 -- What is earned with a break more: a stretch of work, and what is earned behind the break.
-use Rattle.std.proofs.Common.{◌≡◌, inl, inr, ℕ, zero, suc, ◌+◌, ◌-◌, ◌*◌, ◌<◌, ◌≤◌, ℤ, pos, negsuc, ◌+ℤ◌, ◌-ℤ◌, ◌≤ℤ◌, Bool, true, false, cond, ◌&&◌, ◌||◌, ◌==◌, not, List, [], ◌∷◌, ◌++◌, refl, sym, ap, ◌∙◌, subst, arith, nat_le, nat_lt, fold, sum_by}
+use Rattle.std.proofs.Common.{◌≡◌, inl, inr, ℕ, zero, suc, ◌+◌, ◌-◌, ◌*◌, ◌<◌, ◌≤◌, ℤ, pos, negsuc, ◌+ℤ◌, ◌-ℤ◌, ◌≤ℤ◌, Bool, true, false, cond, ◌&&◌, ◌||◌, ◌==◌, not, List, [], ◌∷◌, ◌++◌, refl, sym, ap, ◌∙◌, subst, arith, nat_le, nat_lt, fold, sum_by, FitsSigned}
 use Rattle.std.specs.List.{list_all, list_any, range_with_len}
+use Rattle.std.specs.Int.{w64}
 use Rattle.std.specs.Int.RustNames.{unsigned_abs}
-use Rattle.std.proofs.lemmas.Int.{ints}
+use Rattle.std.proofs.lemmas.Int.{ints, fits_signed_from_abs}
 use Rattle.std.proofs.lemmas.List.Sums.{fold-append}
 use Rattle.std.proofs.lemmas.Bool.{and_parts, and_from, and_left, and_right, or_from, or_left, leb-true, le-leb, lt-leb, lt-ltb, le-ltb, ne_eqb, eqb-true, ltb-true, cases_Bool, cond-true, cond-false}
 use Rattle.break_rules.specs.declared.Break.{Break}
 use Rattle.break_rules.specs.declared.Rule.{Rule}
-use Rattle.break_rules.specs.Breaks.{end_of, has_work, is_off, works_at, is_lunched, total_of}
+use Rattle.break_rules.specs.Breaks.{end_of, is_legal, has_work, is_off, works_at, is_lunched, total_of}
 use Rattle.break_rules.specs.Ranges.{IsRule}
 use Rattle.break_rules.specs.Sums.{int_sum_by}
 use Rattle.break_rules.specs.Walk.{end_of_all, may_follow, is_walk, is_walk_from, may_end}
@@ -173,14 +174,6 @@ sum_small f a (suc n) m h =
     let product : m * suc n ≡ m + m * n = omega arith in
     omega arith
 
--- the sum for one number more
-pub sum_below : (f : ℕ → ℤ) (n : ℕ) → int_sum_by f (range_with_len 0 (n + 1)) ≡ int_sum_by f (range_with_len 0 n) +ℤ f n
-sum_below f n =
-    let at : 0 + n ≡ n = omega arith in
-    ap (int_sum_by f) (range-append 0 n 1) ∙ int_sum_by-append f (range_with_len 0 n) (range_with_len (0 + n) 1)
-    ∙ ap (λ k. int_sum_by f (range_with_len 0 n) +ℤ int_sum_by f (range_with_len k 1)) at
-    ∙ ap (λ (z : ℤ). int_sum_by f (range_with_len 0 n) +ℤ z) (int_sum_by-cons f n [] ∙ (let e : f n +ℤ pos 0 ≡ f n = omega (arith, ints) in e))
-
 -- what is earned is small
 pub earned_small : (sums : List ℤ) (rule : Rule) (len from : ℕ) (rest : List Break) → AreSums len sums → unsigned_abs (earned_from (price_in sums) rule len from rest) ≤ 10000000000 * (len - from)
 earned_small sums rule len from rest s = sum_small (λ o. cond (works_at rule len rest o) (price_in sums o) (pos 0)) from (len - from) 10000000000 (λ o l. at o)
@@ -193,3 +186,40 @@ earned_small sums rule len from rest s = sum_small (λ o. cond (works_at rule le
               subst (λ (z : ℤ). unsigned_abs z ≤ 10000000000) (sym (cond-true _ (price_in sums o) (pos 0) t)) (s.small o inside)
           | inr f ↦ subst (λ (z : ℤ). unsigned_abs z ≤ 10000000000) (sym (cond-false _ (price_in sums o) (pos 0) f)) (omega arith)
         ]
+
+-- the sum of the stretches before some breaks, and what is earned from there on
+module _ (sums : List ℤ) (rule : Rule) (len : ℕ) (whole : ℤ) (s : AreSums len sums) (small : unsigned_abs whole ≤ 10000000000 * 65535) where
+  pub difference_fits : (a b : ℕ) → FitsSigned w64 (sum_at sums a -ℤ sum_at sums b)
+  difference_fits a b =
+      let both = abs_sub (sum_at sums a) (sum_at sums b) (10000000000 * 65536) (10000000000 * 65536) (s.size a) (s.size b) in
+      fits_signed_from_abs w64 (sum_at sums a -ℤ sum_at sums b) (omega arith)
+
+  pub whole_fits : FitsSigned w64 whole
+  whole_fits = fits_signed_from_abs w64 whole (omega arith)
+
+  pub sum_more : (sum : ℤ) (from : ℕ) (b : Break) (bs : List Break) → Spaced rule from len (b ∷ bs) → sum +ℤ earned_from (price_in sums) rule len from (b ∷ bs) ≡ whole
+      → (sum +ℤ (sum_at sums b.start -ℤ sum_at sums from)) +ℤ earned_from (price_in sums) rule len (end_of b + rule.resettle) bs ≡ whole
+  sum_more sum from b bs spaced is =
+      let more : earned_from (price_in sums) rule len from (b ∷ bs) ≡ (sum_at sums b.start -ℤ sum_at sums from) +ℤ earned_from (price_in sums) rule len (end_of b + rule.resettle) bs = earned_more sums rule len from b bs spaced in
+      omega (arith, ints)
+
+  pub sum_fits : (sum : ℤ) (from : ℕ) (list : List Break) → sum +ℤ earned_from (price_in sums) rule len from list ≡ whole → FitsSigned w64 sum
+  sum_fits sum from list is =
+      let rest = earned_small sums rule len from list s in
+      let short : len ≤ 65535 = s.short in
+      let few : unsigned_abs (earned_from (price_in sums) rule len from list) ≤ 10000000000 * 65535 = omega arith in
+      let both = abs_sub whole (earned_from (price_in sums) rule len from list) (10000000000 * 65535) (10000000000 * 65535) small few in
+      let back : whole -ℤ earned_from (price_in sums) rule len from list ≡ sum = omega (arith, ints) in
+      subst (FitsSigned w64) back (fits_signed_from_abs w64 (whole -ℤ earned_from (price_in sums) rule len from list) (omega arith))
+
+  pub sum_last : (sum : ℤ) (from : ℕ) → from ≤ len → sum +ℤ earned_from (price_in sums) rule len from [] ≡ whole → sum +ℤ (sum_at sums len -ℤ sum_at sums from) ≡ whole
+  sum_last sum from inside is =
+      let end : earned_from (price_in sums) rule len from [] ≡ sum_at sums len -ℤ sum_at sums from = earned_end sums rule len from inside in
+      omega (arith, ints)
+
+pub earned_size : (sums : List ℤ) (rule : Rule) (len from : ℕ) (rest : List Break) → AreSums len sums → unsigned_abs (earned_from (price_in sums) rule len from rest) ≤ 10000000000 * 65535
+earned_size sums rule len from rest s = let own = earned_small sums rule len from rest s in let short : len ≤ 65535 = s.short in omega arith
+
+-- a legal list leaves room to resettle
+pub spaced_list : (rule : Rule) (len : ℕ) (list : List Break) → IsRule rule → is_legal rule len list ≡ true → Spaced rule 0 len list
+spaced_list rule len list r h = spaced_rest rule len [] list r h

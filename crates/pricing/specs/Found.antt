@@ -7,7 +7,7 @@ use Rattle.break_rules.specs.Breaks.{is_legal, is_less_list, begins_with}
 use Rattle.patterns.specs.Bonuses.{bonus_of}
 use Rattle.pricing.specs.declared.found.Found.{Found}
 use Rattle.pricing.specs.Rests.{price_in, earned_from, IsBestRest}
-use Rattle.pricing.specs.Choices.{Priced}
+use Rattle.pricing.specs.Values.{Priced}
 
 -- whether a list is legal
 abbrev pub IsLegal : Priced → List Break → Type 0

@@ -1,3 +1,3 @@
 pub mod Rests
-pub mod Choices
+pub mod Values
 pub mod Found

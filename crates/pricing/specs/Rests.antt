@@ -1,5 +1,5 @@
 -- What can still be earned behind the first breaks of a duty.
-use Rattle.std.specs.Prelude.{◌≡◌, ℕ, ◌+◌, ◌-◌, ◌≤◌, ◌<◌, ◌==◌, ℤ, pos, ◌-ℤ◌, ◌≤ℤ◌, List, ◌++◌, true, false, All, slice_index_or, if◌then◌else◌}
+use Rattle.std.specs.Prelude.{◌≡◌, ℕ, ◌+◌, ◌-◌, ◌≤◌, ◌*◌, ◌<◌, ◌==◌, ℤ, pos, ◌-ℤ◌, ◌≤ℤ◌, List, ◌++◌, true, false, All, slice_index_or, if◌then◌else◌}
 use Rattle.std.specs.List.{range_with_len}
 use Rattle.std.specs.Int.RustNames.{unsigned_abs}
 use Rattle.break_rules.specs.declared.Break.{Break}
@@ -21,6 +21,7 @@ price_in sums offset = sum_at sums (offset + 1) -ℤ sum_at sums offset
 -- sums of prices of at most 10^10 each, for the offsets of a shift
 pub record AreSums (len : ℕ) (sums : List ℤ) : Type 0 where
   pub short : len ≤ 65535
+  pub size : (offset : ℕ) → unsigned_abs (sum_at sums offset) ≤ 10000000000 * 65536
   pub small : (offset : ℕ) → offset < len → unsigned_abs (price_in sums offset) ≤ 10000000000
 
 -- the first offset that counts as work behind one: at the start of a shift that one, and behind a break that after the resettling slots

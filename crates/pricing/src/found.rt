@@ -5,7 +5,7 @@ ghost use Rattle.break_rules.specs.Breaks.{is_less_break, is_less_list};
 ghost use Rattle.pricing.specs.Found.{is_better, IsLegal, IsFound, Covers, Keeps};
 
 use crate::rests::BestRests;
-use break_rules::{Break, Breaks, Rule};
+use break_rules::{Break, Breaks};
 use patterns::Trie;
 
 /// A legal break list, with what a duty with it is worth.
@@ -48,20 +48,18 @@ fn is_better(list: &[Break], value: i128, found: &Found) -> bool
 
 /// The better of a list and the best so far.
 pub fn better(
-    rests: &BestRests,
-    rule: &Rule,
+    rests: &BestRests<'_>,
     trie: &Trie,
     list: Vec<Break>,
     best: Option<Found>,
 ) -> Option<Found>
-    requires same { rule.now ≡ rests.now.rule }
     requires legal { IsLegal rests.now list.items }
     requires found { IsFound rests.now trie.now.entries best }
     ensures found { IsFound rests.now trie.now.entries result }
     ensures covers { Covers rests.now trie.now.entries result list.items }
     ensures keeps { Keeps rests.now trie.now.entries best result }
 {
-    let value = i128::from(rests.earned(rule, &list)) + trie.bonus_of(&list);
+    let value = i128::from(rests.earned(&list)) + trie.bonus_of(&list);
     let new = Found {
         list: Breaks::new(list),
         value,

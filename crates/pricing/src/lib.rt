@@ -5,8 +5,8 @@ mod found;
 mod rests;
 mod search;
 mod sums;
-mod table;
 #[cfg(test)]
 mod tests;
+mod values;
 
 pub use search::best_pattern;

@@ -1,123 +1,191 @@
 //! The best rests of break lists at given prices.
 
-ghost use Rattle.std.specs.Prelude.{◌≡◌, ◌+◌, ◌*◌, ◌^◌, ◌<◌, ◌≤◌, List, IfOk, IsTrue, true, pos, if◌then◌else◌};
-ghost use Rattle.break_rules.specs.Breaks.{is_live, works_at};
-ghost use Rattle.break_rules.specs.Ranges.{IsRule};
-ghost use Rattle.break_rules.specs.Walk.{spot_of, is_walk};
-ghost use Rattle.pricing.specs.Rests.{AreSums, earned_from, price_in};
+ghost use Rattle.std.specs.Prelude.{◌≡◌, ◌+◌, ◌-◌, ◌*◌, ◌<◌, ◌≤◌, List, [], IfOk, MatchOption, length, true, false};
 ghost use Rattle.std.specs.Int.RustNames.{unsigned_abs};
-ghost use Rattle.pricing.specs.Choices.{AreEntries, IsEntry, IsFirstOfBest, IsBestFrom};
+ghost use Rattle.break_rules.specs.declared.Break.{Break};
+ghost use Rattle.break_rules.specs.Breaks.{is_legal, is_live};
+ghost use Rattle.break_rules.specs.Ranges.{IsRule};
+ghost use Rattle.break_graph.specs.Graph.{IsGraph, StandsAt, node_at};
+ghost use Rattle.pricing.specs.Rests.{AreSums, earned_from, price_in};
+ghost use Rattle.pricing.specs.Values.{IsValue, LeadsOn, IsBestFrom};
+ghost use Rattle.break_rules.proofs.Lists.{Has};
+ghost use Rattle.break_graph.specs.declared.Edge.{Edge};
 
-use crate::table::{Choice, choices, entry_at, stretch};
-use break_rules::{Break, NoMemory, Rule, Spot, after};
-use patterns::works;
+use crate::values::{difference, first_reaching, node_values, resumption, sum_before, total};
+use break_graph::{Edge, Node};
+use break_rules::{Break, NoMemory, Rule};
 use std::alloc::Global;
 use std::marker::Model;
-use std::snapshot::Snapshot;
 
-/// For each list of breaks that a walk from break to break takes, what the best rest behind it earns, and its first break.
+/// For each node of a graph what the best rest of the lists that stand there earns.
 #[derive(Drop)]
-pub struct BestRests {
+pub struct BestRests<'a> {
+    rule: &'a Rule,
     len: u16,
+    nodes: &'a [Node],
     sums: Vec<i64>,
-    entries: Vec<Option<Choice>>,
-    rule: Snapshot<Rule>,
+    values: Vec<i64>,
 }
 
-impl Model for BestRests {
-    ghost use Rattle.pricing.specs.Choices.{Priced, AreBestRests};
+impl<'a> Model for BestRests<'a> {
+    ghost use Rattle.pricing.specs.Values.{Priced, AreBestRests};
 
     ghost Value = { Priced };
 
-    ghost view = { λ r. record { rule = r.rule.value; len = r.len; sums = r.sums.items } };
+    ghost view = { λ r. record { rule = r.rule.now; len = r.len; nodes = r.nodes.now; sums = r.sums.items } };
 
-    ghost invariant = { λ r. AreBestRests r.rule.value r.len r.sums.items r.entries.items };
+    ghost invariant = { λ r. AreBestRests r.rule.now r.len r.nodes.now r.sums.items r.values.items };
 }
 
-/// The price of an offset, if a duty with these breaks works there, and else 0.
-fn earned_at(rule: &Rule, len: u16, list: &[Break], sums: &[i64], offset: u16) -> i64
-    requires sums { AreSums len sums.now }
-    requires offset { offset < len }
-    ensures earned { result ≡ (if works_at rule.now len list.now offset then price_in sums.now offset else pos 0) }
-    ensures small { unsigned_abs result ≤ 10000000000 }
+/// The edge with a break, and `None` where there is none.
+fn edge_with(edges: &[Edge], stop: Break) -> Option<Edge>
+    ensures { MatchOption result ((e : Edge) → Has edges.now e → e.stop ≡ stop → ⊥) (λ e. Has edges.now e × (e.stop ≡ stop)) }
 {
-    let offset_at = usize::from(offset);
-    if works(rule, len, list, offset) {
-        stretch(sums, offset_at, offset_at + 1)
-    } else {
-        0
+    for edge in edges {
+        if edge.stop == stop {
+            return Some(*edge);
+        }
     }
+    None
 }
 
-impl BestRests {
-    /// The best rests in shifts of `len` slots, by the sums of the prices of the offsets below each one.
-    pub fn new(alloc: Global, rule: &Rule, len: u16, sums: Vec<i64>) -> Result<BestRests, NoMemory>
+/// The prices of the offsets at which a duty with a legal list of breaks works, by the sums of the prices before each
+/// offset.
+fn earned_along(rule: &Rule, len: u16, sums: &[i64], list: &[Break]) -> i64
+    requires rule { IsRule rule.now }
+    requires sums { AreSums len sums.now }
+    requires legal { is_legal rule.now len list.now ≡ true }
+    ensures earned { result ≡ earned_from (price_in sums.now) rule.now len 0 list.now }
+    ensures small { unsigned_abs result ≤ 10000000000 * 65535 }
+{
+    let resettle = usize::from(rule.resettle);
+    let mut sum = 0;
+    let mut from = 0;
+    for stop in list {
+        let start = usize::from(stop.start);
+        sum = total(
+            sum,
+            difference(sum_before(sums, start), sum_before(sums, from)),
+        );
+        from = start + usize::from(stop.len) + resettle;
+    }
+    total(
+        sum,
+        difference(sum_before(sums, usize::from(len)), sum_before(sums, from)),
+    )
+}
+
+/// The node of a number.
+fn node_of(nodes: &[Node], at: usize) -> &Node
+    requires { at < length nodes.now }
+    ensures { result.now ≡ node_at nodes.now at }
+{
+    &nodes[at]
+}
+
+impl<'a> BestRests<'a> {
+    /// The best rests in shifts of `len` slots with these nodes, by the sums of the prices of the offsets below each one.
+    pub fn new(
+        alloc: Global,
+        rule: &'a Rule,
+        len: u16,
+        nodes: &'a [Node],
+        sums: Vec<i64>,
+    ) -> Result<BestRests<'a>, NoMemory>
         requires rule { IsRule rule.now }
+        requires graph { IsGraph rule.now len nodes.now }
         requires sums { AreSums len sums.items }
-        ensures { IfOk result (λ r. r ≡ record { rule = rule.now; len = len; sums = sums.items }) }
+        ensures { IfOk result (λ r. r ≡ record { rule = rule.now; len = len; nodes = nodes.now; sums = sums.items }) }
     {
-        let entries = choices(alloc, rule, len, &sums)?;
+        let values = node_values(alloc, rule, len, nodes, &sums)?;
         Ok(BestRests {
+            rule,
             len,
+            nodes,
             sums,
-            entries,
-            rule: Snapshot::of(rule),
+            values,
         })
     }
 
-    /// The choice at the spot of a walk, and `None` where no legal list begins with its breaks. It takes no memory.
-    pub fn choice_at(&self, spot: Spot) -> Option<Choice>
-        ensures entry { (list : List Break) → IsTrue (is_walk self.now.rule self.now.len list) → spot ≡ spot_of self.now.rule list → IsEntry self.now.rule self.now.len self.now.sums list result }
-        ensures short { self.now.len < 2 ^ 16 }
+    /// The node where the empty list stands, and `None` where no list is legal. It takes no memory.
+    pub fn opening(&self) -> Option<usize>
+        ensures { MatchOption result (is_live self.now.rule self.now.len [] ≡ false) (λ k. StandsAt self.now.rule self.now.len self.now.nodes k []) }
     {
-        entry_at(&self.entries, self.len, spot)
+        self.nodes.len().checked_sub(1)
     }
 
-    /// The break to take at the spot of a walk with which some legal list begins, and `None` where that walk is one.
-    fn next_at(&self, spot: Spot) -> Option<Break>
-        ensures first { (list : List Break) → IsTrue (is_walk self.now.rule self.now.len list) → spot ≡ spot_of self.now.rule list → is_live self.now.rule self.now.len list ≡ true → IsFirstOfBest self.now.rule self.now.len self.now.sums list result }
-        ensures short { self.now.len < 2 ^ 16 }
+    /// The edges of a node. It takes no memory.
+    pub fn edges_at(&self, at: usize) -> &[Edge]
+        requires { at < length self.now.nodes }
+        ensures edges { result.now ≡ (node_at self.now.nodes at).edges }
+        ensures graph { IsGraph self.now.rule self.now.len self.now.nodes }
+        ensures rule { IsRule self.now.rule }
     {
-        match self.choice_at(spot) {
-            Some(choice) => choice.next,
-            None => None,
-        }
+        let node = node_of(self.nodes, at);
+        let edges = &node.edges;
+        edges.as_slice()
     }
 
-    /// The breaks of a walk with which some legal list begins, followed by their best rest.
-    pub fn completed(
-        &self,
-        rule: &Rule,
-        spot: Spot,
-        list: Vec<Break>,
-    ) -> Result<Vec<Break>, NoMemory>
-        requires rule { IsRule rule.now }
-        requires same { rule.now ≡ self.now.rule }
-        requires walk { IsTrue (is_walk rule.now self.now.len list.items) }
-        requires spot { spot ≡ spot_of rule.now list.items }
-        requires live { is_live rule.now self.now.len list.items ≡ true }
-        ensures { IfOk result (λ whole. IsBestFrom rule.now self.now.len self.now.sums list.items whole.items) }
+    /// What the best rest of the lists that stand at a node earns. It takes no memory.
+    pub fn value_at(&self, at: usize) -> i64
+        requires { at < length self.now.nodes }
+        ensures { (list : List Break) → StandsAt self.now.rule self.now.len self.now.nodes at list → IsValue self.now.rule self.now.len self.now.sums list result }
+    {
+        sum_before(&self.values, at)
+    }
+
+    /// The first edge of a node that leads on to the best rest, and `None` where the lists that stand there are legal. It
+    /// takes no memory.
+    fn next_at(&self, at: usize) -> Option<Edge>
+        requires { at < length self.now.nodes }
+        ensures leads { (list : List Break) → StandsAt self.now.rule self.now.len self.now.nodes at list → MatchOption result (is_legal self.now.rule self.now.len list ≡ true) (LeadsOn self.now.rule self.now.len self.now.sums self.now.nodes list) }
+        ensures rule { IsRule self.now.rule }
+        ensures back { MatchOption result (Unit {0}) (λ e. e.next < at) }
+    {
+        let node = node_of(self.nodes, at);
+        let start = sum_before(&self.sums, resumption(self.rule, node.spot));
+        let whole = total(sum_before(&self.values, at), start);
+        let edges = &node.edges;
+        first_reaching(edges.as_slice(), whole, &self.sums, &self.values)
+    }
+
+    /// The breaks of a list that stands at a node, followed by their best rest.
+    pub fn completed(&self, node: usize, list: Vec<Break>) -> Result<Vec<Break>, NoMemory>
+        requires stands { StandsAt self.now.rule self.now.len self.now.nodes node list.items }
+        ensures { IfOk result (λ whole. IsBestFrom self.now.rule self.now.len self.now.sums list.items whole.items) }
     {
         let mut whole = list;
-        let mut at = spot;
-        while let Some(next) = self.next_at(at) {
-            whole.push(next)?;
-            at = after(rule, at, next);
+        let mut at = node;
+        while let Some(edge) = self.next_at(at) {
+            whole.push(edge.stop)?;
+            at = edge.next as usize;
         }
         Ok(whole)
     }
 
+    /// The node where some breaks stand, and `None` where no legal list begins with them. It takes no memory.
+    pub fn node_behind(&self, front: &[Break]) -> Option<usize>
+        ensures { MatchOption result (is_live self.now.rule self.now.len front.now ≡ false) (λ k. StandsAt self.now.rule self.now.len self.now.nodes k front.now) }
+    {
+        let Some(opening) = self.opening() else {
+            return None;
+        };
+        let mut at = opening;
+        for stop in front {
+            let Some(edge) = edge_with(self.edges_at(at), *stop) else {
+                return None;
+            };
+            at = edge.next as usize;
+        }
+        Some(at)
+    }
+
     /// The prices of the offsets at which a duty with these breaks works. It takes no memory.
-    pub fn earned(&self, rule: &Rule, list: &[Break]) -> i64
-        ensures earned { result ≡ earned_from (price_in self.now.sums) rule.now self.now.len 0 list.now }
+    pub fn earned(&self, list: &[Break]) -> i64
+        requires { is_legal self.now.rule self.now.len list.now ≡ true }
+        ensures earned { result ≡ earned_from (price_in self.now.sums) self.now.rule self.now.len 0 list.now }
         ensures small { unsigned_abs result ≤ 10000000000 * 65535 }
     {
-        let sums = self.sums.as_slice();
-        let len = self.len;
-        let mut sum = 0;
-        for offset in 0..len {
-            sum += earned_at(rule, len, list, sums, offset);
-        }
-        sum
+        earned_along(self.rule, self.len, &self.sums, list)
     }
 }

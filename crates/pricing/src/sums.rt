@@ -1,6 +1,6 @@
 //! Sums of slot prices along a shift.
 
-ghost use Rattle.std.specs.Prelude.{◌≡◌, ◌<◌, length, slice_get, Some, IfOk};
+ghost use Rattle.std.specs.Prelude.{◌≡◌, ◌+◌, ◌%◌, ◌<◌, length, slice_get, Some, IfOk};
 ghost use Rattle.break_rules.specs.declared.Rule.{Rule};
 ghost use Rattle.shift_instance.specs.declared.Shift.{Shift};
 ghost use Rattle.shift_instance.specs.Problem.{shift_list, slots};
@@ -9,6 +9,14 @@ ghost use Rattle.pricing.specs.Rests.{AreSums, ArePricesOf, AreSmallPrices};
 use break_rules::NoMemory;
 use shift_instance::Instance;
 use std::alloc::Global;
+
+/// The slot after one, the first after the last.
+fn next_slot(slot: usize, slots: usize) -> usize
+    requires { slot < slots }
+    ensures { result ≡ (slot + 1) % slots }
+{
+    if slot + 1 == slots { 0 } else { slot + 1 }
+}
 
 /// The sums of the prices of a shift's first offsets on a day: that of none, that of the first, that of the first two, and
 /// so on to that of all.
@@ -26,12 +34,14 @@ pub fn price_sums(
     ensures small { IfOk result (λ sums. (x : Shift × Rule) → slice_get (shift_list instance.now) shift ≡ Some x → AreSums x.0.len sums.items) }
 {
     let len = instance.shift(shift).len;
-    let mut sums = Vec::new(alloc);
+    let mut sums = Vec::with_capacity(alloc, usize::from(len) + 1)?;
     let mut sum = 0;
     sums.push(0)?;
-    for offset in 0..len {
-        sum += prices[instance.slot_of(shift, day, offset)];
+    let mut slot = instance.slot_of(shift, day, 0);
+    for _ in 0..len {
+        sum += prices[slot];
         sums.push(sum)?;
+        slot = next_slot(slot, prices.len());
     }
     Ok(sums)
 }

@@ -10,7 +10,7 @@ pub returns-then-is_better-clause-found : goal.returns-then-is_better-clause-fou
 returns-then-is_better-clause-found c =
     let p = c.args.rests.now in
     let es = c.args.trie.now.entries in
-    let worth = worth_made p es c.args.rule.now c.args.list.items c.deref.result.now c.deref-2.result.now c.earned.result c.from.result c.bonus_of.result c.requires.same c.deref.ensures.value c.deref-2.ensures.value
+    let worth = worth_made p es c.args.list.items c.deref.result.now c.deref-2.result.now c.earned.result c.from.result c.bonus_of.result c.deref.ensures.value c.deref-2.ensures.value
     c.earned.ensures.earned c.earned.ensures.small c.bonus_of.ensures.sum c.bonus_of.ensures.small c.from.ensures in
     (subst (IsLegal p) (sym c.new.ensures) c.requires.legal, worth ∙ ap (worth_of p es) (sym c.new.ensures))
 
@@ -18,7 +18,7 @@ pub returns-then-is_better-clause-covers : goal.returns-then-is_better-clause-co
 returns-then-is_better-clause-covers c =
     let p = c.args.rests.now in
     let es = c.args.trie.now.entries in
-    let worth = worth_made p es c.args.rule.now c.args.list.items c.deref.result.now c.deref-2.result.now c.earned.result c.from.result c.bonus_of.result c.requires.same c.deref.ensures.value c.deref-2.ensures.value
+    let worth = worth_made p es c.args.list.items c.deref.result.now c.deref-2.result.now c.earned.result c.from.result c.bonus_of.result c.deref.ensures.value c.deref-2.ensures.value
     c.earned.ensures.earned c.earned.ensures.small c.bonus_of.ensures.sum c.bonus_of.ensures.small c.from.ensures in
     let value : ℤ = to_z w128 (of_z w128 (to_z w128 (of_z w128 c.from.result) +ℤ to_z w128 (of_z w128 c.bonus_of.result))) in
     subst (λ (l : List Break). Covers p es (Some (record { list = l; value = value })) c.args.list.items) (sym c.new.ensures) (covers_itself p es c.args.list.items value worth)
@@ -36,7 +36,7 @@ pub returns-else-is_better-clause-covers : goal.returns-else-is_better-clause-co
 returns-else-is_better-clause-covers c =
     let p = c.args.rests.now in
     let es = c.args.trie.now.entries in
-    let worth = worth_made p es c.args.rule.now c.args.list.items c.deref.result.now c.deref-2.result.now c.earned.result c.from.result c.bonus_of.result c.requires.same c.deref.ensures.value c.deref-2.ensures.value
+    let worth = worth_made p es c.args.list.items c.deref.result.now c.deref-2.result.now c.earned.result c.from.result c.bonus_of.result c.deref.ensures.value c.deref-2.ensures.value
     c.earned.ensures.earned c.earned.ensures.small c.bonus_of.ensures.sum c.bonus_of.ensures.small c.from.ensures in
     let value : ℤ = to_z w128 (of_z w128 (to_z w128 (of_z w128 c.from.result) +ℤ to_z w128 (of_z w128 c.bonus_of.result))) in
     covers_worse p es c.args.list.items value c.in-Some.old worth
@@ -46,7 +46,7 @@ pub returns-in-None-clause-found : goal.returns-in-None-clause-found
 returns-in-None-clause-found c =
     let p = c.args.rests.now in
     let es = c.args.trie.now.entries in
-    let worth = worth_made p es c.args.rule.now c.args.list.items c.deref.result.now c.deref-2.result.now c.earned.result c.from.result c.bonus_of.result c.requires.same c.deref.ensures.value c.deref-2.ensures.value
+    let worth = worth_made p es c.args.list.items c.deref.result.now c.deref-2.result.now c.earned.result c.from.result c.bonus_of.result c.deref.ensures.value c.deref-2.ensures.value
     c.earned.ensures.earned c.earned.ensures.small c.bonus_of.ensures.sum c.bonus_of.ensures.small c.from.ensures in
     (subst (IsLegal p) (sym c.new.ensures) c.requires.legal, worth ∙ ap (worth_of p es) (sym c.new.ensures))
 
@@ -54,7 +54,7 @@ pub returns-in-None-clause-covers : goal.returns-in-None-clause-covers
 returns-in-None-clause-covers c =
     let p = c.args.rests.now in
     let es = c.args.trie.now.entries in
-    let worth = worth_made p es c.args.rule.now c.args.list.items c.deref.result.now c.deref-2.result.now c.earned.result c.from.result c.bonus_of.result c.requires.same c.deref.ensures.value c.deref-2.ensures.value
+    let worth = worth_made p es c.args.list.items c.deref.result.now c.deref-2.result.now c.earned.result c.from.result c.bonus_of.result c.deref.ensures.value c.deref-2.ensures.value
     c.earned.ensures.earned c.earned.ensures.small c.bonus_of.ensures.sum c.bonus_of.ensures.small c.from.ensures in
     let value : ℤ = to_z w128 (of_z w128 (to_z w128 (of_z w128 c.from.result) +ℤ to_z w128 (of_z w128 c.bonus_of.result))) in
     subst (λ (l : List Break). Covers p es (Some (record { list = l; value = value })) c.args.list.items) (sym c.new.ensures) (covers_itself p es c.args.list.items value worth)

@@ -1,106 +1,52 @@
-use Rattle.std.proofs.Common.{◌≡◌, ◌++◌, [], ◌∷◌, List, sym, ap, subst, ◌∙◌, append_assoc, append-nil}
+use Rattle.std.proofs.Common.{◌≡◌, ◌+◌, ◌++◌, [], ◌∷◌, List, map, take, get_or, sym, ap, subst, ◌∙◌}
+use Rattle.std.proofs.lemmas.List.{take_more, take_all}
 use Rattle.break_rules.specs.declared.Break.{Break}
-use Rattle.break_rules.specs.Walk.{nexts_of, spot_of}
 use Rattle.break_rules.proofs.Lists.{Has}
-use Rattle.break_rules.proofs.Steps.{from_next}
-use Rattle.break_rules.proofs.Reaching.{has_middle}
-use Rattle.pricing.proofs.Steps.{dead_behind}
-use Rattle.pricing.proofs.Beyond.{entry_on, walk_at, spot_at, live_at, dead_none, covers_next, covers_more, covers_nexts}
+use Rattle.break_graph.specs.declared.Edge.{Edge}
+use Rattle.break_graph.specs.Graph.{StandsAt, node_at}
+use Rattle.pricing.proofs.Most.{has_at}
+use Rattle.pricing.proofs.Steps.{behind_node, not_legal, map-append}
+use Rattle.pricing.proofs.Beyond.{covers_next, covers_more, covers_nexts}
 use Rattle.pricing.proofs.search.best_beyond.Goals as goal
 
-pub completed-requires-clause-walk : goal.completed-requires-clause-walk
-completed-requires-clause-walk c =
+pub completed-requires : goal.completed-requires
+completed-requires c =
     let p = c.args.rests.now in
-    let rule = c.args.rule.now in
-    let len = c.args.len in
     let front = c.args.front.now in
-    let next = c.in-Some.next in
-    let all : c.loop-next.yielded ++ next ∷ c.next.new.self ≡ nexts_of rule len c.args.spot =
-    ap (λ rest. c.loop-next.yielded ++ rest) (sym c.in-Some.ensures.steps) ∙ c.loop-next.invariant.whole in
-    let has : Has (nexts_of rule len c.args.spot) next = subst (λ ns. Has ns next) all (has_middle c.loop-next.yielded c.next.new.self next) in
-    let at : c.after-behind.result ≡ spot_of rule (front ++ next ∷ []) = c.after-behind.ensures front c.requires.spot (len, c.ranges.len.fits, from_next rule len c.args.spot next has) in
-    let longer : c.push.new.self.items ≡ front ++ next ∷ [] = c.in_ok-push.ensures.items ∙ ap (λ (l : List Break). l ++ next ∷ []) c.in_ok-list.ensures.items in
-    walk_at p rule len c.requires.same c.requires.len front c.args.spot c.requires.walk c.requires.spot next has c.after-behind.result at c.push.new.self.items longer
+    let edges = c.edges_at-edge-items.result.now in
+    let d : Edge = record { stop = record { start = 0; len = 0 }; next = 0 } in
+    let e = get_or edges c.loop-edge.edge-index d in
+    let has : Has (node_at p.nodes c.args.at).edges e = subst (λ l. Has l e) c.edges_at-edge-items.ensures.edges (has_at edges c.loop-edge.edge-index d c.loop-edge-test.true) in
+    let longer : c.push.new.self.items ≡ front ++ e.stop ∷ [] = c.in_ok-push.ensures.items ∙ ap (λ (l : List Break). l ++ e.stop ∷ []) c.in_ok-list.ensures.items in
+    record { stands = subst (StandsAt p.rule p.len p.nodes e.next) (sym longer) (behind_node p.rule p.len p.nodes c.args.at front c.edges_at-edge-items.ensures.graph c.requires.stands e has) }
 
-pub completed-requires-clause-spot : goal.completed-requires-clause-spot
-completed-requires-clause-spot c =
+pub loop-edge-preserved : goal.loop-edge-preserved
+loop-edge-preserved c =
     let p = c.args.rests.now in
-    let rule = c.args.rule.now in
-    let len = c.args.len in
-    let front = c.args.front.now in
-    let next = c.in-Some.next in
-    let all : c.loop-next.yielded ++ next ∷ c.next.new.self ≡ nexts_of rule len c.args.spot =
-    ap (λ rest. c.loop-next.yielded ++ rest) (sym c.in-Some.ensures.steps) ∙ c.loop-next.invariant.whole in
-    let has : Has (nexts_of rule len c.args.spot) next = subst (λ ns. Has ns next) all (has_middle c.loop-next.yielded c.next.new.self next) in
-    let at : c.after-behind.result ≡ spot_of rule (front ++ next ∷ []) = c.after-behind.ensures front c.requires.spot (len, c.ranges.len.fits, from_next rule len c.args.spot next has) in
-    let longer : c.push.new.self.items ≡ front ++ next ∷ [] = c.in_ok-push.ensures.items ∙ ap (λ (l : List Break). l ++ next ∷ []) c.in_ok-list.ensures.items in
-    spot_at p rule len c.requires.same c.requires.len front c.args.spot c.requires.walk c.requires.spot next has c.after-behind.result at c.push.new.self.items longer
-
-pub completed-requires-clause-live : goal.completed-requires-clause-live
-completed-requires-clause-live c =
-    let p = c.args.rests.now in
-    let rule = c.args.rule.now in
-    let len = c.args.len in
-    let front = c.args.front.now in
-    let next = c.in-Some.next in
-    let all : c.loop-next.yielded ++ next ∷ c.next.new.self ≡ nexts_of rule len c.args.spot =
-    ap (λ rest. c.loop-next.yielded ++ rest) (sym c.in-Some.ensures.steps) ∙ c.loop-next.invariant.whole in
-    let has : Has (nexts_of rule len c.args.spot) next = subst (λ ns. Has ns next) all (has_middle c.loop-next.yielded c.next.new.self next) in
-    let at : c.after-behind.result ≡ spot_of rule (front ++ next ∷ []) = c.after-behind.ensures front c.requires.spot (len, c.ranges.len.fits, from_next rule len c.args.spot next has) in
-    let longer : c.push.new.self.items ≡ front ++ next ∷ [] = c.in_ok-push.ensures.items ∙ ap (λ (l : List Break). l ++ next ∷ []) c.in_ok-list.ensures.items in
-    let entry = entry_on p rule len c.requires.same c.requires.len front c.args.spot c.requires.walk c.requires.spot next has c.after-behind.result at c.choice_at.result c.choice_at.ensures.entry in
-    live_at p rule len c.requires.same c.requires.len front c.args.spot c.requires.walk c.requires.spot next has c.after-behind.result at c.push.new.self.items longer c.choice_at.result entry (sym c.is_some.ensures ∙ c.if-is_some.true)
-
-pub loop-next-preserved-then-is_some : goal.loop-next-preserved-then-is_some
-loop-next-preserved-then-is_some c =
-    let p = c.args.rests.now in
-    let rule = c.args.rule.now in
-    let len = c.args.len in
-    let front = c.args.front.now in
-    let next = c.in-Some.next in
-    let all : c.loop-next.yielded ++ next ∷ c.next.new.self ≡ nexts_of rule len c.args.spot =
-    ap (λ rest. c.loop-next.yielded ++ rest) (sym c.in-Some.ensures.steps) ∙ c.loop-next.invariant.whole in
-    let has : Has (nexts_of rule len c.args.spot) next = subst (λ ns. Has ns next) all (has_middle c.loop-next.yielded c.next.new.self next) in
-    let at : c.after-behind.result ≡ spot_of rule (front ++ next ∷ []) = c.after-behind.ensures front c.requires.spot (len, c.ranges.len.fits, from_next rule len c.args.spot next has) in
-    let longer : c.push.new.self.items ≡ front ++ next ∷ [] = c.in_ok-push.ensures.items ∙ ap (λ (l : List Break). l ++ next ∷ []) c.in_ok-list.ensures.items in
     let es = c.args.trie.now.entries in
+    let front = c.args.front.now in
+    let edges = c.edges_at-edge-items.result.now in
+    let i = c.loop-edge.edge-index in
+    let d : Edge = record { stop = record { start = 0; len = 0 }; next = 0 } in
+    let e = get_or edges i d in
+    let longer : c.push.new.self.items ≡ front ++ e.stop ∷ [] = c.in_ok-push.ensures.items ∙ ap (λ (l : List Break). l ++ e.stop ∷ []) c.in_ok-list.ensures.items in
+    let more : map (λ (e : Edge). e.stop) (take (i + 1) edges) ≡ map (λ (e : Edge). e.stop) (take i edges) ++ e.stop ∷ [] =
+    ap (map (λ (e : Edge). e.stop)) (take_more edges i d c.loop-edge-test.true) ∙ map-append (λ (e : Edge). e.stop) (take i edges) (e ∷ []) in
     record {
-      can_next = tt;
-      is_finite = tt;
-      whole = append_assoc c.loop-next.yielded (next ∷ []) c.next.new.self ∙ all;
       found = c.better-best.ensures.found;
-      keeps = λ list h. c.better-best.ensures.keeps list (c.loop-next.invariant.keeps list h);
-      covers = covers_more p es c.better-best.result front c.loop-next.yielded next (λ b m bs legal none. c.better-best.ensures.keeps (front ++ b ∷ bs) (c.loop-next.invariant.covers b m bs legal none))
-          (covers_next p es rule c.better-best.result front next c.push.new.self.items c.in_ok-whole.whole.items c.requires.rule c.requires.same longer c.in_ok-whole.ensures c.better-best.ensures.covers);
-    }
-
-pub loop-next-preserved : goal.loop-next-preserved
-loop-next-preserved c =
-    let p = c.args.rests.now in
-    let rule = c.args.rule.now in
-    let len = c.args.len in
-    let front = c.args.front.now in
-    let next = c.in-Some.next in
-    let all : c.loop-next.yielded ++ next ∷ c.next.new.self ≡ nexts_of rule len c.args.spot =
-    ap (λ rest. c.loop-next.yielded ++ rest) (sym c.in-Some.ensures.steps) ∙ c.loop-next.invariant.whole in
-    let has : Has (nexts_of rule len c.args.spot) next = subst (λ ns. Has ns next) all (has_middle c.loop-next.yielded c.next.new.self next) in
-    let at : c.after-behind.result ≡ spot_of rule (front ++ next ∷ []) = c.after-behind.ensures front c.requires.spot (len, c.ranges.len.fits, from_next rule len c.args.spot next has) in
-    let es = c.args.trie.now.entries in
-    let entry = entry_on p rule len c.requires.same c.requires.len front c.args.spot c.requires.walk c.requires.spot next has c.after-behind.result at c.choice_at.result c.choice_at.ensures.entry in
-    let dead = dead_none p.rule p.len p.sums (front ++ next ∷ []) c.choice_at.result entry (sym c.is_some.ensures ∙ c.if-is_some.false) in
-    record {
-      can_next = tt;
-      is_finite = tt;
-      whole = append_assoc c.loop-next.yielded (next ∷ []) c.next.new.self ∙ all;
-      found = c.loop-next.invariant.found;
-      keeps = c.loop-next.invariant.keeps;
-      covers = covers_more p es c.loop-next.best front c.loop-next.yielded next c.loop-next.invariant.covers (λ bs legal none. absurd (dead_behind p.rule p.len front next dead bs legal));
+      keeps = λ list h. c.better-best.ensures.keeps list (c.loop-edge.invariant.keeps list h);
+      covers = λ b m. covers_more p es c.better-best.result front (map (λ (e : Edge). e.stop) (take i edges)) e.stop (λ b m bs legal none. c.better-best.ensures.keeps (front ++ b ∷ bs) (c.loop-edge.invariant.covers b m bs legal none))
+          (covers_next p es c.better-best.result front e.stop c.push.new.self.items c.in_ok-whole.whole.items c.edges_at-edge-items.ensures.rule longer c.in_ok-whole.ensures c.better-best.ensures.covers)
+          b (subst (λ l. Has l b) more m);
     }
 
 pub returns-clause-covers : goal.returns-clause-covers
 returns-clause-covers c =
-    let rule = c.args.rule.now in
-    let all : c.loop-next.yielded ≡ nexts_of rule c.args.len c.args.spot =
-    sym (append-nil c.loop-next.yielded) ∙ ap (λ rest. c.loop-next.yielded ++ rest) (sym c.in-None.ensures.steps.0) ∙ c.loop-next.invariant.whole in
-    covers_nexts c.args.rests.now c.args.trie.now.entries rule c.args.len c.loop-next.best c.args.front.now c.args.spot c.requires.same c.requires.len c.requires.spot c.requires.unfinished
-    (λ b m. c.loop-next.invariant.covers b (subst (λ (l : List Break). Has l b) (sym all) m))
+    let p = c.args.rests.now in
+    let front = c.args.front.now in
+    let edges = c.edges_at-edge-items.result.now in
+    let g = c.edges_at-edge-items.ensures.graph in
+    let all : map (λ (e : Edge). e.stop) (take c.loop-edge.edge-index edges) ≡ map (λ (e : Edge). e.stop) (node_at p.nodes c.args.at).edges =
+    ap (map (λ (e : Edge). e.stop)) (take_all c.loop-edge.edge-index edges c.loop-edge-test.false ∙ c.edges_at-edge-items.ensures.edges) in
+    covers_nexts p c.args.trie.now.entries c.loop-edge.best front (not_legal p.rule p.len p.nodes c.args.at front g c.requires.stands c.requires.unfinished)
+    (λ b m. c.loop-edge.invariant.covers b (subst (λ l. Has l b) (sym (all ∙ g.edges c.args.at front c.requires.stands)) m))

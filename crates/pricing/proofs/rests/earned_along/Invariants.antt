@@ -1,0 +1,11 @@
+use Rattle.std.proofs.Common.{◌≡◌, ◌+ℤ◌, drop}
+use Rattle.pricing.specs.Rests.{earned_from, price_in}
+use Rattle.pricing.proofs.Stretches.{Spaced}
+use Rattle.pricing.proofs.rests.earned_along.Given as goal
+
+abbrev pub invariant-loop-stop : goal.invariant-loop-stop
+invariant-loop-stop l = record {
+  same : l.resettle ≡ l.rule.resettle;
+  spaced : Spaced l.rule l.from l.len (drop l.stop-index l.list);
+  sum : l.sum +ℤ earned_from (price_in l.sums) l.rule l.len l.from (drop l.stop-index l.list) ≡ earned_from (price_in l.sums) l.rule l.len 0 l.list;
+}

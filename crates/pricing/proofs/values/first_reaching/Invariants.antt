@@ -1,0 +1,8 @@
+use Rattle.std.proofs.Common.{◌≡◌, take}
+use Rattle.break_rules.proofs.Lists.{Has}
+use Rattle.break_graph.specs.declared.Edge.{Edge}
+use Rattle.pricing.specs.Values.{reach_of, AreFit}
+use Rattle.pricing.proofs.values.first_reaching.Given as goal
+
+abbrev pub invariant-loop-next : goal.invariant-loop-next
+invariant-loop-next l = record { others : AreFit (reach_of l.sums l.values) l.edges → (e : Edge) → Has (take l.next-index l.edges) e → reach_of l.sums l.values e ≡ l.whole → ⊥ }

@@ -1,0 +1,9 @@
+use Rattle.std.proofs.Common.{◌≡◌, length}
+use Rattle.pricing.specs.Values.{AreValues}
+use Rattle.pricing.proofs.values.node_values.Given as goal
+
+abbrev pub invariant-loop-k : goal.invariant-loop-k
+invariant-loop-k l = record {
+  many : length l.values.items ≡ l.k;
+  known : AreValues l.rule l.len l.sums l.nodes l.k l.values.items;
+}

@@ -1,0 +1,129 @@
+//! The values of the nodes of a graph: what the best rests of the break lists that stand there earn.
+
+ghost use Rattle.std.specs.Prelude.{◌≡◌, ◌≢◌, ◌<◌, ◌≤◌, ◌++◌, ◌+ℤ◌, ◌-ℤ◌, [], List, MatchOption, length, IfOk, FitsSigned, Some, slice_get};
+ghost use Rattle.std.specs.Int.{w64};
+ghost use Rattle.break_rules.specs.declared.Break.{Break};
+ghost use Rattle.break_rules.specs.Ranges.{IsRule};
+ghost use Rattle.break_rules.proofs.Lists.{Has};
+ghost use Rattle.break_graph.specs.declared.Edge.{Edge};
+ghost use Rattle.break_graph.specs.Graph.{IsGraph, StandsAt, node_at};
+ghost use Rattle.pricing.specs.Rests.{sum_at, resumes, AreSums};
+ghost use Rattle.pricing.specs.Values.{reach_of, AreFit, IsFirstWith, IsMostReached, IsValue, AreValues};
+
+use break_graph::{Edge, Node};
+use break_rules::{NoMemory, Rule, Spot};
+use std::alloc::Global;
+
+/// The sum of the prices of the offsets before one.
+pub fn sum_before(sums: &[i64], offset: usize) -> i64
+    ensures { result ≡ sum_at sums.now offset }
+{
+    sums.get(offset).copied().unwrap_or(0)
+}
+
+/// The first offset that counts as work behind a spot.
+pub fn resumption(rule: &Rule, spot: Spot) -> usize
+    ensures { result ≡ resumes rule.now spot.offset }
+{
+    if spot.offset == 0 {
+        0
+    } else {
+        usize::from(spot.offset) + usize::from(rule.resettle)
+    }
+}
+
+/// What an edge reaches: the sum of the prices before its break, and the value of the node behind it.
+pub fn reach(sums: &[i64], values: &[i64], edge: Edge) -> i64
+    ensures { FitsSigned w64 (reach_of sums.now values.now edge) → result ≡ reach_of sums.now values.now edge }
+{
+    sum_before(sums, usize::from(edge.stop.start)).wrapping_add(sum_before(
+        values,
+        edge.next as usize,
+    ))
+}
+
+/// The difference of two sums.
+pub fn difference(a: i64, b: i64) -> i64
+    ensures { FitsSigned w64 (a -ℤ b) → result ≡ a -ℤ b }
+{
+    a.wrapping_sub(b)
+}
+
+/// The sum of two sums.
+pub fn total(a: i64, b: i64) -> i64
+    ensures { FitsSigned w64 (a +ℤ b) → result ≡ a +ℤ b }
+{
+    a.wrapping_add(b)
+}
+
+/// The first of some edges that reaches a sum.
+pub fn first_reaching(edges: &[Edge], whole: i64, sums: &[i64], values: &[i64]) -> Option<Edge>
+    ensures first { AreFit (reach_of sums.now values.now) edges.now → MatchOption result ((e : Edge) → Has edges.now e → reach_of sums.now values.now e ≡ whole → ⊥) (λ e. (f : IsFirstWith (reach_of sums.now values.now) edges.now whole) × (f.edge ≡ e)) }
+    ensures has { MatchOption result (Unit {0}) (Has edges.now) }
+{
+    for next in edges {
+        if reach(sums, values, *next) == whole {
+            return Some(*next);
+        }
+    }
+    None
+}
+
+/// The most that one of some edges reaches.
+fn most_reached(edges: &[Edge], first: Edge, sums: &[i64], values: &[i64]) -> i64
+    requires first { slice_get edges.now 0 ≡ Some first }
+    ensures { AreFit (reach_of sums.now values.now) edges.now → IsMostReached (reach_of sums.now values.now) edges.now result }
+{
+    let mut most = reach(sums, values, first);
+    for edge in edges {
+        most = most.max(reach(sums, values, *edge));
+    }
+    most
+}
+
+/// The most that one of the edges of a node reaches, and the sum of all prices where it has none.
+fn whole_of(edges: &[Edge], len: u16, sums: &[i64], values: &[i64]) -> i64
+    ensures end { edges.now ≡ [] → result ≡ sum_at sums.now len }
+    ensures most { edges.now ≢ [] → AreFit (reach_of sums.now values.now) edges.now → IsMostReached (reach_of sums.now values.now) edges.now result }
+{
+    match edges.first() {
+        Some(first) => most_reached(edges, *first, sums, values),
+        None => sum_before(sums, usize::from(len)),
+    }
+}
+
+/// The value of a node, by those of the nodes before it.
+fn value_of(rule: &Rule, len: u16, nodes: &[Node], k: usize, sums: &[i64], values: &[i64]) -> i64
+    requires rule { IsRule rule.now }
+    requires graph { IsGraph rule.now len nodes.now }
+    requires sums { AreSums len sums.now }
+    requires k { k < length nodes.now }
+    requires known { AreValues rule.now len sums.now nodes.now k values.now }
+    ensures { (list : List Break) → StandsAt rule.now len nodes.now k list → IsValue rule.now len sums.now list result }
+{
+    let node = &nodes[k];
+    let edges = &node.edges;
+    let whole = whole_of(edges.as_slice(), len, sums, values);
+    difference(whole, sum_before(sums, resumption(rule, node.spot)))
+}
+
+/// The value of each node of a graph.
+pub fn node_values(
+    alloc: Global,
+    rule: &Rule,
+    len: u16,
+    nodes: &[Node],
+    sums: &[i64],
+) -> Result<Vec<i64>, NoMemory>
+    requires rule { IsRule rule.now }
+    requires graph { IsGraph rule.now len nodes.now }
+    requires sums { AreSums len sums.now }
+    ensures { IfOk result (λ values. AreValues rule.now len sums.now nodes.now (length nodes.now) values.items) }
+{
+    let mut values = Vec::with_capacity(alloc, nodes.len())?;
+    for k in 0..nodes.len() {
+        let value = value_of(rule, len, nodes, k, sums, &values);
+        values.push(value)?;
+    }
+    Ok(values)
+}
