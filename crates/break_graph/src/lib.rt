@@ -4,8 +4,10 @@
 
 mod building;
 mod places;
+#[cfg(test)]
+mod tests;
 
-ghost use Rattle.std.specs.Prelude.{◌≡◌};
+ghost use Rattle.std.specs.Prelude.{◌≡◌, ◌-◌, ◌^◌, min, sum_by, length};
 
 use break_rules::{Break, Spot};
 use std::marker::Model;
@@ -81,5 +83,16 @@ impl Graph {
         ensures { result.now ≡ self.now }
     {
         self.nodes.as_slice()
+    }
+
+    /// The number of the edges of all nodes, for whoever bounds the memory of graphs; at most `usize::MAX`.
+    pub fn edge_count(&self) -> usize
+        ensures { result ≡ min (sum_by (λ n. length n.edges) self.now) (2 ^ 64 - 1) }
+    {
+        let mut count = 0usize;
+        for node in self.nodes.as_slice() {
+            count = count.saturating_add(node.edges.as_slice().len());
+        }
+        count
     }
 }

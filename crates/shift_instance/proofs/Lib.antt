@@ -1,6 +1,7 @@
 pub mod Alike
 pub mod Examples
 pub mod Judged
+pub mod KeptGraphs
 pub mod Made
 pub mod Offsets
 pub mod Rotas

@@ -8,10 +8,14 @@ use Rattle.std.proofs.lemmas.List.FromFn.{length-range_with_len}
 use Rattle.std.proofs.lemmas.Grind.{flat_map-append}
 use Rattle.break_rules.specs.declared.Rule.{Rule}
 use Rattle.break_rules.specs.Causes.{first_cause}
+use Rattle.break_rules.specs.Ranges.{IsRule}
+use Rattle.break_rules.proofs.Ranges.{ranges_from_none}
+use Rattle.break_graph.specs.declared.Node.{Node}
 use Rattle.shift_instance.specs.declared.Shift.{Shift}
 use Rattle.shift_instance.specs.Kind.{Kind}
 use Rattle.shift_instance.specs.Problem.{Problem, day_slots, shifts_of_kind, from_to}
 use Rattle.shift_instance.specs.Listing.{shift_at, starting, shifts_of, IsListed}
+use Rattle.shift_instance.specs.Graphs.{AreGraphs}
 use Rattle.shift_instance.specs.Valid.{IsValid, IsKind, IsInside}
 use Rattle.shift_instance.specs.Faults.{instance_causes}
 use Rattle.shift_instance.proofs.Judged.{valid_from_none}
@@ -93,12 +97,14 @@ starts_all number at kind base items ok short long e =
     e ∙ ap (λ (k : ℕ). base ++ flat_map (starting number kind) (range_with_len kind.start_min (k - kind.start_min))) same
 
 -- what an instance keeps
-pub inside : (i : Problem) (kinds : List Kind) (shifts : List Shift) → None ≡ first_cause (instance_causes i) → kinds ≡ i.kinds → shifts ≡ flat_map shifts_of (enumerate_from 0 kinds) → IsInside i shifts
-inside i kinds shifts h same e =
+pub inside : (i : Problem) (kinds : List Kind) (shifts : List Shift) (graphs : List (List (List Node))) → None ≡ first_cause (instance_causes i) → kinds ≡ i.kinds → shifts ≡ flat_map shifts_of (enumerate_from 0 kinds) → AreGraphs kinds graphs
+    → IsInside i shifts graphs
+inside i kinds shifts graphs h same e drawn =
     record {
       valid = valid_from_none i (sym h);
       faultless = sym h;
       listed = e ∙ ap (λ ks. flat_map shifts_of (enumerate_from 0 ks)) same ∙ sym (firsts_of_kinds (enumerate_from 0 i.kinds));
+      drawn = subst (λ (ks : List Kind). AreGraphs ks graphs) same drawn;
     }
 
 pub listed_kinds : (i : Problem) (kinds : List Kind) → None ≡ first_cause (instance_causes i) → kinds ≡ i.kinds → All IsListed kinds
@@ -106,3 +112,8 @@ listed_kinds i kinds h same = subst (λ ks. All IsListed ks) (sym same) (listed 
 
 pub few_listed : (i : Problem) (kinds : List Kind) → None ≡ first_cause (instance_causes i) → kinds ≡ i.kinds → length kinds ≤ 16
 few_listed i kinds h same = subst (λ (ks : List Kind). length ks ≤ 16) (sym same) (valid_from_none i (sym h)).types
+
+pub ruled_kinds : (i : Problem) (kinds : List Kind) → None ≡ first_cause (instance_causes i) → kinds ≡ i.kinds → All (λ (k : Kind). IsRule k.rule) kinds
+ruled_kinds i kinds h same =
+    let valid = valid_from_none i (sym h) in
+    subst (λ (ks : List Kind). All (λ (k : Kind). IsRule k.rule) ks) (sym same) (All-weaker (IsKind i) (λ (k : Kind). IsRule k.rule) (λ k is. ranges_from_none k.rule is.passes) i.kinds valid.kinds)

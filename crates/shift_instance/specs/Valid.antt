@@ -2,7 +2,9 @@
 use Rattle.std.specs.Prelude.{◌≡◌, ℕ, ◌≤◌, ◌<◌, ◌*◌, List, length, map, All, IsTrue, None, Some, slice_get}
 use Rattle.break_rules.specs.Causes.{first_cause}
 use Rattle.break_rules.specs.RuleFaults.{rule_causes}
+use Rattle.break_graph.specs.declared.Node.{Node}
 use Rattle.shift_instance.specs.declared.Shift.{Shift}
+use Rattle.shift_instance.specs.Graphs.{AreGraphs}
 use Rattle.shift_instance.specs.Kind.{Kind}
 use Rattle.shift_instance.specs.Names.{is_name}
 use Rattle.shift_instance.specs.Faults.{instance_causes}
@@ -47,8 +49,9 @@ pub record IsValid (i : Problem) : Type 0 where
   pub names : (a b : ℕ) (x y : Kind) → slice_get i.kinds a ≡ Some x → slice_get i.kinds b ≡ Some y → a < b → ¬ (x.name ≡ y.name)
   pub shifts : length (shift_list i) ≤ 1024
 
--- what an instance keeps: valid numbers without a fault, and their shift list
-pub record IsInside (i : Problem) (shifts : List Shift) : Type 0 where
+-- what an instance keeps: valid numbers without a fault, their shift list, and graphs of the break lists of their types
+pub record IsInside (i : Problem) (shifts : List Shift) (graphs : List (List (List Node))) : Type 0 where
   pub valid : IsValid i
   pub faultless : first_cause (instance_causes i) ≡ None
   pub listed : shifts ≡ map (λ x. x.0) (shift_list i)
+  pub drawn : AreGraphs i.kinds graphs

@@ -1,21 +1,25 @@
 //! Instances of the shift design problem, duties, and the rows of a rota.
 #![tactic(auto)]
 
+mod graphs;
 mod judging;
 mod listing;
 mod rows;
 #[cfg(test)]
 mod tests;
 
-ghost use Rattle.std.specs.Prelude.{◌≡◌, ◌<◌, ◌≤◌, length, map, slice_get, IsSomeAnd, IfOk, MatchResult, None};
+ghost use Rattle.std.specs.Prelude.{◌≡◌, ◌<◌, ◌≤◌, length, map, slice_get, IsSomeAnd, IfOk, MatchOption, MatchResult, None};
 ghost use Rattle.break_rules.specs.Causes.{first_cause};
 ghost use Rattle.break_rules.specs.RuleFaults.{rule_causes};
 ghost use Rattle.break_rules.specs.Ranges.{IsRule};
+ghost use Rattle.break_graph.specs.Graph.{IsGraph};
 ghost use Rattle.shift_instance.specs.Problem.{need_at, shift_list, slot_of, slots, day_slots};
 ghost use Rattle.shift_instance.specs.Faults.{instance_causes, Answers};
 ghost use Rattle.shift_instance.specs.Valid.{IsValid, IsShift};
 
-use break_rules::{Breaks, Rule, RuleFault};
+use break_graph::Graph;
+use break_rules::{Breaks, NoMemory, Rule, RuleFault};
+use graphs::TypeGraphs;
 pub use rows::Rows;
 use std::alloc::Global;
 use std::error::Error;
@@ -197,6 +201,7 @@ impl Error for InstanceFault {}
 pub struct Instance {
     parts: Parts,
     shifts: Vec<Shift>,
+    graphs: Vec<TypeGraphs>,
 }
 
 impl Model for Instance {
@@ -208,7 +213,7 @@ impl Model for Instance {
 
     ghost use Rattle.shift_instance.specs.Valid.{IsInside};
 
-    ghost invariant = { λ i. IsInside i.parts i.shifts.items };
+    ghost invariant = { λ i. IsInside i.parts i.shifts.items i.graphs.items };
 }
 
 impl Instance {
@@ -221,11 +226,25 @@ impl Instance {
     {
         match judging::judge(&parts) {
             Some(fault) => Err(fault),
-            None => match listing::list_shifts(alloc, parts.types.as_slice()) {
-                Ok(shifts) => Ok(Instance { parts, shifts }),
+            None => match Instance::completed(alloc, parts) {
+                Ok(instance) => Ok(instance),
                 Err(_) => Err(InstanceFault::NoMemory),
             },
         }
+    }
+
+    /// The instance of faultless numbers.
+    fn completed(alloc: Global, parts: Parts) -> Result<Instance, NoMemory>
+        requires { None ≡ first_cause (instance_causes parts) }
+        ensures { IfOk result (λ i. i ≡ parts) }
+    {
+        let shifts = listing::list_shifts(alloc, parts.types.as_slice())?;
+        let graphs = graphs::type_graphs(alloc, parts.types.as_slice())?;
+        Ok(Instance {
+            parts,
+            shifts,
+            graphs,
+        })
     }
 
     /// The numbers of the instance.
@@ -268,6 +287,22 @@ impl Instance {
         let parts = &self.parts;
         let kind = &parts.types[usize::from(shift.kind)];
         &kind.rule
+    }
+
+    /// The graph of the break lists of a shift, by the rule of its type and its length, and `None` where the instance
+    /// doesn't keep it. It keeps the graphs of all shifts unless they have together more than some 4 million edges, as for
+    /// much break time in slots of five minutes: then those of the longest shifts of a type are left out, and whoever
+    /// wants one makes it.
+    pub fn graph(&self, shift: u16) -> Option<&Graph>
+        requires { shift < length (shift_list self.now) }
+        ensures graph { MatchOption result Unit (λ g. IsSomeAnd (slice_get (shift_list self.now) shift) (λ x. IsGraph x.1 x.0.len g.now)) }
+    {
+        let shift = self.shift(shift);
+        let parts = &self.parts;
+        let number = usize::from(shift.kind);
+        let kind = &parts.types[number];
+        let above = shift.len.checked_sub(kind.len_min)?;
+        self.graphs.get(number)?.at(above)
     }
 
     /// The wanted employees of a slot.

@@ -1,0 +1,111 @@
+-- The graphs of break lists that an instance keeps, one more at a time.
+use Rattle.std.proofs.Common.{◌≡◌, ◌⊎◌, inl, inr, ℕ, ◌+◌, ◌-◌, ◌<◌, ◌≤◌, List, [], ◌∷◌, ◌++◌, length, get_or, sym, ap, ◌∙◌, subst, arith, Option, Some, None, MatchOption, Bor}
+use Rattle.std.specs.Prelude.{slice_get, IsSomeAnd}
+use Rattle.std.proofs.lemmas.List.{length-append}
+use Rattle.std.proofs.lemmas.Bool.{cases_lt}
+use Rattle.std.proofs.lemmas.Option.{slice_get_within, get_or_from_slice_get, slice_get-get_or}
+use Rattle.std.proofs.Math.ListN.{get_or-append}
+use Rattle.std.proofs.Math.Seq.{get_or-append_seam}
+use Rattle.break_rules.specs.declared.Lunch.{Lunch}
+use Rattle.break_rules.specs.declared.Rule.{Rule}
+use Rattle.break_rules.specs.declared.Spot.{Spot}
+use Rattle.break_graph.specs.declared.Edge.{Edge}
+use Rattle.break_graph.specs.declared.Node.{Node}
+use Rattle.break_graph.specs.Graph.{IsGraph}
+use Rattle.shift_instance.specs.declared.Shift.{Shift}
+use Rattle.shift_instance.specs.Kind.{Kind}
+use Rattle.shift_instance.specs.Problem.{Problem, shift_list}
+use Rattle.shift_instance.specs.Valid.{IsInside}
+use Rattle.shift_instance.specs.Graphs.{AreGraphsOf, AreGraphs}
+use Rattle.shift_instance.proofs.Shifts.{some_at, Has_at, get_or_some, kind_of, is_some_and_from, is_some_and_at}
+
+-- what stands in a list with an element more stood there before, or is that element
+last_or : {X : Type 0} (xs : List X) (x y : X) (j : ℕ) → slice_get (xs ++ x ∷ []) j ≡ Some y → (slice_get xs j ≡ Some y) ⊎ ((j ≡ length xs) × (x ≡ y))
+last_or {X} xs x y j h =
+    let inside = slice_get_within (xs ++ x ∷ []) j y h in
+    let read : get_or (xs ++ x ∷ []) j y ≡ y = get_or_from_slice_get (xs ++ x ∷ []) j y y h in
+    elim (cases_lt j (length xs)) [
+      | inl l ↦ inl (slice_get-get_or xs j y l ∙ ap Some (sym (get_or-append xs (x ∷ []) y j l) ∙ read))
+      | inr g ↦
+          let at : j ≡ length xs = omega (arith, length-append xs (x ∷ [])) in
+          inr (at, sym (ap (λ (k : ℕ). get_or (xs ++ x ∷ []) k y) at ∙ get_or-append_seam xs x [] y) ∙ read)
+    ]
+
+-- the graph of a length more
+pub graphs_more : (kind : Kind) (rule : Rule) (low len : ℕ) (list new : List (List Node)) (graph : List Node) → rule ≡ kind.rule → low ≡ kind.len_min → low ≤ len → length list ≡ len - low
+    → AreGraphsOf kind list → IsGraph rule len graph → new ≡ list ++ graph ∷ [] → AreGraphsOf kind new
+graphs_more kind rule low len list new graph same least from many made is e j nodes h =
+    elim (last_or list graph nodes j (sym (ap (λ (gs : List (List Node)). slice_get gs j) e) ∙ h)) [
+      | inl before ↦ made j nodes before
+      | inr last ↦
+          let at : len ≡ kind.len_min + j = omega (arith, last.0) in
+          subst (IsGraph kind.rule (kind.len_min + j)) last.1 (subst (λ n. IsGraph kind.rule n graph) at (subst (λ (r : Rule). IsGraph r len graph) same is))
+    ]
+
+-- the graphs of a type more
+pub types_more : (kinds : List Kind) (list new : List (List (List Node))) (of : List (List Node)) (k : ℕ) (kind : Kind) → slice_get kinds k ≡ Some kind → length list ≡ k
+    → AreGraphs kinds list → AreGraphsOf kind of → new ≡ list ++ of ∷ [] → AreGraphs kinds new
+types_more kinds list new of k kind stands many made is e j other there at h =
+    elim (last_or list of there j (sym (ap (λ (gs : List (List (List Node))). slice_get gs j) e) ∙ h)) [
+      | inl before ↦ made j other there at before
+      | inr last ↦
+          let same : ◌≡◌ {A = Option Kind} (Some kind) (Some other) = sym stands ∙ ap (λ (n : ℕ). slice_get kinds n) (sym (last.0 ∙ many)) ∙ at in
+          let alike : kind ≡ other = cc in
+          subst (AreGraphsOf other) last.1 (subst (λ (q : Kind). AreGraphsOf q of) alike is)
+    ]
+
+-- what stands at the place of a shift's type and length is its graph
+pub kept_found : (i j : Problem) (s : ℕ) (y : Shift) (kind : Kind) (above : ℕ) (graphs : List (List (List Node))) (of : List (List Node)) (nodes : List Node) → i ≡ j → AreGraphs i.kinds graphs
+    → s < length (shift_list j) → IsSomeAnd (slice_get (shift_list j) s) (λ x. y ≡ x.0) → kind ≡ get_or i.kinds y.kind kind → y.len ≡ kind.len_min + above
+    → slice_get graphs y.kind ≡ Some of → slice_get of above ≡ Some nodes → IsSomeAnd (slice_get (shift_list j) s) (λ x. IsGraph x.1 x.0.len nodes)
+kept_found i j s y kind above graphs of nodes same drawn small found read len here there =
+    let x = some_at (shift_list j) s small in
+    let e : y ≡ x.0.0 = is_some_and_at _ (λ x. y ≡ x.0) x.0 x.1 found in
+    let k = kind_of j x.0 (Has_at (shift_list j) s x.0 x.1) in
+    let at : slice_get i.kinds y.kind ≡ Some k.0 = ap (λ (q : Problem). slice_get q.kinds y.kind) same ∙ ap (λ (q : Shift). slice_get j.kinds q.kind) e ∙ k.1.at in
+    let alike : kind ≡ k.0 = read ∙ (get_or_some i.kinds y.kind k.0 kind at).1 in
+    let long : k.0.len_min + above ≡ x.0.0.len = ap (λ (q : Kind). q.len_min + above) (sym alike) ∙ sym len ∙ ap (λ (q : Shift). q.len) e in
+    is_some_and_from _ (λ x. IsGraph x.1 x.0.len nodes) x.0 x.1
+    (subst (λ (r : Rule). IsGraph r x.0.0.len nodes) (sym k.1.rule) (subst (λ n. IsGraph k.0.rule n nodes) long (drawn y.kind k.0 of at here above nodes there)))
+
+-- a node by its fields
+pub same_node : (x y : Node) → y.spot ≡ x.spot → y.edges ≡ x.edges → y ≡ x
+same_node x y s e = ap (λ (p : Spot). record { spot = p; edges = y.edges }) s ∙ ap (λ (es : List Edge). record { spot = x.spot; edges = es }) e
+
+-- a pair, a rule, a type and an instance's numbers by their fields
+pub same_pair : (x y : ℕ × ℕ) → y.0 ≡ x.0 → y.1 ≡ x.1 → y ≡ x
+same_pair x y a b = ap (λ (n : ℕ). (n, y.1)) a ∙ ap (λ (n : ℕ). (x.0, n)) b
+
+pub same_rule : (x y : Rule) → y.lead ≡ x.lead → y.tail ≡ x.tail → y.work_min ≡ x.work_min → y.work_max ≡ x.work_max → y.long_work ≡ x.long_work → y.long_rest ≡ x.long_rest → y.size_min ≡ x.size_min → y.size_max ≡ x.size_max
+    → y.totals ≡ x.totals → y.lunches ≡ x.lunches → y.resettle ≡ x.resettle → y ≡ x
+same_rule x y lead tail work_min work_max long_work long_rest size_min size_max totals lunches resettle =
+    let made : ℕ → ℕ → ℕ → ℕ → ℕ → ℕ → ℕ → ℕ → List (ℕ × ℕ) → List Lunch → ℕ → Rule =
+    λ a b c d e f g h i j k. record { lead = a; tail = b; work_min = c; work_max = d; long_work = e; long_rest = f; size_min = g; size_max = h; totals = i; lunches = j; resettle = k } in
+    let same : made y.lead y.tail y.work_min y.work_max y.long_work y.long_rest y.size_min y.size_max y.totals y.lunches y.resettle
+    ≡ made x.lead x.tail x.work_min x.work_max x.long_work x.long_rest x.size_min x.size_max x.totals x.lunches x.resettle = cc in
+    same
+
+pub same_kind : (x y : Kind) → y.name ≡ x.name → y.start_min ≡ x.start_min → y.start_max ≡ x.start_max → y.len_min ≡ x.len_min → y.len_max ≡ x.len_max → y.rule ≡ x.rule → y ≡ x
+same_kind x y name start_min start_max len_min len_max rule =
+    let made : List ℕ → ℕ → ℕ → ℕ → ℕ → Rule → Kind = λ a b c d e f. record { name = a; start_min = b; start_max = c; len_min = d; len_max = e; rule = f } in
+    let same : made y.name y.start_min y.start_max y.len_min y.len_max y.rule ≡ made x.name x.start_min x.start_max x.len_min x.len_max x.rule = cc in
+    same
+
+pub same_problem : (x y : Problem) → y.slot_minutes ≡ x.slot_minutes → y.days ≡ x.days → y.need ≡ x.need → y.heads ≡ x.heads → y.excess ≡ x.excess → y.shortage ≡ x.shortage → y.shift ≡ x.shift → y.kinds ≡ x.kinds → y ≡ x
+same_problem x y minutes days need heads excess shortage shift kinds =
+    let made : ℕ → ℕ → List ℕ → ℕ → ℕ → ℕ → ℕ → List Kind → Problem =
+    λ a b c d e f g h. record { slot_minutes = a; days = b; need = c; heads = d; excess = e; shortage = f; shift = g; kinds = h } in
+    let same : made y.slot_minutes y.days y.need y.heads y.excess y.shortage y.shift y.kinds ≡ made x.slot_minutes x.days x.need x.heads x.excess x.shortage x.shift x.kinds = cc in
+    same
+
+-- what an instance keeps is kept by what equals it
+pub same_inside : (i j : Problem) (ss ts : List Shift) (gs hs : List (List (List Node))) → j ≡ i → ts ≡ ss → hs ≡ gs → IsInside i ss gs → IsInside j ts hs
+same_inside i j ss ts gs hs e f g inside =
+    subst (λ (k : Problem). IsInside k ts hs) (sym e) (subst (λ (us : List Shift). IsInside i us hs) (sym f) (subst (IsInside i ss) (sym g) inside))
+
+-- a graph that is kept, if one is, is that of the shift
+pub graph_found : (i j : Problem) (s : ℕ) (y : Shift) (kind : Kind) (above : ℕ) (graphs : List (List (List Node))) (of : List (List Node)) (found : Option (Bor (List Node))) → i ≡ j → AreGraphs i.kinds graphs
+    → s < length (shift_list j) → IsSomeAnd (slice_get (shift_list j) s) (λ x. y ≡ x.0) → kind ≡ get_or i.kinds y.kind kind → y.len ≡ kind.len_min + above → slice_get graphs y.kind ≡ Some of
+    → MatchOption found (slice_get of above ≡ None) (λ g. slice_get of above ≡ Some g.now) → MatchOption found (Unit {0}) (λ g. IsSomeAnd (slice_get (shift_list j) s) (λ x. IsGraph x.1 x.0.len g.now))
+graph_found i j s y kind above graphs of None same drawn small found read long here there = tt
+graph_found i j s y kind above graphs of (Some g) same drawn small found read long here there = kept_found i j s y kind above graphs of g.now same drawn small found read long here there

@@ -1,0 +1,9 @@
+use Rattle.std.proofs.Common.{◌≡◌, length}
+use Rattle.shift_instance.specs.Graphs.{AreGraphs}
+use Rattle.shift_instance.proofs.graphs.type_graphs.Given as goal
+
+abbrev pub invariant-loop-kind : goal.invariant-loop-kind
+invariant-loop-kind l = record {
+  many : length l.graphs.items ≡ l.kind-index;
+  made : AreGraphs l.kinds l.graphs.items;
+}
