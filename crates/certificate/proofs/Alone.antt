@@ -7,7 +7,7 @@ use Rattle.std.proofs.lemmas.List.Elements.{All-nil, All-head, All-tail, All-app
 use Rattle.certificate.specs.declared.Cert.{Cert}
 use Rattle.certificate.specs.Text.{Line, lines_text, cert_lines, cert_text}
 use Rattle.certificate.specs.Departing.{IsLine, IsNote, IsText, Begins, DepartBehind, EachIsWritten, EachSpellsOnce, EachBeginsAlike, EachDepartsOnce}
-use Rattle.certificate.proofs.Lines.{right, same_ok, text_append}
+use Rattle.certificate.proofs.LineReading.{right, same_ok, text_append}
 use Rattle.certificate.proofs.Certs.{cert_reads}
 use Rattle.certificate.proofs.Whole.{same_line, first_of_text, notes_lines, read_back}
 

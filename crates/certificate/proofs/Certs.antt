@@ -1,60 +1,33 @@
 -- The lines of a certificate are read exactly where they are spelled so.
-use Rattle.std.proofs.Common.{◌≡◌, ℕ, ◌-◌, ◌^◌, ◌<◌, ◌≤◌, Bool, true, false, cond, eqb, not, ◌&&◌, List, [], ◌∷◌, ◌++◌, length, map, Option, Some, None, option_map, refl, sym, ap, subst, arith, inl, inr, codes}
-use Rattle.std.specs.Prelude.{bytes_eq}
-use Rattle.std.specs.List.{AllByRecursion, flat_map}
+use Rattle.std.proofs.Common.{◌≡◌, ℕ, ◌-◌, ◌^◌, ◌<◌, ◌≤◌, true, false, cond, List, [], ◌∷◌, ◌++◌, length, map, Option, Some, None, option_map, refl, sym, ap, subst, arith, inl, inr, codes}
+use Rattle.std.specs.Prelude.{All, bytes_eq}
+use Rattle.std.specs.List.{AllByRecursion}
 use Rattle.std.specs.Fmt.{decimal}
-use Rattle.std.proofs.lemmas.Bool.{ltb-true, lt-ltb, eqb-true, eq-eqb, cases_Bool, and_parts}
-use Rattle.std.proofs.lemmas.List.Elements.{All-nil, All-cons, All-head, All-append, All-from_recursion, recursion_from_All}
-use Rattle.break_rules.specs.declared.Break.{Break}
+use Rattle.std.proofs.lemmas.Bool.{ltb-true, lt-ltb, eqb-true, eq-eqb, cases_Bool}
+use Rattle.std.proofs.lemmas.List.Elements.{All-nil, All-head, All-tail, All-weaker, All-from_recursion, recursion_from_All}
 use Rattle.shift_instance.specs.declared.Row.{Row}
 use Rattle.certificate.specs.declared.Cert.{Cert}
 use Rattle.certificate.specs.declared.CertStatus.{CertStatus}
 use Rattle.certificate.specs.declared.CertStatus.TheVariants.{Optimal, Stopped, Bound}
-use Rattle.certificate.specs.Text.{Line, break_text, breaks_text, row_line, status_text, rows_of, cert_lines, AgreesWith, FitsBreak, FitsRow, HasText}
+use Rattle.certificate.specs.declared.proof_lines.Line.{Line as ProofLine}
+use Rattle.certificate.specs.declared.proof_lines.Line.TheVariants.{Settled}
+use Rattle.certificate.specs.Text.{Line, breaks_text, row_line, proof_line, proof_lines, status_text, rows_of, cert_lines, AgreesWith, HasSlot, FitsBreak, FitsRow, FitsLine, HasText}
 use Rattle.certificate.specs.Departing.{IsLine}
-use Rattle.certificate.specs.Reading.{number_in, word_in, number_or_dash, status_word_in, status_in, allows_cost, cost_in, allows_bound, bound_in, go_together, count_in, line_at, opening_at, limits_at, or_zero, rows_at, closing_at, plan_of, to_cert, cert_at}
+use Rattle.certificate.specs.Reading.{number_in, word_in, number_or_dash, status_word_in, status_in, allows_cost, cost_in, allows_bound, bound_in, go_together, count_in, line_at, opening_at, limits_at, or_zero, rows_at, proof_at, closing_at, plan_of, to_cert, cert_at}
 use Rattle.certificate.proofs.Spelling.{Exact, Lacks, some_of, same_some, chosen, same_text, text_same, text_other, decimal_lacks, mapped_some, kept_exact, led_exact}
-use Rattle.certificate.proofs.Spelled.{number_below, break_lacks, row_exact}
-use Rattle.certificate.proofs.Lines.{Reads, SoMany, lacks_line, line_reads, next_reads, made_reads, times_reads, some_list}
+use Rattle.certificate.proofs.Feeds.{plain, joins, word_before}
+use Rattle.certificate.proofs.Spelled.{number_below, breaks_lack, row_exact}
+use Rattle.certificate.proofs.Steps.{number_no_dash, IsStep, step_exact, step_is_line, proof_count_exact, proof_count_is_line}
+use Rattle.certificate.proofs.LineReading.{Reads, SoMany, lacks_line, line_reads, next_reads, made_reads, times_reads, some_list}
 
--- ---- no line feed
-
--- whether no byte is a line feed
-abbrev has_no_feed : List ℕ → Bool
-has_no_feed [] = true
-has_no_feed (b ∷ bs) = not (eqb b 10) && has_no_feed bs
-
-not_true : (b : Bool) → not b ≡ true → b ≡ false
-not_true true e = absurd cc
-not_true false e = refl
-
-plain : (text : List ℕ) → has_no_feed text ≡ true → Lacks 10 text
-plain [] e = All-nil (λ b. eqb b 10 ≡ false)
-plain (b ∷ bs) e = let p = and_parts (not (eqb b 10)) (has_no_feed bs) e in All-cons (λ b. eqb b 10 ≡ false) b bs (not_true (eqb b 10) p.0) (plain bs p.1)
-
-joins : (a b : List ℕ) → Lacks 10 a → Lacks 10 b → Lacks 10 (a ++ b)
-joins a b h k = All-append (λ b. eqb b 10 ≡ false) a b h k
-
-behind_byte : (b : ℕ) (text : List ℕ) → eqb b 10 ≡ false → Lacks 10 text → Lacks 10 (b ∷ text)
-behind_byte b text e h = All-cons (λ b. eqb b 10 ≡ false) b text e h
-
-further_lack : (bs : List Break) → AllByRecursion FitsBreak bs → Lacks 10 (flat_map (λ next. 44 ∷ break_text next) bs)
-further_lack [] h = All-nil (λ b. eqb b 10 ≡ false)
-further_lack (b ∷ bs) h = behind_byte 44 (break_text b ++ flat_map (λ next. 44 ∷ break_text next) bs) refl (joins (break_text b) (flat_map (λ next. 44 ∷ break_text next) bs) (break_lacks 10 b (omega arith) h.0) (further_lack bs h.1))
-
-breaks_lack : (bs : List Break) → AllByRecursion FitsBreak bs → Lacks 10 (breaks_text bs)
-breaks_lack [] h = plain (codes "-") refl
-breaks_lack (b ∷ bs) h = joins (break_text b) (flat_map (λ next. 44 ∷ break_text next) bs) (break_lacks 10 b (omega arith) h.0) (further_lack bs h.1)
+-- ---- rows
 
 row_is_line : (r : Row) → FitsRow r → IsLine (row_line r)
 row_is_line r h = lacks_line (row_line r)
     (joins (codes "row ") (decimal r.shift ++ 32 ∷ (decimal r.day ++ 32 ∷ (decimal r.count ++ 32 ∷ breaks_text r.breaks))) (plain (codes "row ") refl)
-    (joins (decimal r.shift) (32 ∷ (decimal r.day ++ 32 ∷ (decimal r.count ++ 32 ∷ breaks_text r.breaks))) (decimal_lacks 10 r.shift (omega arith) (omega (arith, h.0)))
-    (behind_byte 32 (decimal r.day ++ 32 ∷ (decimal r.count ++ 32 ∷ breaks_text r.breaks)) refl
-    (joins (decimal r.day) (32 ∷ (decimal r.count ++ 32 ∷ breaks_text r.breaks)) (decimal_lacks 10 r.day (omega arith) (omega (arith, h.1)))
-    (behind_byte 32 (decimal r.count ++ 32 ∷ breaks_text r.breaks) refl
-    (joins (decimal r.count) (32 ∷ breaks_text r.breaks) (decimal_lacks 10 r.count (omega arith) (omega (arith, h.2)))
-    (behind_byte 32 (breaks_text r.breaks) refl (breaks_lack r.breaks (recursion_from_All FitsBreak r.breaks h.3)))))))))
+    (word_before r.shift (decimal r.day ++ 32 ∷ (decimal r.count ++ 32 ∷ breaks_text r.breaks)) (omega (arith, h.0))
+    (word_before r.day (decimal r.count ++ 32 ∷ breaks_text r.breaks) (omega (arith, h.1))
+    (word_before r.count (breaks_text r.breaks) (omega (arith, h.2)) (breaks_lack 10 (omega arith) r.breaks h.3)))))
 
 -- ---- words
 
@@ -107,11 +80,6 @@ dash_text (Some n) = decimal n
 abbrev pub FitsDash : ℕ → Option ℕ → Type 0
 FitsDash most None = Unit {0}
 FitsDash most (Some n) = n ≤ most
-
-number_no_dash : (n : ℕ) → n < 2 ^ 64 → decimal n ≡ codes "-" → ⊥
-number_no_dash n lt e =
-    let h = All-head (λ b. eqb b 45 ≡ false) 45 [] (subst (λ (l : List ℕ). Lacks 45 l) e (decimal_lacks 45 n (omega arith) lt)) in
-    absurd (let never : true ≡ false = h in cc)
 
 dash_takes : (most : ℕ) → most < 2 ^ 64 → (text : List ℕ) (o : Option ℕ) → number_or_dash most text ≡ Some o → (text ≡ dash_text o) × FitsDash most o
 unfolding number_or_dash
@@ -261,21 +229,46 @@ rows_reads o = made_reads (FitsRowsOf o) (rows_lines o) (λ x. x.1) (λ rows. (c
     (λ k h. times_reads (line_reads row_exact row_is_line zero_row zero_fits) zero_row zero_fits (or_zero k))
     (λ k h. some_list FitsRow zero_row zero_fits (or_zero k)))
 
-abbrev closing_lines : Unit {0} → List Line
-closing_lines x = codes "proof 0" ∷ codes "end" ∷ []
+abbrev FitsProof : List ProofLine → Type 0
+FitsProof lines = (length lines ≤ 4294967295) × AllByRecursion IsStep lines
 
-pub closing_reads : Reads (λ (x : Unit {0}). Unit {0}) closing_lines closing_at
+-- so many proof lines, with their number
+abbrev CountAndLines : ℕ × List ProofLine → Type 0
+CountAndLines x = (x.0 ≤ 4294967295) × SoMany IsStep x.0 x.1
+
+abbrev count_and_lines : ℕ × List ProofLine → List Line
+count_and_lines x = ((codes "proof " ++ decimal x.0) ∷ []) ++ map proof_line x.1
+
+proof_fit : (x : ℕ × List ProofLine) → CountAndLines x → (proof_lines x.1 ≡ count_and_lines x) × FitsProof x.1
+proof_fit x h =
+    let len : length x.1 ≡ x.0 = h.1.0 in
+    (ap (λ (m : ℕ). (codes "proof " ++ decimal m) ∷ map proof_line x.1) len, (subst (λ (m : ℕ). m ≤ 4294967295) (sym len) h.0, h.1.1))
+
+some_step : IsStep (Settled 0)
+some_step = (omega arith, tt)
+
+proof_reads : Reads FitsProof proof_lines proof_at
+unfolding proof_at
+proof_reads = made_reads FitsProof proof_lines (λ x. x.1) (λ lines. (length lines, lines)) proof_fit (λ lines h. (refl, refl, (h.0, (refl, h.1))))
+    (next_reads (line_reads proof_count_exact proof_count_is_line 0 (omega arith))
+    (λ n h. times_reads (line_reads step_exact step_is_line (Settled 0) some_step) (Settled 0) some_step n)
+    (λ n h. some_list IsStep (Settled 0) some_step n))
+
+abbrev closing_lines : List ProofLine → List Line
+closing_lines lines = proof_lines lines ++ codes "end" ∷ []
+
+pub closing_reads : Reads FitsProof closing_lines closing_at
 unfolding closing_at
-closing_reads = made_reads (λ (x : Unit {0}). Unit {0}) closing_lines (λ x. tt) (λ x. (tt, tt)) (λ x h. (refl, tt)) (λ x h. (refl, refl, (tt, tt)))
-    (next_reads (word_reads (codes "proof 0") (lacks_line (codes "proof 0") (plain (codes "proof 0") refl))) (λ x h. word_reads (codes "end") (lacks_line (codes "end") (plain (codes "end") refl))) (λ x h. (tt, tt)))
+closing_reads = made_reads FitsProof closing_lines (λ x. x.0) (λ lines. (lines, tt)) (λ x h. (refl, h.0)) (λ lines h. (refl, refl, (h, tt)))
+    (next_reads proof_reads (λ lines h. word_reads (codes "end") (lacks_line (codes "end") (plain (codes "end") refl))) (λ lines h. (tt, tt)))
 
 -- ---- a certificate
 
 abbrev Fields : Type 0
-Fields = CertStatus × ((Option ℕ × ℕ) × (List Row × Unit {0}))
+Fields = CertStatus × ((Option ℕ × ℕ) × (List Row × List ProofLine))
 
 abbrev FitsFields : Fields → Type 0
-FitsFields x = Unit {0} × (FitsLimits x.0 x.1.0 × (FitsRowsOf x.1.0.0 x.1.1.0 × Unit {0}))
+FitsFields x = Unit {0} × (FitsLimits x.0 x.1.0 × (FitsRowsOf x.1.0.0 x.1.1.0 × FitsProof x.1.1.1))
 
 abbrev fields_lines : Fields → List Line
 fields_lines x = opening_lines x.0 ++ (limits_lines x.1.0 ++ (rows_lines x.1.0.0 x.1.1.0 ++ closing_lines x.1.1.1))
@@ -285,15 +278,15 @@ cost_of None = None
 cost_of (Some p) = Some p.0
 
 abbrev of_cert : Cert → Fields
-of_cert c = (c.status, ((cost_of c.plan, c.bound), (rows_of c.plan, tt)))
+of_cert c = (c.status, ((cost_of c.plan, c.bound), (rows_of c.plan, c.lines)))
 
 empty_rows : (rows : List Row) → length rows ≡ 0 → [] ≡ rows
 empty_rows [] h = refl
 empty_rows (r ∷ rows) h = absurd (omega arith)
 
-spelled : (s : CertStatus) (o : Option ℕ) (bound : ℕ) (rows : List Row) → FitsRowsOf o rows → cert_lines (to_cert (s, ((o, bound), (rows, tt)))) ≡ fields_lines (s, ((o, bound), (rows, tt)))
-spelled s None bound rows h = ap (λ (l : List Row). opening_lines s ++ (limits_lines (None, bound) ++ (rows_lines None l ++ closing_lines tt))) (empty_rows rows h.0)
-spelled s (Some n) bound rows h = refl
+spelled : (s : CertStatus) (o : Option ℕ) (bound : ℕ) (rows : List Row) (lines : List ProofLine) → FitsRowsOf o rows → cert_lines (to_cert (s, ((o, bound), (rows, lines)))) ≡ fields_lines (s, ((o, bound), (rows, lines)))
+spelled s None bound rows lines h = ap (λ (l : List Row). opening_lines s ++ (limits_lines (None, bound) ++ (rows_lines None l ++ closing_lines lines))) (empty_rows rows h.0)
+spelled s (Some n) bound rows lines h = refl
 
 agrees : (s : CertStatus) (o : Option ℕ) (bound : ℕ) (rows : List Row) → FitsLimits s (o, bound) → AgreesWith s (plan_of o rows) bound
 agrees Optimal None bound rows h = absurd (let never = h.0.1 in cc)
@@ -303,36 +296,49 @@ agrees Stopped (Some n) bound rows h = ltb-true bound n h.1.1
 agrees Bound None bound rows h = tt
 agrees Bound (Some n) bound rows h = absurd (let never = h.0.1 in cc)
 
-has_text : (s : CertStatus) (o : Option ℕ) (bound : ℕ) (rows : List Row) → FitsLimits s (o, bound) → FitsRowsOf o rows → HasText (to_cert (s, ((o, bound), (rows, tt))))
-has_text s None bound rows h k = record {
-  agrees = record { status = agrees s None bound rows h; few = omega arith };
-  fits = record { cost = tt; bound = omega (arith, h.1.0); rows = All-nil FitsRow };
+-- each proof line is one that has a text
+fitting_lines : (lines : List ProofLine) → AllByRecursion IsStep lines → All FitsLine lines × All HasSlot lines
+fitting_lines lines h =
+    let all = All-from_recursion IsStep lines h in
+    (All-weaker IsStep FitsLine (λ l k. k.0) lines all, All-weaker IsStep HasSlot (λ l k. k.1) lines all)
+
+steps : (lines : List ProofLine) → All FitsLine lines → All HasSlot lines → AllByRecursion IsStep lines
+steps [] h k = tt
+steps (l ∷ ls) h k = ((All-head FitsLine l ls h, All-head HasSlot l ls k), steps ls (All-tail FitsLine l ls h) (All-tail HasSlot l ls k))
+
+has_text : (s : CertStatus) (o : Option ℕ) (bound : ℕ) (rows : List Row) (lines : List ProofLine) → FitsLimits s (o, bound) → FitsRowsOf o rows → FitsProof lines → HasText (to_cert (s, ((o, bound), (rows, lines))))
+has_text s None bound rows lines h k p = record {
+  agrees = record { status = agrees s None bound rows h; few = omega arith; few_lines = omega (arith, p.0); slots = (fitting_lines lines p.1).1 };
+  fits = record { cost = tt; bound = omega (arith, h.1.0); rows = All-nil FitsRow; lines = (fitting_lines lines p.1).0 };
 }
-has_text s (Some n) bound rows h k = record {
-  agrees = record { status = agrees s (Some n) bound rows h; few = omega (arith, k.0) };
-  fits = record { cost = omega (arith, h.0.0); bound = omega (arith, h.1.0); rows = All-from_recursion FitsRow rows k.1 };
+has_text s (Some n) bound rows lines h k p = record {
+  agrees = record { status = agrees s (Some n) bound rows h; few = omega (arith, k.0); few_lines = omega (arith, p.0); slots = (fitting_lines lines p.1).1 };
+  fits = record { cost = omega (arith, h.0.0); bound = omega (arith, h.1.0); rows = All-from_recursion FitsRow rows k.1; lines = (fitting_lines lines p.1).0 };
 }
 
-fits_limits : (s : CertStatus) (plan : Option (ℕ × List Row)) (bound : ℕ) → HasText (record { status = s; plan = plan; bound = bound }) → FitsLimits s (cost_of plan, bound)
-fits_limits Optimal None bound h = absurd h.agrees.status
-fits_limits Optimal (Some p) bound h = ((omega (arith, h.fits.cost), refl), (omega (arith, h.fits.bound), eq-eqb p.0 bound h.agrees.status))
-fits_limits Stopped None bound h = absurd h.agrees.status
-fits_limits Stopped (Some p) bound h = ((omega (arith, h.fits.cost), lt-ltb 0 p.0 (omega (arith, h.agrees.status))), (omega (arith, h.fits.bound), lt-ltb bound p.0 h.agrees.status))
-fits_limits Bound None bound h = ((tt, refl), (omega (arith, h.fits.bound), refl))
-fits_limits Bound (Some p) bound h = absurd h.agrees.status
+fits_limits : (s : CertStatus) (plan : Option (ℕ × List Row)) (bound : ℕ) (lines : List ProofLine) → HasText (record { status = s; plan = plan; bound = bound; lines = lines }) → FitsLimits s (cost_of plan, bound)
+fits_limits Optimal None bound lines h = absurd h.agrees.status
+fits_limits Optimal (Some p) bound lines h = ((omega (arith, h.fits.cost), refl), (omega (arith, h.fits.bound), eq-eqb p.0 bound h.agrees.status))
+fits_limits Stopped None bound lines h = absurd h.agrees.status
+fits_limits Stopped (Some p) bound lines h = ((omega (arith, h.fits.cost), lt-ltb 0 p.0 (omega (arith, h.agrees.status))), (omega (arith, h.fits.bound), lt-ltb bound p.0 h.agrees.status))
+fits_limits Bound None bound lines h = ((tt, refl), (omega (arith, h.fits.bound), refl))
+fits_limits Bound (Some p) bound lines h = absurd h.agrees.status
 
-fits_rows : (s : CertStatus) (plan : Option (ℕ × List Row)) (bound : ℕ) → HasText (record { status = s; plan = plan; bound = bound }) → FitsRowsOf (cost_of plan) (rows_of plan)
-fits_rows s None bound h = (refl, tt)
-fits_rows s (Some p) bound h = (omega (arith, h.agrees.few), recursion_from_All FitsRow p.1 h.fits.rows)
+fits_rows : (s : CertStatus) (plan : Option (ℕ × List Row)) (bound : ℕ) (lines : List ProofLine) → HasText (record { status = s; plan = plan; bound = bound; lines = lines }) → FitsRowsOf (cost_of plan) (rows_of plan)
+fits_rows s None bound lines h = (refl, tt)
+fits_rows s (Some p) bound lines h = (omega (arith, h.agrees.few), recursion_from_All FitsRow p.1 h.fits.rows)
 
-made_again : (s : CertStatus) (plan : Option (ℕ × List Row)) (bound : ℕ) → (to_cert (of_cert (record { status = s; plan = plan; bound = bound })) ≡ record { status = s; plan = plan; bound = bound }) × (cert_lines (record { status = s; plan = plan; bound = bound }) ≡ fields_lines (of_cert (record { status = s; plan = plan; bound = bound })))
-made_again s None bound = (refl, refl)
-made_again s (Some p) bound = (refl, refl)
+fits_proof : (c : Cert) → HasText c → FitsProof c.lines
+fits_proof c h = (omega (arith, h.agrees.few_lines), steps c.lines h.fits.lines h.agrees.slots)
+
+made_again : (s : CertStatus) (plan : Option (ℕ × List Row)) (bound : ℕ) (lines : List ProofLine) → (to_cert (of_cert (record { status = s; plan = plan; bound = bound; lines = lines })) ≡ record { status = s; plan = plan; bound = bound; lines = lines }) × (cert_lines (record { status = s; plan = plan; bound = bound; lines = lines }) ≡ fields_lines (of_cert (record { status = s; plan = plan; bound = bound; lines = lines })))
+made_again s None bound lines = (refl, refl)
+made_again s (Some p) bound lines = (refl, refl)
 
 cert_back : (c : Cert) → HasText c → (to_cert (of_cert c) ≡ c) × (cert_lines c ≡ fields_lines (of_cert c)) × FitsFields (of_cert c)
 cert_back c h =
-    let m = made_again c.status c.plan c.bound in
-    (m.0, m.1, (tt, (fits_limits c.status c.plan c.bound h, (fits_rows c.status c.plan c.bound h, tt))))
+    let m = made_again c.status c.plan c.bound c.lines in
+    (m.0, m.1, (tt, (fits_limits c.status c.plan c.bound c.lines h, (fits_rows c.status c.plan c.bound c.lines h, fits_proof c h))))
 
 some_limits : (s : CertStatus) → (x : Option ℕ × ℕ) × FitsLimits s x
 some_limits s = let o = some_cost s in let n = some_bound s o.0 o.1 in ((o.0, n.0), (o.1, n.1))
@@ -341,9 +347,13 @@ some_rows : (o : Option ℕ) → (rows : List Row) × FitsRowsOf o rows
 some_rows None = ([], (refl, tt))
 some_rows (Some n) = ([], (omega arith, tt))
 
+-- no proof lines
+no_lines : (lines : List ProofLine) × FitsProof lines
+no_lines = ([], (omega arith, tt))
+
 pub cert_reads : Reads HasText cert_lines cert_at
 unfolding cert_at
-cert_reads = made_reads HasText cert_lines to_cert of_cert (λ x h. (spelled x.0 x.1.0.0 x.1.0.1 x.1.1.0 h.1.1.0, has_text x.0 x.1.0.0 x.1.0.1 x.1.1.0 h.1.0 h.1.1.0)) cert_back
+cert_reads = made_reads HasText cert_lines to_cert of_cert (λ x h. (spelled x.0 x.1.0.0 x.1.0.1 x.1.1.0 x.1.1.1 h.1.1.0, has_text x.0 x.1.0.0 x.1.0.1 x.1.1.0 x.1.1.1 h.1.0 h.1.1.0 h.1.1.1)) cert_back
     (next_reads opening_reads
-    (λ s h. next_reads (limits_reads s) (λ l k. next_reads (rows_reads l.0) (λ rows i. closing_reads) (λ rows i. (tt, tt))) (λ l k. let r = some_rows l.0 in ((r.0, tt), (r.1, tt))))
-    (λ s h. let l = some_limits s in let r = some_rows l.0.0 in ((l.0, (r.0, tt)), (l.1, (r.1, tt)))))
+    (λ s h. next_reads (limits_reads s) (λ l k. next_reads (rows_reads l.0) (λ rows i. closing_reads) (λ rows i. no_lines)) (λ l k. let r = some_rows l.0 in ((r.0, no_lines.0), (r.1, no_lines.1))))
+    (λ s h. let l = some_limits s in let r = some_rows l.0.0 in ((l.0, (r.0, no_lines.0)), (l.1, (r.1, no_lines.1)))))

@@ -12,7 +12,7 @@ use Rattle.certificate.specs.Text.{Line, lines_text}
 use Rattle.certificate.specs.Departing.{IsLine, IsNote}
 use Rattle.certificate.specs.Reading.{Words, Reader, given, later, times, cut_at, each_in, Stops, Misses, begins_note, AreNotes, LeaveNotes, AnswersNotes}
 use Rattle.certificate.proofs.Spelling.{cut_takes, cut_again, uncut, some_of, same_some}
-use Rattle.certificate.proofs.Lines.{line_before, text_append, line_lacks, lacks_line}
+use Rattle.certificate.proofs.LineReading.{line_before, text_append, line_lacks, lacks_line}
 
 -- ---- so many lines
 

@@ -1,5 +1,5 @@
 -- How the lines of a text are read, one after the other. Contracts of private functions speak of it; what `read` answers is told without it.
-use Rattle.std.specs.Prelude.{◌≡◌, ℕ, zero, suc, ◌-◌, ◌^◌, ◌<◌, Bool, true, false, not, ◌&&◌, nat_lt, nat_le, ◌==◌, if◌then◌else◌, List, [], ◌∷◌, ◌++◌, length, take, drop, bytes_eq, All, Option, Some, None, option_map, Result, Ok, Err, codes}
+use Rattle.std.specs.Prelude.{◌≡◌, ℕ, ℤ, pos, negsuc, zero, suc, ◌-◌, ◌^◌, ◌<◌, Bool, true, false, not, ◌&&◌, nat_lt, nat_le, ◌==◌, if◌then◌else◌, List, [], ◌∷◌, ◌++◌, length, take, drop, bytes_eq, All, Option, Some, None, option_map, Result, Ok, Err, codes}
 use Rattle.std.specs.List.{slice_split}
 use Rattle.std.specs.Char.{is_ascii_digit}
 use Rattle.std.specs.Fmt.{decimal}
@@ -9,6 +9,8 @@ use Rattle.shift_instance.specs.declared.Row.{Row}
 use Rattle.certificate.specs.declared.Cert.{Cert}
 use Rattle.certificate.specs.declared.CertStatus.{CertStatus}
 use Rattle.certificate.specs.declared.CertStatus.TheVariants.{Optimal, Stopped, Bound}
+use Rattle.certificate.specs.declared.proof_lines.Line.{Line as ProofLine}
+use Rattle.certificate.specs.declared.proof_lines.Line.TheVariants.{Split, Priced, Settled}
 use Rattle.certificate.specs.declared.fault.Stop.{Stop}
 use Rattle.certificate.specs.declared.fault.Stop.TheVariants.{Memory, Left}
 use Rattle.certificate.specs.Text.{Line, lines_text}
@@ -61,6 +63,15 @@ behind front text = if bytes_eq (take (length front) text) front then Some (drop
 abbrev pub led_by : {A : Type 0} → List ℕ → Words A → Words A
 led_by front read text = given (behind front text) read
 
+-- the value of the text behind a beginning, where there is one, and else another
+abbrev pub behind_or : {A : Type 0} → Option (List ℕ) → Words A → Option A → Option A
+behind_or None read other = other
+behind_or (Some text) read other = read text
+
+-- a value behind a beginning, and one of another kind where the text doesn't begin so
+abbrev pub led_or : {A : Type 0} → List ℕ → Words A → Words A → Words A
+led_or front read other text = behind_or (behind front text) read (other text)
+
 -- a value on each side of the first such byte
 abbrev pub both_sides : {A B : Type 0} → ℕ → Words A → Words B → Words (A × B)
 both_sides by f g text = given (cut_at by text) (λ p. given (f p.0) (λ a. given (g p.1) (λ b. Some (a, b))))
@@ -69,6 +80,14 @@ both_sides by f g text = given (cut_at by text) (λ p. given (f p.0) (λ a. give
 abbrev pub each_in : {A : Type 0} → Words A → List (List ℕ) → Option (List A)
 each_in read [] = Some []
 each_in read (w ∷ ws) = given (read w) (λ a. given (each_in read ws) (λ others. Some (a ∷ others)))
+
+-- values with commas between them
+abbrev pub parts_in : {A : Type 0} → Words A → Words (List A)
+parts_in read text = each_in read (slice_split (λ b. b == 44) text)
+
+-- values with commas between them, and none for `-`
+abbrev pub parts_or_dash : {A : Type 0} → Words A → Words (List A)
+parts_or_dash read text = if bytes_eq text (codes "-") then Some [] else parts_in read text
 
 -- the break of a start and a length
 abbrev pub to_break : ℕ × ℕ → Break
@@ -80,7 +99,7 @@ break_in text = option_map to_break (both_sides 43 (number_in 65535) (number_in 
 
 -- breaks
 unfoldable pub breaks_in : Words (List Break)
-breaks_in text = if bytes_eq text (codes "-") then Some [] else each_in break_in (slice_split (λ b. b == 44) text)
+breaks_in text = parts_or_dash break_in text
 
 -- the row of a shift, a day, a count and breaks
 abbrev pub to_row : ℕ × (ℕ × (ℕ × List Break)) → Row
@@ -89,6 +108,51 @@ to_row x = record { shift = x.0; day = x.1.0; breaks = x.1.1.1; count = x.1.1.0 
 -- a row
 unfoldable pub row_in : Words Row
 row_in line = option_map to_row (led_by (codes "row ") (both_sides 32 (number_in 65535) (both_sides 32 (number_in 255) (both_sides 32 (number_in 65535) breaks_in))) line)
+
+-- the number below 0 of a size above 0
+abbrev pub minus : ℕ → ℤ
+minus size = negsuc (size - 1)
+
+-- the price of a slot, from -2^63 to 2^63 - 1
+unfoldable pub slot_price_in : Words ℤ
+slot_price_in text =
+    led_or (codes "-") (λ size. option_map minus (kept (λ n. nat_lt 0 n) (number_in (2 ^ 63) size))) (λ n. option_map pos (number_in (2 ^ 63 - 1) n)) text
+
+-- the price of each slot, of at least one
+unfoldable pub slots_in : Words (List ℤ)
+slots_in text = parts_in slot_price_in text
+
+-- the price of each cut
+unfoldable pub cuts_in : Words (List ℕ)
+cuts_in text = parts_or_dash (number_in (2 ^ 64 - 1)) text
+
+-- the split of a node by a class
+abbrev pub to_split : ℕ × (ℕ × (ℕ × (List Break × ℕ))) → ProofLine
+to_split x = Split x.0 (record { shift = x.1.0; day = x.1.1.0; prefix = x.1.1.1.0 }) x.1.1.1.1
+
+-- a split, behind its word
+unfoldable pub split_in : Words ProofLine
+split_in text = option_map to_split (both_sides 32 (number_in 4294967295) (both_sides 32 (number_in 65535) (both_sides 32 (number_in 255) (both_sides 32 breaks_in (number_in 65535)))) text)
+
+-- a node with its prices
+abbrev pub to_priced : ℕ × (ℕ × (List ℤ × List ℕ)) → ProofLine
+to_priced x = Priced x.0 (record { q = x.1.0; slots = x.1.1.0; cuts = x.1.1.1 })
+
+-- a priced node, behind its word
+unfoldable pub priced_in : Words ProofLine
+priced_in text = option_map to_priced (both_sides 32 (number_in 4294967295) (both_sides 32 (number_in 65535) (both_sides 32 slots_in cuts_in)) text)
+
+-- a settled node, behind its word
+unfoldable pub settled_in : Words ProofLine
+settled_in text = option_map Settled (number_in 4294967295 text)
+
+-- a proof line
+unfoldable pub proof_line_in : Words ProofLine
+proof_line_in line = led_or (codes "split ") split_in (led_or (codes "priced ") priced_in (led_by (codes "settled ") settled_in)) line
+
+-- a number of proof lines
+unfoldable pub proof_count_in : Words ℕ
+proof_count_in line = led_by (codes "proof ") (number_in 4294967295) line
 
 -- the word of a status
 abbrev pub status_word_in : Words CertStatus
@@ -194,18 +258,22 @@ or_zero (Some n) = n
 unfoldable pub rows_at : Option ℕ → Reader (List Row)
 rows_at cost bytes = made (λ x. x.1) (next (line_at (count_in cost)) (λ count. times (line_at row_in) (or_zero count))) bytes
 
--- the number of proof lines, and the end
-unfoldable pub closing_at : Reader (Unit {0})
-closing_at bytes = made (λ _. tt) (next (line_at (word_in (codes "proof 0"))) (λ _. line_at (word_in (codes "end")))) bytes
+-- the number of proof lines, and the proof lines
+unfoldable pub proof_at : Reader (List ProofLine)
+proof_at bytes = made (λ x. x.1) (next (line_at proof_count_in) (λ count. times (line_at proof_line_in) count)) bytes
+
+-- the proof lines, and the end
+unfoldable pub closing_at : Reader (List ProofLine)
+closing_at bytes = made (λ x. x.0) (next proof_at (λ _. line_at (word_in (codes "end")))) bytes
 
 -- the plan of a cost and rows
 abbrev pub plan_of : Option ℕ → List Row → Option (ℕ × List Row)
 plan_of None rows = None
 plan_of (Some cost) rows = Some (cost, rows)
 
--- the certificate of a status, a cost, a bound and rows
-abbrev pub to_cert : CertStatus × ((Option ℕ × ℕ) × (List Row × Unit {0})) → Cert
-to_cert x = record { status = x.0; plan = plan_of x.1.0.0 x.1.1.0; bound = x.1.0.1 }
+-- the certificate of a status, a cost, a bound, rows and proof lines
+abbrev pub to_cert : CertStatus × ((Option ℕ × ℕ) × (List Row × List ProofLine)) → Cert
+to_cert x = record { status = x.0; plan = plan_of x.1.0.0 x.1.1.0; bound = x.1.0.1; lines = x.1.1.1 }
 
 -- a certificate
 unfoldable pub cert_at : Reader Cert

@@ -1,13 +1,24 @@
 //! Certificates of a search, and their text.
 //!
 //! A text has one line after another, each with a line feed: the title `shift-report 1`, `status optimal`, `status stopped` or
-//! `status bound`, `cost C`, `bound L`, `rows K`, K lines `row SHIFT DAY COUNT BREAKS`, `proof 0` and `end`. Breaks are `-` where there are
-//! none, else `start+length` joined by `,`. Where there is no plan, `-` stands for the cost and for the number of rows. Numbers are
-//! decimal, without a sign or a leading zero. Behind `end` any number of lines may stand that begin with `#`.
+//! `status bound`, `cost C`, `bound L`, `rows K`, K lines `row SHIFT DAY COUNT BREAKS`, `proof M`, M proof lines and `end`.
+//! Where there is no plan, `-` stands for the cost and for the number of rows. Breaks are `-` where there are none, else
+//! `start+length` joined by `,`. Behind `end` any number of lines may stand that begin with `#`.
+//!
+//! A proof line is `split NODE SHIFT DAY BREAKS M`, `priced NODE SCALE SLOTS CUTS` or `settled NODE`. SLOTS are the prices of the
+//! slots joined by `,`, at least one. CUTS are `-` where there are none, else the prices of the cuts joined by `,`.
+//!
+//! Numbers are decimal, without a leading zero, and without a sign but for a `-` before a slot's price below 0.
 #![tactic(auto)]
 
 mod fault;
+mod history;
 pub mod laws;
+mod proof_lines;
+#[cfg(test)]
+mod proof_tests;
+mod proof_words;
+mod proof_writing;
 mod reading;
 #[cfg(test)]
 mod tests;
@@ -15,6 +26,8 @@ mod words;
 mod writing;
 
 pub use fault::CertText;
+pub use history::of_history;
+pub use proof_lines::{Line, Lines};
 pub use reading::read;
 use shift_instance::Rows;
 pub use writing::write;
@@ -33,7 +46,7 @@ pub enum CertStatus {
     Bound,
 }
 
-/// What a search found: a plan, and a bound below which it says that no legal rota costs.
+/// What a search found: a plan, a bound below which it says that no legal rota costs, and a proof of that.
 #[derive(Clone, Debug, Drop)]
 pub struct Cert {
     /// What is said of the plan.
@@ -42,4 +55,6 @@ pub struct Cert {
     pub plan: Option<(u64, Rows)>,
     /// The bound.
     pub bound: u64,
+    /// The proof lines.
+    pub lines: Lines,
 }

@@ -2,9 +2,11 @@
 ghost use Rattle.std.specs.Prelude.{◌≡◌, ◌+◌, ◌-◌, ◌==◌, length, take, count_by, codes, Some, IfOk, IfErr};
 ghost use Rattle.certificate.specs.declared.Cert.{Cert as ACert};
 ghost use Rattle.certificate.specs.Departing.{Spells, GivesCert, IsFaultOf};
-ghost use Rattle.certificate.specs.Reading.{Gives, begins_note, AnswersNotes, AnswersWhole, line_at, word_in, status_in, cost_in, bound_in, count_in, row_in, times, opening_at, limits_at, or_zero, rows_at, closing_at, plan_of, cert_at};
+ghost use Rattle.certificate.specs.Reading.{Gives, begins_note, AnswersNotes, AnswersWhole, line_at, word_in, status_in, cost_in, bound_in, count_in, row_in, times, opening_at, limits_at, or_zero, rows_at, proof_count_in, proof_line_in, proof_at, closing_at, plan_of, cert_at};
 
 use crate::fault::{CertText, Stop};
+use crate::proof_lines::{Line, Lines};
+use crate::proof_words::{proof_count_of, proof_line_of};
 use crate::words::{bound_of, cost_of, count_of, row_of, sides, status_of};
 use crate::{Cert, CertStatus};
 use shift_instance::{Row, Rows};
@@ -93,13 +95,56 @@ fn rows(alloc: Global, cost: Option<u64>, bytes: &[u8]) -> Result<(Rows, &[u8]),
     Ok((Rows::new(list), rest))
 }
 
-/// The bytes behind the line `end`.
-#[tactic(auto, unfolding(crate::specs::Reading::closing_at))]
-fn closing(bytes: &[u8]) -> Result<&[u8], Stop>
-    ensures { Gives (λ x. (tt, x.now)) result (closing_at bytes.now) }
+/// The number of proof lines, and the bytes after its line.
+fn proof_count_line(bytes: &[u8]) -> Result<(u64, &[u8]), Stop>
+    ensures { Gives (λ x. (x.0, x.1.now)) result (line_at proof_count_in bytes.now) }
 {
-    let bytes = word_line(b"proof 0".as_slice(), bytes)?;
-    word_line(b"end".as_slice(), bytes)
+    let (line, rest) = sides(b'\n', bytes, bytes.len())?;
+    let count = proof_count_of(line, bytes.len())?;
+    Ok((count, rest))
+}
+
+/// A proof line, and the bytes after its line.
+fn proof_line(alloc: Global, bytes: &[u8]) -> Result<(Line, &[u8]), Stop>
+    ensures { Gives (λ x. (x.0, x.1.now)) result (line_at proof_line_in bytes.now) }
+{
+    let (line, rest) = sides(b'\n', bytes, bytes.len())?;
+    let proof_line = proof_line_of(alloc, line, bytes.len())?;
+    Ok((proof_line, rest))
+}
+
+/// So many proof lines, and the bytes after them.
+fn proof_lines(alloc: Global, count: u64, bytes: &[u8]) -> Result<(Vec<Line>, &[u8]), Stop>
+    ensures { Gives (λ x. (x.0.items, x.1.now)) result (times (line_at proof_line_in) count bytes.now) }
+{
+    let mut list = Vec::new(alloc);
+    let mut rest = bytes;
+    for _ in 0..count {
+        let (line, after) = proof_line(alloc, rest)?;
+        list.push(line)?;
+        rest = after;
+    }
+    Ok((list, rest))
+}
+
+/// The proof lines behind their number, and the bytes after them.
+#[tactic(auto, unfolding(crate::specs::Reading::proof_at))]
+fn proof(alloc: Global, bytes: &[u8]) -> Result<(Lines, &[u8]), Stop>
+    ensures { Gives (λ x. (x.0, x.1.now)) result (proof_at bytes.now) }
+{
+    let (count, bytes) = proof_count_line(bytes)?;
+    let (list, rest) = proof_lines(alloc, count, bytes)?;
+    Ok((Lines::new(list), rest))
+}
+
+/// The proof lines, and the bytes behind the line `end`.
+#[tactic(auto, unfolding(crate::specs::Reading::closing_at))]
+fn closing(alloc: Global, bytes: &[u8]) -> Result<(Lines, &[u8]), Stop>
+    ensures { Gives (λ x. (x.0, x.1.now)) result (closing_at bytes.now) }
+{
+    let (lines, bytes) = proof(alloc, bytes)?;
+    let rest = word_line(b"end".as_slice(), bytes)?;
+    Ok((lines, rest))
 }
 
 /// The plan of a cost and rows.
@@ -121,12 +166,13 @@ fn cert(alloc: Global, bytes: &[u8]) -> Result<(Cert, &[u8]), Stop>
     let (cost, bytes) = cost_line(status, bytes)?;
     let (bound, bytes) = bound_line(status, cost, bytes)?;
     let (rows, bytes) = rows(alloc, cost, bytes)?;
-    let rest = closing(bytes)?;
+    let (lines, rest) = closing(alloc, bytes)?;
     let plan = plan(cost, rows);
     let cert = Cert {
         status,
         plan,
         bound,
+        lines,
     };
     Ok((cert, rest))
 }

@@ -1,4 +1,4 @@
-use crate::{Cert, CertStatus, CertText, read, write};
+use crate::{Cert, CertStatus, CertText, Lines, read, write};
 use break_rules::Breaks;
 use shift_instance::{Row, Rows};
 use std::alloc::{AllocError, Global};
@@ -14,7 +14,7 @@ const REPORT: &str =
     "shift-report 1\nstatus stopped\ncost 3\nbound 0\nrows 1\nrow 0 0 1 -\nproof 0\nend\n";
 
 /// The line that departs, and 0 where the text is read.
-fn departing(alloc: Global, text: &[u8]) -> Result<u64, AllocError> {
+pub(crate) fn departing(alloc: Global, text: &[u8]) -> Result<u64, AllocError> {
     match read(alloc, text) {
         Ok(_) => Ok(0),
         Err(CertText::Departs { line }) => Ok(line),
@@ -23,7 +23,7 @@ fn departing(alloc: Global, text: &[u8]) -> Result<u64, AllocError> {
 }
 
 /// What is written of the certificate of a text.
-fn again(alloc: Global, text: &[u8]) -> Result<Vec<u8>, AllocError> {
+pub(crate) fn again(alloc: Global, text: &[u8]) -> Result<Vec<u8>, AllocError> {
     match read(alloc, text) {
         Ok(cert) => write(alloc, &cert),
         Err(_) => Ok(Vec::new(alloc)),
@@ -44,6 +44,7 @@ fn a_report_is_written(rt: HostRuntime) -> Result<(), Fail> {
         status: CertStatus::Stopped,
         plan: Some((3, rows)),
         bound: 0,
+        lines: Lines::new(Vec::new(alloc)),
     };
     assert_eq!(rt; write(alloc, &cert)?.as_slice(), REPORT.as_bytes());
     Ok(())
@@ -115,7 +116,8 @@ fn lines_depart(rt: HostRuntime) -> Result<(), Fail> {
         (LIMITS, "rows 1\nrow 0 256 1 -\n", 6),
         (LIMITS, "rows 1\nrow 0 0 1\n", 6),
         (LIMITS, "rows 1\nrow 0 0 1 3+1,\n", 6),
-        (LIMITS, "rows 0\nproof 1\n", 6),
+        (LIMITS, "rows 0\nproof 1\n", 7),
+        (LIMITS, "rows 0\nproof 1\nend\n", 7),
         (REPORT, "\n", 9),
         (REPORT, "# note\n#\nend\n", 11),
         (REPORT, "# note", 9),

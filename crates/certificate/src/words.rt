@@ -1,8 +1,8 @@
 //! The words of a line, read. Each function is told how many bytes are left where the line begins, and says so where the text
 //! has no value.
 ghost use Rattle.std.specs.Prelude.{◌≡◌, ◌<◌, ◌≤◌, ◌==◌, length, IfOk, IfSome, option_map};
-ghost use Rattle.certificate.specs.Reading.{Finds, cut_at, begins_number, plain_number, number_in, behind, number_or_dash, break_in, breaks_in, row_in, status_in, allows_cost, cost_in, allows_bound, bound_in, go_together, count_in, each_in};
-ghost use Rattle.std.specs.List.{slice_split, position};
+ghost use Rattle.certificate.specs.Reading.{Finds, cut_at, begins_number, plain_number, number_in, behind, number_or_dash, break_in, breaks_in, row_in, status_in, allows_cost, cost_in, allows_bound, bound_in, go_together, count_in, parts_in};
+ghost use Rattle.std.specs.List.{position};
 
 use crate::CertStatus;
 use crate::fault::Stop;
@@ -20,7 +20,7 @@ fn place(by: u8, text: &[u8]) -> Option<usize>
 }
 
 /// The text before the first such byte, and the text behind it.
-fn cut(by: u8, text: &[u8]) -> Option<(&[u8], &[u8])>
+pub(crate) fn cut(by: u8, text: &[u8]) -> Option<(&[u8], &[u8])>
     ensures { option_map (λ x. (x.0.now, x.1.now)) result ≡ cut_at by text.now }
 {
     match place(by, text) {
@@ -67,7 +67,7 @@ fn number_of(text: &[u8]) -> Option<u64>
 }
 
 /// The number that a text is in decimal, up to a limit.
-fn number(text: &[u8], most: u64, left: usize) -> Result<u64, Stop>
+pub(crate) fn number(text: &[u8], most: u64, left: usize) -> Result<u64, Stop>
     ensures found { Finds (λ n. n) left result (number_in most text.now) }
     ensures small { IfOk result (λ n. n ≤ most) }
 {
@@ -83,11 +83,18 @@ fn number(text: &[u8], most: u64, left: usize) -> Result<u64, Stop>
     }
 }
 
+/// The text behind a beginning, if it begins so.
+pub(crate) fn text_behind<'a>(front: &[u8], text: &'a [u8]) -> Option<&'a [u8]>
+    ensures { option_map (λ x. x.now) result ≡ behind front.now text.now }
+{
+    text.strip_prefix(front)
+}
+
 /// The text behind a beginning.
-fn rest_behind<'a>(front: &[u8], text: &'a [u8], left: usize) -> Result<&'a [u8], Stop>
+pub(crate) fn rest_behind<'a>(front: &[u8], text: &'a [u8], left: usize) -> Result<&'a [u8], Stop>
     ensures { Finds (λ x. x.now) left result (behind front.now text.now) }
 {
-    match text.strip_prefix(front) {
+    match text_behind(front, text) {
         Some(rest) => Ok(rest),
         None => Err(Stop::Left(left)),
     }
@@ -121,7 +128,7 @@ fn break_of(text: &[u8], left: usize) -> Result<Break, Stop>
 
 /// Breaks with commas between them.
 fn break_list(alloc: Global, text: &[u8], left: usize) -> Result<Vec<Break>, Stop>
-    ensures { Finds (λ v. v.items) left result (each_in break_in (slice_split (λ b. b == 44) text.now)) }
+    ensures { Finds (λ v. v.items) left result (parts_in break_in text.now) }
 {
     let mut list = Vec::new(alloc);
     let mut rest = text;
@@ -135,7 +142,7 @@ fn break_list(alloc: Global, text: &[u8], left: usize) -> Result<Vec<Break>, Sto
 
 /// Breaks, which are none for `-`.
 #[tactic(auto, unfolding(crate::specs::Reading::breaks_in))]
-fn breaks_of(alloc: Global, text: &[u8], left: usize) -> Result<Breaks, Stop>
+pub(crate) fn breaks_of(alloc: Global, text: &[u8], left: usize) -> Result<Breaks, Stop>
     ensures { Finds (λ bs. bs) left result (breaks_in text.now) }
 {
     if text == b"-".as_slice() {

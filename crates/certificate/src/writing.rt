@@ -3,6 +3,7 @@ ghost use Rattle.std.specs.Prelude.{◌≡◌, ◌++◌, ◌∷◌, map, All, On
 ghost use Rattle.std.specs.List.{flat_map};
 ghost use Rattle.certificate.specs.Text.{break_text, breaks_text, row_line, line_text, lines_text, plan_lines, cert_text, status_text, rows_of, FitsBreak, FitsRow, FitsCost, Agrees, HasText};
 
+use crate::proof_writing::add_proof;
 use crate::{Cert, CertStatus};
 use break_rules::{Break, NoMemory};
 use shift_instance::{Row, Rows};
@@ -32,7 +33,7 @@ fn add_further(text: &mut String, breaks: &[Break]) -> Result<(), NoMemory>
 }
 
 /// Adds breaks with commas between them, and `-` where there are none.
-fn add_breaks(text: &mut String, breaks: &[Break]) -> Result<(), NoMemory>
+pub(crate) fn add_breaks(text: &mut String, breaks: &[Break]) -> Result<(), NoMemory>
     ensures fits { OnOk result (All FitsBreak breaks.now) }
     ensures added { OnOk result (string_bytes text.new ≡ string_bytes text.old ++ breaks_text breaks.now) }
 {
@@ -102,8 +103,9 @@ fn add_body(text: &mut String, plan: &Option<(u64, Rows)>, bound: u64) -> Result
     }
 }
 
-/// The text of a certificate, up to the line `end`. Its status agrees with its plan and its bound, and it has fewer than 2^32
-/// rows. The only refusal is want of memory. The work grows with the number of bytes.
+/// The text of a certificate, up to the line `end`. Its status agrees with its plan and its bound, it has fewer than 2^32 rows
+/// and fewer than 2^32 proof lines, and each of its price sets has a price for some slot. The only refusal is want of memory. The
+/// work grows with the number of bytes.
 #[tactic(auto, using(crate::proofs::Parts::cert_parts))]
 pub fn write(alloc: Global, cert: &Cert) -> Result<Vec<u8>, NoMemory>
     requires { Agrees cert.now }
@@ -115,6 +117,7 @@ pub fn write(alloc: Global, cert: &Cert) -> Result<Vec<u8>, NoMemory>
     let status = status_word(cert.status);
     write!(text, "shift-report 1\nstatus {status}\n")?;
     add_body(&mut text, &cert.plan, cert.bound)?;
-    text.push_str("proof 0\nend\n")?;
+    add_proof(&mut text, &cert.lines)?;
+    text.push_str("end\n")?;
     Ok(text.into_bytes())
 }

@@ -7,7 +7,8 @@ use certificate::{Cert, write};
 use std::alloc::Global;
 
 /// The report of a search, as bytes: the text of its certificate, up to the line `end`. The condition is that the certificate's
-/// status agrees with its plan and its bound, and that it has fewer than 2^32 rows; it has a text then.
+/// status agrees with its plan and its bound, that it has fewer than 2^32 rows and fewer than 2^32 proof lines, and that each of
+/// its price sets has a price for some slot; it has a text then.
 pub fn report(alloc: Global, cert: &Cert) -> Result<Vec<u8>, NoMemory>
     requires { Agrees cert.now }
     ensures has { IfOk result (λ _. HasText cert.now) }

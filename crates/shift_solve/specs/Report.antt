@@ -12,9 +12,9 @@ use Rattle.search_book.specs.Fold.{Book}
 abbrev pub status_over : ℕ → ℕ → CertStatus
 status_over cost bound = if cost == bound then Optimal else Stopped
 
--- the certificate of a book, with the bound 0 that every plan keeps to
+-- the certificate of a book, with the bound 0 that every plan keeps to, and no proof line
 abbrev pub cert_of : Book → Cert
-cert_of book = record { status = status_over book.cost 0; plan = Some (book.cost, book.best); bound = 0 }
+cert_of book = record { status = status_over book.cost 0; plan = Some (book.cost, book.best); bound = 0; lines = [] }
 
 -- what is written of a book: the text of its certificate, and the table of its plan where it is asked for
 abbrev pub output_of : Problem → Bool → Book → List ℕ

@@ -4,7 +4,7 @@ ghost use Rattle.std.specs.Prelude.{◌≡◌, ◌++◌, IfOk};
 ghost use Rattle.shift_solve.specs.Report.{status_over};
 ghost use Rattle.shift_solve.specs.Search.{IsCertOf, IsOutputOf};
 
-use certificate::{Cert, CertStatus};
+use certificate::{Cert, CertStatus, Lines};
 use plan_base::Disk;
 use rota_writer::{report, table};
 use search_book::Book;
@@ -23,7 +23,7 @@ fn status_over(cost: u64, bound: u64) -> CertStatus
 }
 
 /// The certificate of a book.
-fn cert_of<D: Disk>(book: &Book<D>) -> Result<Cert, AllocError>
+fn cert_of<D: Disk>(alloc: Global, book: &Book<D>) -> Result<Cert, AllocError>
     ensures { IfOk result (IsCertOf book.now) }
 {
     let rows = book.best().clone()?;
@@ -33,6 +33,7 @@ fn cert_of<D: Disk>(book: &Book<D>) -> Result<Cert, AllocError>
         status: status_over(cost, bound),
         plan: Some((cost, rows)),
         bound,
+        lines: Lines::new(Vec::new(alloc)),
     })
 }
 
@@ -48,7 +49,7 @@ pub(crate) fn output_of<D: Disk>(
 {
     // a legal plan of a valid instance has few rows
     let _heads = instance.heads();
-    let cert = cert_of(book)?;
+    let cert = cert_of(alloc, book)?;
     let mut bytes = report(alloc, &cert)?;
     if with_table {
         let lines = table(alloc, instance, book.best())?;

@@ -1,0 +1,10 @@
+use Rattle.std.proofs.Common.{length, ◌-◌, ◌^◌}
+use Rattle.certificate.specs.Reading.{number_in}
+use Rattle.certificate.proofs.Loops.{Lists}
+use Rattle.certificate.proofs.proof_words.cut_list.Given as goal
+
+abbrev pub invariant-loop-word : goal.invariant-loop-word
+invariant-loop-word l = Lists (number_in (2 ^ 64 - 1)) l.text l.list.items l.rest
+
+abbrev pub decreases-loop-word : goal.decreases-loop-word
+decreases-loop-word l = length l.rest
