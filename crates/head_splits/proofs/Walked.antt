@@ -51,6 +51,10 @@ pub both_ok : {T E : Type 0} (r : Result T E) (P Q R : T → Type 0) → IfOk r 
 both_ok (Ok x) P Q R p q h = h x p q
 both_ok (Err e) P Q R p q h = tt
 
+pub map_ok : {T E : Type 0} (r : Result T E) (P Q : T → Type 0) → IfOk r P → ((x : T) → P x → Q x) → IfOk r Q
+map_ok (Ok x) P Q p h = h x p
+map_ok (Err e) P Q p h = tt
+
 pub no_some : {X : Type 0} (o : Option X) → is_some o ≡ false → o ≡ None
 no_some None h = refl
 no_some (Some x) h = absurd (false≢true (sym h))

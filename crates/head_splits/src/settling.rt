@@ -1,15 +1,15 @@
 //! Which class to split at a node, or what its cuts leave.
-ghost use Rattle.std.specs.Prelude.{◌≡◌, ◌+◌, ◌*◌, ◌<◌, ◌≤◌, ◌/◌, ◌&&◌, ◌++◌, ◌∷◌, [], length, map, take, nat_lt, nat_le, IsTrue, IfOk, None, Some, if◌then◌else◌};
+ghost use Rattle.std.specs.Prelude.{◌≡◌, ◌+◌, ◌*◌, ◌<◌, ◌≤◌, ◌/◌, ◌&&◌, ◌==◌, ◌++◌, ◌∷◌, [], length, map, take, nat_lt, nat_le, IsTrue, IfOk, OnOk, None, Some, if◌then◌else◌};
 ghost use Rattle.std.specs.List.{find, list_all};
 ghost use Rattle.shift_instance.specs.Problem.{shift_list};
 ghost use Rattle.shift_instance.specs.Rota.{rota_of, heads_on};
-ghost use Rattle.head_splits.specs.Below.{IsWalked, StandsOn, IsClear, IsGraphOf, duties_below, shift_duties, is_open};
+ghost use Rattle.head_splits.specs.Below.{IsWalked, StandsOn, IsClear, IsGraphOf, duties_below, shift_duties, is_open, cuts_on};
 ghost use Rattle.head_splits.specs.Cuts.{low, high, meets};
 ghost use Rattle.head_splits.specs.Settled.{class_of, prefixes, all_duties, is_settled, settled_rows};
 ghost use Rattle.head_splits.specs.Settling.{IsSettle};
 
 use crate::ranges::range_at;
-use crate::{Class, Cuts, Settle, meets, range};
+use crate::{Class, Cut, Cuts, Settle, meets, range};
 use break_graph::{Graph, Node};
 use break_rules::{Break, Breaks, NoMemory};
 use shift_instance::{Duty, Instance, Row, Rows};
@@ -106,7 +106,52 @@ fn walk_days(
     Ok(None)
 }
 
-/// Walks over the legal duties of the walk's shift to the first one whose number isn't fixed.
+/// Walks over the legal duties of the walk's shift to the first one whose number isn't fixed, by the graph that the
+/// instance keeps, or by a new one.
+fn walk_graph(
+    alloc: Global,
+    instance: &Instance,
+    cuts: &Cuts,
+    walk: &mut Walk,
+) -> Result<Option<Duty>, NoMemory>
+    requires shift { walk.old.shift < length (shift_list instance.now) }
+    requires start { walk.old.prefix.items ≡ [] }
+    ensures walked { IfOk result (λ found. IsWalked instance.now cuts.now (shift_duties instance.now walk.old.shift) found walk.old.rows.items walk.new.rows.items) }
+    ensures start { IfOk result (λ found. found ≡ None → walk.new.prefix.items ≡ []) }
+{
+    match instance.graph(walk.shift) {
+        Some(graph) => walk_days(instance, cuts, graph.nodes(), walk),
+        None => {
+            let shift = instance.shift(walk.shift);
+            let graph = Graph::new(alloc, instance.rule_of(walk.shift), shift.len)?;
+            walk_days(instance, cuts, graph.nodes(), walk)
+        }
+    }
+}
+
+/// Adds a cut to those on the classes of a shift, if it is one.
+fn keep(list: &mut Vec<Cut>, cut: &Cut, shift: u16) -> Result<(), NoMemory>
+    ensures { OnOk result (list.new.items ≡ (if cut.now.class.shift == shift then list.old.items ++ cut.now ∷ [] else list.old.items)) }
+{
+    if cut.class.shift != shift {
+        return Ok(());
+    }
+    list.push(cut.clone()?)?;
+    Ok(())
+}
+
+/// The cuts on the classes of a shift, in their order.
+fn cuts_on(alloc: Global, cuts: &[Cut], shift: u16) -> Result<Cuts, NoMemory>
+    ensures { IfOk result (λ on. on ≡ cuts_on cuts.now shift) }
+{
+    let mut list = Vec::new(alloc);
+    for cut in cuts {
+        keep(&mut list, cut, shift)?;
+    }
+    Ok(Cuts::new(list))
+}
+
+/// Walks over the legal duties of the walk's shift to the first one whose number isn't fixed, by the cuts on that shift.
 fn walk_shift(
     alloc: Global,
     instance: &Instance,
@@ -118,9 +163,8 @@ fn walk_shift(
     ensures walked { IfOk result (λ found. IsWalked instance.now cuts.now (shift_duties instance.now walk.old.shift) found walk.old.rows.items walk.new.rows.items) }
     ensures start { IfOk result (λ found. found ≡ None → walk.new.prefix.items ≡ []) }
 {
-    let shift = instance.shift(walk.shift);
-    let graph = Graph::new(alloc, instance.rule_of(walk.shift), shift.len)?;
-    walk_days(instance, cuts, graph.nodes(), walk)
+    let on = cuts_on(alloc, cuts.as_slice(), walk.shift)?;
+    walk_graph(alloc, instance, &on, walk)
 }
 
 /// Walks over all legal duties to the first one whose number isn't fixed.
