@@ -6,6 +6,8 @@ pub mod laws;
 mod meeting;
 mod price_lists;
 mod ranges;
+#[cfg(test)]
+mod settled_tests;
 mod settling;
 #[cfg(test)]
 mod tests;
