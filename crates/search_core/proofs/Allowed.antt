@@ -1,11 +1,13 @@
 -- Where no fault of a plan applies, it is allowed.
-use Rattle.std.proofs.Common.{◌≡◌, ◌<◌, ℕ, Bool, true, false, cond, ◌&&◌, ◌==◌, not, List, refl, sym, ap, subst, nat_le, nat_lt, Option, Some, None}
-use Rattle.std.specs.Prelude.{IsSome}
-use Rattle.std.specs.Option.{option_map, option_or}
+use Rattle.std.proofs.Common.{◌≡◌, ◌∙◌, ◌<◌, ℕ, Bool, true, false, cond, ◌&&◌, ◌==◌, not, List, refl, sym, ap, subst, nat_le, nat_lt, Option, Some, None}
+use Rattle.std.specs.Prelude.{IsSome, IsSomeAnd, slice_get}
+use Rattle.std.specs.Option.{option_map, option_map_or, option_or}
 use Rattle.std.proofs.lemmas.Bool.{and_from, lt-ltb, leb-false}
 use Rattle.shift_instance.specs.declared.Row.{Row}
 use Rattle.shift_instance.specs.Problem.{Problem}
 use Rattle.shift_instance.specs.Rota.{cost, rota_of, are_legal_rows}
+use Rattle.head_splits.specs.declared.Cut.{Cut}
+use Rattle.head_splits.specs.Nodes.{Node, settled_floor}
 use Rattle.rota_cost.specs.RowFaults.{row_fault}
 use Rattle.rota_cost.proofs.RowLaw.{legal_from_none}
 use Rattle.post_codec.specs.declared.post.Post.TheVariants.{Plan}
@@ -13,6 +15,7 @@ use Rattle.search_core.specs.declared.fault.StepFault.{StepFault}
 use Rattle.search_core.specs.declared.fault.StepFault.TheVariants.{NotLegal, WrongCost, NotBetter, NoNode, IsSplit, NotOpen, NotLive, OutOfRange, NotSettled, Price, NoMemory}
 use Rattle.search_core.specs.Book.{Book, is_better, step}
 use Rattle.search_core.specs.Faults.{plan_fault, Refuses}
+use Rattle.search_core.specs.State.{number_at}
 
 -- ---- causes
 
@@ -61,3 +64,14 @@ refuses fault (OutOfRange lo hi) e = e
 refuses fault (NotSettled class) e = e
 refuses fault (Price why) e = e
 refuses fault NoMemory e = tt
+
+-- ---- settled nodes
+
+-- the floor of a node that is there, by its cuts
+pub settled_value : (i j : Problem) (b : Book) (k : ℕ) (cuts of_node : List Cut) (floor : ℕ) → IsSomeAnd (slice_get b.nodes k) (λ (n : Node). cuts ≡ n.cuts) → floor ≡ settled_floor j of_node → j ≡ i → of_node ≡ cuts
+    → floor ≡ number_at b k (λ (n : Node). settled_floor i n.cuts)
+settled_value i j b k cuts of_node floor there worth same is = worth ∙ ap (λ (i : Problem). settled_floor i of_node) same ∙ ap (settled_floor i) is ∙ of_node_at (slice_get b.nodes k) there
+  where
+    of_node_at : (o : Option Node) → IsSomeAnd o (λ (n : Node). cuts ≡ n.cuts) → settled_floor i cuts ≡ option_map_or (λ (n : Node). settled_floor i n.cuts) o 0
+    of_node_at None h = absurd h
+    of_node_at (Some n) h = ap (settled_floor i) h

@@ -2,10 +2,13 @@
 ghost use Rattle.std.specs.Prelude.{◌≡◌};
 ghost use Rattle.search_core.specs.declared.fault.StepFault.TheVariants.{NoMemory};
 
+use crate::class_text::write_class;
 use dual_bound::PriceFault;
 use head_splits::Class;
 use rota_cost::RowFault;
 use std::alloc::AllocError;
+use std::error::Error;
+use std::fmt;
 
 /// Why a post isn't allowed.
 #[derive(Debug, Drop)]
@@ -33,6 +36,38 @@ pub enum StepFault {
     /// No memory was left.
     NoMemory,
 }
+
+impl fmt::Display for StepFault {
+    ghost use Rattle.std.specs.Prelude.{Some};
+    ghost use Rattle.search_core.specs.FaultText.{step_fault_text};
+
+    ghost output = { λ e. Some (step_fault_text e) };
+
+    /// Writes the refusal's number, and then its fields in their order, or the refusal in it, separated by spaces.
+    fn fmt<W: fmt::Write>(&self, f: &mut fmt::Formatter<W>) -> fmt::Result {
+        match self {
+            StepFault::NotLegal(fault) => write!(f, "1 {fault}"),
+            StepFault::WrongCost { kept, found } => write!(f, "2 {kept} {found}"),
+            StepFault::NotBetter { best } => write!(f, "3 {best}"),
+            StepFault::NoNode { node } => write!(f, "4 {node}"),
+            StepFault::IsSplit { node } => write!(f, "5 {node}"),
+            StepFault::NotOpen { floor, best } => write!(f, "6 {floor} {best}"),
+            StepFault::NotLive { class } => {
+                f.write_str("7 ")?;
+                write_class(class, f)
+            }
+            StepFault::OutOfRange { lo, hi } => write!(f, "8 {lo} {hi}"),
+            StepFault::NotSettled { class } => {
+                f.write_str("9 ")?;
+                write_class(class, f)
+            }
+            StepFault::Price(fault) => write!(f, "10 {fault}"),
+            StepFault::NoMemory => f.write_str("no memory"),
+        }
+    }
+}
+
+impl Error for StepFault {}
 
 impl From<AllocError> for StepFault {
     ghost from_gives = { λ _ e. e ≡ NoMemory };
