@@ -2,6 +2,9 @@
 //! legal list goes on from there. It depends on a rule and a length alone, and answers for every start, day and price.
 #![tactic(auto)]
 
+mod building;
+mod places;
+
 ghost use Rattle.std.specs.Prelude.{◌≡◌};
 
 use break_rules::{Break, Spot};

@@ -1,13 +1,16 @@
--- The floor of a settled node is its plan's cost.
-use Rattle.std.proofs.Common.{◌≡◌, true, cond, List, sym, ap, ◌∙◌, Option, Some, None, MatchOption}
+-- The plan of a settled node, and its floor, the plan's cost.
+use Rattle.std.proofs.Common.{◌≡◌, true, false, cond, ◌&&◌, List, sym, ap, ◌∙◌, Option, Some, None, MatchOption}
+use Rattle.std.proofs.lemmas.Bool.{and_parts, not-false, false≢true}
+use Rattle.shift_instance.specs.declared.Row.{Row}
 use Rattle.shift_instance.specs.Problem.{Problem}
-use Rattle.shift_instance.specs.Rota.{cost, rota_of}
+use Rattle.shift_instance.specs.Rota.{cost, rota_of, are_legal_rows, is_legal_rota}
 use Rattle.shift_instance.specs.declared.TheConstants.{TOP}
-use Rattle.rota_cost.specs.Costed.{Costing}
+use Rattle.rota_cost.specs.Costed.{Costing, IsCosted}
 use Rattle.head_splits.specs.declared.Cut.{Cut}
-use Rattle.head_splits.specs.Settled.{is_empty, settled_plan}
+use Rattle.head_splits.specs.Cuts.{meets}
+use Rattle.head_splits.specs.Settled.{is_empty, settled_plan, settled_rows}
 use Rattle.head_splits.specs.Nodes.{settled_floor}
-use Rattle.head_splits.proofs.PlanRows.{rota_of-settled_rows}
+use Rattle.head_splits.proofs.PlanRows.{rota_of-settled_rows, settled_rows_legal}
 use Rattle.dual_bound.specs.Settling.{IsPlan}
 
 pub plan_floor : (i : Problem) (cuts : List Cut) (plan : Option Costing) (c : Costing) → plan ≡ Some c
@@ -17,3 +20,13 @@ plan_floor i cuts (Some p) c e h =
     let same : p ≡ c = cc in
     ap (λ (c : Costing). c.cost) (sym same) ∙ h.costed.exact ∙ ap (λ j. cost j (rota_of p.rows)) h.instance ∙ ap (λ rows. cost i (rota_of rows)) h.rows
     ∙ ap (cost i) (rota_of-settled_rows i cuts) ∙ ap (λ b. cond b TOP (cost i (settled_plan i cuts))) (sym h.some)
+
+-- rows of a plan that isn't empty are legal, and so have their cost
+pub plan_sealed : (i : Problem) (cuts : List Cut) (rows : List Row) (plan : Option Costing) → is_empty i cuts ≡ false → rows ≡ settled_rows i cuts
+    → MatchOption plan (are_legal_rows i rows ≡ false) (λ c. (c.instance ≡ i) × (c.rows ≡ rows) × IsCosted c)
+    → MatchOption plan (is_empty i cuts ≡ true) (IsPlan i cuts)
+plan_sealed i cuts rows None some is h =
+    let both : (is_legal_rota i (settled_plan i cuts) && meets (settled_plan i cuts) cuts) ≡ true = not-false _ some in
+    let legal = settled_rows_legal i cuts (and_parts (is_legal_rota i (settled_plan i cuts)) (meets (settled_plan i cuts) cuts) both).0 in
+    absurd (false≢true (sym h ∙ ap (are_legal_rows i) is ∙ legal))
+plan_sealed i cuts rows (Some c) some is h = record { some = some; instance = h.0; rows = h.1 ∙ is; costed = h.2 }

@@ -14,7 +14,7 @@ mod totals;
 
 pub use laws::faultless_prices;
 pub use proving::{Proved, prove};
-pub use settling::{Fixing, SettledNode};
+pub use settling::{Fixing, SettledNode, settle};
 use std::error::Error;
 use std::fmt;
 

@@ -1,11 +1,17 @@
 //! Settled nodes with their plans.
-ghost use Rattle.std.specs.Prelude.{◌≡◌, MatchOption};
+ghost use Rattle.std.specs.Prelude.{◌≡◌, IsTrue, IsFalse, IfOk, Some, None, MatchOption};
+ghost use Rattle.shift_instance.specs.Rota.{are_legal_rows};
+ghost use Rattle.rota_cost.specs.Costed.{IsCosted};
+ghost use Rattle.head_splits.specs.Settled.{is_settled, is_empty, settled_rows};
 ghost use Rattle.head_splits.specs.Nodes.{settled_floor};
 ghost use Rattle.dual_bound.specs.Settling.{IsSettledNode};
+ghost use Rattle.dual_bound.specs.Fixing.{IsFixing};
 
-use head_splits::{Class, Cuts};
-use rota_cost::Costed;
-use shift_instance::{Instance, TOP};
+use break_rules::NoMemory;
+use head_splits::{Class, Cuts, Settle, settled};
+use rota_cost::{Costed, cost_rows};
+use shift_instance::{Instance, Rows, TOP};
+use std::alloc::Global;
 use std::marker::Model;
 use std::snapshot::Snapshot;
 
@@ -41,6 +47,49 @@ pub enum Fixing {
     },
     /// The number of each legal duty is fixed.
     Done(SettledNode),
+}
+
+/// Rows with their cost, where they are legal.
+fn cost_plan(instance: &Instance, rows: Rows) -> Option<Costed>
+    ensures { MatchOption result (IsFalse (are_legal_rows instance.now rows)) (λ c. (c.instance ≡ instance.now) × (c.rows ≡ rows) × IsCosted c) }
+{
+    match cost_rows(instance, rows) {
+        Ok(costed) => {
+            // Its clauses say that the cost is the rows' own.
+            let _cost = costed.cost();
+            Some(costed)
+        }
+        Err(_) => None,
+    }
+}
+
+/// The settled node with these cuts, and the rows of their plan.
+fn seal(instance: &Instance, cuts: Cuts, rows: Rows) -> SettledNode
+    requires settled { IsTrue (is_settled instance.now cuts) }
+    requires some { IsFalse (is_empty instance.now cuts) }
+    requires rows { rows ≡ settled_rows instance.now cuts }
+    ensures { (result.instance ≡ instance.now) × (result.cuts ≡ cuts) × IsSettledNode result }
+{
+    SettledNode {
+        cuts,
+        plan: cost_plan(instance, rows),
+        instance: Snapshot::of(instance),
+    }
+}
+
+/// The class to split at a node with these cuts, or the settled node with its plan.
+pub fn settle(alloc: Global, instance: &Instance, cuts: Cuts) -> Result<Fixing, NoMemory>
+    ensures { IfOk result (λ f. IsFixing instance.now cuts f) }
+{
+    match settled(alloc, instance, &cuts)? {
+        Settle::Unsettled { class, m } => Ok(Fixing::Open { class, m }),
+        Settle::Plan(rows) => Ok(Fixing::Done(seal(instance, cuts, rows))),
+        Settle::Empty => Ok(Fixing::Done(SettledNode {
+            cuts,
+            plan: None,
+            instance: Snapshot::of(instance),
+        })),
+    }
 }
 
 impl SettledNode {

@@ -7,3 +7,7 @@ pub mod Nodes
 pub mod Recursion
 pub mod Splits
 pub mod PlanRows
+pub mod ListsBelow
+pub mod Walked
+pub mod WholeWalk
+pub mod SplitPlaces

@@ -6,6 +6,7 @@ pub mod laws;
 mod meeting;
 mod price_lists;
 mod ranges;
+mod settling;
 #[cfg(test)]
 mod tests;
 
@@ -14,6 +15,7 @@ pub use cuts::Cuts;
 pub use meeting::meets;
 pub use price_lists::{CutPrices, SlotPrices};
 pub use ranges::range;
+pub use settling::settled;
 use shift_instance::Rows;
 
 /// The greatest price that a cut may have.

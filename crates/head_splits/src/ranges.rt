@@ -1,15 +1,17 @@
 //! The range that cuts leave to the number of a class's duties.
 ghost use Rattle.std.specs.Prelude.{◌≡◌};
 ghost use Rattle.head_splits.specs.Cuts.{same_class, raised, lowered, low, least_high, high};
+ghost use Rattle.head_splits.specs.Settled.{class_of};
 
 use crate::{Class, Cut, Cuts, Side};
+use break_rules::Break;
 use shift_instance::Instance;
 
-/// Whether two classes are the same.
-fn is_same(a: &Class, b: &Class) -> bool
-    ensures { result ≡ same_class a.now b.now }
+/// Whether a class is the one of that shift, day and prefix.
+fn is_class(class: &Class, shift: u16, day: u8, prefix: &[Break]) -> bool
+    ensures { result ≡ same_class class.now (class_of shift day prefix.now) }
 {
-    a.shift == b.shift && a.day == b.day && a.prefix.as_slice() == b.prefix.as_slice()
+    class.shift == shift && class.day == day && class.prefix.as_slice() == prefix
 }
 
 /// A lower bound, raised by a cut of that side and number.
@@ -33,19 +35,33 @@ fn lower(side: Side, m: u16, high: u16) -> u16
 }
 
 /// The bounds that cuts leave to the number of a class's duties, where there are at most `heads`.
-fn range_below(heads: u16, cuts: &[Cut], class: &Class) -> (u16, u16)
-    ensures low { result.0 ≡ low cuts.now class.now }
-    ensures high { result.1 ≡ least_high heads cuts.now class.now }
+fn range_below(heads: u16, cuts: &[Cut], shift: u16, day: u8, prefix: &[Break]) -> (u16, u16)
+    ensures low { result.0 ≡ low cuts.now (class_of shift day prefix.now) }
+    ensures high { result.1 ≡ least_high heads cuts.now (class_of shift day prefix.now) }
 {
     let mut low = 0;
     let mut high = heads;
     for cut in cuts {
-        if is_same(&cut.class, class) {
+        if is_class(&cut.class, shift, day, prefix) {
             low = raise(cut.side, cut.m, low);
             high = lower(cut.side, cut.m, high);
         }
     }
     (low, high)
+}
+
+/// The least and the greatest number of duties that cuts leave to the class of a shift, a day and a prefix, as [`range`].
+pub fn range_at(
+    instance: &Instance,
+    cuts: &Cuts,
+    shift: u16,
+    day: u8,
+    prefix: &[Break],
+) -> (u16, u16)
+    ensures low { result.0 ≡ low cuts.now (class_of shift day prefix.now) }
+    ensures high { result.1 ≡ high instance.now cuts.now (class_of shift day prefix.now) }
+{
+    range_below(instance.heads(), cuts.as_slice(), shift, day, prefix)
 }
 
 /// The least and the greatest number of duties that cuts leave to a class. The first is the greatest number of the cuts
@@ -56,5 +72,11 @@ pub fn range(instance: &Instance, cuts: &Cuts, class: &Class) -> (u16, u16)
     ensures low { result.0 ≡ low cuts.now class.now }
     ensures high { result.1 ≡ high instance.now cuts.now class.now }
 {
-    range_below(instance.heads(), cuts.as_slice(), class)
+    range_at(
+        instance,
+        cuts,
+        class.shift,
+        class.day,
+        class.prefix.as_slice(),
+    )
 }

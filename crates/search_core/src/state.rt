@@ -2,8 +2,8 @@
 ghost use Rattle.std.specs.Prelude.{◌≡◌, ℕ, ◌+◌, ◌-◌, ◌*◌, ◌^◌, ◌<◌, ◌≤◌, ◌++◌, ◌∷◌, [], ◌==◌, Some, map, max, length, slice_get, IfOk, IfErr, IsSome, IsSomeAnd, MatchOption, OnOk, OnErr};
 ghost use Rattle.search_core.specs.Board.{IsNext, NoneIsFree};
 ghost use Rattle.search_core.specs.Book.{book_of, floor_of, is_node_and, is_open, opening, step, IsSound};
-ghost use Rattle.post_codec.specs.declared.post.Post.TheVariants.{Plan, Priced, Split};
-ghost use Rattle.search_core.specs.Faults.{open_fault, plan_fault, priced_fault, split_fault, unsplit_fault, Refuses, Steps};
+ghost use Rattle.post_codec.specs.declared.post.Post.TheVariants.{Plan, Priced, Settled, Split};
+ghost use Rattle.search_core.specs.Faults.{open_fault, plan_fault, priced_fault, settled_fault, split_fault, step_fault, unsplit_fault, Refuses, Steps};
 ghost use Rattle.search_core.specs.Kept.{cuts_in, part_of, rows_in};
 ghost use Rattle.search_core.specs.State.{state_of, value_of};
 
@@ -12,7 +12,7 @@ use crate::fault::StepFault;
 use crate::judging::{is_live_class, plan_fault};
 use crate::outline::{NodeState, Outline, least_floor, next_node};
 use break_rules::NoMemory;
-use dual_bound::prove;
+use dual_bound::{Fixing, prove, settle};
 use head_splits::{Class, Cut, Cuts, Prices, Side, range};
 use post_codec::Post;
 use rota_cost::recount;
@@ -312,6 +312,58 @@ impl State {
         };
         self.append(post, floor);
         Ok(())
+    }
+
+    /// Gives an unsplit node whose cuts fix the number of each legal duty the cost of its plan as its floor, by a worker's post.
+    pub(crate) fn step_settled(
+        &mut self,
+        instance: &Instance,
+        worker: u16,
+        node: u32,
+    ) -> Result<(), StepFault>
+        requires { instance.now ≡ self.old.instance }
+        ensures ok { OnOk result (Steps self.old self.new (Settled worker node)) }
+        ensures unchanged { OnErr result (self.new ≡ self.old) }
+        ensures err { IfErr result (Refuses (settled_fault self.old.instance self.old.book node)) }
+    {
+        if let Some(fault) = self.unsplit_fault(node) {
+            return Err(fault);
+        }
+        match settle(self.alloc, instance, self.cuts_of(node)?)? {
+            Fixing::Open { class, m: _ } => Err(StepFault::NotSettled { class }),
+            Fixing::Done(settled) => {
+                self.reserve(1)?;
+                self.append(Post::Settled { worker, node }, settled.floor());
+                Ok(())
+            }
+        }
+    }
+
+    /// Appends a post, where it is allowed. Each kind has its causes of refusal: of a plan its rows, their cost, and a best
+    /// rota that costs no more; of prices, splits and settled nodes a node that isn't there or is split, and then prices that
+    /// aren't a price set for its cuts; a node that isn't open, a class that isn't live, and a number outside the range that
+    /// the cuts leave; and cuts that leave some number open. The first that applies is answered.
+    pub fn step(&mut self, instance: &Instance, post: Post) -> Result<(), StepFault>
+        requires { instance.now ≡ self.old.instance }
+        ensures ok { OnOk result (Steps self.old self.new post) }
+        ensures unchanged { OnErr result (self.new ≡ self.old) }
+        ensures err { IfErr result (Refuses (step_fault self.old.instance self.old.book post)) }
+    {
+        match post {
+            Post::Plan { worker, rows, cost } => self.step_plan(instance, worker, rows, cost),
+            Post::Priced {
+                worker,
+                node,
+                prices,
+            } => self.step_priced(instance, worker, node, prices),
+            Post::Split {
+                worker,
+                node,
+                class,
+                m,
+            } => self.step_split(instance, worker, node, class, m),
+            Post::Settled { worker, node } => self.step_settled(instance, worker, node),
+        }
     }
 
     /// Why a node isn't unsplit, if it isn't.

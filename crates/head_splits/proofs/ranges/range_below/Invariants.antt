@@ -1,9 +1,10 @@
 use Rattle.std.proofs.Common.{◌≡◌, take}
 use Rattle.head_splits.specs.Cuts.{low, least_high}
+use Rattle.head_splits.specs.Settled.{class_of}
 use Rattle.head_splits.proofs.ranges.range_below.Given as goal
 
 abbrev pub invariant-loop-cut : goal.invariant-loop-cut
 invariant-loop-cut l = record {
-  low : l.low ≡ low (take l.cut-index l.cuts) l.class;
-  high : l.high ≡ least_high l.heads (take l.cut-index l.cuts) l.class;
+  low : l.low ≡ low (take l.cut-index l.cuts) (class_of l.shift l.day l.prefix);
+  high : l.high ≡ least_high l.heads (take l.cut-index l.cuts) (class_of l.shift l.day l.prefix);
 }

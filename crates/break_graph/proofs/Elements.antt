@@ -1,0 +1,12 @@
+-- Elements of lists, by their places.
+use Rattle.std.proofs.Common.{◌≡◌, inl, inr, ℕ, zero, suc, ◌<◌, List, [], ◌∷◌, length, get_or, slice_get, Some, refl, subst, arith}
+use Rattle.std.proofs.lemmas.Option.{slice_get_within, get_or_from_slice_get}
+use Rattle.break_rules.proofs.Lists.{Has}
+
+Has-get_or : {X : Type 0} (xs : List X) (k : ℕ) (d : X) → k < length xs → Has xs (get_or xs k d)
+Has-get_or [] k d h = absurd (omega arith)
+Has-get_or (x ∷ xs) zero d h = inl refl
+Has-get_or (x ∷ xs) (suc k) d h = inr (Has-get_or xs k d (omega arith))
+
+pub Has-get : {X : Type 0} (xs : List X) (k : ℕ) (x : X) → slice_get xs k ≡ Some x → Has xs x
+Has-get {X} xs k x h = subst (Has xs) (get_or_from_slice_get xs k x x h) (Has-get_or xs k x (slice_get_within xs k x h))

@@ -1,0 +1,3 @@
+pub mod Marks
+pub mod Elements
+pub mod Nodes

@@ -1,0 +1,91 @@
+//! The spots that walks reach, in a table by place.
+
+ghost use Rattle.std.specs.Prelude.{◌≡◌, ◌+◌, ◌-◌, ◌*◌, ◌<◌, ◌≤◌, ◌++◌, ℕ, List, [], ◌∷◌, Bool, true, false, IfOk, IsTrue, length, slice_index_or};
+ghost use Rattle.break_rules.specs.declared.Break.{Break};
+ghost use Rattle.break_rules.specs.Ranges.{IsRule};
+ghost use Rattle.break_rules.specs.Walk.{spot_of, is_walk};
+ghost use Rattle.break_rules.specs.Live.{place_of};
+ghost use Rattle.break_graph.specs.Building.{IsMarked, AreMarked};
+
+use break_rules::{NoMemory, Rule, Spot, after, nexts};
+use std::alloc::Global;
+
+/// The place of a spot in a table: those of later offsets first, 256 to an offset.
+pub fn place(len: u16, spot: Spot) -> usize
+    ensures { result ≡ place_of len spot }
+{
+    let slots_left = usize::from(len.saturating_sub(spot.offset));
+    slots_left * 256 + usize::from(spot.used) * 4 + usize::from(spot.lunches)
+}
+
+/// The spot that has a place in a table.
+pub fn spot_at(len: u16, place: usize) -> Spot
+    requires { place < 256 * (len + 1) }
+    ensures place { place_of len result ≡ place }
+    ensures spot { (spot : Spot) → spot.offset ≤ len → spot.used < 64 → spot.lunches < 4 → place_of len spot ≡ place → result ≡ spot }
+{
+    Spot {
+        offset: len - (place / 256) as u16,
+        used: (place / 4 % 64) as u16,
+        lunches: (place % 4) as u8,
+    }
+}
+
+/// Whether a place is marked.
+pub fn is_marked(table: &[bool], place: usize) -> bool
+    ensures { result ≡ slice_index_or table.now place false }
+{
+    table.get(place).copied().unwrap_or(false)
+}
+
+/// Marks a place.
+fn mark(table: &mut Vec<bool>, place: usize)
+    ensures len { length table.new.items ≡ length table.old.items }
+    ensures kept { (other : ℕ) → slice_index_or table.old.items other false ≡ true → slice_index_or table.new.items other false ≡ true }
+    ensures marked { place < length table.old.items → slice_index_or table.new.items place false ≡ true }
+{
+    if place < table.len() {
+        table[place] = true;
+    }
+}
+
+/// Marks the places of the spots behind the breaks that may come next at a spot.
+fn mark_nexts(rule: &Rule, len: u16, spot: Spot, table: &mut Vec<bool>)
+    requires rule { IsRule rule.now }
+    requires long { 256 * (len + 1) ≤ length table.old.items }
+    ensures len { length table.new.items ≡ length table.old.items }
+    ensures kept { (other : ℕ) → slice_index_or table.old.items other false ≡ true → slice_index_or table.new.items other false ≡ true }
+    ensures marked { (list : List Break) (b : Break) → spot ≡ spot_of rule.now list → IsTrue (is_walk rule.now len (list ++ b ∷ [])) → IsMarked rule.now len table.new.items (list ++ b ∷ []) }
+{
+    for next in nexts(rule, len, spot) {
+        mark(table, place(len, after(rule, spot, next)));
+    }
+}
+
+/// Marks the places of the spots behind the breaks that may come next at a place, if it is marked.
+fn mark_behind(rule: &Rule, len: u16, place: usize, table: &mut Vec<bool>)
+    requires rule { IsRule rule.now }
+    requires inside { place < 256 * (len + 1) }
+    requires long { 256 * (len + 1) ≤ length table.old.items }
+    ensures len { length table.new.items ≡ length table.old.items }
+    ensures kept { (other : ℕ) → slice_index_or table.old.items other false ≡ true → slice_index_or table.new.items other false ≡ true }
+    ensures marked { (list : List Break) (b : Break) → place_of len (spot_of rule.now list) ≡ place → IsMarked rule.now len table.old.items list → IsTrue (is_walk rule.now len (list ++ b ∷ [])) → IsMarked rule.now len table.new.items (list ++ b ∷ []) }
+{
+    if is_marked(table, place) {
+        mark_nexts(rule, len, spot_at(len, place), table);
+    }
+}
+
+/// A table in which the place of each spot that a walk reaches is marked.
+pub fn marked_places(alloc: Global, rule: &Rule, len: u16) -> Result<Vec<bool>, NoMemory>
+    requires { IsRule rule.now }
+    ensures { IfOk result (λ table. AreMarked rule.now len table.items) }
+{
+    let count = 256 * (usize::from(len) + 1);
+    let mut table = vec![in alloc; false; count]?;
+    mark(&mut table, place(len, Spot::opening()));
+    for done in 0..count {
+        mark_behind(rule, len, count - 1 - done, &mut table);
+    }
+    Ok(table)
+}

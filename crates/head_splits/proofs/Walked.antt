@@ -1,0 +1,230 @@
+-- What a walk over the legal duties below a class finds, from what it finds below the class's extensions.
+use Rattle.std.proofs.Common.{◌≡◌, inl, inr, ℕ, zero, suc, ◌+◌, ◌-◌, ◌<◌, ◌≤◌, Bool, true, false, cond, not, ◌||◌, ◌==◌, List, [], ◌∷◌, ◌++◌, map, filter, length, take, drop, refl, sym, ap, ◌∙◌, subst, arith, append_assoc, append-nil, nat_lt, nat_le, Option, Some, None, Result, Ok, Err, eq-eqb, eqb-true}
+use Rattle.std.specs.Prelude.{slice_get, slice_index_or, is_some, IsSomeAnd, IfOk}
+use Rattle.std.specs.Option.{option_map_or, option_or}
+use Rattle.std.specs.List.{flat_map, find}
+use Rattle.std.proofs.lemmas.Bool.{cases_Bool, false≢true, leb-true, lt-ltb, leb-false, ltb-false, ltb-true, le-ltb}
+use Rattle.std.proofs.lemmas.Grind.{flat_map-append}
+use Rattle.std.proofs.lemmas.List.{map-append, take_all, take-append-le, take-append-drop, length-append}
+use Rattle.std.proofs.lemmas.List.Folds.{find-append, flat_map-map}
+use Rattle.std.proofs.lemmas.List.Elements.{filter-append}
+use Rattle.std.proofs.Math.Seq.{take-append_seam}
+use Rattle.break_rules.specs.declared.Break.{Break}
+use Rattle.break_rules.specs.declared.Rule.{Rule}
+use Rattle.break_rules.specs.Breaks.{is_legal, legal_lists, begins_with}
+use Rattle.break_rules.proofs.LegalLists.{begins_rest}
+use Rattle.break_rules.proofs.Lists.{Has, Has-map, from_map, from_filter, any_at, any_some, Has-below, from_below}
+use Rattle.break_rules.proofs.Reaching.{find_none}
+use Rattle.break_graph.specs.declared.Edge.{Edge}
+use Rattle.break_graph.specs.declared.Node.{Node}
+use Rattle.break_graph.specs.Graph.{IsGraph, StandsAt, node_at}
+use Rattle.shift_instance.specs.declared.Shift.{Shift}
+use Rattle.shift_instance.specs.declared.Duty.{Duty}
+use Rattle.shift_instance.specs.declared.Row.{Row}
+use Rattle.shift_instance.specs.Problem.{Problem, shift_list, below}
+use Rattle.shift_instance.specs.Rota.{lists_of}
+use Rattle.head_splits.specs.declared.Cut.{Cut}
+use Rattle.head_splits.specs.Cuts.{low, high}
+use Rattle.head_splits.specs.Settled.{prefixes, class_of, is_closed, is_fixed, fixed_count, row_of}
+use Rattle.head_splits.specs.Below.{lists_below, duties_below, is_open, rows_of, IsWalked, StandsOn, IsClear}
+use Rattle.head_splits.proofs.ListsBelow.{below_list, below_whole, below_parts}
+
+-- what a fact of some value says
+pub known : {X : Type 0} (o : Option X) (P : X → Type 0) → IsSomeAnd o P → (x : X) × (o ≡ Some x) × P x
+known None P h = absurd h
+known (Some x) P h = (x, refl, h)
+
+pub known_from : {X : Type 0} (o : Option X) (P : X → Type 0) (x : X) → o ≡ Some x → P x → IsSomeAnd o P
+known_from None P x e h = cc
+known_from {X} (Some y) P x e h = let s : y ≡ x = cc in subst P (sym s) h
+
+filter_none : {X : Type 0} (p : X → Bool) (xs : List X) → ((x : X) → Has xs x → p x ≡ false) → filter p xs ≡ []
+filter_none p [] h = refl
+filter_none p (x ∷ xs) h = ap (λ b. cond b (x ∷ filter p xs) (filter p xs)) (h x (inl refl)) ∙ filter_none p xs (λ y m. h y (inr m))
+
+map-flat_map : {X Y Z : Type 0} (f : Y → Z) (g : X → List Y) (xs : List X) → map f (flat_map g xs) ≡ flat_map (λ x. map f (g x)) xs
+map-flat_map f g [] = refl
+map-flat_map f g (x ∷ xs) = map-append f (g x) (flat_map g xs) ∙ ap (λ zs. map f (g x) ++ zs) (map-flat_map f g xs)
+
+-- both clauses of an answer
+pub both_ok : {T E : Type 0} (r : Result T E) (P Q R : T → Type 0) → IfOk r P → IfOk r Q → ((x : T) → P x → Q x → R x) → IfOk r R
+both_ok (Ok x) P Q R p q h = h x p q
+both_ok (Err e) P Q R p q h = tt
+
+pub no_some : {X : Type 0} (o : Option X) → is_some o ≡ false → o ≡ None
+no_some None h = refl
+no_some (Some x) h = absurd (false≢true (sym h))
+
+-- places of a list
+pub index_any : {X : Type 0} (xs : List X) (k : ℕ) (a b : X) → k < length xs → slice_index_or xs k a ≡ slice_index_or xs k b
+index_any [] k a b h = absurd (omega arith)
+index_any (x ∷ xs) zero a b h = refl
+index_any (x ∷ xs) (suc k) a b h = index_any xs k a b (omega arith)
+
+pub index_get : {X : Type 0} (xs : List X) (k : ℕ) (a : X) → k < length xs → slice_get xs k ≡ Some (slice_index_or xs k a)
+index_get [] k a h = absurd (omega arith)
+index_get (x ∷ xs) zero a h = refl
+index_get (x ∷ xs) (suc k) a h = index_get xs k a (omega arith)
+
+pub flat_map_taken : {X Y : Type 0} (f : X → List Y) (xs : List X) (k : ℕ) (a : X) → k < length xs → flat_map f (take (k + 1) xs) ≡ flat_map f (take k xs) ++ f (slice_index_or xs k a)
+flat_map_taken f [] k a h = absurd (omega arith)
+flat_map_taken f (x ∷ xs) zero a h = append-nil (f x)
+flat_map_taken f (x ∷ xs) (suc k) a h = ap (λ n. flat_map f (take n (x ∷ xs))) (let e : suc k + 1 ≡ suc (k + 1) = omega arith in e) ∙ ap (λ ys. f x ++ ys) (flat_map_taken f xs k a (omega arith)) ∙ sym (append_assoc (f x) (flat_map f (take k xs)) (f (slice_index_or xs k a)))
+
+pub flat_map_split : {X Y : Type 0} (f : X → List Y) (xs : List X) (k : ℕ) → flat_map f xs ≡ flat_map f (take k xs) ++ flat_map f (drop k xs)
+flat_map_split f xs k = ap (flat_map f) (sym (take-append-drop k xs)) ∙ flat_map-append f (take k xs) (drop k xs)
+
+-- what is left where the last element goes
+pub popped : {X : Type 0} (xs : List X) (x : X) (old rest : List X) (n : ℕ) → old ≡ xs ++ x ∷ [] → n ≡ length old → rest ≡ take (n - 1) old → rest ≡ xs
+popped xs x old rest n e long is =
+    let both : length old ≡ length xs + 1 = ap length e ∙ length-append xs (x ∷ []) in
+    is ∙ ap (λ k. take k old) (let k : n - 1 ≡ length xs = omega arith in k) ∙ ap (take (length xs)) e ∙ take-append_seam xs (x ∷ [])
+
+module _ (i : Problem) (cuts : List Cut) where
+  -- ---- walks one after another
+
+  pub none_walked : (rows : List Row) → IsWalked i cuts [] None rows rows
+  none_walked rows = record { first = refl; rows = λ e. sym (append-nil rows) }
+
+  pub rows_of-append : (ds es : List Duty) → rows_of i cuts (ds ++ es) ≡ rows_of i cuts ds ++ rows_of i cuts es
+  rows_of-append ds es =
+      ap (map (λ d. row_of d (fixed_count i cuts d))) (filter-append (λ d. nat_lt 0 (fixed_count i cuts d)) ds es)
+      ∙ map-append (λ d. row_of d (fixed_count i cuts d)) (filter (λ d. nat_lt 0 (fixed_count i cuts d)) ds) (filter (λ d. nat_lt 0 (fixed_count i cuts d)) es)
+
+  pub more_walked : (ds es : List Duty) (found : Option Duty) (before mid after : List Row) → IsWalked i cuts ds None before mid → IsWalked i cuts es found mid after → IsWalked i cuts (ds ++ es) found before after
+  more_walked ds es found before mid after h g = record {
+    first = g.first ∙ ap (λ o. option_or o (find (is_open i cuts) es)) h.first ∙ sym (find-append (is_open i cuts) ds es);
+    rows = λ none. g.rows none ∙ ap (λ rs. rs ++ rows_of i cuts es) (h.rows refl) ∙ append_assoc before (rows_of i cuts ds) (rows_of i cuts es)
+        ∙ ap (λ rs. before ++ rs) (sym (rows_of-append ds es));
+  }
+
+  -- where an open duty is found the walk needn't go on
+  pub stop_walked : (ds rest : List Duty) (found : Option Duty) (before after : List Row) → is_some found ≡ true → IsWalked i cuts ds found before after → IsWalked i cuts (ds ++ rest) found before after
+  stop_walked ds rest None before after some h = absurd (false≢true some)
+  stop_walked ds rest (Some d) before after some h = record {
+    first = ap (λ o. option_or o (find (is_open i cuts) rest)) h.first ∙ sym (find-append (is_open i cuts) ds rest);
+    rows = λ none. let e : ◌≡◌ {A = Option Duty} (Some d) None = none in cc;
+  }
+
+  -- ---- the duties below a class
+
+  module _ (s day : ℕ) where
+    abbrev pub duty : List Break → Duty
+    duty list = record { shift = s; day = day; breaks = list }
+
+    lists_below_is : (list : List Break) (x : Shift × Rule) → slice_get (shift_list i) s ≡ Some x → lists_below i s list ≡ below_list x.1 x.0.len list
+    lists_below_is list x e = ap (λ o. filter (λ l. begins_with l list) (option_map_or (λ x. legal_lists x.1 x.0.len) o [])) e
+
+    -- where a list stands at a node without edges, it is the only one, and else those of its edges follow one another
+    pub whole_duties : (nodes : List Node) (k : ℕ) (list : List Break) → StandsOn i s nodes k list → (length (node_at nodes k).edges == 0) ≡ true → duties_below i s day list ≡ duty list ∷ []
+    whole_duties nodes k list h none =
+        let x = known (slice_get (shift_list i) s) (λ x. IsGraph x.1 x.0.len nodes × StandsAt x.1 x.0.len nodes k list) h in
+        let legal : is_legal x.0.1 x.0.0.len list ≡ true = sym (x.2.0.ends k list x.2.1) ∙ none in
+        ap (map duty) (lists_below_is list x.0 x.1 ∙ below_whole x.0.1 x.0.0.len list legal)
+
+    pub part_duties : (nodes : List Node) (k : ℕ) (list : List Break) → StandsOn i s nodes k list → (length (node_at nodes k).edges == 0) ≡ false
+        → duties_below i s day list ≡ flat_map (λ (e : Edge). duties_below i s day (list ++ e.stop ∷ [])) (node_at nodes k).edges
+    part_duties nodes k list h some =
+        let x = known (slice_get (shift_list i) s) (λ x. IsGraph x.1 x.0.len nodes × StandsAt x.1 x.0.len nodes k list) h in
+        let rule = x.0.1 in
+        let len = x.0.0.len in
+        let edges = (node_at nodes k).edges in
+        let part : is_legal rule len list ≡ false = sym (x.2.0.ends k list x.2.1) ∙ some in
+        let lists : lists_below i s list ≡ flat_map (λ b. below_list rule len (list ++ b ∷ [])) (map (λ (e : Edge). e.stop) edges) =
+        lists_below_is list x.0 x.1 ∙ below_parts rule len list part ∙ ap (flat_map (λ b. below_list rule len (list ++ b ∷ []))) (sym (x.2.0.edges k list x.2.1)) in
+        ap (map duty) lists
+        ∙ ap (map duty) (flat_map-map (λ b. below_list rule len (list ++ b ∷ [])) (λ (e : Edge). e.stop) edges)
+        ∙ map-flat_map duty (λ (e : Edge). below_list rule len (list ++ e.stop ∷ [])) edges
+        ∙ flat_map_same (λ (e : Edge). map duty (below_list rule len (list ++ e.stop ∷ []))) (λ (e : Edge). duties_below i s day (list ++ e.stop ∷ [])) edges
+        (λ e. ap (map duty) (sym (lists_below_is (list ++ e.stop ∷ []) x.0 x.1)))
+      where
+        flat_map_same : {X Y : Type 0} (f g : X → List Y) (xs : List X) → ((x : X) → f x ≡ g x) → flat_map f xs ≡ flat_map g xs
+        flat_map_same f g [] h = refl
+        flat_map_same f g (x ∷ xs) h = ap (λ ys. ys ++ flat_map f xs) (h x) ∙ ap (λ ys. g x ++ ys) (flat_map_same f g xs h)
+
+    -- ---- a class without room, and one of a whole list
+
+    closed_duty : (list : List Break) → high i cuts (class_of s day list) ≡ 0 → (d : Duty) → Has (duties_below i s day list) d → is_closed i cuts d ≡ true
+    closed_duty list none d m =
+        let l = from_map duty (lists_below i s list) d m in
+        let b = from_filter (λ l. begins_with l list) (lists_of i s) l.0 l.1 in
+        let e : l.0 ≡ list ++ drop (length list) l.0 = begins_rest l.0 list b.1 in
+        let front : take (length list) l.0 ≡ list = ap (take (length list)) e ∙ take-append_seam list (drop (length list) l.0) in
+        let long : length l.0 ≡ length list + length (drop (length list) l.0) = ap length e ∙ length-append list (drop (length list) l.0) in
+        let test : List Break → Bool = λ prefix. high i cuts (class_of s day prefix) == 0 in
+        subst (λ d. is_closed i cuts d ≡ true) l.2
+        (any_at test (prefixes l.0) list
+        (subst (Has (prefixes l.0)) front (Has-map (λ n. take n l.0) (below (length l.0 + 1)) (length list) (Has-below (length l.0 + 1) (length list) (omega arith))))
+        (eq-eqb _ 0 none))
+
+    pub closed_walked : (list : List Break) (rows : List Row) → high i cuts (class_of s day list) ≡ 0 → IsWalked i cuts (duties_below i s day list) None rows rows
+    closed_walked list rows none = record {
+      first = sym (find_none (is_open i cuts) (duties_below i s day list) (λ d m. ap (λ b. not (b || is_fixed i cuts d)) (closed_duty list none d m)));
+      rows = λ e. sym (append-nil rows) ∙ ap (λ rs. rows ++ map (λ d. row_of d (fixed_count i cuts d)) rs)
+          (sym (filter_none (λ d. nat_lt 0 (fixed_count i cuts d)) (duties_below i s day list) (λ d m. ap (λ b. nat_lt 0 (cond b 0 (low cuts (class_of d.shift d.day d.breaks)))) (closed_duty list none d m))));
+    }
+
+    -- room for a list and its proper prefixes
+    roomy : (list : List Break) → IsClear i cuts s day list → 0 < high i cuts (class_of s day list) → (n : ℕ) → n < length list + 1 → 0 < high i cuts (class_of s day (take n list))
+    roomy list clear room n l =
+        elim (cases_Bool (nat_lt n (length list))) [
+          | inl t ↦ clear n (ltb-true _ _ t)
+          | inr f ↦ let past : length list ≤ n = ltb-false _ _ f in subst (λ p. 0 < high i cuts (class_of s day p)) (sym (take_all n list past)) room
+        ]
+
+    pub clear_more : (list : List Break) (b : Break) → IsClear i cuts s day list → 0 < high i cuts (class_of s day list) → IsClear i cuts s day (list ++ b ∷ [])
+    clear_more list b clear room n l =
+        let long : length (list ++ b ∷ []) ≡ length list + 1 = length-append list (b ∷ []) in
+        subst (λ p. 0 < high i cuts (class_of s day p)) (sym (take-append-le n list (b ∷ []) (omega arith))) (roomy list clear room n (omega arith))
+
+    not_closed : (list : List Break) → IsClear i cuts s day list → 0 < high i cuts (class_of s day list) → is_closed i cuts (duty list) ≡ false
+    not_closed list clear room =
+        elim (cases_Bool (is_closed i cuts (duty list))) [
+          | inl t ↦
+              let p = any_some (λ prefix. high i cuts (class_of s day prefix) == 0) (prefixes list) t in
+              let n = from_map (λ n. take n list) (below (length list + 1)) p.0 p.1 in
+              let some : 0 < high i cuts (class_of s day p.0) = subst (λ q. 0 < high i cuts (class_of s day q)) n.2 (roomy list clear room n.0 (from_below (length list + 1) n.0 n.1)) in
+              let none : high i cuts (class_of s day p.0) ≡ 0 = eqb-true _ 0 p.2 in
+              absurd (omega arith)
+          | inr f ↦ f
+        ]
+
+    -- a whole list is passed by its own number
+    pub whole_walked : (list : List Break) (found : Option Duty) (before after : List Row) → IsClear i cuts s day list → 0 < high i cuts (class_of s day list)
+        → duties_below i s day list ≡ duty list ∷ []
+        → found ≡ cond (nat_lt (low cuts (class_of s day list)) (high i cuts (class_of s day list))) (Some (duty list)) None
+        → (found ≡ None → after ≡ before ++ cond (nat_lt 0 (low cuts (class_of s day list))) (row_of (duty list) (low cuts (class_of s day list)) ∷ []) [])
+        → IsWalked i cuts (duties_below i s day list) found before after
+    whole_walked list found before after clear room only is rows =
+        let closed = not_closed list clear room in
+        let l = low cuts (class_of s day list) in
+        let h = high i cuts (class_of s day list) in
+        let fixed : is_open i cuts (duty list) ≡ nat_lt l h = ap (λ b. not (b || nat_le h l)) closed ∙ not_le h l in
+        let count : fixed_count i cuts (duty list) ≡ l = ap (λ b. cond b 0 l) closed in
+        subst (λ ds. IsWalked i cuts ds found before after) (sym only) (record {
+          first = is ∙ ap (λ b. cond b (Some (duty list)) None) (sym fixed);
+          rows = λ none. rows none ∙ ap (λ rs. before ++ rs) (ap (λ n. cond (nat_lt 0 n) (row_of (duty list) n ∷ []) []) (sym count) ∙ cond_map (λ d. row_of d (fixed_count i cuts d)) (nat_lt 0 (fixed_count i cuts (duty list))) (duty list));
+        })
+      where
+        not_le : (a b : ℕ) → not (nat_le a b) ≡ nat_lt b a
+        not_le a b =
+            elim (cases_Bool (nat_le a b)) [
+              | inl t ↦ ap not t ∙ sym (le-ltb _ _ (leb-true _ _ t))
+              | inr f ↦ ap not f ∙ sym (lt-ltb _ _ (leb-false _ _ f))
+            ]
+
+        cond_map : {X Y : Type 0} (f : X → Y) (b : Bool) (x : X) → cond b (f x ∷ []) [] ≡ map f (cond b (x ∷ []) [])
+        cond_map f true x = refl
+        cond_map f false x = refl
+
+    -- a list and one of its next breaks stand at the node behind the edge
+    pub stands_next : (nodes : List Node) (k at : ℕ) (e : Edge) (list : List Break) → StandsOn i s nodes k list → slice_get (node_at nodes k).edges at ≡ Some e
+        → (e.next < k) × StandsOn i s nodes e.next (list ++ e.stop ∷ [])
+    stands_next nodes k at e list h is =
+        let x = known (slice_get (shift_list i) s) (λ x. IsGraph x.1 x.0.len nodes × StandsAt x.1 x.0.len nodes k list) h in (
+          x.2.0.back k at e x.2.1.within is,
+          known_from (slice_get (shift_list i) s) (λ x. IsGraph x.1 x.0.len nodes × StandsAt x.1 x.0.len nodes e.next (list ++ e.stop ∷ [])) x.0 x.1 (x.2.0, x.2.0.behind k at e list x.2.1 is),
+        )
+
+    pub stands_within : (nodes : List Node) (k : ℕ) (list : List Break) → StandsOn i s nodes k list → k < length nodes
+    stands_within nodes k list h = (known (slice_get (shift_list i) s) (λ x. IsGraph x.1 x.0.len nodes × StandsAt x.1 x.0.len nodes k list) h).2.1.within

@@ -1,0 +1,12 @@
+use Rattle.std.proofs.Common.{◌≡◌, None, []}
+use Rattle.std.specs.List.{flat_map}
+use Rattle.shift_instance.specs.Problem.{below}
+use Rattle.head_splits.specs.Below.{IsWalked, duties_below}
+use Rattle.head_splits.proofs.settling.walk_days.Given as goal
+
+abbrev pub invariant-loop-day : goal.invariant-loop-day
+invariant-loop-day l = record {
+  shift : l.walk.shift ≡ l.fn.walk.shift;
+  prefix : l.walk.prefix.items ≡ [];
+  walked : IsWalked l.instance l.cuts (flat_map (λ day. duties_below l.instance l.fn.walk.shift day []) (below l.day)) None l.fn.walk.rows.items l.walk.rows.items;
+}

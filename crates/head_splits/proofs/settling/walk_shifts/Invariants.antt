@@ -1,0 +1,11 @@
+use Rattle.std.proofs.Common.{◌≡◌, None, []}
+use Rattle.std.specs.List.{flat_map}
+use Rattle.shift_instance.specs.Problem.{below}
+use Rattle.head_splits.specs.Below.{IsWalked, shift_duties}
+use Rattle.head_splits.proofs.settling.walk_shifts.Given as goal
+
+abbrev pub invariant-loop-shift : goal.invariant-loop-shift
+invariant-loop-shift l = record {
+  prefix : l.walk.prefix.items ≡ [];
+  walked : IsWalked l.instance l.cuts (flat_map (shift_duties l.instance) (below l.shift)) None l.fn.walk.rows.items l.walk.rows.items;
+}

@@ -1,0 +1,250 @@
+//! Which class to split at a node, or what its cuts leave.
+ghost use Rattle.std.specs.Prelude.{◌≡◌, ◌+◌, ◌*◌, ◌<◌, ◌≤◌, ◌/◌, ◌&&◌, ◌++◌, ◌∷◌, [], length, map, take, nat_lt, nat_le, IsTrue, IfOk, None, Some, if◌then◌else◌};
+ghost use Rattle.std.specs.List.{find, list_all};
+ghost use Rattle.shift_instance.specs.Problem.{shift_list};
+ghost use Rattle.shift_instance.specs.Rota.{rota_of, heads_on};
+ghost use Rattle.head_splits.specs.Below.{IsWalked, StandsOn, IsClear, IsGraphOf, duties_below, shift_duties, is_open};
+ghost use Rattle.head_splits.specs.Cuts.{low, high, meets};
+ghost use Rattle.head_splits.specs.Settled.{class_of, prefixes, all_duties, is_settled, settled_rows};
+ghost use Rattle.head_splits.specs.Settling.{IsSettle};
+
+use crate::ranges::range_at;
+use crate::{Class, Cuts, Settle, meets, range};
+use break_graph::{Graph, Node};
+use break_rules::{Break, Breaks, NoMemory};
+use shift_instance::{Duty, Instance, Row, Rows};
+use std::alloc::Global;
+
+/// A walk over the legal duties in order: the duties below which it stands, and the rows of those that it has passed.
+#[derive(Drop)]
+struct Walk {
+    shift: u16,
+    day: u8,
+    prefix: Vec<Break>,
+    rows: Vec<Row>,
+}
+
+/// Passes the duties of a whole legal list, whose number is in this range. Where that isn't fixed, the duty is given.
+fn pass(walk: &mut Walk, low: u16, high: u16) -> Result<Option<Duty>, NoMemory>
+    ensures found { IfOk result (λ found. found ≡ (if nat_lt low high then Some (record { shift = walk.old.shift; day = walk.old.day; breaks = walk.old.prefix.items }) else None)) }
+    ensures rows { IfOk result (λ found. found ≡ None → walk.new.rows.items ≡ walk.old.rows.items ++ (if nat_lt 0 low then record { shift = walk.old.shift; day = walk.old.day; breaks = walk.old.prefix.items; count = low } ∷ [] else [])) }
+    ensures place { IfOk result (λ _. (walk.new.shift ≡ walk.old.shift) × (walk.new.day ≡ walk.old.day) × (walk.new.prefix.items ≡ walk.old.prefix.items)) }
+{
+    if low < high {
+        return Ok(Some(Duty {
+            shift: walk.shift,
+            day: walk.day,
+            breaks: Breaks::new(walk.prefix.clone()?),
+        }));
+    }
+    if low == 0 {
+        return Ok(None);
+    }
+    walk.rows.push(Row {
+        shift: walk.shift,
+        day: walk.day,
+        breaks: Breaks::new(walk.prefix.clone()?),
+        count: low,
+    })?;
+    Ok(None)
+}
+
+/// Walks over the legal duties below the walk's breaks, which stand at a node, to the first one whose number isn't fixed.
+fn walk_below(
+    instance: &Instance,
+    cuts: &Cuts,
+    nodes: &[Node],
+    node: usize,
+    walk: &mut Walk,
+) -> Result<Option<Duty>, NoMemory>
+    requires stands { StandsOn instance.now walk.old.shift nodes.now node walk.old.prefix.items }
+    requires clear { IsClear instance.now cuts.now walk.old.shift walk.old.day walk.old.prefix.items }
+    ensures walked { IfOk result (λ found. IsWalked instance.now cuts.now (duties_below instance.now walk.old.shift walk.old.day walk.old.prefix.items) found walk.old.rows.items walk.new.rows.items) }
+    ensures place { IfOk result (λ found. found ≡ None → (walk.new.shift ≡ walk.old.shift) × (walk.new.day ≡ walk.old.day) × (walk.new.prefix.items ≡ walk.old.prefix.items)) }
+{
+    let (low, high) = range_at(instance, cuts, walk.shift, walk.day, &walk.prefix);
+    if high == 0 {
+        return Ok(None);
+    }
+    let edges = nodes[node].edges.as_slice();
+    if edges.is_empty() {
+        return pass(walk, low, high);
+    }
+    for edge in edges {
+        walk.prefix.push(edge.stop)?;
+        let found = walk_below(instance, cuts, nodes, edge.next as usize, walk)?;
+        if found.is_some() {
+            return Ok(found);
+        }
+        walk.prefix.pop();
+    }
+    Ok(None)
+}
+
+/// Walks over the legal duties of the walk's shift, by the nodes of its graph, to the first one whose number isn't fixed.
+fn walk_days(
+    instance: &Instance,
+    cuts: &Cuts,
+    nodes: &[Node],
+    walk: &mut Walk,
+) -> Result<Option<Duty>, NoMemory>
+    requires graph { IsGraphOf instance.now walk.old.shift nodes.now }
+    requires start { walk.old.prefix.items ≡ [] }
+    ensures walked { IfOk result (λ found. IsWalked instance.now cuts.now (shift_duties instance.now walk.old.shift) found walk.old.rows.items walk.new.rows.items) }
+    ensures start { IfOk result (λ found. found ≡ None → walk.new.prefix.items ≡ []) }
+{
+    if nodes.is_empty() {
+        return Ok(None);
+    }
+    for day in 0..instance.days() {
+        walk.day = day;
+        let found = walk_below(instance, cuts, nodes, nodes.len() - 1, walk)?;
+        if found.is_some() {
+            return Ok(found);
+        }
+    }
+    Ok(None)
+}
+
+/// Walks over the legal duties of the walk's shift to the first one whose number isn't fixed.
+fn walk_shift(
+    alloc: Global,
+    instance: &Instance,
+    cuts: &Cuts,
+    walk: &mut Walk,
+) -> Result<Option<Duty>, NoMemory>
+    requires shift { walk.old.shift < length (shift_list instance.now) }
+    requires start { walk.old.prefix.items ≡ [] }
+    ensures walked { IfOk result (λ found. IsWalked instance.now cuts.now (shift_duties instance.now walk.old.shift) found walk.old.rows.items walk.new.rows.items) }
+    ensures start { IfOk result (λ found. found ≡ None → walk.new.prefix.items ≡ []) }
+{
+    let shift = instance.shift(walk.shift);
+    let graph = Graph::new(alloc, instance.rule_of(walk.shift), shift.len)?;
+    walk_days(instance, cuts, graph.nodes(), walk)
+}
+
+/// Walks over all legal duties to the first one whose number isn't fixed.
+fn walk_shifts(
+    alloc: Global,
+    instance: &Instance,
+    cuts: &Cuts,
+    walk: &mut Walk,
+) -> Result<Option<Duty>, NoMemory>
+    requires start { walk.old.prefix.items ≡ [] }
+    ensures walked { IfOk result (λ found. IsWalked instance.now cuts.now (all_duties instance.now) found walk.old.rows.items walk.new.rows.items) }
+{
+    for shift in 0..instance.shifts().len() {
+        walk.shift = shift as u16;
+        let found = walk_shift(alloc, instance, cuts, walk)?;
+        if found.is_some() {
+            return Ok(found);
+        }
+    }
+    Ok(None)
+}
+
+/// The length of the shortest prefix of a duty's breaks whose number isn't fixed.
+fn open_length(instance: &Instance, cuts: &Cuts, duty: &Duty) -> usize
+    requires { IsTrue (is_open instance.now cuts.now duty.now) }
+    ensures few { result ≤ length duty.now.breaks }
+    ensures first { find (λ c. nat_lt (low cuts.now c) (high instance.now cuts.now c)) (map (class_of duty.now.shift duty.now.day) (prefixes duty.now.breaks)) ≡ Some (class_of duty.now.shift duty.now.day (take result duty.now.breaks)) }
+{
+    let breaks = duty.breaks.as_slice();
+    for len in 0..breaks.len() {
+        let (low, high) = range_at(instance, cuts, duty.shift, duty.day, &breaks[..len]);
+        if low < high {
+            return len;
+        }
+    }
+    breaks.len()
+}
+
+/// Half of two numbers together, rounded down.
+fn middle(low: u16, high: u16) -> u16
+    ensures { result ≡ (low + high) / 2 }
+{
+    ((u32::from(low) + u32::from(high)) / 2) as u16
+}
+
+/// The class to split for a duty, the first whose number isn't fixed, and the number by which.
+fn split(
+    alloc: Global,
+    instance: &Instance,
+    cuts: &Cuts,
+    duty: &Duty,
+) -> Result<(Class, u16), NoMemory>
+    requires { IsTrue (is_open instance.now cuts.now duty.now) }
+    ensures class { IfOk result (λ r. find (λ c. nat_lt (low cuts.now c) (high instance.now cuts.now c)) (map (class_of duty.now.shift duty.now.day) (prefixes duty.now.breaks)) ≡ Some r.0) }
+    ensures m { IfOk result (λ r. r.1 ≡ (low cuts.now r.0 + high instance.now cuts.now r.0) / 2) }
+{
+    let len = open_length(instance, cuts, duty);
+    let prefix = Vec::from_slice(alloc, &duty.breaks.as_slice()[..len])?;
+    let class = Class {
+        shift: duty.shift,
+        day: duty.day,
+        prefix: Breaks::new(prefix),
+    };
+    let (low, high) = range(instance, cuts, &class);
+    Ok((class, middle(low, high)))
+}
+
+/// How many duties of a shift and a day the rows have.
+fn heads(rows: &[Row], shift: u16, day: u8) -> u128
+    ensures heads { result ≡ heads_on (rota_of rows.now) shift day }
+    ensures few { result ≤ 65535 * length rows.now }
+{
+    let mut sum = 0u128;
+    for row in rows {
+        if row.shift == shift && row.day == day {
+            sum += u128::from(row.count);
+        }
+    }
+    sum
+}
+
+/// Whether no shift of the rows has more duties on a day than there may be.
+fn are_few(heads_most: u16, rows: &[Row]) -> bool
+    ensures { result ≡ list_all (λ r. nat_le (heads_on (rota_of rows.now) r.shift r.day) heads_most) rows.now }
+{
+    rows.iter().all(|row| heads(rows, row.shift, row.day) <= u128::from(heads_most))
+}
+
+/// Whether no shift of the rows has more duties on a day than there may be, and they meet the cuts.
+fn is_plan(instance: &Instance, cuts: &Cuts, rows: &Rows) -> bool
+    ensures { result ≡ (list_all (λ r. nat_le (heads_on (rota_of rows.now) r.shift r.day) instance.now.heads) rows.now && meets (rota_of rows.now) cuts.now) }
+{
+    are_few(instance.heads(), rows.as_slice()) && meets(instance, rows, cuts)
+}
+
+/// What the rows of a settled node are: its plan, or none where they aren't legal or don't meet the cuts.
+fn judge(instance: &Instance, cuts: &Cuts, rows: Rows) -> Settle
+    requires settled { IsTrue (is_settled instance.now cuts.now) }
+    requires rows { rows ≡ settled_rows instance.now cuts.now }
+    ensures { IsSettle instance.now cuts.now result }
+{
+    if is_plan(instance, cuts, &rows) {
+        Settle::Plan(rows)
+    } else {
+        Settle::Empty
+    }
+}
+
+/// The class to split at a node with these cuts, or, where they fix the number of each legal duty, their plan. The walk
+/// goes only into classes that the cuts leave open, and ends at the first legal duty whose number isn't fixed.
+pub fn settled(alloc: Global, instance: &Instance, cuts: &Cuts) -> Result<Settle, NoMemory>
+    ensures { IfOk result (λ s. IsSettle instance.now cuts.now s) }
+{
+    let mut walk = Walk {
+        shift: 0,
+        day: 0,
+        prefix: Vec::new(alloc),
+        rows: Vec::new(alloc),
+    };
+    match walk_shifts(alloc, instance, cuts, &mut walk)? {
+        Some(duty) => {
+            let (class, m) = split(alloc, instance, cuts, &duty)?;
+            Ok(Settle::Unsettled { class, m })
+        }
+        None => Ok(judge(instance, cuts, Rows::new(walk.rows))),
+    }
+}
