@@ -1,5 +1,5 @@
 use crate::{Duty, Instance, InstanceFault, Parts, Row, Rows, Shift, TypeParts};
-use break_rules::{Break, Breaks, NoMemory, Rule, RuleFault};
+use break_rules::{Break, Breaks, NoMemory, Rule, RuleFault, Totals};
 use std::alloc::Global;
 use std::test::Fail;
 
@@ -54,6 +54,34 @@ fn an_instance_is_read(rt: HostRuntime) -> Result<(), Fail> {
     assert_eq!(rt; instance.rule_of(0).work_max, 288);
     for (offset, slot) in [(0, 22), (1, 23), (2, 0), (3, 1)] {
         assert_eq!(rt; instance.slot_of(0, 0, offset), slot);
+    }
+    Ok(())
+}
+
+/// One break of one slot in a shift of 8 slots, between work of 2 to 5 slots.
+fn eighth(alloc: Global) -> Result<Rule, NoMemory> {
+    let mut rule = Rule::plain(alloc)?;
+    (rule.lead, rule.tail) = (2, 2);
+    (rule.work_min, rule.work_max, rule.long_work) = (2, 5, 5);
+    rule.size_max = 1;
+    rule.totals = Totals::new(Vec::from_slice(alloc, &[(8, 1)])?);
+    Ok(rule)
+}
+
+#[test]
+fn graphs_are_kept(rt: HostRuntime) -> Result<(), Fail> {
+    let alloc = rt.alloc();
+    let mut parts = one_morning(alloc, 8)?;
+    parts.types.push(TypeParts {
+        len_min: 5,
+        rule: eighth(alloc)?,
+        ..type_of(alloc, "D", 8, 8)?
+    })?;
+    let instance = Instance::new(alloc, parts)?;
+    assert_eq!(rt; instance.shifts().len(), 5);
+    for (shift, nodes) in [(0, 1), (1, 1), (2, 0), (3, 0), (4, 5)] {
+        let graph = instance.graph(shift);
+        assert!(rt; graph.is_some_and(|graph| graph.nodes().len() == nodes));
     }
     Ok(())
 }
