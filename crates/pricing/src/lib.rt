@@ -1,6 +1,8 @@
 //! The best break list of a duty at given prices.
 #![tactic(auto)]
 
+#[cfg(test)]
+mod enumeration_tests;
 mod found;
 mod rests;
 mod search;
