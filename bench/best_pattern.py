@@ -1,0 +1,194 @@
+#!/usr/bin/env python3
+"""Measures `best_pattern`, without bonuses, over all shifts and days of some instances: nanoseconds a call, the best of some runs.
+Writes a program of its own beside a copy of the crates that it uses, in a folder that is removed, and has `rt run` prove and build it."""
+import json
+import os
+import shutil
+import subprocess
+import sys
+import tempfile
+import time
+
+TOP = os.path.join(os.path.dirname(os.path.abspath(__file__)), os.pardir)
+CRATES = ["break_rules", "break_graph", "patterns", "shift_instance", "pricing"]
+
+
+def example(name):
+    with open(os.path.join(TOP, "examples", name + ".json")) as source:
+        return json.load(source)
+
+
+def long_shifts():
+    """Weeks of 5-minute slots with shifts of 96 slots that have 12 slots of breaks in pieces of 1 to 6."""
+    rule = {"lead": 12, "tail": 12, "work_min": 6, "work_max": 48, "long_work": 24, "long_rest": 2, "size_min": 1, "size_max": 6,
+            "totals": [[96, 12]], "lunches": [[72, 6, 36, 66]], "resettle": 1}
+    return {"slot_minutes": 5, "days": 7, "types": [{"start_min": 72, "start_max": 91, "len_min": 96, "len_max": 96, "breaks": rule}]}
+
+
+INSTANCES = [("usual week", example("usual_week"), 20000), ("call week", example("call_week"), 1500), ("airport day", example("airport_day"), 3000),
+             ("96 slots of 5 minutes, 12 of them breaks", long_shifts(), 20)]
+
+HEAD = """//! Prices all shifts and days of an instance again and again: `price_rounds INSTANCE ROUNDS`.
+#![tactic(auto)]
+
+ghost use Rattle.pricing.specs.Rests.{AreSmallPrices};
+
+use break_rules::{Lunch, Lunches, NoMemory, Rule, Totals};
+use pricing::best_pattern;
+use shift_instance::{Instance, Parts, TypeParts};
+use std::alloc::Global;
+use std::env;
+use std::process::{Abort, ExitCode};
+
+/// The value of the best list of a shift on a day.
+fn price_day(rt: &impl Abort, alloc: Global, instance: &Instance, shift: u16, day: u8, prices: &[i64]) -> Result<i128, NoMemory>
+    requires { AreSmallPrices prices.now }
+{
+    assert!(rt; usize::from(shift) < instance.shifts().len());
+    assert_eq!(rt; prices.len(), instance.slots());
+    match best_pattern(alloc, instance, shift, day, prices, &[])? {
+        Some(best) => Ok(best.1),
+        None => Ok(0),
+    }
+}
+
+/// Those of a shift on all days.
+fn price_shift(rt: &impl Abort, alloc: Global, instance: &Instance, shift: u16, prices: &[i64]) -> Result<i128, NoMemory>
+    requires { AreSmallPrices prices.now }
+{
+    let mut sum = 0i128;
+    for day in 0..instance.days() {
+        sum = sum.wrapping_add(price_day(rt, alloc, instance, shift, day, prices)?);
+    }
+    Ok(sum)
+}
+
+/// Those of all shifts.
+fn price_all(rt: &impl Abort, alloc: Global, instance: &Instance, prices: &[i64]) -> Result<i128, NoMemory>
+    requires { AreSmallPrices prices.now }
+{
+    let mut sum = 0i128;
+    for shift in 0..u16::try_from(instance.shifts().len()).unwrap_or(0) {
+        sum = sum.wrapping_add(price_shift(rt, alloc, instance, shift, prices)?);
+    }
+    Ok(sum)
+}
+
+/// Prices for slots.
+fn some_prices(alloc: Global, slots: usize) -> Result<Vec<i64>, NoMemory> {
+    let mut prices = Vec::new(alloc);
+    let mut state = 1u32;
+    for _ in 0..slots {
+        state = state.wrapping_mul(1_664_525).wrapping_add(1_013_904_223);
+        prices.push(i64::from(state / 65_536 % 1000).wrapping_sub(300))?;
+    }
+    Ok(prices)
+}
+
+/// Rounds over an instance.
+fn rounds(rt: &impl Abort, alloc: Global, parts: Parts, many: u32) -> Result<i128, NoMemory> {
+    let Ok(instance) = Instance::new(alloc, parts) else {
+        return Ok(-1);
+    };
+    let prices = some_prices(alloc, instance.slots())?;
+    assert!(rt; prices.iter().all(|p| p.unsigned_abs() <= 10_000_000_000));
+    let mut sum = 0i128;
+    for _ in 0..many {
+        sum = sum.wrapping_add(price_all(rt, alloc, &instance, &prices)?);
+    }
+    Ok(sum)
+}
+"""
+
+TAIL = """
+/// The instance and the rounds that the words ask for.
+fn asked(rt: &HostRuntime) -> Result<(Parts, u32), NoMemory> {
+    let alloc = rt.alloc();
+    let Ok(args) = env::args(rt) else {
+        return Ok((instance(alloc, 0)?, 0));
+    };
+    let words: Vec<String> = args.skip(1).collect(alloc)?;
+    let number = words.first().and_then(|w| w.as_str().parse::<u32>().ok()).unwrap_or(0);
+    let many = words.last().and_then(|w| w.as_str().parse::<u32>().ok()).unwrap_or(0);
+    Ok((instance(alloc, number)?, many))
+}
+
+fn main(rt: HostRuntime) -> ExitCode {
+    let Ok((parts, many)) = asked(&rt) else {
+        return ExitCode::from(2);
+    };
+    match rounds(&rt, rt.alloc(), parts, many) {
+        Ok(-1) => ExitCode::from(1),
+        Ok(_) => ExitCode::from(0),
+        Err(_) => ExitCode::from(2),
+    }
+}
+"""
+
+
+def rule_text(r):
+    totals = ", ".join("(%d, %d)" % tuple(e) for e in r["totals"])
+    lunches = ", ".join("Lunch { from_len: %d, size: %d, first: %d, last: %d }" % tuple(e) for e in r["lunches"])
+    numbers = ", ".join("%s: %d" % (k, r[k]) for k in ["lead", "tail", "work_min", "work_max", "long_work", "long_rest", "size_min", "size_max", "resettle"])
+    return ("Rule { %s, totals: Totals::new(Vec::from_slice(alloc, &[%s])?), lunches: Lunches::new(Vec::from_slice(alloc, &[%s])?) }"
+            % (numbers, totals, lunches))
+
+
+def instance_text(number, instance):
+    slots = instance["days"] * (1440 // instance["slot_minutes"])
+    out = ["\nfn instance_%d(alloc: Global) -> Result<Parts, NoMemory> {" % number, "    let mut types = Vec::new(alloc);"]
+    for i, t in enumerate(instance["types"]):
+        window = ", ".join("%s: %d" % (k, t[k]) for k in ["start_min", "start_max", "len_min", "len_max"])
+        out.append('    types.push(TypeParts { name: String::from_str(alloc, "T%d")?, %s, rule: %s })?;' % (i, window, rule_text(t["breaks"])))
+    out.append("    Ok(Parts { slot_minutes: %d, days: %d, need: Vec::from_elem(alloc, 1, %d)?, max_heads: 9, excess: 1, shortage: 2, shift: 3, types })\n}"
+               % (instance["slot_minutes"], instance["days"], slots))
+    return "\n".join(out)
+
+
+def program():
+    text = HEAD
+    for number, (_, instance, _) in enumerate(INSTANCES):
+        text += instance_text(number, instance)
+    text += "\n\nfn instance(alloc: Global, number: u32) -> Result<Parts, NoMemory> {\n    match number {\n"
+    for number in range(len(INSTANCES) - 1):
+        text += "        %d => instance_%d(alloc),\n" % (number, number)
+    return text + "        _ => instance_%d(alloc),\n    }\n}\n" % (len(INSTANCES) - 1) + TAIL
+
+
+def build(folder):
+    for name in CRATES:
+        shutil.copytree(os.path.join(TOP, "crates", name), os.path.join(folder, "crates", name))
+    home = os.path.join(folder, "crates", "price_rounds")
+    os.makedirs(os.path.join(home, "src"))
+    with open(os.path.join(home, "src", "main.rt"), "w") as out:
+        out.write(program())
+    with open(os.path.join(TOP, "crates.txt")) as source:
+        lines = [line for line in source if line.split(":")[0] in CRATES]
+    with open(os.path.join(folder, "crates.txt"), "w") as out:
+        out.write("".join(lines) + "price_rounds: pricing shift_instance break_rules\n")
+    done = subprocess.run(["rt", "run", "--", "0", "0"], cwd=home, stdout=subprocess.PIPE, stderr=subprocess.STDOUT, text=True)
+    binary = os.path.join(home, "out", "price_rounds")
+    if not os.path.exists(binary):
+        sys.exit(done.stdout[-4000:])
+    return binary
+
+
+def seconds(binary, number, rounds):
+    start = time.perf_counter()
+    subprocess.run([binary, str(number), str(rounds)], check=True)
+    return time.perf_counter() - start
+
+
+def main():
+    with tempfile.TemporaryDirectory() as folder:
+        binary = build(folder)
+        for number, (name, instance, rounds) in enumerate(INSTANCES):
+            shifts = sum((t["start_max"] + 1 - t["start_min"]) * (t["len_max"] + 1 - t["len_min"]) for t in instance["types"])
+            calls = shifts * instance["days"]
+            empty = min(seconds(binary, number, 0) for _ in range(5))
+            full = min(seconds(binary, number, rounds) for _ in range(5))
+            print("%-45s %6d shifts and days: %9.0f ns a call, %8.3f ms to start" % (name, calls, (full - empty) / (rounds * calls) * 1e9, empty * 1e3))
+
+
+if __name__ == "__main__":
+    main()
