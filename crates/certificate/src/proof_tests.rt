@@ -1,3 +1,5 @@
+ghost use Rattle.std.specs.Prelude.{◌<◌, length, IfOk};
+
 use crate::tests::{again, departing};
 use crate::{Cert, CertStatus, Line, Lines, of_history, write};
 use break_rules::{Break, Breaks, NoMemory};
@@ -25,7 +27,10 @@ fn class(alloc: Global) -> Result<Class, NoMemory> {
 }
 
 /// Prices at the scale 100.
-fn prices(alloc: Global, slots: &[i64], cuts: &[u64]) -> Result<Prices, NoMemory> {
+fn prices(alloc: Global, slots: &[i64], cuts: &[u64]) -> Result<Prices, NoMemory>
+    requires { 0 < length slots.now }
+    ensures { IfOk result (λ prices. 0 < length prices.slots) }
+{
     Ok(Prices {
         q: 100,
         slots: SlotPrices::new(Vec::from_slice(alloc, slots)?),
