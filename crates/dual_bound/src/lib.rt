@@ -7,6 +7,8 @@ mod faults;
 mod laws;
 mod proving;
 mod settling;
+#[cfg(test)]
+mod settling_tests;
 mod terms;
 #[cfg(test)]
 mod tests;

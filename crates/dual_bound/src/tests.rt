@@ -9,7 +9,7 @@ use std::test::Fail;
 
 /// A day of hours that needs one employee from 8 to 12, with one shift from 8 on, of so many hours. From 8 hours on it has
 /// a break of one hour.
-fn one_morning(alloc: Global, heads: u16, len: u16, work_max: u16) -> Result<Parts, NoMemory> {
+pub fn one_morning(alloc: Global, heads: u16, len: u16, work_max: u16) -> Result<Parts, NoMemory> {
     let mut rule = Rule::plain(alloc)?;
     rule.work_max = work_max;
     rule.long_work = work_max;
@@ -47,7 +47,7 @@ fn slot_prices(alloc: Global, count: usize, price: i64) -> Result<SlotPrices, No
 }
 
 /// A cut on the duties of the shift that begin with a break at the second hour, or on all where there is no break.
-fn cut_of(alloc: Global, has_break: bool, side: Side, m: u16) -> Result<Cut, NoMemory> {
+pub fn cut_of(alloc: Global, has_break: bool, side: Side, m: u16) -> Result<Cut, NoMemory> {
     let mut prefix = Vec::new(alloc);
     if has_break {
         prefix.push(Break { start: 1, len: 1 })?;
