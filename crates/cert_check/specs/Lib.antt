@@ -1,0 +1,3 @@
+pub mod Rests
+pub mod Below
+pub mod Values

@@ -1,0 +1,9 @@
+//! The separate checker of certificates: it goes through the proof lines one after another, and evaluates each by plain
+//! tables of its own.
+#![tactic(auto)]
+
+mod below;
+mod rests;
+mod sums;
+mod terms;
+mod totals;
