@@ -7,3 +7,4 @@ pub mod Pairs
 pub mod Priced
 pub mod Whole
 pub mod ShiftTerms
+pub mod Passing

@@ -4,6 +4,8 @@
 
 mod below;
 mod rests;
+mod settled;
 mod sums;
 mod terms;
 mod totals;
+mod value;

@@ -73,11 +73,23 @@ fn pass_class(
     for edge in edges {
         let longer = extended(alloc, class, edge.stop)?;
         let next = edge.next as usize;
-        if !pass_class(alloc, instance, cuts, nodes, next, &longer, rows)? {
+        let fixed = pass_class(alloc, instance, cuts, nodes, next, &longer, rows)?;
+        if !fixed {
             return Ok(false);
         }
     }
     Ok(true)
+}
+
+/// The class of all duties of a shift on a day.
+fn whole_class(alloc: Global, shift: u16, day: u8) -> Class
+    ensures { result ≡ class_of shift day [] }
+{
+    Class {
+        shift,
+        day,
+        prefix: Breaks::new(Vec::new(alloc)),
+    }
 }
 
 /// Whether the cuts fix the number of each legal duty of a shift, by the nodes of the shift's graph. If so, the rows of
@@ -97,13 +109,10 @@ fn pass_days(
         return Ok(true);
     }
     for day in 0..instance.days() {
-        let class = Class {
-            shift,
-            day,
-            prefix: Breaks::new(Vec::new(alloc)),
-        };
+        let class = whole_class(alloc, shift, day);
         let opening = nodes.len() - 1;
-        if !pass_class(alloc, instance, cuts, nodes, opening, &class, rows)? {
+        let fixed = pass_class(alloc, instance, cuts, nodes, opening, &class, rows)?;
+        if !fixed {
             return Ok(false);
         }
     }
@@ -141,7 +150,8 @@ fn pass_shifts(
     ensures { IfOk result (λ fixed. IsPassed instance.now cuts.now (all_duties instance.now) fixed rows.old.items rows.new.items) }
 {
     for shift in 0..instance.shifts().len() {
-        if !pass_shift(alloc, instance, cuts, shift as u16, rows)? {
+        let fixed = pass_shift(alloc, instance, cuts, shift as u16, rows)?;
+        if !fixed {
             return Ok(false);
         }
     }
@@ -150,8 +160,8 @@ fn pass_shifts(
 
 /// What the plan of a settled node costs, by its rows, and `TOP` where the plan isn't legal or doesn't meet the cuts.
 fn plan_cost(instance: &Instance, cuts: &Cuts, rows: &Rows) -> u64
-    requires rows { rows.now ≡ settled_rows instance.now cuts.now }
-    ensures floor { result ≡ settled_floor instance.now cuts.now }
+    requires { rows.now ≡ settled_rows instance.now cuts.now }
+    ensures { result ≡ settled_floor instance.now cuts.now }
 {
     if legal_rows(instance, rows).is_err() {
         return TOP;
@@ -173,7 +183,8 @@ pub fn settled_floor(
     ensures { IfOk result (λ floor. floor ≡ (if is_settled instance.now cuts.now then Some (settled_floor instance.now cuts.now) else None)) }
 {
     let mut rows = Vec::new(alloc);
-    if !pass_shifts(alloc, instance, cuts, &mut rows)? {
+    let fixed = pass_shifts(alloc, instance, cuts, &mut rows)?;
+    if !fixed {
         return Ok(None);
     }
     Ok(Some(plan_cost(instance, cuts, &Rows::new(rows))))
