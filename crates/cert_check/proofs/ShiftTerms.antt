@@ -1,5 +1,5 @@
 -- The value of a duty, and the term of a shift by the values of its days.
-use Rattle.std.proofs.Common.{◌≡◌, inl, inr, ℕ, ◌+◌, ◌-◌, ◌*◌, ◌^◌, ◌≤◌, ◌<◌, ℤ, pos, ◌+ℤ◌, ◌-ℤ◌, ◌*ℤ◌, ◌≤ℤ◌, Bool, true, false, cond, List, [], ◌∷◌, length, map, refl, sym, ap, ◌∙◌, subst, arith, Option, Some, None}
+use Rattle.std.proofs.Common.{◌≡◌, inl, ℕ, ◌-◌, ◌*◌, ◌^◌, ◌≤◌, ℤ, pos, ◌+ℤ◌, ◌-ℤ◌, ◌*ℤ◌, ◌≤ℤ◌, Bool, true, false, cond, List, [], ◌∷◌, map, refl, sym, ap, ◌∙◌, subst, arith, Option, Some, None}
 use Rattle.std.specs.Prelude.{slice_get, IsSomeAnd, IfOk, Result, Ok, Err}
 use Rattle.std.specs.Int.{int_max, int_min}
 use Rattle.std.specs.Int.RustNames.{unsigned_abs}
@@ -15,7 +15,6 @@ use Rattle.break_rules.proofs.Lists.{Has, Has-map, from_map, from_below}
 use Rattle.break_rules.proofs.Sums.{int_sum_by-same, greatest_bounds, greatest_reached}
 use Rattle.break_rules.proofs.LegalLists.{from_legal_lists, live_from}
 use Rattle.shift_instance.specs.declared.Shift.{Shift}
-use Rattle.shift_instance.specs.declared.Duty.{Duty}
 use Rattle.shift_instance.specs.Problem.{Problem, slots, shift_list, below}
 use Rattle.shift_instance.specs.Rota.{lists_of, is_list_of}
 use Rattle.shift_instance.specs.Worth.{earned}
@@ -24,7 +23,7 @@ use Rattle.shift_instance.proofs.Rotas.{Has-lists_of, from_lists_of}
 use Rattle.head_splits.specs.declared.Cut.{Cut}
 use Rattle.head_splits.specs.declared.Prices.{Prices}
 use Rattle.head_splits.specs.Cuts.{low, high, whole_class}
-use Rattle.head_splits.specs.Bound.{is_nil, reduced, best_value, is_forced, day_value, free_day_value, term}
+use Rattle.head_splits.specs.Bound.{is_nil, reduced, is_forced, day_value, free_day_value, term}
 use Rattle.cert_check.specs.Rests.{price_in, earned_from, ArePricesOf, Completes, IsGreatest}
 use Rattle.cert_check.specs.Below.{duty_with, bonuses, whole_worth}
 use Rattle.cert_check.specs.Values.{IsValue}

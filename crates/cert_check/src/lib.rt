@@ -7,5 +7,7 @@ mod rests;
 mod settled;
 mod sums;
 mod terms;
+#[cfg(test)]
+mod tests;
 mod totals;
 mod value;

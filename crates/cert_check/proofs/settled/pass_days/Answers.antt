@@ -5,7 +5,7 @@ use Rattle.shift_instance.specs.Problem.{below}
 use Rattle.head_splits.specs.declared.Class.{Class}
 use Rattle.head_splits.specs.Below.{IsWalked, duties_below, shift_duties}
 use Rattle.head_splits.proofs.Walked.{none_walked}
-use Rattle.head_splits.proofs.WholeWalk.{no_duties, shift_days, from_opening, clear_opening}
+use Rattle.head_splits.proofs.WholeWalk.{no_duties, shift_days}
 use Rattle.cert_check.specs.Passed.{IsPassed}
 use Rattle.cert_check.proofs.Passing.{all_passed, none_open, next_passed, stopped_passed}
 use Rattle.cert_check.proofs.settled.pass_days.Goals as goal

@@ -1,14 +1,13 @@
-use Rattle.std.proofs.Common.{◌≡◌, ◌≤◌, ◌^◌, ℕ, ℤ, List, [], get_or, ap, sym, subst, ◌∙◌, arith, Some, Option}
-use Rattle.std.specs.Prelude.{slice_get, length}
+use Rattle.std.proofs.Common.{◌≡◌, ◌≤◌, ◌^◌, ℕ, ℤ, List, [], get_or, sym, subst}
+use Rattle.std.specs.Prelude.{slice_get}
 use Rattle.std.specs.Int.RustNames.{unsigned_abs}
-use Rattle.break_rules.specs.declared.Break.{Break}
 use Rattle.break_rules.specs.declared.Rule.{Rule}
 use Rattle.break_graph.specs.Graph.{IsGraph}
 use Rattle.shift_instance.specs.declared.Shift.{Shift}
 use Rattle.shift_instance.specs.Problem.{shift_list, slots}
 use Rattle.shift_instance.proofs.Shifts.{Has_at, shift_short}
 use Rattle.head_splits.specs.declared.Cut.{Cut}
-use Rattle.cert_check.specs.Rests.{AreSmallPrices, AreSums, ArePricesOf, Completes, IsGreatest}
+use Rattle.cert_check.specs.Rests.{AreSmallPrices, ArePricesOf, Completes, IsGreatest}
 use Rattle.cert_check.specs.Below.{whole_worth}
 use Rattle.cert_check.specs.Values.{IsValue}
 use Rattle.cert_check.proofs.Priced.{cut_small, slots_small}
