@@ -84,22 +84,23 @@ found_before nodes cost hands n next floor f worse =
           elim (cases_lt j n) [
             | inl q ↦ f.least j q h
             | inr q ↦
-              let e : j ≡ n = omega (arith, p, q) in
-              let t = takeable nodes cost hands n (subst (λ m. may_be_taken nodes cost hands m ≡ true) e h) in
-              let more : floor ≤ t.0.floor = worse t.0 t.1 t.2 t.4 in
-              let here : floor_at nodes j ≡ t.0.floor = ap (floor_at nodes) e ∙ floor_is nodes n t.0 t.1 in
-              elim (cases_lt floor t.0.floor) [
-                | inl less ↦ inl (let r : floor < floor_at nodes j = omega (arith, less, here) in r)
-                | inr same ↦
-                  let below : floor < cost = (let b = t.3 in omega (arith, b, same)) in
-                  inr (omega (arith, more, same, here), some_before next best below j (omega (arith, e)))
-              ]
+                let e : j ≡ n = omega (arith, p, q) in
+                let t = takeable nodes cost hands n (subst (λ m. may_be_taken nodes cost hands m ≡ true) e h) in
+                let more : floor ≤ t.0.floor = worse t.0 t.1 t.2 t.4 in
+                let here : floor_at nodes j ≡ t.0.floor = ap (floor_at nodes) e ∙ floor_is nodes n t.0 t.1 in
+                elim (cases_lt floor t.0.floor) [
+                  | inl less ↦ inl (let r : floor < floor_at nodes j = omega (arith, less, here) in r)
+                  | inr same ↦
+                      let below : floor < cost = (let b = t.3 in omega (arith, b, same)) in
+                      inr (omega (arith, more, same, here), some_before next best below j (omega (arith, e)))
+                ]
           ];
     }
   where
     later : (next : Option ℕ) → MatchOption next (floor ≡ cost) (λ k. (k < n) × (may_be_taken nodes cost hands k ≡ true) × (floor_at nodes k ≡ floor)) → MatchOption next (floor ≡ cost) (λ k. (k < n + 1) × (may_be_taken nodes cost hands k ≡ true) × (floor_at nodes k ≡ floor))
     later None b = b
     later (Some k) b = let l = b.0 in (omega (arith, l), b.1, b.2)
+
     some_before : (next : Option ℕ) → MatchOption next (floor ≡ cost) (λ k. (k < n) × (may_be_taken nodes cost hands k ≡ true) × (floor_at nodes k ≡ floor)) → floor < cost → (j : ℕ) → n ≤ j → IsSomeAnd next (λ k. k ≤ j)
     some_before None b less j p = let e : floor ≡ cost = b in absurd (omega (arith, e, less))
     some_before (Some k) b less j p = let l = b.0 in omega (arith, l, p)
@@ -110,12 +111,12 @@ found_last nodes cost hands n None floor all f = λ j.
     elim (cases_Bool (may_be_taken nodes cost hands j)) [
       | inr e ↦ e
       | inl e ↦
-        let t = takeable nodes cost hands j e in
-        let within : j < length nodes = slice_get_within nodes j t.0 t.1 in
-        let same : floor ≡ cost = f.best in
-        let here : floor_at nodes j ≡ t.0.floor = floor_is nodes j t.0 t.1 in
-        let low = t.3 in
-        elim (f.least j (omega (arith, within, all)) e) [ inl a ↦ absurd (omega (arith, a, same, here, low)) | inr a ↦ absurd (a.1) ]
+          let t = takeable nodes cost hands j e in
+          let within : j < length nodes = slice_get_within nodes j t.0 t.1 in
+          let same : floor ≡ cost = f.best in
+          let here : floor_at nodes j ≡ t.0.floor = floor_is nodes j t.0 t.1 in
+          let low = t.3 in
+          elim (f.least j (omega (arith, within, all)) e) [ inl a ↦ absurd (omega (arith, a, same, here, low)) | inr a ↦ absurd (a.1) ]
     ]
 found_last nodes cost hands n (Some k) floor all f =
     let here : floor_at nodes k ≡ floor = f.best.2 in
@@ -151,8 +152,8 @@ left_now nodes cost hands n next next' floor floor' d f is same worse =
     (subst (Found nodes cost hands (n + 1) next) (sym same)
     (found_before nodes cost hands n next floor f
     (λ x at unsplit free.
-        let here : get_or nodes n d ≡ x = get_or_from_slice_get nodes n x d at in
-        subst (λ (y : NodeState). floor ≤ y.floor) here (worse (ap (λ (y : NodeState). y.split) here ∙ unsplit) free))))
+    let here : get_or nodes n d ≡ x = get_or_from_slice_get nodes n x d at in
+    subst (λ (y : NodeState). floor ≤ y.floor) here (worse (ap (λ (y : NodeState). y.split) here ∙ unsplit) free))))
 
 -- ---- the nodes of a book, by their states
 

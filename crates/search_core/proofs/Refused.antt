@@ -59,7 +59,7 @@ allowed_faultless i b c (Priced worker k prices) e =
     let q = cond_some (not n.split && are_prices i n.cuts prices) (with_floor b.nodes k n (max n.floor (bound_of i n.cuts prices))) r.2 r.3 in
     let p = and_parts (not n.split) (are_prices i n.cuts prices) q.0 in
     let faults : Option Node → Option StepFault = λ o.
-        option_or (option_map_or (λ (n : Node). cond n.split (Some (IsSplit k)) None) o (Some (NoNode k))) (option_and_then (λ (n : Node). option_map Price (first_cause (price_causes i n.cuts prices))) o) in
+    option_or (option_map_or (λ (n : Node). cond n.split (Some (IsSplit k)) None) o (Some (NoNode k))) (option_and_then (λ (n : Node). option_map Price (first_cause (price_causes i n.cuts prices))) o) in
     ap faults r.1
     ∙ after_unsplit n.split (IsSplit k) (option_map Price (first_cause (price_causes i n.cuts prices))) (not-true n.split p.0) (ap (option_map Price) (faultless i n.cuts prices p.1))
 allowed_faultless i b c (Split worker k class m) e =
@@ -71,8 +71,8 @@ allowed_faultless i b c (Split worker k class m) e =
     let p1 = and_parts (is_open b n) (is_live_class i class) p2.0 in
     let p0 = and_parts (not n.split) (nat_lt n.floor b.cost) p1.0 in
     let faults : Option Node → Option StepFault = λ o.
-        option_or (option_map_or (λ (n : Node). cond n.split (Some (IsSplit k)) (cond (nat_le b.cost n.floor) (Some (NotOpen n.floor b.cost)) None)) o (Some (NoNode k)))
-        (option_and_then (λ (n : Node). cond (not (is_live_class i class)) (Some (NotLive class)) (cond (not (nat_le (low n.cuts class) m && nat_lt m (high i n.cuts class))) (Some (OutOfRange (low n.cuts class) (high i n.cuts class))) None)) o) in
+    option_or (option_map_or (λ (n : Node). cond n.split (Some (IsSplit k)) (cond (nat_le b.cost n.floor) (Some (NotOpen n.floor b.cost)) None)) o (Some (NoNode k)))
+    (option_and_then (λ (n : Node). cond (not (is_live_class i class)) (Some (NotLive class)) (cond (not (nat_le (low n.cuts class) m && nat_lt m (high i n.cuts class))) (Some (OutOfRange (low n.cuts class) (high i n.cuts class))) None)) o) in
     ap faults r.1
     ∙ split_none n.split (nat_le b.cost n.floor) (is_live_class i class) (nat_le (low n.cuts class) m) (nat_lt m (high i n.cuts class)) (IsSplit k) (NotOpen n.floor b.cost) (NotLive class) (OutOfRange (low n.cuts class) (high i n.cuts class))
     (not-true n.split p0.0) (less_not_le n.floor b.cost p0.1) p1.1 p2.1 p3.1
@@ -82,7 +82,7 @@ allowed_faultless i b c (Settled worker k) e =
     let q = cond_some (not n.split && is_settled i n.cuts) (with_floor b.nodes k n (settled_floor i n.cuts)) r.2 r.3 in
     let p = and_parts (not n.split) (is_settled i n.cuts) q.0 in
     let faults : Option Node → Option StepFault = λ o.
-        option_or (option_map_or (λ (n : Node). cond n.split (Some (IsSplit k)) None) o (Some (NoNode k))) (option_and_then (λ (n : Node). cond (is_settled i n.cuts) None (option_map NotSettled (split_class i n.cuts))) o) in
+    option_or (option_map_or (λ (n : Node). cond n.split (Some (IsSplit k)) None) o (Some (NoNode k))) (option_and_then (λ (n : Node). cond (is_settled i n.cuts) None (option_map NotSettled (split_class i n.cuts))) o) in
     ap faults r.1
     ∙ after_unsplit n.split (IsSplit k) (cond (is_settled i n.cuts) None (option_map NotSettled (split_class i n.cuts))) (not-true n.split p.0) (ap (λ (t : Bool). cond t None (option_map NotSettled (split_class i n.cuts))) p.1)
 

@@ -15,7 +15,7 @@ use Rattle.search_core.specs.declared.board.Kept.{Kept}
 use Rattle.search_core.specs.declared.board.CommitFault.{CommitFault}
 use Rattle.search_core.specs.declared.board.CommitFault.TheVariants.{DiskFault, Full, NotHeld, Shut, NotClosing, OtherCuts, NoMemory}
 use Rattle.search_core.specs.Book.{Book, book_of, is_finished, is_node_and, is_open}
-use Rattle.search_core.specs.Core.{hand, is_node, HoldsApart, IsFront}
+use Rattle.search_core.specs.Core.{Core, hand, is_node, HoldsApart, IsFront}
 use Rattle.search_core.specs.Kept.{cuts_in}
 use Rattle.search_core.specs.State.{book_or_opening, number_at}
 use Rattle.search_core.specs.Steps.{after_step, is_cheaper, posts_of}
@@ -39,6 +39,10 @@ seen history hands taken shut halted = record { history = history; hands = hands
 -- the book that a board's posts make
 abbrev pub book_at : Problem → BoardView → Book
 book_at i v = book_or_opening i v.history
+
+-- the core of a board: its posts, how many of them are acknowledged, and its hands
+abbrev pub core_of : ℕ → BoardView → Core
+core_of acked v = record { history = v.history; acked = acked; hands = v.hands }
 
 -- ---- which node is taken
 

@@ -50,10 +50,10 @@ close_posts w k (CloseAsSettled node) b = where_open k (Settled w k) b
 abbrev pub posts_of : Problem → Book → ℕ → StepPosts → List Post
 posts_of i b w step =
     followed_by i b (followed_by i b (followed_by i b
-        (plan_posts w step.plan b)
-        (plan_posts w (plan_of step.close)))
-        (where_open step.node (Priced w step.node step.proved.prices)))
-        (close_posts w step.node step.close)
+    (plan_posts w step.plan b)
+    (plan_posts w (plan_of step.close)))
+    (where_open step.node (Priced w step.node step.proved.prices)))
+    (close_posts w step.node step.close)
 
 -- the book after a worker's step
 abbrev pub after_step : Problem → Book → ℕ → StepPosts → Book

@@ -61,9 +61,14 @@ pub enum CommitFault {
     DiskFault,
     /// With the posts the journal would end at `end`, which is past `limit`. Both are lengths in bytes. The board is shut
     /// from then on.
-    Full { end: u64, limit: u32 },
+    Full {
+        end: u64,
+        limit: u32,
+    },
     /// The worker doesn't hold the step's node, but this one, if any.
-    NotHeld { held: Option<u32> },
+    NotHeld {
+        held: Option<u32>,
+    },
     /// A commit before this one answered `DiskFault` or `Full`.
     Shut,
     /// The step would be closed by its bound, but after its plan and its price the node would be open: its floor would be
@@ -75,7 +80,9 @@ pub enum CommitFault {
     },
     /// The cuts of the step's prices aren't the node's: they differ first at this place, which is the length of the shorter
     /// list where that begins the other.
-    OtherCuts { at: u64 },
+    OtherCuts {
+        at: u64,
+    },
     /// No memory was left.
     NoMemory,
 }

@@ -8,10 +8,7 @@ use head_splits::Class;
 use std::fmt;
 
 /// Writes a class: its shift, its day and its breaks, separated by spaces.
-pub(crate) fn write_class<W: fmt::Write>(
-    class: &Class,
-    f: &mut fmt::Formatter<W>,
-) -> fmt::Result
+pub(crate) fn write_class<W: fmt::Write>(class: &Class, f: &mut fmt::Formatter<W>) -> fmt::Result
     ensures { WritesOnOk W.write_str_gives f.old result (class_text class.now) f.new }
 {
     write!(f, "{} {} ", class.shift, class.day)?;

@@ -1,5 +1,5 @@
 //! Laws of books and of runs. Each function's contract is the law; the functions do nothing.
-ghost use Rattle.std.specs.Prelude.{◌≡◌, ◌+◌, ◌*◌, ◌^◌, ◌<◌, ◌≤◌, ℕ, Any, IsTrue, IsFalse, List, [], Some, length, take};
+ghost use Rattle.std.specs.Prelude.{◌≡◌, ◌+◌, ◌*◌, ◌^◌, ◌<◌, ◌≤◌, ℕ, Any, IsTrue, IsFalse, List, [], None, Some, length, take};
 ghost use Rattle.shift_instance.specs.declared.Duty.{Duty};
 ghost use Rattle.shift_instance.specs.Problem.{Problem};
 ghost use Rattle.shift_instance.specs.Rota.{is_legal_rota, cost};
@@ -7,10 +7,16 @@ ghost use Rattle.head_splits.specs.Cuts.{meets};
 ghost use Rattle.head_splits.specs.Nodes.{Node};
 ghost use Rattle.head_splits.specs.Settled.{span};
 ghost use Rattle.post_codec.specs.declared.post.Post.{Post};
+ghost use Rattle.search_core.specs.declared.board.Kept.{Kept};
+ghost use Rattle.search_core.specs.declared.board.Origin.{Origin};
+ghost use Rattle.search_core.specs.declared.board.Taken.TheVariants.{Node as TakenNode};
 ghost use Rattle.search_core.specs.declared.event.Event.{Event};
-ghost use Rattle.search_core.specs.declared.event.Event.TheVariants.{Crash};
+ghost use Rattle.search_core.specs.declared.event.Event.TheVariants.{Commit, Crash, Take};
+ghost use Rattle.search_core.specs.declared.step_posts.StepPosts.{StepPosts};
+ghost use Rattle.search_core.specs.Board.{BoardView, book_at, core_of, Commits, IsSoundBoard, TakeMakes};
 ghost use Rattle.search_core.specs.Book.{Book, book_of, floor_of, is_open, is_finished, IsLeastFloor, IsSound};
-ghost use Rattle.search_core.specs.Core.{Core, start, run, happens, IsSoundCore, IsFront};
+ghost use Rattle.search_core.specs.Core.{Core, hand, start, run, happens, IsSoundCore, IsFront};
+ghost use Rattle.search_core.specs.Steps.{posts_of};
 
 use crate::State;
 
@@ -57,4 +63,15 @@ pub fn finished_agree(one: &State, other: &State)
 /// The nodes of a book, and one more, are at most twice two to the power of the root's span.
 pub fn few_nodes()
     ensures { (i : Problem) (posts : List Post) (b : Book) → book_of i posts ≡ Some b → length b.nodes + 1 ≤ 2 * 2 ^ span i [] }
+{}
+
+/// Where a worker whose hand is empty takes a node of a board, the core with the board's posts and hands has the same take.
+/// Where it commits a step, the core has the commit of the step's posts. Each acknowledges the posts before it.
+pub fn boards_are_cores()
+    ensures take { (i : Problem) (budget : ℕ) (origin : Origin) (old new : BoardView) (acked w k floor best : ℕ)
+        → IsSoundBoard i budget origin old → w < 16 → hand old.hands w ≡ None → TakeMakes (TakenNode k floor best) w i budget old new
+        → happens i (core_of acked old) (Take w k) ≡ Some (core_of (length old.history) new) }
+    ensures commit { (i : Problem) (budget : ℕ) (origin : Origin) (old new : BoardView) (acked w : ℕ) (step : StepPosts) (kept : Kept)
+        → IsSoundBoard i budget origin new → Commits i w step old new kept
+        → happens i (core_of acked old) (Commit w (posts_of i (book_at i old) w step)) ≡ Some (core_of (length old.history) new) }
 {}

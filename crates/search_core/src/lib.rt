@@ -13,6 +13,8 @@ mod posts;
 mod state;
 mod step_posts;
 #[cfg(test)]
+mod step_tests;
+#[cfg(test)]
 mod tests;
 
 pub use board::{Board, CommitFault, Kept, Origin, Shutting, Taken, keeps_sound};

@@ -8,7 +8,7 @@ use std::test::Fail;
 
 /// Hour slots of one day, of which 8 to 11 need an employee; at most one duty of a shift; the costs 1 of excess, 2 of
 /// shortage and 3 of a shift used; and one shift, of 4 hours from 8 on. Without a duty it costs 8, and with it 3.
-fn one_shift(alloc: Global) -> Result<Instance, Fail> {
+pub(crate) fn one_shift(alloc: Global) -> Result<Instance, Fail> {
     let mut need = vec![in alloc; 0u32; 24]?;
     for t in 8..12usize {
         if let Some(n) = need.get_mut(t) {
@@ -39,7 +39,7 @@ fn one_shift(alloc: Global) -> Result<Instance, Fail> {
 }
 
 /// The class of all duties of a shift on a day.
-fn class(alloc: Global, shift: u16, day: u8) -> Class {
+pub(crate) fn class(alloc: Global, shift: u16, day: u8) -> Class {
     Class {
         shift,
         day,
@@ -48,7 +48,7 @@ fn class(alloc: Global, shift: u16, day: u8) -> Class {
 }
 
 /// So many duties of the one shift.
-fn duties(alloc: Global, count: u16) -> Result<Rows, Fail> {
+pub(crate) fn duties(alloc: Global, count: u16) -> Result<Rows, Fail> {
     let row = Row {
         shift: 0,
         day: 0,

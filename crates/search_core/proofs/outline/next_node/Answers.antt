@@ -15,16 +15,16 @@ loop-k-preserved c =
     let hands = c.args.hands.now in
     elim c.if-not-node.branch [
       | then-not-node+then-node-floor+then-not-holds w ↦
-        taken_now nodes c.args.cost hands c.loop-k.k c.loop-k.next c.if-not-node.next c.loop-k.floor c.if-not-node.floor d c.loop-k.invariant c.loop-k-test.true
-        w.if-not-node.true w.if-node-floor.true (sym w.holds.ensures ∙ w.if-not-holds.true) w.next-is w.floor-is
+          taken_now nodes c.args.cost hands c.loop-k.k c.loop-k.next c.if-not-node.next c.loop-k.floor c.if-not-node.floor d c.loop-k.invariant c.loop-k-test.true
+          w.if-not-node.true w.if-node-floor.true (sym w.holds.ensures ∙ w.if-not-holds.true) w.next-is w.floor-is
       | else-not-node w ↦
-        left_now nodes c.args.cost hands c.loop-k.k c.loop-k.next c.if-not-node.next c.loop-k.floor c.if-not-node.floor d c.loop-k.invariant w.next-is w.floor-is
-        (λ unsplit free.
-            elim w.else-not-node.branch [
-              | else-not-node-via-then-not-node+then-node-floor+else-not-holds u ↦ absurd (false≢true (sym free ∙ sym u.holds.ensures ∙ u.if-not-holds.false))
-              | else-not-node-via-then-not-node+else-node-floor u ↦ u.if-node-floor.false
-              | else-not-node-via-else-not-node u ↦ absurd (false≢true (sym unsplit ∙ u.if-not-node.false))
-            ])
+          left_now nodes c.args.cost hands c.loop-k.k c.loop-k.next c.if-not-node.next c.loop-k.floor c.if-not-node.floor d c.loop-k.invariant w.next-is w.floor-is
+          (λ unsplit free.
+          elim w.else-not-node.branch [
+            | else-not-node-via-then-not-node+then-node-floor+else-not-holds u ↦ absurd (false≢true (sym free ∙ sym u.holds.ensures ∙ u.if-not-holds.false))
+            | else-not-node-via-then-not-node+else-node-floor u ↦ u.if-node-floor.false
+            | else-not-node-via-else-not-node u ↦ absurd (false≢true (sym unsplit ∙ u.if-not-node.false))
+          ])
     ]
 
 pub returns : goal.returns

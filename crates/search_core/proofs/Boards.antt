@@ -1,0 +1,93 @@
+-- A board's takes and commits are events of its core.
+use Rattle.std.proofs.Common.{◌≡◌, ℕ, ◌<◌, Bool, true, false, cond, ◌&&◌, ◌==◌, not, List, [], ◌∷◌, ◌++◌, length, set, refl, sym, ap, ◌∙◌, subst, nat_lt, Option, Some, None, eq-eqb}
+use Rattle.std.specs.Prelude.{is_none}
+use Rattle.std.specs.Option.{option_map_or}
+use Rattle.std.specs.List.{list_all, list_any}
+use Rattle.std.proofs.lemmas.Bool.{and_parts, and_from, lt-ltb}
+use Rattle.std.proofs.lemmas.List.Folds.{list_all-append}
+use Rattle.shift_instance.specs.Problem.{Problem}
+use Rattle.rota_cost.specs.Costed.{Costing}
+use Rattle.post_codec.specs.declared.post.Post.{Post}
+use Rattle.post_codec.specs.declared.post.Post.TheVariants.{Plan, Priced, Split, Settled}
+use Rattle.search_core.specs.declared.board.Origin.{Origin}
+use Rattle.search_core.specs.declared.board.Kept.{Kept}
+use Rattle.search_core.specs.declared.board.Taken.TheVariants.{Node}
+use Rattle.search_core.specs.declared.event.Event.TheVariants.{Take, Commit}
+use Rattle.search_core.specs.declared.step_posts.StepPosts.{StepPosts}
+use Rattle.search_core.specs.declared.step_posts.Close.{Close}
+use Rattle.search_core.specs.declared.step_posts.Close.TheVariants.{ByPrice, Split as CloseBySplit, Settled as CloseAsSettled}
+use Rattle.search_core.specs.Board.{BoardView, book_at, core_of, is_free, Commits, IsSoundBoard, TakeMakes}
+use Rattle.search_core.specs.Book.{Book, book_of, is_node_and, is_open, opening}
+use Rattle.search_core.specs.Core.{Core, hand, happens, is_node, is_of, may_commit, may_take}
+use Rattle.search_core.specs.State.{book_or_opening}
+use Rattle.search_core.specs.Steps.{book_then, close_posts, plan_of, plan_posts, posts_of, where_open}
+
+-- ---- the posts of a step are its worker's, for its node
+
+abbrev are_of : ℕ → ℕ → List Post → Bool
+are_of w x posts = list_all (is_of w x) posts
+
+both_of : (w x : ℕ) (xs ys : List Post) → are_of w x xs ≡ true → are_of w x ys ≡ true → are_of w x (xs ++ ys) ≡ true
+both_of w x xs ys h k = list_all-append (is_of w x) xs ys ∙ and_from (are_of w x xs) (are_of w x ys) h k
+
+one_of : (w x : ℕ) (post : Post) (t : Bool) → is_of w x post ≡ true → are_of w x (cond t (post ∷ []) []) ≡ true
+one_of w x post true h = and_from (is_of w x post) true h refl
+one_of w x post false h = refl
+
+own_node : (w x : ℕ) → ((w == w) && (x == x)) ≡ true
+own_node w x = and_from (w == w) (x == x) (eq-eqb w w refl) (eq-eqb x x refl)
+
+plan_of_worker : (w x : ℕ) (plan : Option Costing) (b : Book) → are_of w x (plan_posts w plan b) ≡ true
+plan_of_worker w x None b = refl
+plan_of_worker w x (Some p) b = one_of w x (Plan w p.rows p.cost) (nat_lt p.cost b.cost) (eq-eqb w w refl)
+
+close_of_worker : (w x : ℕ) (close : Close) (b : Book) → are_of w x (close_posts w x close b) ≡ true
+close_of_worker w x ByPrice b = refl
+close_of_worker w x (CloseBySplit class m) b = one_of w x (Split w x class m) (is_node_and b x (is_open b)) (own_node w x)
+close_of_worker w x (CloseAsSettled node) b = one_of w x (Settled w x) (is_node_and b x (is_open b)) (own_node w x)
+
+step_of_worker : (i : Problem) (b : Book) (w : ℕ) (step : StepPosts) → are_of w step.node (posts_of i b w step) ≡ true
+step_of_worker i b w step =
+    let x = step.node in
+    let first : List Post = plan_posts w step.plan b in
+    let second : List Post = plan_posts w (plan_of step.close) (book_then i b first) in
+    let plans : List Post = first ++ second in
+    let after : Book = book_then i b plans in
+    let third : List Post = where_open x (Priced w x step.proved.prices) after in
+    let open_posts : List Post = plans ++ third in
+    let last : Book = book_then i b open_posts in
+    let h = both_of w x first second (plan_of_worker w x step.plan b) (plan_of_worker w x (plan_of step.close) (book_then i b first)) in
+    let k = both_of w x plans third h (one_of w x (Priced w x step.proved.prices) (is_node_and after x (is_open after)) (own_node w x)) in
+    both_of w x open_posts (close_posts w x step.close last) k (close_of_worker w x step.close last)
+
+-- ---- events
+
+folded : (i : Problem) (v : BoardView) (b : Book) → book_of i v.history ≡ Some b → book_at i v ≡ b
+unfolding book_or_opening
+folded i v b e = ap (λ (o : Option Book). option_map_or (λ (b : Book). b) o (opening i)) e
+
+pub take_happens : (i : Problem) (budget : ℕ) (origin : Origin) (old new : BoardView) (acked w k floor best : ℕ) → IsSoundBoard i budget origin old → w < 16 → hand old.hands w ≡ None → TakeMakes (Node k floor best) w i budget old new
+    → happens i (core_of acked old) (Take w k) ≡ Some (core_of (length old.history) new)
+take_happens i budget origin old new acked w k floor best s low empty m =
+    let free : is_free s.book old.hands k ≡ true = subst (λ (b : Book). is_free b old.hands k ≡ true) (folded i old s.book s.folds) m.1.free in
+    let p = and_parts (is_node_and s.book k (is_open s.book)) (not (list_any (is_node k) old.hands)) free in
+    let idle : nat_lt w 16 && is_none (hand old.hands w) ≡ true = and_from (nat_lt w 16) (is_none (hand old.hands w)) (lt-ltb w 16 low) (ap is_none empty) in
+    let opens : Option Book → Bool = λ o. option_map_or (λ (b : Book). is_node_and b k (is_open b)) o false in
+    let there : opens (book_of i old.history) ≡ true = ap opens s.folds ∙ p.0 in
+    let may : may_take i (core_of acked old) w k ≡ true = and_from _ _ (and_from _ _ idle there) p.1 in
+    ap (λ (t : Bool). cond t (Some (record { history = old.history; acked = length old.history; hands = set old.hands w (Some k) })) None) may
+    ∙ ap (λ (v : BoardView). Some (core_of (length old.history) v)) (sym m.4)
+
+pub commit_happens : (i : Problem) (budget : ℕ) (origin : Origin) (old new : BoardView) (acked w : ℕ) (step : StepPosts) (kept : Kept) → IsSoundBoard i budget origin new → Commits i w step old new kept
+    → happens i (core_of acked old) (Commit w (posts_of i (book_at i old) w step)) ≡ Some (core_of (length old.history) new)
+commit_happens i budget origin old new acked w step kept s m =
+    let posts = posts_of i (book_at i old) w step in
+    let history : new.history ≡ old.history ++ posts = ap (λ (v : BoardView). v.history) m.makes in
+    let folds : book_of i (old.history ++ posts) ≡ Some s.book = subst (λ (l : List Post). book_of i l ≡ Some s.book) history s.folds in
+    let closed : is_node_and s.book step.node (is_open s.book) ≡ false = subst (λ (b : Book). is_node_and b step.node (is_open b) ≡ false) (folded i new s.book s.folds) m.closed in
+    let closes : Option Book → Bool = λ o. option_map_or (λ (b : Book). not (is_node_and b step.node (is_open b))) o false in
+    let shut : closes (book_of i (old.history ++ posts)) ≡ true = ap closes folds ∙ ap not closed in
+    let may : may_commit i (core_of acked old) w posts step.node ≡ true = and_from (are_of w step.node posts) (closes (book_of i (old.history ++ posts))) (step_of_worker i (book_at i old) w step) shut in
+    let held : option_map_or (may_commit i (core_of acked old) w posts) (hand old.hands w) false ≡ true = ap (λ (h : Option ℕ). option_map_or (may_commit i (core_of acked old) w posts) h false) m.holds.held ∙ may in
+    ap (λ (t : Bool). cond t (Some (record { history = old.history ++ posts; acked = length old.history; hands = set old.hands w None })) None) held
+    ∙ ap (λ (v : BoardView). Some (core_of (length old.history) v)) (sym m.makes)
