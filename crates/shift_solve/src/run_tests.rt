@@ -28,12 +28,13 @@ const MORNING_REPORT: &str =
 const NOTHING_REPORT: &str =
     "shift-report 1\nstatus optimal\ncost 0\nbound 0\nrows 0\nproof 0\nend\n";
 
-/// A day that needs one employee from 8:00 to 16:00, and nobody at 12:00, with one shift of those hours and its break of an hour.
-const NOON: &str =
-    "{\"slot_minutes\":60,\"days\":1,\"need\":[0,0,0,0,0,0,0,0,1,1,1,1,0,1,1,1,0,0,0,0,0,0,0,0],\"max_heads\":1,\"weights\":{\"excess\":1,\"shortage\":2,\"shift\":3},\"types\":[{\"name\":\"M\",\"start_min\":8,\"start_max\":8,\"len_min\":8,\"len_max\":8,\"breaks\":{\"lead\":2,\"tail\":2,\"work_min\":2,\"work_max\":5,\"long_work\":5,\"long_rest\":1,\"size_min\":1,\"size_max\":1,\"totals\":[[8,1]]}}]}";
-
-const NOON_REPORT: &str =
-    "shift-report 1\nstatus stopped\ncost 3\nbound 0\nrows 1\nrow 0 0 1 4+1\nproof 0\nend\n";
+/// A day that needs one employee from 8:00 to 16:00, and nobody at 12:00, with one shift of those hours and its break of an hour; the
+/// longest work and the hours to resettle are filled in.
+fn noon(alloc: Global, work_max: &str, resettle: &str) -> Result<String, AllocError> {
+    format!(in alloc;
+        "{{\"slot_minutes\":60,\"days\":1,\"need\":[0,0,0,0,0,0,0,0,1,1,1,1,0,1,1,1,0,0,0,0,0,0,0,0],\"max_heads\":1,\"weights\":{{\"excess\":1,\"shortage\":2,\"shift\":3}},\"types\":[{{\"name\":\"M\",\"start_min\":8,\"start_max\":8,\"len_min\":8,\"len_max\":8,\"breaks\":{{\"lead\":2,\"tail\":2,\"work_min\":2,\"work_max\":{work_max},\"long_work\":5,\"long_rest\":1,\"size_min\":1,\"size_max\":1,\"totals\":[[8,1]],\"resettle\":{resettle}}}}}]}}"
+    )
+}
 
 /// The words of a command line, given with blanks between them.
 fn words_of(alloc: Global, line: &str) -> Result<Vec<String>, AllocError> {
@@ -130,11 +131,24 @@ fn a_plan_is_printed(rt: HostRuntime) -> Result<(), Fail> {
 }
 
 #[test]
-fn a_break_stands_where_nobody_is_needed(rt: HostRuntime) -> Result<(), Fail> {
+fn a_break_stands_where_it_costs_least(rt: HostRuntime) -> Result<(), Fail> {
     let alloc = rt.alloc();
-    let ran = run(alloc, "solve J", NOON.as_bytes(), 100000, 0, 0)?;
-    assert_eq!(rt; ran.number, 10);
-    assert_eq!(rt; ran.written.as_slice(), NOON_REPORT.as_bytes());
+    for (work_max, resettle, cost, rows) in [
+        // Nobody is needed in the hour of the break.
+        ("5", "0", "3", "1\nrow 0 0 1 4+1"),
+        // The hour after the break isn't covered: breaks at 11:00 and at 12:00 cost as much, and the lesser list is taken.
+        ("5", "1", "5", "1\nrow 0 0 1 3+1"),
+        // No list of breaks is legal, so nobody comes.
+        ("2", "0", "14", "0"),
+    ] {
+        let text = noon(alloc, work_max, resettle)?;
+        let ran = run(alloc, "solve J", text.as_bytes(), 100000, 0, 0)?;
+        let report = format!(in alloc;
+            "shift-report 1\nstatus stopped\ncost {cost}\nbound 0\nrows {rows}\nproof 0\nend\n"
+        )?;
+        assert_eq!(rt; ran.number, 10);
+        assert_eq!(rt; ran.written.as_slice(), report.as_bytes());
+    }
     Ok(())
 }
 
