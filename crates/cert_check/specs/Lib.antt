@@ -1,4 +1,0 @@
-pub mod Rests
-pub mod Below
-pub mod Values
-pub mod Passed

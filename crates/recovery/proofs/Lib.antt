@@ -1,4 +1,0 @@
-pub mod Batches
-pub mod Rebuilt
-pub mod Taking
-pub mod Unspelled

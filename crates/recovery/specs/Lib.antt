@@ -1,4 +1,0 @@
-pub mod FaultText
-pub mod Folding
-pub mod Records
-pub mod Refusals
