@@ -3,3 +3,4 @@ pub mod Pairs
 pub mod Priced
 pub mod Sizes
 pub mod Values
+pub mod PlanFloor

@@ -1,3 +1,5 @@
 pub mod Faults
 pub mod Proved
 pub mod Values
+pub mod Settling
+pub mod Fixing

@@ -6,6 +6,7 @@ mod enumeration_tests;
 mod faults;
 mod laws;
 mod proving;
+mod settling;
 mod terms;
 #[cfg(test)]
 mod tests;
@@ -13,6 +14,7 @@ mod totals;
 
 pub use laws::faultless_prices;
 pub use proving::{Proved, prove};
+pub use settling::{Fixing, SettledNode};
 use std::error::Error;
 use std::fmt;
 

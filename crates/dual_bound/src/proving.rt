@@ -92,4 +92,13 @@ impl Proved {
     {
         self.bound
     }
+
+    /// The cuts and the prices, given back.
+    pub fn into_parts(self) -> (Cuts, Prices)
+        ensures cuts { result.0 ≡ self.cuts }
+        ensures prices { result.1 ≡ self.prices }
+        ensures proved { IsProved self }
+    {
+        (self.cuts, self.prices)
+    }
 }

@@ -6,3 +6,4 @@ pub mod Fixed
 pub mod Nodes
 pub mod Recursion
 pub mod Splits
+pub mod PlanRows

@@ -1,10 +1,11 @@
 -- Settled nodes: cuts that fix how often each legal duty stands in a rota below them. Source: this project's profile.
 use Rattle.std.specs.Prelude.{◌≡◌, ◌≤◌, ◌++◌, ◌∷◌, [], IsTrue, IsFalse, ℕ, ◌+◌, ◌-◌, Bool, ◌&&◌, ◌||◌, not, ◌==◌, nat_lt, nat_le, List, Option, None, length, take, replicate, map, sum_by, if◌then◌else◌}
-use Rattle.std.specs.List.{list_all, list_any, flat_map, find}
+use Rattle.std.specs.List.{list_all, list_any, flat_map, filter, find}
 use Rattle.std.specs.Option.{option_map_or}
 use Rattle.break_rules.specs.declared.Break.{Break}
 use Rattle.break_rules.specs.Breaks.{is_live}
 use Rattle.shift_instance.specs.declared.Duty.{Duty}
+use Rattle.shift_instance.specs.declared.Row.{Row}
 use Rattle.shift_instance.specs.Problem.{Problem, shift_list, below}
 use Rattle.shift_instance.specs.Rota.{lists_of, is_list_of, live_lists_of, is_legal_rota, is_shift_and}
 use Rattle.head_splits.specs.declared.Class.{Class}
@@ -77,3 +78,11 @@ pub data IsSettledClass (i : Problem) (cuts : List Cut) (s day : ℕ) : List Bre
   of_settled_extensions : (prefix : List Break) → IsFalse (is_list_of i s prefix)
       → ((b : Break) → IsTrue (is_live_class i (class_of s day (prefix ++ b ∷ []))) → IsSettledClass i cuts s day (prefix ++ b ∷ []))
       → IsSettledClass i cuts s day prefix
+
+-- a duty that often, as a row
+abbrev pub row_of : Duty → ℕ → Row
+row_of d n = record { shift = d.shift; day = d.day; breaks = d.breaks; count = n }
+
+-- the plan of a settled node, as rows
+abbrev pub settled_rows : Problem → List Cut → List Row
+settled_rows i cuts = map (λ d. row_of d (fixed_count i cuts d)) (filter (λ d. nat_lt 0 (fixed_count i cuts d)) (all_duties i))

@@ -14,6 +14,7 @@ pub use cuts::Cuts;
 pub use meeting::meets;
 pub use price_lists::{CutPrices, SlotPrices};
 pub use ranges::range;
+use shift_instance::Rows;
 
 /// The greatest price that a cut may have.
 pub const CUT_PRICE_MAX: u64 = 1_000_000_000_000;
@@ -59,4 +60,22 @@ pub struct Prices {
     /// For each cut, from the root on, what a duty of its class earns where the cut bounds their number from below, and
     /// pays where it bounds it from above.
     pub cuts: CutPrices,
+}
+
+/// What the cuts of a node leave: some number of duties that isn't fixed yet, or one plan, or nothing.
+#[derive(Clone, Debug, Drop)]
+pub enum Settle {
+    /// The number of some legal duty isn't fixed: the class to split, and the number by which. That class is the shortest
+    /// prefix whose number isn't fixed of the first such duty, by shift, then by day, then by break list. Its parts have
+    /// at most `m` duties, and at least `m + 1`.
+    Unsettled {
+        /// The class, which some legal duty is in.
+        class: Class,
+        /// Half the least and the greatest number of its duties together, rounded down.
+        m: u16,
+    },
+    /// The number of each legal duty is fixed, and so are these rows, in order, which are legal and meet the cuts.
+    Plan(Rows),
+    /// The number of each legal duty is fixed, and no legal rota meets the cuts.
+    Empty,
 }

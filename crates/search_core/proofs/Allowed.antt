@@ -10,7 +10,7 @@ use Rattle.rota_cost.specs.RowFaults.{row_fault}
 use Rattle.rota_cost.proofs.RowLaw.{legal_from_none}
 use Rattle.post_codec.specs.declared.post.Post.TheVariants.{Plan}
 use Rattle.search_core.specs.declared.fault.StepFault.{StepFault}
-use Rattle.search_core.specs.declared.fault.StepFault.TheVariants.{NotLegal, WrongCost, NotBetter, NoNode, IsSplit, NotOpen, NotLive, OutOfRange, NoMemory}
+use Rattle.search_core.specs.declared.fault.StepFault.TheVariants.{NotLegal, WrongCost, NotBetter, NoNode, IsSplit, NotOpen, NotLive, OutOfRange, NotSettled, Price, NoMemory}
 use Rattle.search_core.specs.Book.{Book, is_better, step}
 use Rattle.search_core.specs.Faults.{plan_fault, Refuses}
 
@@ -58,4 +58,6 @@ refuses fault (IsSplit node) e = e
 refuses fault (NotOpen floor best) e = e
 refuses fault (NotLive class) e = e
 refuses fault (OutOfRange lo hi) e = e
+refuses fault (NotSettled class) e = e
+refuses fault (Price why) e = e
 refuses fault NoMemory e = tt

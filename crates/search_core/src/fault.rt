@@ -2,6 +2,7 @@
 ghost use Rattle.std.specs.Prelude.{◌≡◌};
 ghost use Rattle.search_core.specs.declared.fault.StepFault.TheVariants.{NoMemory};
 
+use dual_bound::PriceFault;
 use head_splits::Class;
 use rota_cost::RowFault;
 use std::alloc::AllocError;
@@ -25,6 +26,10 @@ pub enum StepFault {
     NotLive { class: Class },
     /// The node's cuts leave the class `lo` to `hi` duties, and the number of the split isn't from `lo` on and below `hi`.
     OutOfRange { lo: u16, hi: u16 },
+    /// The node's cuts don't fix how often each legal duty stands in a rota below them: the class is that by which to split.
+    NotSettled { class: Class },
+    /// The prices aren't a price set for the node's cuts.
+    Price(PriceFault),
     /// No memory was left.
     NoMemory,
 }
@@ -34,5 +39,19 @@ impl From<AllocError> for StepFault {
 
     fn from(_e: AllocError) -> StepFault {
         StepFault::NoMemory
+    }
+}
+
+impl From<PriceFault> for StepFault {
+    ghost use Rattle.std.specs.Prelude.{◌≡◌};
+    ghost use Rattle.search_core.specs.Faults.{of_price_fault};
+
+    ghost from_gives = { λ fault e. e ≡ of_price_fault fault };
+
+    fn from(fault: PriceFault) -> StepFault {
+        match fault {
+            PriceFault::NoMemory => StepFault::NoMemory,
+            _ => StepFault::Price(fault),
+        }
     }
 }

@@ -1,6 +1,7 @@
 //! The book of a search, as its posts make it, and what the hands of workers and crashes may do to it.
 #![tactic(auto)]
 
+mod board;
 mod event;
 mod fault;
 mod hands;
@@ -9,15 +10,18 @@ pub mod laws;
 mod outline;
 mod posts;
 mod state;
+mod step_posts;
 #[cfg(test)]
 mod tests;
 
+pub use board::{Board, CommitFault, Kept, Origin, Shutting, Taken, keeps_sound};
 pub use event::Event;
 pub use fault::StepFault;
 pub use hands::Hands;
 pub use outline::NodeState;
 pub use posts::Posts;
 pub use state::State;
+pub use step_posts::{Close, StepPosts};
 
 /// The most workers of a search.
 pub const WORKERS_MAX: u32 = 16;

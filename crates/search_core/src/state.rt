@@ -1,8 +1,8 @@
 //! The state of a search.
-ghost use Rattle.std.specs.Prelude.{◌≡◌, ℕ, ◌-◌, ◌^◌, ◌<◌, ◌++◌, ◌∷◌, [], ◌==◌, Some, map, max, length, slice_get, IfOk, IfErr, IsSome, IsSomeAnd, OnOk, OnErr};
+ghost use Rattle.std.specs.Prelude.{◌≡◌, ℕ, ◌-◌, ◌^◌, ◌<◌, ◌≤◌, ◌++◌, ◌∷◌, [], ◌==◌, Some, map, max, length, slice_get, IfOk, IfErr, IsSome, IsSomeAnd, OnOk, OnErr};
 ghost use Rattle.search_core.specs.Book.{book_of, floor_of, is_node_and, is_open, opening, step, IsSound};
-ghost use Rattle.post_codec.specs.declared.post.Post.TheVariants.{Plan, Split};
-ghost use Rattle.search_core.specs.Faults.{open_fault, plan_fault, split_fault, Refuses, Steps};
+ghost use Rattle.post_codec.specs.declared.post.Post.TheVariants.{Plan, Priced, Split};
+ghost use Rattle.search_core.specs.Faults.{open_fault, plan_fault, priced_fault, split_fault, unsplit_fault, Refuses, Steps};
 ghost use Rattle.search_core.specs.Kept.{cuts_in, part_of, rows_in};
 ghost use Rattle.search_core.specs.State.{state_of, value_of};
 
@@ -10,7 +10,8 @@ use crate::fault::StepFault;
 use crate::judging::{is_live_class, plan_fault};
 use crate::outline::{NodeState, Outline, least_floor};
 use break_rules::NoMemory;
-use head_splits::{Class, Cut, Cuts, Side, range};
+use dual_bound::prove;
+use head_splits::{Class, Cut, Cuts, Prices, Side, range};
 use post_codec::Post;
 use rota_cost::recount;
 use shift_instance::{Instance, Rows};
@@ -190,7 +191,8 @@ impl State {
     /// The cuts of a node, by its number, from the root on.
     pub fn cuts_of(&self, node: u32) -> Result<Cuts, NoMemory>
         requires { node < length self.now.book.nodes }
-        ensures { IfOk result (λ cuts. IsSomeAnd (slice_get self.now.book.nodes node) (λ n. cuts ≡ n.cuts)) }
+        ensures cuts { IfOk result (λ cuts. IsSomeAnd (slice_get self.now.book.nodes node) (λ n. cuts ≡ n.cuts)) }
+        ensures few { IfOk result (λ cuts. length cuts ≤ node) }
     {
         let mut list = Vec::new(self.alloc);
         let mut at = node as usize;
@@ -235,6 +237,36 @@ impl State {
         Ok(())
     }
 
+    /// Appends a worker's prices for an unsplit node, where they are a price set for its cuts.
+    pub(crate) fn step_priced(
+        &mut self,
+        instance: &Instance,
+        worker: u16,
+        node: u32,
+        prices: Prices,
+    ) -> Result<(), StepFault>
+        requires { instance.now ≡ self.old.instance }
+        ensures ok { OnOk result (Steps self.old self.new (Priced worker node prices)) }
+        ensures unchanged { OnErr result (self.new ≡ self.old) }
+        ensures err { IfErr result (Refuses (priced_fault self.old.instance self.old.book node prices)) }
+    {
+        if let Some(fault) = self.unsplit_fault(node) {
+            return Err(fault);
+        }
+        let cuts = self.cuts_of(node)?;
+        let proved = prove(self.alloc, instance, cuts, prices)?;
+        let bound = proved.bound();
+        let (_cuts, prices) = proved.into_parts();
+        self.reserve(1)?;
+        let post = Post::Priced {
+            worker,
+            node,
+            prices,
+        };
+        self.append(post, bound);
+        Ok(())
+    }
+
     /// Appends a worker's split of an open node by the number of a live class, where the node's cuts leave it open.
     pub(crate) fn step_split(
         &mut self,
@@ -269,6 +301,22 @@ impl State {
         };
         self.append(post, floor);
         Ok(())
+    }
+
+    /// Why a node isn't unsplit, if it isn't.
+    fn unsplit_fault(&self, node: u32) -> Option<StepFault>
+        ensures { result ≡ unsplit_fault self.now.book node }
+    {
+        match self.outline.nodes().get(node as usize) {
+            None => Some(StepFault::NoNode { node }),
+            Some(state) => {
+                if state.split {
+                    Some(StepFault::IsSplit { node })
+                } else {
+                    None
+                }
+            }
+        }
     }
 
     /// Why a node isn't open, if it isn't.

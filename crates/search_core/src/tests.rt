@@ -84,7 +84,9 @@ fn refusal(answer: &Result<(), StepFault>) -> u8 {
         Err(StepFault::NotOpen { floor: _, best: _ }) => 6,
         Err(StepFault::NotLive { class: _ }) => 7,
         Err(StepFault::OutOfRange { lo: _, hi: _ }) => 8,
-        Err(StepFault::NoMemory) => 9,
+        Err(StepFault::NotSettled { class: _ }) => 9,
+        Err(StepFault::Price(_)) => 10,
+        Err(StepFault::NoMemory) => 11,
     }
 }
 
