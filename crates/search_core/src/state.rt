@@ -1,14 +1,16 @@
 //! The state of a search.
-ghost use Rattle.std.specs.Prelude.{◌≡◌, ℕ, ◌-◌, ◌^◌, ◌<◌, ◌≤◌, ◌++◌, ◌∷◌, [], ◌==◌, Some, map, max, length, slice_get, IfOk, IfErr, IsSome, IsSomeAnd, OnOk, OnErr};
+ghost use Rattle.std.specs.Prelude.{◌≡◌, ℕ, ◌+◌, ◌-◌, ◌*◌, ◌^◌, ◌<◌, ◌≤◌, ◌++◌, ◌∷◌, [], ◌==◌, Some, map, max, length, slice_get, IfOk, IfErr, IsSome, IsSomeAnd, MatchOption, OnOk, OnErr};
+ghost use Rattle.search_core.specs.Board.{IsNext, NoneIsFree};
 ghost use Rattle.search_core.specs.Book.{book_of, floor_of, is_node_and, is_open, opening, step, IsSound};
 ghost use Rattle.post_codec.specs.declared.post.Post.TheVariants.{Plan, Priced, Split};
 ghost use Rattle.search_core.specs.Faults.{open_fault, plan_fault, priced_fault, split_fault, unsplit_fault, Refuses, Steps};
 ghost use Rattle.search_core.specs.Kept.{cuts_in, part_of, rows_in};
 ghost use Rattle.search_core.specs.State.{state_of, value_of};
 
+use crate::Hands;
 use crate::fault::StepFault;
 use crate::judging::{is_live_class, plan_fault};
-use crate::outline::{NodeState, Outline, least_floor};
+use crate::outline::{NodeState, Outline, least_floor, next_node};
 use break_rules::NoMemory;
 use dual_bound::prove;
 use head_splits::{Class, Cut, Cuts, Prices, Side, range};
@@ -158,6 +160,7 @@ impl State {
     pub fn history(&self) -> &[Post]
         ensures history { result.now ≡ self.now.history }
         ensures folds { book_of self.now.instance self.now.history ≡ Some self.now.book }
+        ensures few { length self.now.book.nodes ≤ 1 + 2 * length self.now.history }
     {
         self.posts.as_slice()
     }
@@ -179,6 +182,14 @@ impl State {
             Some(node) => !node.split && node.floor < cost,
             None => false,
         }
+    }
+
+    /// The open node that is in no hand, by its number: the one of least floor, and among those of least number.
+    pub fn next_node(&self, hands: &Hands) -> Option<u32>
+        requires { length self.now.history < 2 ^ 24 }
+        ensures { MatchOption result (NoneIsFree self.now.book hands.now) (IsNext self.now.book hands.now) }
+    {
+        next_node(self.outline.nodes(), self.outline.cost(), hands)
     }
 
     /// How many posts may be appended without memory.
