@@ -24,7 +24,7 @@ use Rattle.search_book.specs.Records.{LogView}
 use Rattle.search_book.specs.Written.{IsWritten}
 use Rattle.search_book.proofs.Appending.{makes_fold}
 use Rattle.search_book.proofs.Batches.{zip_length}
-use Rattle.search_book.proofs.Few.{few_posts}
+use Rattle.search_book.proofs.Few.{few_nodes, few_posts}
 use Rattle.search_book.proofs.Recording.{place_below, recorded_all, recorded_of, recorded_stop, single, singles_size, used_all, written_quiet}
 use Rattle.search_book.proofs.Written.{written_first, written_spells}
 
@@ -80,6 +80,7 @@ module _ {D : Type 0} (log : LogView D) (s : StateView) (limit opening : ℕ) (f
         quiet = λ _. (q.0, omega (arith, q.1, size, length-append s.history posts));
         front = omega (arith, inside.front, length-append s.history posts);
         few = omega (arith, few_posts log.head (log.records ++ rs) (s.history ++ posts) (written_spells (log.records ++ rs) (s.history ++ posts) log.opening opening (log.added + length rs) more), used_all log.head log.records rs, within, inside.small);
+        nodes = omega (arith, few_nodes s.instance log.head (log.records ++ rs) (s.history ++ posts) after (written_spells (log.records ++ rs) (s.history ++ posts) log.opening opening (log.added + length rs) more) folds, used_all log.head log.records rs, within, inside.small);
         shut = inside.shut;
       }
 
@@ -111,6 +112,7 @@ module _ {D : Type 0} (log : LogView D) (s : StateView) (limit opening : ℕ) (f
         quiet = λ none. let empty : length posts ≡ 0 = ap length none in absurd (omega (arith, place_below rs count bytes at));
         front = inside.front;
         few = inside.few;
+        nodes = inside.nodes;
         shut = λ e. absurd (cc);
       }
 
@@ -141,6 +143,7 @@ module _ {D : Type 0} (log : LogView D) (s : StateView) (limit opening : ℕ) (f
         quiet = inside.quiet;
         front = inside.front;
         few = inside.few;
+        nodes = inside.nodes;
         shut = inside.shut;
       }))
 
@@ -160,6 +163,7 @@ module _ {D : Type 0} (log : LogView D) (s : StateView) (limit opening : ℕ) (f
         quiet = inside.quiet;
         front = inside.front;
         few = inside.few;
+        nodes = inside.nodes;
         shut = (none, far, same ∙ inside.most);
       }))
 
@@ -221,5 +225,6 @@ opened_inside log s limit opening records head rs disk spare most is text same s
       quiet = λ none. (refl, omega (arith, size));
       front = omega (arith, size);
       few = omega (arith, few_posts head rs s.history spells, within, small);
+      nodes = omega (arith, few_nodes s.instance head rs s.history s.book spells folds, within, small);
       shut = refl;
     })

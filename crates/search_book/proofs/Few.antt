@@ -1,13 +1,14 @@
 -- A journal of a small file has few posts.
 use Rattle.std.proofs.Common.{◌≡◌, ℕ, zero, suc, set, Some, sym, ◌∙◌, ◌+◌, ◌*◌, ◌≤◌, List, [], ◌∷◌, ◌++◌, length, refl, ap, arith, length-append}
 use Rattle.std.specs.List.{AllZip, flat_map}
+use Rattle.std.proofs.lemmas.List.Concat.{flat_map-append}
 use Rattle.gated_journal.specs.Format.{gated}
 use Rattle.post_codec.specs.declared.post.Post.{Post}
 use Rattle.post_codec.specs.declared.post.Post.TheVariants.{Plan, Priced, Split, Settled}
 use Rattle.post_codec.specs.Spelling.{breaks_bytes, class_bytes, post_bytes, prices_bytes, row_bytes, rows_bytes, spelling, Spells, u16_bytes, u32_bytes, u64_bytes}
 use Rattle.head_splits.specs.declared.Class.{Class}
 use Rattle.shift_instance.specs.Problem.{Problem}
-use Rattle.search_core.specs.Book.{Book, book_after, divided, is_better, priced, settled, step}
+use Rattle.search_core.specs.Book.{Book, book_after, book_of, divided, is_better, opening, priced, settled, step}
 use Rattle.search_core.proofs.Sound.{at_node_some, bind_some, cond_some}
 use Rattle.search_book.specs.Posts.{bytes_used, joined, SpellPosts}
 
@@ -86,3 +87,22 @@ after_nodes i b c [] e = let same : length b.nodes ≡ length c.nodes = let s : 
 after_nodes i b c (p ∷ posts) e =
     let r = bind_some (λ (next : Book). book_after i next posts) (step i b p) c e in
     omega (arith, step_nodes i b r.0 p r.1, after_nodes i r.0 c posts r.2, length-append (post_bytes p) (flat_map post_bytes posts))
+
+-- the posts of records have no more bytes than the records
+batches_bytes : (records : List (List ℕ)) (batches : List (List Post)) → AllZip Spells records batches → length (flat_map post_bytes (joined batches)) ≤ length (gated records)
+batches_bytes [] [] z = omega arith
+batches_bytes [] (b ∷ batches) z = absurd z
+batches_bytes (r ∷ records) [] z = absurd z
+batches_bytes (r ∷ records) (b ∷ batches) z =
+    let size : length r ≡ length (spelling b) = ap length z.0.is in
+    let here : length (flat_map post_bytes b) ≤ length r = omega (arith, length-append (u16_bytes (length b)) (flat_map post_bytes b)) in
+    let parts : length (flat_map post_bytes (b ++ joined batches)) ≡ length (flat_map post_bytes b) + length (flat_map post_bytes (joined batches)) =
+    ap length (flat_map-append post_bytes b (joined batches)) ∙ length-append (flat_map post_bytes b) (flat_map post_bytes (joined batches)) in
+    omega (arith, here, parts, batches_bytes records batches z.1, length-append r (gated records))
+
+-- a journal of a small file has few nodes
+pub few_nodes : (i : Problem) (head : List ℕ) (records : List (List ℕ)) (posts : List Post) (b : Book) → SpellPosts records posts → book_of i posts ≡ Some b → 6 * length b.nodes ≤ bytes_used head records
+unfolding bytes_used
+few_nodes i head records posts b s e =
+    let size : length (flat_map post_bytes (joined s.batches)) ≡ length (flat_map post_bytes posts) = ap (λ (l : List Post). length (flat_map post_bytes l)) s.all in
+    omega (arith, after_nodes i (opening i) b posts e, batches_bytes records s.batches s.spelled, size, length-append head (gated records))

@@ -1,14 +1,16 @@
 -- The hands of workers over a book.
-use Rattle.std.proofs.Common.{◌≡◌, ◌≢◌, ◌⊎◌, inl, inr, ℕ, zero, suc, ◌<◌, Bool, true, false, ◌&&◌, not, List, [], ◌∷◌, length, map, set, replicate, refl, ap, ◌∙◌, subst, arith, nat_le, nat_lt, Option, Some, None, ◌||◌}
-use Rattle.std.specs.Prelude.{slice_get}
+use Rattle.std.proofs.Common.{◌≡◌, ◌≢◌, ◌⊎◌, inl, inr, ℕ, zero, suc, ◌<◌, ◌≤◌, ◌^◌, Bool, true, false, ◌&&◌, not, List, [], ◌∷◌, length, map, set, replicate, refl, ap, ◌∙◌, subst, arith, nat_le, nat_lt, Option, Some, None, ◌||◌, sym}
+use Rattle.std.specs.Prelude.{Err, IfOk, IsSomeAnd, Ok, Result, slice_get}
 use Rattle.std.specs.Option.{option_map_or, option_and_then}
 use Rattle.std.specs.List.{list_all, list_any}
 use Rattle.std.proofs.lemmas.Bool.{and_parts, false≢true, le-leb, lt-leb, ltb-false, ltb-true, not-true}
+use Rattle.head_splits.specs.declared.Cut.{Cut}
 use Rattle.head_splits.specs.Nodes.{Node}
 use Rattle.search_core.specs.declared.outline.NodeState.{NodeState}
 use Rattle.search_core.specs.Board.{is_free}
 use Rattle.search_core.specs.Book.{Book, is_node_and, is_open}
 use Rattle.search_core.specs.Core.{empty_hands, hand, is_node}
+use Rattle.search_core.specs.Kept.{cuts_in}
 use Rattle.search_core.specs.State.{state_of}
 use Rattle.search_core.proofs.Sound.{bind_some}
 
@@ -95,3 +97,18 @@ both_all x y u v e f = ap (λ (t : Bool). t && u) e ∙ ap (λ (t : Bool). y && 
 pub finished_is : (b : Book) (nodes : List Node) → list_all (λ (n : NodeState). n.split || nat_le b.cost n.floor) (map state_of nodes) ≡ list_all (λ (n : Node). not (is_open b n)) nodes
 finished_is b [] = refl
 finished_is b (n ∷ nodes) = both_all _ _ _ _ (closed_node n.split n.floor b.cost) (finished_is b nodes)
+
+-- ---- the cuts of the node in a hand
+cuts_are : (o : Option Node) (cuts : List Cut) → IsSomeAnd o (λ n. cuts ≡ n.cuts) → cuts ≡ option_map_or (λ n. n.cuts) o []
+cuts_are None cuts h = absurd h
+cuts_are (Some n) cuts h = h
+
+pub cuts_held : {E : Type 0} (r : Result (List Cut) E) (b told : Book) (h : Option ℕ) (node : ℕ) → told ≡ b → h ≡ Some node → IfOk r (λ cuts. IsSomeAnd (slice_get told.nodes node) (λ n. cuts ≡ n.cuts)) → IfOk r (λ cuts. (k : ℕ) → h ≡ Some k → cuts ≡ cuts_in b.nodes k)
+cuts_held (Err e) b told h node same is r = tt
+cuts_held (Ok cuts) b told h node same is r = λ k at.
+    let here : node ≡ k = let both : Some node ≡ Some k = sym is ∙ at in cc (both) in
+    cuts_are (slice_get told.nodes node) cuts r ∙ ap (λ (x : Book). cuts_in x.nodes node) same ∙ ap (cuts_in b.nodes) here
+
+pub cuts_few : {E : Type 0} (r : Result (List Cut) E) (node : ℕ) → node ≤ 2 ^ 24 → IfOk r (λ cuts. length cuts ≤ node) → IfOk r (λ cuts. length cuts ≤ 2 ^ 24)
+cuts_few (Err e) node small r = tt
+cuts_few (Ok cuts) node small r = omega (arith, small, r)

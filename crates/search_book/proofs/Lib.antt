@@ -22,3 +22,4 @@ pub mod Outcomes
 pub mod Drafted
 pub mod Handing
 pub mod Stepped
+pub mod Heads

@@ -53,6 +53,7 @@ pub record IsPostLog {D : Type 0} (reads : D → Option (List ℕ)) (images : D 
   pub running : log.in_flight ≡ [] → IsRunningPosts reads images calls log
   pub front : log.opening ≤ length log.history
   pub few : length log.history < 2 ^ 24
+  pub nodes : length log.book.nodes ≤ 2 ^ 24
   pub shut : ShutOf log.limit (faults log.opened) (faults log.disk) log.in_flight log.shut
   pub telling : TellsAlike (reads log.opened) (reads log.disk)
   pub later : faults log.opened ≤ faults log.disk

@@ -17,3 +17,4 @@ pub mod Keeping
 pub mod Recorded
 pub mod Drafting
 pub mod Origins
+pub mod Head

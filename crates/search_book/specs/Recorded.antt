@@ -39,6 +39,7 @@ pub record IsPostLogInside {D : Type 0} (log : LogView D) (limit : ℕ) (posts :
   pub quiet : posts.in_flight ≡ [] → (log.in_flight ≡ []) × (length posts.history ≡ posts.opening + log.added)
   pub front : posts.opening ≤ length posts.history
   pub few : length posts.history < 2 ^ 24
+  pub nodes : length posts.book.nodes ≤ 2 ^ 24
   pub shut : ShutIn log.limit log.in_flight posts.in_flight posts.shut
 
 -- the bytes of the journal once the posts are in it, each as a record of its own, or the greatest number of a u64

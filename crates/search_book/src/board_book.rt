@@ -1,14 +1,17 @@
 //! The book of a search on a disk, from which workers take nodes.
-ghost use Rattle.std.specs.Prelude.{◌≡◌, ℕ, ◌+◌, ◌*◌, ◌<◌, ◌≤◌, [], false, true, length, not, slice_set, None, Some};
+ghost use Rattle.std.specs.Prelude.{◌≡◌, ℕ, ◌+◌, ◌*◌, ◌^◌, ◌<◌, ◌≤◌, [], false, true, length, not, slice_set, IfOk, IsSome, None, Some};
 ghost use Rattle.plan_base.specs.Disk.{TellsAlike};
 ghost use Rattle.search_core.specs.Board.{seen, TakeMakes};
 ghost use Rattle.search_core.specs.Book.{book_of, is_finished, is_node_and, floor_of, IsSound};
 ghost use Rattle.search_core.specs.Core.{empty_hands, hand, AreApart};
+ghost use Rattle.search_core.specs.Kept.{cuts_in};
 ghost use Rattle.search_core.specs.declared.board.Shutting.TheVariants.{Full};
 ghost use Rattle.search_book.specs.Keeping.{IsRunningPosts, PostsLast, ShutOf};
 
 use crate::post_log::PostLog;
 use crate::readers::{floor_and_best, is_finished};
+use break_rules::NoMemory;
+use head_splits::Cuts;
 use plan_base::Disk;
 use post_codec::Post;
 use search_core::{Hands, Taken};
@@ -120,6 +123,20 @@ impl<D: Disk> SearchBook<D> {
         self.hands.take(worker, node);
         self.taken += 1;
         Taken::Node { node, floor, best }
+    }
+
+    /// The cuts of the node in a worker's hand.
+    pub fn cuts(&self, worker: u32) -> Result<Cuts, NoMemory>
+        requires worker { worker < 16 }
+        requires full { IsSome (hand self.now.hands worker) }
+        ensures cuts { IfOk result (λ cuts. (k : ℕ) → hand self.now.hands worker ≡ Some k → cuts ≡ cuts_in self.now.log.book.nodes k) }
+        ensures few { IfOk result (λ cuts. length cuts ≤ 2 ^ 24) }
+    {
+        let _made = self.log.made();
+        match self.hands.held(worker) {
+            Some(node) => self.log.state().cuts_of(node),
+            None => unreachable!(),
+        }
     }
 
     /// A worker lets go of the node in its hand, if there is one, without a commit. The book gives no more nodes then.

@@ -27,6 +27,7 @@ returns-clause-log g c =
           };
       front = i.front;
       few = i.few;
+      nodes = i.nodes;
       shut = shut_of b.log.limit (K.faults b.log.opened) (K.faults b.log.disk) b.log.in_flight flight b.shut i.shut l.cause;
       telling = l.telling;
       later = l.later;
