@@ -1,12 +1,15 @@
 -- The posts of a step, as they are drafted one after another.
-use Rattle.std.specs.Prelude.{◌≡◌, ℕ, Bool, nat_lt, max, List, Option, Some, slice_get, if◌then◌else◌}
+use Rattle.std.specs.Prelude.{◌≡◌, ℕ, Bool, nat_lt, max, List, Option, Some, slice_get, if◌then◌else◌, true}
 use Rattle.std.specs.Option.{option_map_or}
 use Rattle.shift_instance.specs.Problem.{Problem}
 use Rattle.head_splits.specs.declared.Cut.{Cut}
 use Rattle.head_splits.specs.Nodes.{Node}
 use Rattle.rota_cost.specs.Costed.{Costing}
 use Rattle.post_codec.specs.declared.post.Post.{Post}
+use Rattle.search_core.specs.declared.step_posts.StepPosts.{StepPosts}
+use Rattle.search_core.specs.Board.{floor_of_node, leaves_open}
 use Rattle.search_core.specs.Book.{Book, book_after}
+use Rattle.search_core.specs.Steps.{after_step}
 use Rattle.search_book.specs.Entries.{posts_in, Makes}
 use Rattle.search_book.specs.declared.drafting.Draft.{Draft}
 
@@ -34,3 +37,8 @@ best_with plan best = option_map_or (λ p. if nat_lt p.cost best then p.cost els
 -- the floor of a node after its price, which is posted where the node is open
 abbrev pub floor_with : (bound best floor : ℕ) → ℕ
 floor_with bound best floor = if nat_lt floor best then max floor bound else floor
+
+-- a step leaves its node open, with that floor and below that best cost
+abbrev pub LeavesOpen : Problem → Book → ℕ → StepPosts → ℕ → ℕ → Type 0
+LeavesOpen i b w step floor best =
+    (leaves_open i b w step ≡ true) × (floor ≡ floor_of_node (after_step i b w step) step.node) × (best ≡ (after_step i b w step).cost)

@@ -10,6 +10,7 @@ ghost use Rattle.post_codec.specs.declared.post.Post.{Post};
 ghost use Rattle.post_codec.specs.declared.post.Post.TheVariants.{Priced, Split, Settled};
 ghost use Rattle.search_core.specs.Book.{Book};
 ghost use Rattle.search_core.specs.Steps.{followed_by, plan_posts, where_open};
+ghost use Rattle.rota_cost.specs.Costed.{IsCosted};
 ghost use Rattle.search_book.specs.Drafting.{best_with, floor_with, IsDraft};
 
 use crate::entry::Entry;
@@ -29,7 +30,8 @@ pub(crate) struct Draft {
 
 /// The best cost after a plan, where there is one.
 pub(crate) fn best_with(plan: &Option<Costed>, best: u64) -> u64
-    ensures { result ≡ best_with plan.now best }
+    ensures best { result ≡ best_with plan.now best }
+    ensures costed { IfSome plan.now IsCosted }
 {
     match plan {
         Some(plan) => {

@@ -1,12 +1,14 @@
 //! The posts of a worker's step.
-ghost use Rattle.std.specs.Prelude.{◌≡◌, ◌<◌, ◌^◌, ◌≤◌, [], Bool, false, length, IfOk};
+ghost use Rattle.std.specs.Prelude.{◌≡◌, ◌<◌, ◌^◌, ◌≤◌, [], ℕ, Bool, false, length, None, IfOk, IfSome};
 ghost use Rattle.shift_instance.specs.Problem.{Problem};
 ghost use Rattle.shift_instance.specs.Valid.{IsValid};
+ghost use Rattle.search_core.specs.declared.step_posts.Close.TheVariants.{ByPrice};
+ghost use Rattle.search_core.specs.Board.{leaves_open};
 ghost use Rattle.search_core.specs.Book.{Book};
 ghost use Rattle.search_core.specs.Steps.{posts_of, Fits};
-ghost use Rattle.search_book.specs.Drafting.{IsAfter, IsDraft};
+ghost use Rattle.search_book.specs.Drafting.{IsAfter, IsDraft, LeavesOpen};
 
-use crate::drafting::Draft;
+use crate::drafting::{Draft, best_with, floor_with};
 use break_rules::NoMemory;
 use search_core::{Close, StepPosts};
 use std::alloc::Global;
@@ -53,4 +55,20 @@ pub(crate) fn draft_of(
             Ok(draft)
         }
     }
+}
+
+/// The node's floor and the best cost after a step that is closed by its bound, where the node would be open then.
+pub(crate) fn stays_open(step: &StepPosts, floor: u64, best: u64) -> Option<(u64, u64)>
+    ensures open { IfSome result (λ p. (step.now.close ≡ ByPrice) × ((i : Problem) (b : Book) (w : ℕ) → Fits i step.now → IsAfter i b step.now.node step.now.proved.cuts [] best floor false → LeavesOpen i b w step.now p.0 p.1)) }
+    ensures closed { result ≡ None → step.now.close ≡ ByPrice → (i : Problem) (b : Book) (w : ℕ) → Fits i step.now → IsAfter i b step.now.node step.now.proved.cuts [] best floor false → leaves_open i b w step.now ≡ false }
+{
+    let Close::ByPrice = &step.close else {
+        return None;
+    };
+    let best = best_with(&step.plan, best);
+    let floor = floor_with(step.proved.bound(), best, floor);
+    if floor < best {
+        return Some((floor, best));
+    }
+    None
 }
