@@ -1,0 +1,43 @@
+#!/usr/bin/env python3
+"""Measures `shift_solve solve` on each instance of `examples/`: seconds and peak memory of the whole process, the best of five runs,
+each over a new journal file. Nearly all of it is the greedy plan.
+Build the program first, by `./run shift_solve` with any words."""
+import os
+import subprocess
+import sys
+import tempfile
+import time
+
+TOP = os.path.dirname(os.path.dirname(os.path.abspath(__file__)))
+PROGRAM = os.path.join(TOP, "crates", "shift_solve", "out", "shift_solve")
+EXAMPLES = os.path.join(TOP, "examples")
+
+
+def run(example, folder):
+    """Seconds, peak memory in MB and the cost of one run in a process of its own."""
+    journal = os.path.join(folder, "example.journal")
+    if os.path.exists(journal):
+        os.remove(journal)
+    report_name = os.path.join(folder, "report")
+    with open(os.path.join(EXAMPLES, example), "rb") as source, open(report_name, "wb") as report:
+        begin = time.perf_counter()
+        child = subprocess.Popen([PROGRAM, "solve", journal], stdin=source, stdout=report, stderr=subprocess.DEVNULL)
+        _, _, usage = os.wait4(child.pid, 0)
+        seconds = time.perf_counter() - begin
+    with open(report_name) as report:
+        cost = report.read().split("\n")[2]
+    return seconds, usage.ru_maxrss / 1024, cost
+
+
+def main():
+    if not os.path.exists(PROGRAM):
+        sys.exit("build the program first: ./run shift_solve")
+    with tempfile.TemporaryDirectory() as folder:
+        for example in sorted(it for it in os.listdir(EXAMPLES) if it.endswith(".json")):
+            runs = [run(example, folder) for _ in range(5)]
+            seconds, memory, cost = min(runs)
+            print("%-20s %8.1f ms %6.1f MB  %s" % (example, seconds * 1e3, memory, cost))
+
+
+if __name__ == "__main__":
+    main()
