@@ -2,7 +2,7 @@
 ghost use Rattle.std.specs.Prelude.{◌≡◌, ◌+◌, ◌-◌, ◌^◌, ◌<◌, ◌≤◌, ◌↔◌, List, ℕ, [], ◌∷◌, ◌++◌, length, OnOk, OnErr, IfOk, IfErr, IfSome, OnSome, IsErrOf, IsTrue, MatchResult, vec_capacity, vec_len, max, map, sum_by};
 ghost use Rattle.plan_base.specs.Causes.{Rose};
 ghost use Rattle.plan_base.specs.Disk.{TellsAlike, IsSynced, HoldsThroughout, OnlyLooks};
-ghost use Rattle.gated_journal.specs.Format.{framed, fresh, end_after, IsBeforeOrAfter, IsNoLonger};
+ghost use Rattle.gated_journal.specs.Format.{framed, fresh, end_after, spelled, IsBeforeOrAfter, IsNoLonger};
 ghost use Rattle.gated_journal.specs.View.{IsSettled};
 ghost use Rattle.gated_journal.specs.Faults.{PutFails, CreateFails, OpenFails};
 
@@ -150,6 +150,15 @@ impl Journal {
             limit,
         };
         Ok((journal, head, records))
+    }
+
+    /// Where the journal ends: how many bytes stand in its file up to the closed gate, that one included.
+    pub fn end(&self) -> u64
+        ensures end { result ≡ length (spelled self.now.head self.now.records) + 1 }
+        ensures within { result ≤ self.now.limit }
+    {
+        let _limit = u64::from(self.limit);
+        self.gate + 1
     }
 
     /// Whether the file stays within the limit with one more record of this length.

@@ -4,6 +4,8 @@ use denote.Param.Send.{IsSend, sendable}
 use Rattle.plan_base.specs.declared.disk.Disk.{Ghosts}
 use Rattle.gated_journal.proofs.journal.Journal.TheSendSync as journal
 use Rattle.std.proofs.Crossing.{crosses}
+use Rattle.search_book.specs.contracts.post_log.PostLog.{the_row as posts_row}
+use Rattle.search_book.specs.contracts.board_book.SearchBook.{the_row as search_row}
 use Rattle.search_book.specs.contracts.record_log.RecordLog.{the_row as log_row}
 use Rattle.search_book.specs.contracts.book.Book.{the_row}
 
@@ -12,3 +14,9 @@ log_send T g s = search (journal.the_send, crosses, sendable) depth 60 fits 2000
 
 pub book_send : (T : RattleType) (g : Ghosts T.Denot) → IsSend T → IsSend (the_row T g)
 book_send T g s = search (log_send, crosses, sendable) depth 60 fits 20000
+
+pub posts_send : (T : RattleType) (g : Ghosts T.Denot) → IsSend T → IsSend (posts_row T g)
+posts_send T g s = search (log_send, crosses, sendable) depth 60 fits 20000
+
+pub search_book_send : (T : RattleType) (g : Ghosts T.Denot) → IsSend T → IsSend (search_row T g)
+search_book_send T g s = search (posts_send, crosses, sendable) depth 60 fits 20000

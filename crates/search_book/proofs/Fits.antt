@@ -1,6 +1,6 @@
 -- Legal rows of an instance have a spelling.
-use Rattle.std.proofs.Common.{◌≡◌, inl, inr, ℕ, zero, suc, ◌+◌, ◌*◌, ◌/◌, ◌%◌, ◌<◌, ◌≤◌, ◌^◌, Bool, true, false, cond, ◌==◌, List, [], ◌∷◌, length, replicate, refl, ap, ◌∙◌, sym, arith, sum_by, count_by, fold, nat_lt, nat_le, Option, Some, None, eq-eqb, length-append}
-use Rattle.std.specs.Prelude.{All, slice_get}
+use Rattle.std.proofs.Common.{◌≡◌, inl, inr, ℕ, zero, suc, ◌+◌, ◌*◌, ◌/◌, ◌%◌, ◌<◌, ◌≤◌, ◌^◌, Bool, true, false, cond, ◌==◌, List, [], ◌∷◌, ◌++◌, length, replicate, refl, ap, ◌∙◌, sym, arith, sum_by, count_by, fold, nat_lt, nat_le, Option, Some, None, eq-eqb, length-append}
+use Rattle.std.specs.Prelude.{All, IsTrue, slice_get}
 use Rattle.std.specs.Option.{option_map_or}
 use Rattle.std.specs.List.{list_all, AllByRecursion}
 use Rattle.std.proofs.lemmas.Bool.{and_parts, and_from, lt-ltb, le-ltb, ltb-true, eqb-true, false≢true, cond_both, cases_order, ne_eqb}
@@ -10,17 +10,19 @@ use Rattle.std.proofs.lemmas.List.Elements.{All-from_recursion, recursion_from_A
 use Rattle.std.proofs.lemmas.Nat.{div-mul-add, mod-mul-add}
 use Rattle.break_rules.specs.declared.Break.{Break}
 use Rattle.break_rules.specs.declared.Rule.{Rule}
-use Rattle.break_rules.specs.Breaks.{is_legal, total_in}
+use Rattle.break_rules.specs.Breaks.{is_legal, is_live, total_in}
 use Rattle.break_rules.specs.Ranges.{IsRule, IsTotal}
 use Rattle.break_rules.proofs.Lists.{Has, Has-flat_map, all_at}
 use Rattle.break_rules.proofs.Counts.{count_by_none, count_by_at_most}
-use Rattle.break_rules.proofs.LegalLists.{legal_parts}
+use Rattle.break_rules.proofs.LegalLists.{legal_parts, live_rest}
 use Rattle.break_rules.proofs.Ranges.{ranges_from_none}
 use Rattle.shift_instance.specs.declared.Shift.{Shift}
 use Rattle.shift_instance.specs.declared.Duty.{Duty}
 use Rattle.shift_instance.specs.declared.Row.{Row}
 use Rattle.shift_instance.specs.Problem.{Problem, shift_list}
-use Rattle.shift_instance.specs.Rota.{is_list_of, is_on, heads_on, is_legal_rota, duty_of, rota_of, are_legal_rows}
+use Rattle.head_splits.specs.declared.Class.{Class}
+use Rattle.head_splits.specs.Settled.{is_live_class}
+use Rattle.shift_instance.specs.Rota.{is_shift_and, is_list_of, is_on, heads_on, is_legal_rota, duty_of, rota_of, are_legal_rows}
 use Rattle.shift_instance.specs.Valid.{IsValid}
 use Rattle.shift_instance.proofs.Rotas.{heads_within, legal_duties}
 use Rattle.shift_instance.proofs.Shifts.{Has_at, rule_passes}
@@ -135,3 +137,17 @@ post_fits i (Plan worker rows cost) valid h = (omega arith, All-from_recursion C
 post_fits i (Priced worker node prices) valid h = absurd h
 post_fits i (Split worker node class m) valid h = absurd h
 post_fits i (Settled worker node) valid h = absurd h
+
+-- ---- a live class has few breaks
+live_few : (o : Option (Shift × Rule)) (prefix : List Break) → ((x : Shift × Rule) → o ≡ Some x → IsRule x.1) → option_map_or (λ x. is_live x.1 x.0.len prefix) o false ≡ true → length prefix ≤ 48
+live_few None prefix rule h = absurd (false≢true h)
+live_few (Some x) prefix rule h =
+    let whole = live_rest x.1 x.0.len prefix h in
+    let few : length (prefix ++ whole.0) ≤ 48 = few_of_shift (Some x) (prefix ++ whole.0) rule whole.1 in
+    omega (arith, length-append prefix whole.0)
+
+pub class_fits : (i : Problem) (class : Class) → IsValid i → IsTrue (is_live_class i class) → length class.prefix < 2 ^ 8
+class_fits i class valid live =
+    let there = (and_parts (nat_lt class.day i.days) (is_shift_and i class.shift (λ x. is_live x.1 x.0.len class.prefix)) live).1 in
+    let few : length class.prefix ≤ 48 = live_few (slice_get (shift_list i) class.shift) class.prefix (λ x at. ranges_from_none x.1 (rule_passes i valid x (Has_at (shift_list i) class.shift x at))) there in
+    omega arith

@@ -12,3 +12,14 @@ pub mod Posted
 pub mod Crosses
 pub mod Telling
 pub mod Fits
+pub mod Recording
+pub mod Few
+pub mod Appending
+pub mod Stopping
+pub mod Drafts
+pub mod Commits
+pub mod Outcomes
+pub mod Drafted
+pub mod Handing
+pub mod Stepped
+pub mod Heads

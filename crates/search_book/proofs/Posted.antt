@@ -57,7 +57,7 @@ module _ {D : Type 0} (calls : D → ℕ) where
   pub posted : (old : BookView D) (rows : List Row) (n : ℕ) (log new : LogView D) (bytes : List ℕ) (i : Problem) (budget : ℕ) (posts posts' : List Post) (best opening : ℕ) (flight : List Post) (shut : Option Shutting)
       → view_of log i budget posts best opening flight shut ≡ old
       → n ≡ rows_cost old.instance rows → n < old.cost → Spells bytes (Plan 0 rows n ∷ [])
-      → new ≡ record log { disk = new.disk; records = log.records ++ bytes ∷ []; added = log.added + 1 }
+      → new ≡ record log { disk = new.disk; records = log.records ++ bytes ∷ []; added = log.added + 1; spare = new.spare }
       → end_after log.head log.records (length bytes) ≤ log.limit → calls new.disk ≡ calls log.disk + 4
       → posts' ≡ posts ++ Plan 0 rows n ∷ []
       → Posts calls old (view_of new i budget posts' n opening flight shut) rows (kept_at n)
@@ -89,7 +89,7 @@ module _ {D : Type 0} (faults : D → ℕ) where
   pub failed : (old : BookView D) (rows : List Row) (n : ℕ) (log new : LogView D) (bytes : List ℕ) (i : Problem) (budget : ℕ) (posts posts' : List Post) (best opening : ℕ) (flight : List Post) (shut : Option Shutting) (post : Post)
       → view_of log i budget posts best opening flight shut ≡ old
       → n ≡ rows_cost old.instance rows → n < old.cost → Spells bytes (Plan 0 rows n ∷ []) → old.shut ≡ None
-      → new ≡ record log { disk = new.disk; in_flight = bytes ∷ [] }
+      → new ≡ record log { disk = new.disk; in_flight = bytes ∷ []; spare = new.spare }
       → end_after log.head log.records (length bytes) ≤ log.limit → Rose (faults log.disk) (faults new.disk)
       → posts' ≡ posts → post ≡ Plan 0 rows n
       → PostFails faults old (view_of new i budget posts' best opening (post ∷ []) (Some ByDisk)) rows DiskFault
@@ -108,7 +108,7 @@ module _ {D : Type 0} (faults : D → ℕ) where
   pub filled : (old : BookView D) (rows : List Row) (n : ℕ) (log new : LogView D) (bytes : List ℕ) (i : Problem) (budget : ℕ) (posts posts' : List Post) (best opening : ℕ) (flight : List Post) (shut : Option Shutting) (end limit : ℕ)
       → view_of log i budget posts best opening flight shut ≡ old
       → n ≡ rows_cost old.instance rows → n < old.cost → Spells bytes (Plan 0 rows n ∷ []) → old.shut ≡ None
-      → new ≡ log → end ≡ end_after log.head log.records (length bytes) → limit ≡ log.limit → limit < end
+      → new ≡ record log { spare = new.spare } → end ≡ end_after log.head log.records (length bytes) → limit ≡ log.limit → limit < end
       → posts' ≡ posts
       → PostFails faults old (view_of new i budget posts' best opening flight (Some (ByLimit end limit))) rows (Full end limit)
   filled old rows n log new bytes i budget posts posts' best opening flight shut end limit is exact cheaper spells running err ends lim past items =

@@ -10,3 +10,11 @@ pub mod Reading
 pub mod Opening
 pub mod Posting
 pub mod Written
+pub mod PostLog
+pub mod Entries
+pub mod Added
+pub mod Keeping
+pub mod Recorded
+pub mod Drafting
+pub mod Origins
+pub mod Head

@@ -23,6 +23,8 @@ pub record LogView (D : Type 0) : Type 0 where
   pub opened : D
   -- how many were added since
   pub added : ℕ
+  -- the most bytes of a record for which there is room
+  pub spare : ℕ
 
 -- For every b, each image since the b-th of the added records was made sure of holds a front of the run with those b
 -- records in it.
@@ -31,9 +33,9 @@ RecordsLast reads images_since calls log =
     OnSome (reads log.disk) ((b : ℕ) (image : List ℕ) → b ≤ log.added → images_since log.disk (calls log.opened + 4 * b) image
     → HoldsPrefix log.limit log.head (log.records ++ log.in_flight) (log.opening + b) image)
 
--- the journal that a log stands for; what it has spare is left open
+-- the journal that a log stands for
 abbrev pub journal_of : {D : Type 0} → LogView D → JournalView
-journal_of log = record { head = log.head; records = log.records; limit = log.limit; spare = 0 }
+journal_of log = record { head = log.head; records = log.records; limit = log.limit; spare = log.spare }
 
 -- while no put has ended in a fault, the disk stands for the records, and each record took four calls
 pub record IsRunningLog {D : Type 0} (reads : D → Option (List ℕ)) (images : D → List ℕ → Type 0) (calls : D → ℕ) (log : LogView D) : Type 0 where
@@ -63,6 +65,14 @@ flight_of (Some record_) = record_.value.items ∷ []
 abbrev pub AddFails : {D : Type 0} → (D → ℕ) → LogView D → LogView D → List ℕ → JournalFault → Type 0
 AddFails faults old new bytes DiskFault = (new ≡ record old { disk = new.disk; in_flight = bytes ∷ [] }) × (end_after old.head old.records (length bytes) ≤ old.limit) × Rose (faults old.disk) (faults new.disk)
 AddFails faults old new bytes (Full end limit) = (new ≡ old) × (end ≡ end_after old.head old.records (length bytes)) × (limit ≡ old.limit) × (limit < end)
-AddFails faults old new bytes NoMemory = new ≡ old
+AddFails faults old new bytes NoMemory = ⊥
 AddFails faults old new bytes NotAJournal = ⊥
 AddFails faults old new bytes (Damaged at) = ⊥
+
+-- why a record isn't added where room is still to be made, and what the log is then
+abbrev pub AddOneFails : {D : Type 0} → (D → ℕ) → LogView D → LogView D → List ℕ → JournalFault → Type 0
+AddOneFails faults old new bytes DiskFault = AddFails faults (record old { spare = new.spare }) new bytes DiskFault
+AddOneFails faults old new bytes (Full end limit) = AddFails faults (record old { spare = new.spare }) new bytes (Full end limit)
+AddOneFails faults old new bytes NoMemory = new ≡ record old { spare = new.spare }
+AddOneFails faults old new bytes NotAJournal = ⊥
+AddOneFails faults old new bytes (Damaged at) = ⊥

@@ -231,7 +231,7 @@ impl<D: Disk> Book<D> {
             cost,
         };
         let bytes = spelled(self.alloc, &self.instance, &post)?;
-        match self.log.add(&bytes) {
+        match self.log.add_one(&bytes) {
             Ok(()) => {
                 self.posts.push_reserved(post);
                 self.cost = cost;

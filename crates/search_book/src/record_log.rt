@@ -1,11 +1,13 @@
 //! The records of a disk's journal, as whoever restarts finds them.
-ghost use Rattle.std.specs.Prelude.{◌≡◌, ◌+◌, ◌^◌, ◌<◌, ◌≤◌, ◌∷◌, [], ◌++◌, length, OnOk, MatchResult};
+ghost use Rattle.std.specs.Prelude.{◌≡◌, ◌+◌, ◌^◌, ◌<◌, ◌≤◌, ◌∷◌, [], ◌++◌, length, max, OnOk, OnErr, MatchResult};
 ghost use Rattle.gated_journal.specs.Format.{end_after};
 ghost use Rattle.gated_journal.specs.View.{IsSettled};
-ghost use Rattle.search_book.specs.Records.{AddFails, IsLog};
+ghost use Rattle.search_book.specs.Posts.{bytes_used};
+ghost use Rattle.search_book.specs.Records.{AddFails, AddOneFails, IsLog};
 
 use gated_journal::{Journal, JournalFault};
 use plan_base::Disk;
+use std::alloc::AllocError;
 use std::marker::Model;
 use std::snapshot::Snapshot;
 
@@ -30,9 +32,9 @@ impl<D: Disk> Model for RecordLog<D> {
     ghost use Rattle.search_book.specs.Records.{flight_of};
     ghost use Rattle.search_book.specs.Inside.{IsLogInside};
 
-    ghost view = { λ l. record { disk = l.disk; head = l.journal.head; limit = l.journal.limit; records = l.journal.records; in_flight = flight_of l.in_flight; opening = l.opening; opened = l.opened.value; added = l.added } };
+    ghost view = { λ l. record { disk = l.disk; head = l.journal.head; limit = l.journal.limit; records = l.journal.records; in_flight = flight_of l.in_flight; opening = l.opening; opened = l.opened.value; added = l.added; spare = l.journal.spare } };
 
-    ghost invariant = { λ l. IsLogInside D.reads D.images D.images_since D.calls D.faults l.journal (record { disk = l.disk; head = l.journal.head; limit = l.journal.limit; records = l.journal.records; in_flight = flight_of l.in_flight; opening = l.opening; opened = l.opened.value; added = l.added }) };
+    ghost invariant = { λ l. IsLogInside D.reads D.images D.images_since D.calls D.faults l.journal (record { disk = l.disk; head = l.journal.head; limit = l.journal.limit; records = l.journal.records; in_flight = flight_of l.in_flight; opening = l.opening; opened = l.opened.value; added = l.added; spare = l.journal.spare }) };
 }
 
 impl<D: Disk> RecordLog<D> {
@@ -42,7 +44,7 @@ impl<D: Disk> RecordLog<D> {
         requires settled { IsSettled journal (D.reads disk) (D.images disk) }
         requires opening { opening ≡ length journal.records }
         requires small { journal.limit ≤ 2 ^ 26 }
-        ensures { result ≡ record { disk = disk; head = journal.head; limit = journal.limit; records = journal.records; in_flight = []; opening = opening; opened = disk; added = 0 } }
+        ensures { result ≡ record { disk = disk; head = journal.head; limit = journal.limit; records = journal.records; in_flight = []; opening = opening; opened = disk; added = 0; spare = journal.spare } }
     {
         let opened = Snapshot::of(&disk);
         RecordLog {
@@ -63,15 +65,31 @@ impl<D: Disk> RecordLog<D> {
         self.added
     }
 
-    /// Adds a record.
+    /// Where the journal ends: how many bytes stand in its file up to the closed gate, that one included.
+    pub(crate) fn end(&self) -> u64
+        ensures end { result ≡ bytes_used self.now.head self.now.records }
+        ensures within { result ≤ self.now.limit }
+    {
+        self.journal.end()
+    }
+
+    /// Makes room for a record of this length. It never lowers the room.
+    pub(crate) fn reserve(&mut self, bytes: usize) -> Result<(), AllocError>
+        ensures ok { OnOk result (self.new ≡ record self.old { spare = max self.old.spare bytes }) }
+        ensures err { OnErr result (self.new ≡ self.old) }
+    {
+        self.journal.reserve(bytes)
+    }
+
+    /// Adds a record for which there is room.
     pub(crate) fn add(&mut self, bytes: &Vec<u8>) -> Result<(), JournalFault>
         requires running { self.old.in_flight ≡ [] }
+        requires room { length bytes.now.items ≤ self.old.spare }
         ensures ok { OnOk result (self.new ≡ record self.old { disk = self.new.disk; records = self.old.records ++ bytes.now.items ∷ []; added = self.old.added + 1 }) }
         ensures cause { MatchResult result (λ _. end_after self.old.head self.old.records (length bytes.now.items) ≤ self.old.limit) (AddFails D.faults self.old self.new bytes.now.items) }
         ensures four { OnOk result (D.calls self.new.disk ≡ D.calls self.old.disk + 4) }
         ensures faults { D.faults self.old.disk ≤ D.faults self.new.disk }
     {
-        self.journal.reserve(bytes.len())?;
         match self.journal.put(&mut self.disk, bytes) {
             Ok(()) => {
                 self.added += 1;
@@ -83,6 +101,18 @@ impl<D: Disk> RecordLog<D> {
             }
             Err(fault) => Err(fault),
         }
+    }
+
+    /// Makes room for a record and adds it.
+    pub(crate) fn add_one(&mut self, bytes: &Vec<u8>) -> Result<(), JournalFault>
+        requires running { self.old.in_flight ≡ [] }
+        ensures ok { OnOk result (self.new ≡ record self.old { disk = self.new.disk; records = self.old.records ++ bytes.now.items ∷ []; added = self.old.added + 1; spare = self.new.spare }) }
+        ensures cause { MatchResult result (λ _. end_after self.old.head self.old.records (length bytes.now.items) ≤ self.old.limit) (AddOneFails D.faults self.old self.new bytes.now.items) }
+        ensures four { OnOk result (D.calls self.new.disk ≡ D.calls self.old.disk + 4) }
+        ensures faults { D.faults self.old.disk ≤ D.faults self.new.disk }
+    {
+        self.reserve(bytes.len())?;
+        self.add(bytes)
     }
 
     /// The disk, handed back.

@@ -5,7 +5,7 @@ use Rattle.post_codec.specs.declared.post.Post.{Post}
 use Rattle.post_codec.specs.declared.post.Post.TheVariants.{Plan}
 use Rattle.post_codec.specs.Spelling.{Spells}
 use Rattle.search_book.specs.Fold.{IsFoldAt}
-use Rattle.search_book.specs.Records.{LogView, AddFails}
+use Rattle.search_book.specs.Records.{LogView, AddOneFails}
 use Rattle.search_book.specs.View.{BookView}
 use Rattle.search_book.specs.Written.{IsWritten, ShutBy, posts_in}
 use Rattle.search_book.proofs.Books.{allowed}
@@ -14,8 +14,8 @@ use Rattle.search_book.proofs.Posted.{posted, failed, filled}
 use Rattle.search_book.proofs.Written.{written_more, flight_none}
 use Rattle.search_book.proofs.book.Book.add_plan.Goals as goal
 
-pub add-requires : goal.add-requires
-add-requires g c =
+pub add_one-requires : goal.add_one-requires
+add_one-requires g c =
     let b = c.self.inside in
     let i = c.self.invariant in
     record { running = flight_none b.log.in_flight (posts_in b.in_flight) i.flight (i.running (ap (λ (v : BookView g.row.D.Denot). v.shut) c.self.view_is ∙ c.requires.open)) }
@@ -53,7 +53,7 @@ invariant_of-self-in-Err-DiskFault g c =
     let b = c.self.inside in
     let i = c.self.invariant in
     let post : Post = Plan 0 c.args.rows c.args.cost in
-    let cause = subst (AddFails g.D.Disk.faults b.log c.add.new.self c.in_ok-bytes.bytes.items) c.in-Err-DiskFault.field-0-is c.in-Err-DiskFault.ensures.cause in
+    let cause = subst (AddOneFails g.D.Disk.faults b.log c.add_one.new.self c.in_ok-bytes.bytes.items) c.in-Err-DiskFault.field-0-is c.in-Err-DiskFault.ensures.cause in
     let err = cause.0 in
     let instance : b.instance ≡ c.args.self.now.instance = ap (λ (v : BookView g.row.D.Denot). v.instance) c.self.view_is in
     let best : b.cost ≡ c.args.self.now.cost = ap (λ (v : BookView g.row.D.Denot). v.cost) c.self.view_is in
@@ -84,19 +84,19 @@ returns-in-Ok g c =
     let b = c.self.inside in
     let post : Post = Plan 0 c.args.rows c.args.cost in
     let items : c.push_reserved.new.self.items ≡ b.posts.items ++ post ∷ [] = c.push_reserved.ensures.items ∙ ap (λ (l : List Post). l ++ post ∷ []) c.reserve.ensures.items in
-    posted g.D.Disk.calls c.args.self.now c.args.rows c.args.cost b.log c.add.new.self c.in_ok-bytes.bytes.items b.instance b.budget b.posts.items c.push_reserved.new.self.items b.cost b.opening (posts_in b.in_flight) b.shut
+    posted g.D.Disk.calls c.args.self.now c.args.rows c.args.cost b.log c.add_one.new.self c.in_ok-bytes.bytes.items b.instance b.budget b.posts.items c.push_reserved.new.self.items b.cost b.opening (posts_in b.in_flight) b.shut
     c.self.view_is c.requires.exact c.requires.cheaper c.in_ok-bytes.ensures c.in-Ok.ensures.ok c.in-Ok.ensures.cause c.in-Ok.ensures.four items
 
 pub returns-in-Err-DiskFault : goal.returns-in-Err-DiskFault
 returns-in-Err-DiskFault g c =
     let b = c.self.inside in
-    let cause = subst (AddFails g.D.Disk.faults b.log c.add.new.self c.in_ok-bytes.bytes.items) c.in-Err-DiskFault.field-0-is c.in-Err-DiskFault.ensures.cause in
-    failed g.D.Disk.faults c.args.self.now c.args.rows c.args.cost b.log c.add.new.self c.in_ok-bytes.bytes.items b.instance b.budget b.posts.items c.reserve.new.self.items b.cost b.opening (posts_in b.in_flight) b.shut c.of.result.value
+    let cause = subst (AddOneFails g.D.Disk.faults b.log c.add_one.new.self c.in_ok-bytes.bytes.items) c.in-Err-DiskFault.field-0-is c.in-Err-DiskFault.ensures.cause in
+    failed g.D.Disk.faults c.args.self.now c.args.rows c.args.cost b.log c.add_one.new.self c.in_ok-bytes.bytes.items b.instance b.budget b.posts.items c.reserve.new.self.items b.cost b.opening (posts_in b.in_flight) b.shut c.of.result.value
     c.self.view_is c.requires.exact c.requires.cheaper c.in_ok-bytes.ensures c.requires.open cause.0 cause.1 cause.2 c.reserve.ensures.items c.of.ensures
 
 pub returns-in-Err-Full : goal.returns-in-Err-Full
 returns-in-Err-Full g c =
     let b = c.self.inside in
-    let cause = subst (AddFails g.D.Disk.faults b.log c.add.new.self c.in_ok-bytes.bytes.items) c.in-Err-Full.field-0-is c.in-Err-Full.ensures.cause in
-    filled g.D.Disk.faults c.args.self.now c.args.rows c.args.cost b.log c.add.new.self c.in_ok-bytes.bytes.items b.instance b.budget b.posts.items c.reserve.new.self.items b.cost b.opening (posts_in b.in_flight) b.shut _ _
+    let cause = subst (AddOneFails g.D.Disk.faults b.log c.add_one.new.self c.in_ok-bytes.bytes.items) c.in-Err-Full.field-0-is c.in-Err-Full.ensures.cause in
+    filled g.D.Disk.faults c.args.self.now c.args.rows c.args.cost b.log c.add_one.new.self c.in_ok-bytes.bytes.items b.instance b.budget b.posts.items c.reserve.new.self.items b.cost b.opening (posts_in b.in_flight) b.shut _ _
     c.self.view_is c.requires.exact c.requires.cheaper c.in_ok-bytes.ensures c.requires.open cause.0 cause.1 cause.2 cause.3 c.reserve.ensures.items

@@ -1,0 +1,115 @@
+-- The value of a duty, and the term of a shift by the values of its days.
+use Rattle.std.proofs.Common.{◌≡◌, inl, ℕ, ◌-◌, ◌*◌, ◌^◌, ◌≤◌, ℤ, pos, ◌+ℤ◌, ◌-ℤ◌, ◌*ℤ◌, ◌≤ℤ◌, Bool, true, false, cond, List, [], ◌∷◌, map, refl, sym, ap, ◌∙◌, subst, arith, Option, Some, None}
+use Rattle.std.specs.Prelude.{slice_get, IsSomeAnd, IfOk, Result, Ok, Err}
+use Rattle.std.specs.Int.{int_max, int_min}
+use Rattle.std.specs.Int.RustNames.{unsigned_abs}
+use Rattle.std.specs.List.{range_with_len}
+use Rattle.std.specs.Option.{option_map_or}
+use Rattle.std.proofs.lemmas.Int.{ints}
+use Rattle.std.proofs.lemmas.Bool.{false≢true}
+use Rattle.break_rules.specs.declared.Break.{Break}
+use Rattle.break_rules.specs.declared.Rule.{Rule}
+use Rattle.break_rules.specs.Breaks.{is_legal, is_live, legal_lists, works_at}
+use Rattle.break_rules.specs.Sums.{int_sum_by, greatest}
+use Rattle.break_rules.proofs.Lists.{Has, Has-map, from_map, from_below}
+use Rattle.break_rules.proofs.Sums.{int_sum_by-same, greatest_bounds, greatest_reached}
+use Rattle.break_rules.proofs.LegalLists.{from_legal_lists, live_from}
+use Rattle.shift_instance.specs.declared.Shift.{Shift}
+use Rattle.shift_instance.specs.Problem.{Problem, slots, shift_list, below}
+use Rattle.shift_instance.specs.Rota.{lists_of, is_list_of}
+use Rattle.shift_instance.specs.Worth.{earned}
+use Rattle.shift_instance.proofs.Offsets.{earned_by_offsets}
+use Rattle.shift_instance.proofs.Rotas.{Has-lists_of, from_lists_of}
+use Rattle.head_splits.specs.declared.Cut.{Cut}
+use Rattle.head_splits.specs.declared.Prices.{Prices}
+use Rattle.head_splits.specs.Cuts.{low, high, whole_class}
+use Rattle.head_splits.specs.Bound.{is_nil, reduced, is_forced, day_value, free_day_value, term}
+use Rattle.cert_check.specs.Rests.{price_in, earned_from, ArePricesOf, Completes, IsGreatest}
+use Rattle.cert_check.specs.Below.{duty_with, bonuses, whole_worth}
+use Rattle.cert_check.specs.Values.{IsValue}
+
+not_nil : {X : Type 0} (xs : List X) (x : X) → Has xs x → is_nil xs ≡ false
+not_nil [] x h = absurd h
+not_nil (y ∷ ys) x h = refl
+
+-- a shift with which no list is live has no legal list
+pub nil_without : (i : Problem) (s : ℕ) (x : Shift × Rule) → slice_get (shift_list i) s ≡ Some x → is_live x.1 x.0.len [] ≡ false → is_nil (lists_of i s) ≡ true
+nil_without i s x e dead = ap (λ (o : Option (Shift × Rule)). is_nil (option_map_or (λ (x : Shift × Rule). legal_lists x.1 x.0.len) o [])) e ∙ go (legal_lists x.1 x.0.len) (λ list h. false≢true (sym dead ∙ live_from x.1 x.0.len [] list (from_legal_lists x.1 x.0.len list h)))
+  where
+    go : (xs : List (List Break)) → ((x : List Break) → Has xs x → ⊥) → is_nil xs ≡ true
+    go [] h = refl
+    go (x ∷ xs) h = absurd (h x (inl refl))
+
+reached : (xs : List ℤ) (x : ℤ) → Has xs x → Has xs (greatest xs)
+reached [] x h = absurd h
+reached (y ∷ xs) x h = greatest_reached y xs
+
+module _ (i : Problem) (cuts : List Cut) (prices : Prices) (s day : ℕ) (sums : List ℤ) (x : Shift × Rule) (e : slice_get (shift_list i) s ≡ Some x) (short : x.0.len ≤ slots i) (of : ArePricesOf i x.0 day prices.slots sums) where
+  -- what a duty earns, by the sums
+  earned_is : (list : List Break) → earned i prices.slots (duty_with s day list) ≡ earned_from (price_in sums) x.1 x.0.len 0 list
+  earned_is list =
+      let whole : x.0.len ≡ x.0.len - 0 = omega arith in
+      let f : ℕ → ℤ = λ o. cond (works_at x.1 x.0.len list o) (price_in sums o) (pos 0) in
+      earned_by_offsets i prices.slots (duty_with s day list) x e short
+      ∙ int_sum_by-same _ f (below x.0.len) (λ o m. ap (λ (z : ℤ). cond (works_at x.1 x.0.len list o) z (pos 0)) (sym (of o (from_below x.0.len o m))))
+      ∙ ap (λ n. int_sum_by f (range_with_len 0 n)) whole
+
+  reduced_is : (list : List Break) → reduced i cuts prices (duty_with s day list) ≡ whole_worth cuts prices.cuts s day sums x.1 x.0.len [] list
+  reduced_is list = ap (λ (z : ℤ). z +ℤ bonuses cuts prices.cuts (duty_with s day list)) (earned_is list)
+
+  list_is : (list : List Break) → is_list_of i s list ≡ is_legal x.1 x.0.len list
+  list_is list = ap (λ (o : Option (Shift × Rule)). option_map_or (λ (x : Shift × Rule). is_legal x.1 x.0.len list) o false) e
+
+  -- the greatest worth of a whole list is the value that the bound takes
+  pub value_is : (v : ℤ) → IsGreatest (Completes x.1 x.0.len []) (whole_worth cuts prices.cuts s day sums x.1 x.0.len []) v → unsigned_abs v ≤ 2 ^ 74 → IsValue i cuts prices s day v
+  value_is v g size =
+      let f : List Break → ℤ = λ list. reduced i cuts prices (duty_with s day list) in
+      let list = g.reached.0 in
+      let has : Has (lists_of i s) list = Has-lists_of i s list (list_is list ∙ g.reached.1) in
+      let m : Has (map f (lists_of i s)) (f list) = Has-map f (lists_of i s) list has in
+      let up : f list ≤ℤ greatest (map f (lists_of i s)) = greatest_bounds (map f (lists_of i s)) (f list) m in
+      let l = from_map f (lists_of i s) (greatest (map f (lists_of i s))) (reached (map f (lists_of i s)) (f list) m) in
+      let down : f l.0 ≤ℤ v = subst (λ (z : ℤ). z ≤ℤ v) (sym (reduced_is l.0)) (g.greatest l.0 (sym (list_is l.0) ∙ from_lists_of i s l.0 l.1)) in
+      let top : f l.0 ≡ greatest (map f (lists_of i s)) = l.2 in
+      let is : f list ≡ v = reduced_is list ∙ g.reached.2 in
+      record { some = not_nil (lists_of i s) list has; is = omega (arith, ints); small = size }
+
+-- the shift of a number, and what holds of it
+pub shift_some : (o : Option (Shift × Rule)) (P : Shift × Rule → Type 0) → IsSomeAnd o P → (x : Shift × Rule) × (o ≡ Some x) × P x
+shift_some None P h = absurd h
+shift_some (Some x) P h = (x, refl, h)
+
+pub shift_at : (o : Option (Shift × Rule)) (x : Shift × Rule) (P : Shift × Rule → Type 0) → o ≡ Some x → IsSomeAnd o P → P x
+shift_at o x P e h = subst (λ (q : Option (Shift × Rule)). IsSomeAnd q P) e h
+
+module _ (i : Problem) (cuts : List Cut) (prices : Prices) (s day : ℕ) (v : ℤ) (lo hi : ℕ) (value : IsValue i cuts prices s day v) (is_low : lo ≡ low cuts (whole_class s day)) (is_high : hi ≡ high i cuts (whole_class s day)) where
+  pub day_worth : int_max (v *ℤ pos lo) (v *ℤ pos hi) ≡ day_value i cuts prices s day
+  day_worth =
+      ap (λ (n : ℕ). int_max (v *ℤ pos n) (v *ℤ pos hi)) is_low
+      ∙ ap (λ (n : ℕ). int_max (v *ℤ pos (low cuts (whole_class s day))) (v *ℤ pos n)) is_high
+      ∙ ap (λ (z : ℤ). int_max (z *ℤ pos (low cuts (whole_class s day))) (z *ℤ pos (high i cuts (whole_class s day)))) value.is
+
+  pub free_worth : int_max (pos 0) (v *ℤ pos hi) ≡ free_day_value i cuts prices s day
+  free_worth =
+      ap (λ (n : ℕ). int_max (pos 0) (v *ℤ pos n)) is_high
+      ∙ ap (λ (z : ℤ). int_max (pos 0) (z *ℤ pos (high i cuts (whole_class s day)))) value.is
+
+-- the term by the sums over the days
+pub term_is : (i : Problem) (cuts : List Cut) (prices : Prices) (s : ℕ) (z ranged free : ℤ) (forced : Bool) (paid : ℕ)
+    → is_nil (lists_of i s) ≡ false
+    → z ≡ cond forced (pos paid -ℤ ranged) (int_min (pos 0) (pos paid -ℤ free))
+    → forced ≡ is_forced i cuts s → ranged ≡ int_sum_by (day_value i cuts prices s) (below i.days) → free ≡ int_sum_by (free_day_value i cuts prices s) (below i.days)
+    → paid ≡ prices.q * i.shift → z ≡ term i cuts prices s
+term_is i cuts prices s z ranged free forced paid some is is_forced_ is_ranged is_free is_paid =
+    let rest : ℤ = cond (is_forced i cuts s) (pos (prices.q * i.shift) -ℤ int_sum_by (day_value i cuts prices s) (below i.days)) (int_min (pos 0) (pos (prices.q * i.shift) -ℤ int_sum_by (free_day_value i cuts prices s) (below i.days))) in
+    is
+    ∙ ap (λ (b : Bool). cond b (pos paid -ℤ ranged) (int_min (pos 0) (pos paid -ℤ free))) is_forced_
+    ∙ ap (λ (n : ℕ). cond (is_forced i cuts s) (pos n -ℤ ranged) (int_min (pos 0) (pos n -ℤ free))) is_paid
+    ∙ ap (λ (y : ℤ). cond (is_forced i cuts s) (pos (prices.q * i.shift) -ℤ y) (int_min (pos 0) (pos (prices.q * i.shift) -ℤ free))) is_ranged
+    ∙ ap (λ (y : ℤ). cond (is_forced i cuts s) (pos (prices.q * i.shift) -ℤ int_sum_by (day_value i cuts prices s) (below i.days)) (int_min (pos 0) (pos (prices.q * i.shift) -ℤ y))) is_free
+    ∙ sym (ap (λ (b : Bool). cond b (pos 0) rest) some)
+
+-- what both clauses of an answer give
+pub if_ok_both : {A E : Type 0} (r : Result A E) (P Q R : A → Type 0) → ((a : A) → P a → Q a → R a) → IfOk r P → IfOk r Q → IfOk r R
+if_ok_both (Ok a) P Q R f p q = f a p q
+if_ok_both (Err e) P Q R f p q = tt

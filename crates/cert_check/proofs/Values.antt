@@ -1,0 +1,151 @@
+-- The values of the nodes, one after another.
+use Rattle.std.proofs.Common.{◌≡◌, inl, inr, ℕ, zero, suc, ◌+◌, ◌*◌, ◌<◌, ◌≤◌, ℤ, pos, ◌+ℤ◌, ◌-ℤ◌, List, [], ◌∷◌, ◌++◌, length, map, take, refl, sym, ap, ◌∙◌, subst, arith, Option, Some, FitsSigned, get_or, to_z, of_z}
+use Rattle.std.specs.Prelude.{slice_get}
+use Rattle.std.specs.Int.{w64}
+use Rattle.std.specs.Int.RustNames.{unsigned_abs}
+use Rattle.std.proofs.lemmas.Int.{ints, fits_signed_from_abs, to_z-of_z}
+use Rattle.std.proofs.lemmas.List.{take_more, take_all, get_or_default}
+use Rattle.std.proofs.lemmas.List.Sums.{fold-append}
+use Rattle.std.proofs.lemmas.Bool.{cases_lt}
+use Rattle.std.proofs.Math.ListN.{get_or-append}
+use Rattle.std.proofs.Math.Seq.{get_or-append_seam}
+use Rattle.break_rules.specs.declared.Break.{Break}
+use Rattle.break_rules.specs.declared.Rule.{Rule}
+use Rattle.break_rules.specs.declared.Spot.{Spot}
+use Rattle.break_rules.specs.Breaks.{end_of}
+use Rattle.break_rules.specs.Ranges.{IsRule}
+use Rattle.break_rules.specs.Walk.{end_of_all, spot_of}
+use Rattle.break_rules.proofs.Reaching.{rest_first}
+use Rattle.break_rules.proofs.Steps.{bounds, from_next}
+use Rattle.break_graph.specs.declared.Edge.{Edge}
+use Rattle.break_graph.specs.declared.Node.{Node}
+use Rattle.break_graph.specs.Graph.{StandsAt, IsGraph, node_at, live_nexts}
+use Rattle.cert_check.specs.Rests.{sum_at, price_in, AreSums, resumes, earned_from, rest_worth, Completes, Through, IsGreatest, IsGreatestOf, AreValues, greater_of}
+use Rattle.cert_check.proofs.Stretches.{earned_more, earned_end, earned_small, spaced_rest, resumes_behind, abs_sub}
+use Rattle.cert_check.proofs.Greatest.{longer, greatest_more}
+
+-- what a rest earns is small
+pub rest_small : (sums : List ℤ) (rule : Rule) (len : ℕ) (list rest : List Break) → AreSums len sums → unsigned_abs (rest_worth sums rule len list rest) ≤ 10000000000 * 65535
+rest_small sums rule len list rest s =
+    let one = earned_small sums rule len (resumes rule (end_of_all list)) rest s in
+    let short : len ≤ 65535 = s.short in
+    omega arith
+
+-- a stretch before a break
+abbrev pub before_of : List ℤ → Rule → List Break → Break → ℤ
+before_of sums rule list b = sum_at sums b.start -ℤ sum_at sums (resumes rule (end_of_all list))
+
+module _ (sums : List ℤ) (rule : Rule) (len : ℕ) (list : List Break) (r : IsRule rule) where
+  -- a rest that begins with a break earns the stretch before it and what is earned behind it
+  pub worth_more : (b : Break) (bs : List Break) → Completes rule len (list ++ b ∷ []) bs
+      → rest_worth sums rule len list (b ∷ bs) ≡ before_of sums rule list b +ℤ rest_worth sums rule len (list ++ b ∷ []) bs
+  worth_more b bs h =
+      let c : Completes rule len list (b ∷ bs) = sym (longer rule len list b bs) ∙ h in
+      let end : end_of_all (list ++ b ∷ []) ≡ end_of b = fold-append (λ (at : ℕ) (c : Break). end_of c) 0 list (b ∷ []) in
+      let next = bounds rule len _ _ b (from_next rule len (spot_of rule list) b (rest_first rule len list b bs c).1) in
+      let some : 0 < end_of b = omega (arith, next.some) in
+      earned_more sums rule len (resumes rule (end_of_all list)) b bs (spaced_rest rule len list (b ∷ bs) r c)
+      ∙ ap (λ k. before_of sums rule list b +ℤ earned_from (price_in sums) rule len k bs)
+      (sym (ap (resumes rule) end ∙ resumes_behind rule (end_of b) some))
+
+  -- the empty rest earns the stretch to the end
+  pub worth_end : Completes rule len list [] → rest_worth sums rule len list [] ≡ sum_at sums len -ℤ sum_at sums (resumes rule (end_of_all list))
+  worth_end h = earned_end sums rule len (resumes rule (end_of_all list)) (spaced_rest rule len list [] r h)
+
+  pub end_fits : AreSums len sums → Completes rule len list [] → FitsSigned w64 (sum_at sums len -ℤ sum_at sums (resumes rule (end_of_all list)))
+  end_fits s h =
+      let small = rest_small sums rule len list [] s in
+      let one : unsigned_abs (sum_at sums len -ℤ sum_at sums (resumes rule (end_of_all list))) ≤ 10000000000 * 65535 = subst (λ (z : ℤ). unsigned_abs z ≤ 10000000000 * 65535) (worth_end h) small in
+      fits_signed_from_abs w64 _ (omega arith)
+
+  -- the numbers of a rest through a break fit
+  pub via_fits : (b : Break) (v : ℤ) → AreSums len sums → IsGreatest (Completes rule len (list ++ b ∷ [])) (rest_worth sums rule len (list ++ b ∷ [])) v
+      → (unsigned_abs v ≤ 10000000000 * 65535) × (unsigned_abs (before_of sums rule list b) ≤ 10000000000 * 65535 + 10000000000 * 65535) × (unsigned_abs (before_of sums rule list b +ℤ v) ≤ 10000000000 * 65535)
+  via_fits b v s g =
+      let tail = g.reached.0 in
+      let step : ℤ = before_of sums rule list b in
+      let part : rest_worth sums rule len (list ++ b ∷ []) tail ≡ v = g.reached.2 in
+      let whole : rest_worth sums rule len list (b ∷ tail) ≡ step +ℤ v = worth_more b tail g.reached.1 ∙ ap (λ (z : ℤ). step +ℤ z) part in
+      let both : unsigned_abs (step +ℤ v) ≤ 10000000000 * 65535 = subst (λ (z : ℤ). unsigned_abs z ≤ 10000000000 * 65535) whole (rest_small sums rule len list (b ∷ tail) s) in
+      let rest : unsigned_abs v ≤ 10000000000 * 65535 = subst (λ (z : ℤ). unsigned_abs z ≤ 10000000000 * 65535) part (rest_small sums rule len (list ++ b ∷ []) tail s) in
+      let alone : unsigned_abs step ≤ 10000000000 * 65535 + 10000000000 * 65535 =
+      let again : (step +ℤ v) -ℤ v ≡ step = omega (arith, ints) in
+      subst (λ (z : ℤ). unsigned_abs z ≤ 10000000000 * 65535 + 10000000000 * 65535) again (abs_sub (step +ℤ v) v _ _ both rest) in
+      (rest, alone, both)
+
+-- the breaks of the first edges, and of one more
+pub stops_more : (edges : List Edge) (i : ℕ) (e : Edge) → i < length edges → e ≡ get_or edges i e → map (λ (e : Edge). e.stop) (take (i + 1) edges) ≡ map (λ (e : Edge). e.stop) (take i edges) ++ e.stop ∷ []
+stops_more edges i e inside is =
+    ap (map (λ (e : Edge). e.stop)) (take_more edges i e inside) ∙ map-append (take i edges) (get_or edges i e ∷ []) ∙ ap (λ (x : Edge). map (λ (e : Edge). e.stop) (take i edges) ++ x.stop ∷ []) (sym is)
+  where
+    map-append : (xs ys : List Edge) → map (λ (e : Edge). e.stop) (xs ++ ys) ≡ map (λ (e : Edge). e.stop) xs ++ map (λ (e : Edge). e.stop) ys
+    map-append [] ys = refl
+    map-append (x ∷ xs) ys = ap (λ (zs : List Break). x.stop ∷ zs) (map-append xs ys)
+
+pub edge_at : (edges : List Edge) (i : ℕ) (e : Edge) → i < length edges → e ≡ get_or edges i e → slice_get edges i ≡ Some e
+edge_at [] i e inside is = absurd (omega arith)
+edge_at (x ∷ xs) zero e inside is = ap Some (sym is)
+edge_at (x ∷ xs) (suc i) e inside is = edge_at xs i e (omega arith) is
+
+-- one value more
+pub values_more : (rule : Rule) (len : ℕ) (sums : List ℤ) (nodes : List Node) (k : ℕ) (values : List ℤ) (v : ℤ) → length values ≡ k → AreValues rule len sums nodes k values
+    → ((list : List Break) → StandsAt rule len nodes k list → IsGreatest (Completes rule len list) (rest_worth sums rule len list) v)
+    → AreValues rule len sums nodes (k + 1) (values ++ v ∷ [])
+values_more rule len sums nodes k values v many known here j list less at =
+    elim (cases_lt j k) [
+      | inl l ↦ subst (IsGreatest (Completes rule len list) (rest_worth sums rule len list)) (sym (get_or-append values (v ∷ []) (pos 0) j (omega arith))) (known j list l at)
+      | inr g ↦
+          let same : j ≡ k = omega arith in
+          subst (IsGreatest (Completes rule len list) (rest_worth sums rule len list)) (sym (ap (λ n. sum_at (values ++ v ∷ []) n) (same ∙ sym many) ∙ get_or-append_seam values v [] (pos 0)))
+          (here list (subst (λ n. StandsAt rule len nodes n list) same at))
+    ]
+
+abbrev pub no_edge : Edge
+no_edge = record { stop = record { start = 0; len = 0 }; next = 0 }
+
+-- a node as it is read
+pub node_is : (nodes : List Node) (k : ℕ) (n : Node) → k < length nodes → n ≡ get_or nodes k n → n ≡ node_at nodes k
+node_is nodes k n inside is = is ∙ get_or_default nodes k n (record { spot = record { offset = 0; used = 0; lunches = 0 }; edges = [] }) inside
+
+module _ (rule : Rule) (len : ℕ) (nodes : List Node) (k : ℕ) (edges : List Edge) (g : IsGraph rule len nodes) (inside : k < length nodes) (are : edges ≡ (node_at nodes k).edges) where
+  -- an edge of the node
+  edge_there : (i : ℕ) → i < length edges → slice_get (node_at nodes k).edges i ≡ Some (get_or edges i no_edge)
+  edge_there i l = ap (λ (es : List Edge). slice_get es i) (sym are) ∙ edge_at edges i (get_or edges i no_edge) l (get_or_default edges i no_edge (get_or edges i no_edge) l)
+
+  pub edge_before : (i : ℕ) → i < length edges → (get_or edges i no_edge).next < k
+  edge_before i l = g.back k i (get_or edges i no_edge) inside (edge_there i l)
+
+  pub edge_behind : (i : ℕ) (list : List Break) → i < length edges → StandsAt rule len nodes k list → StandsAt rule len nodes (get_or edges i no_edge).next (list ++ (get_or edges i no_edge).stop ∷ [])
+  edge_behind i list l at = g.behind k i (get_or edges i no_edge) list at (edge_there i l)
+
+  pub edge_stops : (i : ℕ) → i < length edges → map (λ (e : Edge). e.stop) (take (i + 1) edges) ≡ map (λ (e : Edge). e.stop) (take i edges) ++ (get_or edges i no_edge).stop ∷ []
+  edge_stops i l = stops_more edges i (get_or edges i no_edge) l (get_or_default edges i no_edge (get_or edges i no_edge) l)
+
+  -- all edges lead to the live next breaks
+  pub all_stops : (i : ℕ) (list : List Break) → length edges ≤ i → StandsAt rule len nodes k list → map (λ (e : Edge). e.stop) (take i edges) ≡ live_nexts rule len list
+  all_stops i list l at = ap (map (λ (e : Edge). e.stop)) (take_all i edges l) ∙ ap (map (λ (e : Edge). e.stop)) are ∙ g.edges k list at
+
+-- the offset where work counts again behind a list
+pub resumes_at : (rule : Rule) (len : ℕ) (nodes : List Node) (k : ℕ) (n : Node) (list : List Break) → n ≡ node_at nodes k → StandsAt rule len nodes k list → resumes rule n.spot.offset ≡ resumes rule (end_of_all list)
+resumes_at rule len nodes k n list is at = ap (λ (n : Node). resumes rule n.spot.offset) is ∙ ap (λ (s : Spot). resumes rule s.offset) at.spot
+
+-- the greatest worth through one edge more
+pub value_more : (rule : Rule) (len : ℕ) (sums : List ℤ) (list done : List Break) (b : Break) (best : Option ℤ) (w v : ℤ) → IsRule rule → AreSums len sums
+    → IsGreatestOf (Through rule len list done) (rest_worth sums rule len list) best
+    → IsGreatest (Completes rule len (list ++ b ∷ [])) (rest_worth sums rule len (list ++ b ∷ [])) w
+    → (FitsSigned w64 (before_of sums rule list b) → FitsSigned w64 (before_of sums rule list b +ℤ w) → v ≡ before_of sums rule list b +ℤ w)
+    → IsGreatest (Through rule len list (done ++ b ∷ [])) (rest_worth sums rule len list) (greater_of best v)
+value_more rule len sums list done b best w v r s so_far behind is =
+    let f = via_fits sums rule len list r b w s behind in
+    greatest_more rule len list (rest_worth sums rule len list) (rest_worth sums rule len (list ++ b ∷ [])) done b w (before_of sums rule list b) v behind (worth_more sums rule len list r b)
+    (is (fits_signed_from_abs w64 _ (omega (arith, f.1))) (fits_signed_from_abs w64 _ (omega (arith, f.2)))) best so_far
+
+-- the greatest worth is small, and so it is kept
+pub greatest_small : (sums : List ℤ) (rule : Rule) (len : ℕ) (list : List Break) (v : ℤ) → AreSums len sums → IsGreatest (Completes rule len list) (rest_worth sums rule len list) v → unsigned_abs v ≤ 10000000000 * 65535
+greatest_small sums rule len list v s g = subst (λ (z : ℤ). unsigned_abs z ≤ 10000000000 * 65535) g.reached.2 (rest_small sums rule len list g.reached.0 s)
+
+pub greatest_kept : (sums : List ℤ) (rule : Rule) (len : ℕ) (list : List Break) (v : ℤ) → AreSums len sums → IsGreatest (Completes rule len list) (rest_worth sums rule len list) v
+    → IsGreatest (Completes rule len list) (rest_worth sums rule len list) (to_z w64 (of_z w64 v))
+greatest_kept sums rule len list v s g =
+    let small = greatest_small sums rule len list v s g in
+    subst (IsGreatest (Completes rule len list) (rest_worth sums rule len list)) (sym (to_z-of_z w64 v (fits_signed_from_abs w64 v (omega arith)))) g

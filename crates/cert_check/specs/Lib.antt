@@ -1,0 +1,4 @@
+pub mod Rests
+pub mod Below
+pub mod Values
+pub mod Passed

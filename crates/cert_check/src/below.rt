@@ -1,0 +1,180 @@
+//! The most that a duty of a shift on a day is worth at the prices of slots and cuts.
+
+ghost use Rattle.std.specs.Prelude.{◌≡◌, ◌+ℤ◌, ◌<◌, ◌≤◌, ◌+◌, ◌*◌, ◌^◌, ◌++◌, ◌∷◌, [], ℕ, ◌-ℤ◌, List, length, slice_index, IfOk};
+ghost use Rattle.std.specs.Int.RustNames.{unsigned_abs};
+ghost use Rattle.break_rules.specs.declared.Break.{Break};
+ghost use Rattle.break_rules.specs.Ranges.{IsRule};
+ghost use Rattle.break_graph.specs.Graph.{IsGraph, StandsAt};
+ghost use Rattle.head_splits.specs.Bound.{bonus, signed_price};
+ghost use Rattle.cert_check.specs.Rests.{AreSums, AreValues, Completes, IsGreatest, greater_of};
+ghost use Rattle.cert_check.specs.Below.{bonuses, duty_with, goes_further, is_further, whole_worth};
+
+use crate::rests::resumption;
+use crate::sums::{number_at, stretch};
+use break_graph::Node;
+use break_rules::{Break, NoMemory, Rule};
+use head_splits::{Cut, Side};
+use std::alloc::Global;
+
+/// The cuts of a node with their prices, and the shift and day whose duties are looked at.
+#[derive(Drop)]
+pub struct Duties<'a> {
+    /// The cuts, from the root on.
+    pub cuts: &'a [Cut],
+    /// The price of each cut.
+    pub prices: &'a [u64],
+    /// The number of the shift.
+    pub shift: u16,
+    /// The day.
+    pub day: u8,
+}
+
+/// What rests earn in the shifts of a rule and a length, at the prices of a shift on a day.
+#[derive(Drop)]
+pub struct Rests<'a> {
+    /// The break rule of the shift.
+    pub rule: &'a Rule,
+    /// The length of the shift, in slots.
+    pub len: u16,
+    /// The graph of the shift's break lists.
+    pub nodes: &'a [Node],
+    /// The sums of the prices of the shift's first offsets.
+    pub sums: Vec<i64>,
+    /// For each node, the most that a rest earns behind it.
+    pub values: Vec<i64>,
+}
+
+/// A cut's price with the sign of its side.
+pub fn signed_price(side: Side, price: u64) -> i64
+    requires { price ≤ 1000000000000 }
+    ensures price { result ≡ signed_price side price }
+    ensures small { unsigned_abs result ≤ 1000000000000 }
+{
+    match side {
+        Side::AtMost => -(price as i64),
+        Side::AtLeast => price as i64,
+    }
+}
+
+/// What a cut with its price adds to a duty.
+fn bonus(cut: &Cut, price: u64, shift: u16, day: u8, list: &[Break]) -> i128
+    requires { price ≤ 1000000000000 }
+    ensures bonus { result ≡ bonus (duty_with shift day list.now) (cut.now, price) }
+    ensures small { unsigned_abs result ≤ 1000000000000 }
+{
+    let class = &cut.class;
+    let prefix = class.prefix.as_slice();
+    if !prefix.is_empty() && shift == class.shift && day == class.day && list.starts_with(prefix) {
+        i128::from(signed_price(cut.side, price))
+    } else {
+        0
+    }
+}
+
+/// What all cuts add to a duty.
+fn bonuses(duties: &Duties<'_>, list: &[Break]) -> i128
+    requires count { length duties.now.prices.now ≡ length duties.now.cuts.now }
+    requires few { length duties.now.cuts.now ≤ 2 ^ 33 }
+    requires small { (k : ℕ) → slice_index duties.now.prices.now k ≤ 1000000000000 }
+    ensures bonuses { result ≡ bonuses duties.now.cuts.now duties.now.prices.now (duty_with duties.now.shift duties.now.day list.now) }
+    ensures small { unsigned_abs result ≤ 2 ^ 73 }
+{
+    let mut sum = 0;
+    for (k, cut) in duties.cuts.iter().enumerate() {
+        sum += bonus(cut, duties.prices[k], duties.shift, duties.day, list);
+    }
+    sum
+}
+
+/// Whether a cut bounds duties of a shift on a day that begin with some breaks and a further one.
+fn is_further(cut: &Cut, shift: u16, day: u8, list: &[Break]) -> bool
+    ensures { result ≡ is_further shift day list.now cut.now }
+{
+    let class = &cut.class;
+    let prefix = class.prefix.as_slice();
+    shift == class.shift
+        && day == class.day
+        && list.len() < prefix.len()
+        && prefix.starts_with(list)
+}
+
+/// Whether some cut bounds duties that begin with some breaks and a further one.
+fn goes_further(duties: &Duties<'_>, list: &[Break]) -> bool
+    ensures { result ≡ goes_further duties.now.cuts.now duties.now.shift duties.now.day list.now }
+{
+    let shift = duties.shift;
+    let day = duties.day;
+    duties
+        .cuts
+        .iter()
+        .any(|cut| is_further(cut, shift, day, list))
+}
+
+/// Some breaks and one more.
+pub fn longer(alloc: Global, list: &[Break], next: Break) -> Result<Vec<Break>, NoMemory>
+    ensures { IfOk result (λ longer. longer.items ≡ list.now ++ next ∷ []) }
+{
+    let mut longer = Vec::with_capacity(alloc, list.len().saturating_add(1))?;
+    longer.extend_from_slice(list)?;
+    longer.push(next)?;
+    Ok(longer)
+}
+
+/// The greater of two values, the first of which may be none.
+fn greater(best: Option<i128>, value: i128) -> i128
+    ensures { result ≡ greater_of best value }
+{
+    match best {
+        Some(best) => best.max(value),
+        None => value,
+    }
+}
+
+/// What a stretch of work earns, and what is had beside it.
+fn earned_and(earned: i64, other: i128) -> i128
+    requires { unsigned_abs other ≤ 2 ^ 74 }
+    ensures { result ≡ earned +ℤ other }
+{
+    i128::from(earned) + other
+}
+
+/// The most that a duty is worth whose breaks are a legal list that begins with some breaks, which stand at a node: what it
+/// earns behind them, and what all cuts add.
+pub fn best_below(
+    alloc: Global,
+    duties: &Duties<'_>,
+    rests: &Rests<'_>,
+    list: &[Break],
+    k: usize,
+) -> Result<i128, NoMemory>
+    requires rule { IsRule rests.now.rule.now }
+    requires sums { AreSums rests.now.len rests.now.sums.items }
+    requires graph { IsGraph rests.now.rule.now rests.now.len rests.now.nodes.now }
+    requires values { AreValues rests.now.rule.now rests.now.len rests.now.sums.items rests.now.nodes.now (length rests.now.nodes.now) rests.now.values.items }
+    requires count { length duties.now.prices.now ≡ length duties.now.cuts.now }
+    requires few { length duties.now.cuts.now ≤ 2 ^ 33 }
+    requires small { (k : ℕ) → slice_index duties.now.prices.now k ≤ 1000000000000 }
+    requires stands { StandsAt rests.now.rule.now rests.now.len rests.now.nodes.now k list.now }
+    ensures greatest { IfOk result (λ v. IsGreatest (Completes rests.now.rule.now rests.now.len list.now) (whole_worth duties.now.cuts.now duties.now.prices.now duties.now.shift duties.now.day rests.now.sums.items rests.now.rule.now rests.now.len list.now) v) }
+    ensures size { IfOk result (λ v. unsigned_abs v ≤ 2 ^ 74) }
+{
+    let alone = earned_and(number_at(&rests.values, k), bonuses(duties, list));
+    if !goes_further(duties, list) {
+        return Ok(alone);
+    }
+    let node = &rests.nodes[k];
+    let from = resumption(rests.rule, node.spot);
+    let edges = &node.edges;
+    let edges = edges.as_slice();
+    let mut best = None;
+    for edge in edges {
+        let longer = longer(alloc, list, edge.stop)?;
+        let behind = best_below(alloc, duties, rests, &longer, edge.next as usize)?;
+        let before = stretch(&rests.sums, from, usize::from(edge.stop.start));
+        best = Some(greater(best, earned_and(before, behind)));
+    }
+    match best {
+        Some(value) => Ok(value),
+        None => Ok(alone),
+    }
+}

@@ -1,0 +1,52 @@
+//! Sums of slot prices along a shift.
+
+ghost use Rattle.std.specs.Prelude.{◌≡◌, ◌<◌, ◌-ℤ◌, length, slice_get, Some, IfOk, FitsSigned};
+ghost use Rattle.std.specs.Int.{w64};
+ghost use Rattle.break_rules.specs.declared.Rule.{Rule};
+ghost use Rattle.shift_instance.specs.declared.Shift.{Shift};
+ghost use Rattle.shift_instance.specs.Problem.{shift_list, slots};
+ghost use Rattle.cert_check.specs.Rests.{sum_at, AreSums, ArePricesOf, AreSmallPrices};
+
+use break_rules::NoMemory;
+use shift_instance::Instance;
+use std::alloc::Global;
+
+/// The sums of the prices of a shift's first offsets on a day: that of none, that of the first, that of the first two, and
+/// so on to that of all.
+pub fn price_sums(
+    alloc: Global,
+    instance: &Instance,
+    shift: u16,
+    day: u8,
+    prices: &[i64],
+) -> Result<Vec<i64>, NoMemory>
+    requires shift { shift < length (shift_list instance.now) }
+    requires count { length prices.now ≡ slots instance.now }
+    requires prices { AreSmallPrices prices.now }
+    ensures prices { IfOk result (λ sums. (x : Shift × Rule) → slice_get (shift_list instance.now) shift ≡ Some x → ArePricesOf instance.now x.0 day prices.now sums.items) }
+    ensures small { IfOk result (λ sums. (x : Shift × Rule) → slice_get (shift_list instance.now) shift ≡ Some x → AreSums x.0.len sums.items) }
+{
+    let len = instance.shift(shift).len;
+    let mut sums = Vec::new(alloc);
+    let mut sum = 0;
+    sums.push(0)?;
+    for offset in 0..len {
+        sum += prices[instance.slot_of(shift, day, offset)];
+        sums.push(sum)?;
+    }
+    Ok(sums)
+}
+
+/// The number at a place, and 0 beyond the end.
+pub fn number_at(numbers: &[i64], place: usize) -> i64
+    ensures { result ≡ sum_at numbers.now place }
+{
+    numbers.get(place).copied().unwrap_or(0)
+}
+
+/// The sum of the prices of a stretch of work.
+pub fn stretch(sums: &[i64], from: usize, to: usize) -> i64
+    ensures { FitsSigned w64 (sum_at sums.now to -ℤ sum_at sums.now from) → result ≡ sum_at sums.now to -ℤ sum_at sums.now from }
+{
+    number_at(sums, to).saturating_sub(number_at(sums, from))
+}

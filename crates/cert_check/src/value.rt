@@ -1,0 +1,85 @@
+//! Whether prices are a price set for some cuts, and the bound that they give.
+
+ghost use Rattle.std.specs.Prelude.{◌≡◌, ◌≤◌, ◌*◌, ◌&&◌, ◌^◌, length, neg_ℤ, pos, int_le, IfOk, IsTrue};
+ghost use Rattle.std.specs.List.{list_all, zip};
+ghost use Rattle.shift_instance.specs.Valid.{IsValid};
+ghost use Rattle.head_splits.specs.Bound.{are_prices, bound_of, is_cut_price, is_slot_price};
+
+use crate::totals::{bound, total};
+use break_rules::NoMemory;
+use head_splits::{CUT_PRICE_MAX, Cut, Cuts, Prices};
+use shift_instance::Instance;
+use std::alloc::Global;
+
+/// Whether a slot's price keeps to its range, by a scale and the costs of an employee too many and too few in a slot.
+fn is_slot_price(q: u16, excess: u32, shortage: u32, price: i64) -> bool
+    ensures { result ≡ int_le (neg_ℤ (pos (q * excess))) price && int_le price (pos (q * shortage)) }
+{
+    let q = i64::from(q);
+    -(q * i64::from(excess)) <= price && price <= q * i64::from(shortage)
+}
+
+/// Whether the price of each slot keeps to its range.
+fn are_slot_prices(instance: &Instance, q: u16, prices: &[i64]) -> bool
+    ensures { result ≡ list_all (is_slot_price instance.now q) prices.now }
+{
+    let (excess, shortage, _) = instance.weights();
+    prices
+        .iter()
+        .all(|price| is_slot_price(q, excess, shortage, *price))
+}
+
+/// Whether a cut's price keeps to its range.
+fn is_cut_price(cut: &Cut, price: u64) -> bool
+    ensures { result ≡ is_cut_price (cut.now, price) }
+{
+    let class = &cut.class;
+    price <= CUT_PRICE_MAX && (!class.prefix.as_slice().is_empty() || price == 0)
+}
+
+/// Whether the price of each cut keeps to its range.
+fn are_cut_prices(cuts: &[Cut], prices: &[u64]) -> bool
+    requires { length prices.now ≡ length cuts.now }
+    ensures { result ≡ list_all is_cut_price (zip cuts.now prices.now) }
+{
+    for (k, cut) in cuts.iter().enumerate() {
+        if !is_cut_price(cut, prices[k]) {
+            return false;
+        }
+    }
+    true
+}
+
+/// Whether prices are a price set for some cuts: the scale, the number of the slots' prices and each one, and the number
+/// of the cuts' prices and each one keep to their ranges. It takes no memory.
+pub fn are_prices(instance: &Instance, cuts: &Cuts, prices: &Prices) -> bool
+    ensures prices { result ≡ are_prices instance.now cuts.now prices.now }
+    ensures valid { IsValid instance.now }
+{
+    let slots = instance.slots();
+    let of_slots = prices.slots.as_slice();
+    let of_cuts = prices.cuts.as_slice();
+    if prices.q < 1 || 10_000 < prices.q || of_slots.len() != slots {
+        return false;
+    }
+    if !are_slot_prices(instance, prices.q, of_slots) || of_cuts.len() != cuts.len() {
+        return false;
+    }
+    are_cut_prices(cuts.as_slice(), of_cuts)
+}
+
+/// The bound that prices give on the cost of every legal rota that meets some cuts.
+pub fn value(
+    alloc: Global,
+    instance: &Instance,
+    cuts: &Cuts,
+    prices: &Prices,
+) -> Result<u64, NoMemory>
+    requires valid { IsValid instance.now }
+    requires few { length cuts.now ≤ 2 ^ 33 }
+    requires passes { IsTrue (are_prices instance.now cuts.now prices.now) }
+    ensures { IfOk result (λ v. v ≡ bound_of instance.now cuts.now prices.now) }
+{
+    let total = total(alloc, instance, cuts, prices)?;
+    Ok(bound(prices.q, total))
+}

@@ -1,0 +1,4 @@
+pub mod Batches
+pub mod Rebuilt
+pub mod Taking
+pub mod Unspelled

@@ -1,0 +1,4 @@
+pub mod FaultText
+pub mod Folding
+pub mod Records
+pub mod Refusals

@@ -1,0 +1,10 @@
+//! The state of a search, made again from the records of its journal.
+#![tactic(auto)]
+
+mod fault;
+mod rebuilding;
+#[cfg(test)]
+mod tests;
+
+pub use fault::{RebuildFault, Why};
+pub use rebuilding::rebuild;

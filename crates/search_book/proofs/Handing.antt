@@ -1,0 +1,114 @@
+-- The hands of workers over a book.
+use Rattle.std.proofs.Common.{◌≡◌, ◌≢◌, ◌⊎◌, inl, inr, ℕ, zero, suc, ◌<◌, ◌≤◌, ◌^◌, Bool, true, false, ◌&&◌, not, List, [], ◌∷◌, length, map, set, replicate, refl, ap, ◌∙◌, subst, arith, nat_le, nat_lt, Option, Some, None, ◌||◌, sym}
+use Rattle.std.specs.Prelude.{Err, IfOk, IsSomeAnd, Ok, Result, slice_get}
+use Rattle.std.specs.Option.{option_map_or, option_and_then}
+use Rattle.std.specs.List.{list_all, list_any}
+use Rattle.std.proofs.lemmas.Bool.{and_parts, false≢true, le-leb, lt-leb, ltb-false, ltb-true, not-true}
+use Rattle.head_splits.specs.declared.Cut.{Cut}
+use Rattle.head_splits.specs.Nodes.{Node}
+use Rattle.search_core.specs.declared.outline.NodeState.{NodeState}
+use Rattle.search_core.specs.Board.{is_free}
+use Rattle.search_core.specs.Book.{Book, is_node_and, is_open}
+use Rattle.search_core.specs.Core.{empty_hands, hand, is_node}
+use Rattle.search_core.specs.Kept.{cuts_in}
+use Rattle.search_core.specs.State.{state_of}
+use Rattle.search_core.proofs.Sound.{bind_some}
+
+-- ---- hands
+slice_get_set : {X : Type 0} (xs : List X) (w v : ℕ) (y x : X) → slice_get (set xs w y) v ≡ Some x → ((v ≡ w) × (y ≡ x)) ⊎ ((v ≢ w) × (slice_get xs v ≡ Some x))
+slice_get_set [] w v y x e = absurd (cc)
+slice_get_set (z ∷ xs) zero zero y x e = let same : y ≡ x = cc in inl (refl, same)
+slice_get_set (z ∷ xs) zero (suc v) y x e = inr (λ q. absurd (omega arith), e)
+slice_get_set (z ∷ xs) (suc w) zero y x e = inr (λ q. absurd (omega arith), e)
+slice_get_set (z ∷ xs) (suc w) (suc v) y x e =
+    elim (slice_get_set xs w v y x e) [
+      | inl p ↦ inl (ap suc p.0, p.1)
+      | inr p ↦ inr (λ q. p.0 (let r : v ≡ w = omega arith in r), p.1)
+    ]
+
+hand_some : (hands : List (Option ℕ)) (w x : ℕ) → hand hands w ≡ Some x → slice_get hands w ≡ Some (Some x)
+hand_some hands w x e = let r = bind_some (λ (h : Option ℕ). h) (slice_get hands w) x e in r.1 ∙ ap (λ (h : Option ℕ). Some h) r.2
+
+hand_set : (hands : List (Option ℕ)) (w v : ℕ) (h : Option ℕ) (x : ℕ) → hand (set hands w h) v ≡ Some x → ((v ≡ w) × (h ≡ Some x)) ⊎ ((v ≢ w) × (hand hands v ≡ Some x))
+hand_set hands w v h x e =
+    elim (slice_get_set hands w v h (Some x) (hand_some (set hands w h) v x e))
+    [ inl p ↦ inl p | inr p ↦ inr (p.0, ap (option_and_then (λ (h : Option ℕ). h)) p.1) ]
+
+no_hand : (n w x : ℕ) → hand (replicate n None) w ≡ Some x → ⊥
+no_hand zero w x e = cc
+no_hand (suc n) zero x e = cc
+no_hand (suc n) (suc w) x e = no_hand n w x e
+
+-- ---- the nodes in the hands are unsplit
+abbrev pub AreUnsplit : Book → List (Option ℕ) → Type 0
+AreUnsplit b hands = (w x : ℕ) → hand hands w ≡ Some x → is_node_and b x (λ n. not n.split) ≡ true
+
+pub none_unsplit : (b : Book) → AreUnsplit b empty_hands
+none_unsplit b w x e = absurd (no_hand 16 w x e)
+
+open_unsplit : (b : Book) (o : Option Node) → option_map_or (is_open b) o false ≡ true → option_map_or (λ n. not n.split) o false ≡ true
+open_unsplit b None h = absurd (false≢true h)
+open_unsplit b (Some n) h = (and_parts (not n.split) (nat_lt n.floor b.cost) h).0
+
+pub taken_unsplit : (b : Book) (hands : List (Option ℕ)) (w k : ℕ) → AreUnsplit b hands → is_free b hands k ≡ true → AreUnsplit b (set hands w (Some k))
+taken_unsplit b hands w k unsplit free v x e =
+    elim (hand_set hands w v (Some k) x e) [
+      | inl p ↦
+          let same : k ≡ x = cc (p.1) in
+          subst (λ (y : ℕ). is_node_and b y (λ n. not n.split) ≡ true) same (open_unsplit b (slice_get b.nodes k) (and_parts (is_node_and b k (is_open b)) (not (list_any (is_node k) hands)) free).0)
+      | inr p ↦ unsplit v x p.1
+    ]
+
+pub emptied_unsplit : (b : Book) (hands : List (Option ℕ)) (w : ℕ) → AreUnsplit b hands → AreUnsplit b (set hands w None)
+emptied_unsplit b hands w unsplit v x e = elim (hand_set hands w v None x e) [ inl p ↦ absurd (cc (p.1)) | inr p ↦ unsplit v x p.1 ]
+
+pub free_alone : (b : Book) (hands : List (Option ℕ)) (k : ℕ) → is_free b hands k ≡ true → list_any (is_node k) hands ≡ false
+free_alone b hands k free = not-true _ ((and_parts (is_node_and b k (is_open b)) (not (list_any (is_node k) hands)) free).1)
+
+-- a node of which something holds is there
+node_there : (o : Option Node) (p : Node → Bool) → option_map_or p o false ≡ true → (n : Node) × (o ≡ Some n)
+node_there None p h = absurd (false≢true h)
+node_there (Some n) p h = (n, refl)
+
+below_length : {X : Type 0} (xs : List X) (k : ℕ) (x : X) → slice_get xs k ≡ Some x → k < length xs
+below_length [] k x at = absurd (cc)
+below_length (y ∷ xs) zero x at = omega arith
+below_length (y ∷ xs) (suc k) x at = let less : k < length xs = below_length xs k x at in omega arith
+
+pub is_there : (b : Book) (k : ℕ) (p : Node → Bool) → is_node_and b k p ≡ true → k < length b.nodes
+is_there b k p h = let n = node_there (slice_get b.nodes k) p h in below_length b.nodes k n.0 n.1
+
+pub free_there : (b : Book) (hands : List (Option ℕ)) (k : ℕ) → is_free b hands k ≡ true → k < length b.nodes
+free_there b hands k free = is_there b k (is_open b) (and_parts (is_node_and b k (is_open b)) (not (list_any (is_node k) hands)) free).0
+
+-- ---- no node is open
+closed_is : (floor cost : ℕ) → nat_le cost floor ≡ not (nat_lt floor cost)
+closed_is floor cost =
+    elim (nat_lt floor cost) as (λ t. nat_lt floor cost ≡ t → nat_le cost floor ≡ not t)
+    [ true ↦ λ e. lt-leb cost floor (ltb-true floor cost e) | false ↦ λ e. le-leb cost floor (ltb-false floor cost e) ] refl
+
+closed_node : (split : Bool) (floor cost : ℕ) → (split || nat_le cost floor) ≡ not (not split && nat_lt floor cost)
+closed_node true floor cost = refl
+closed_node false floor cost = closed_is floor cost
+
+both_all : (x y u v : Bool) → x ≡ y → u ≡ v → (x && u) ≡ (y && v)
+both_all x y u v e f = ap (λ (t : Bool). t && u) e ∙ ap (λ (t : Bool). y && t) f
+
+pub finished_is : (b : Book) (nodes : List Node) → list_all (λ (n : NodeState). n.split || nat_le b.cost n.floor) (map state_of nodes) ≡ list_all (λ (n : Node). not (is_open b n)) nodes
+finished_is b [] = refl
+finished_is b (n ∷ nodes) = both_all _ _ _ _ (closed_node n.split n.floor b.cost) (finished_is b nodes)
+
+-- ---- the cuts of the node in a hand
+cuts_are : (o : Option Node) (cuts : List Cut) → IsSomeAnd o (λ n. cuts ≡ n.cuts) → cuts ≡ option_map_or (λ n. n.cuts) o []
+cuts_are None cuts h = absurd h
+cuts_are (Some n) cuts h = h
+
+pub cuts_held : {E : Type 0} (r : Result (List Cut) E) (b told : Book) (h : Option ℕ) (node : ℕ) → told ≡ b → h ≡ Some node → IfOk r (λ cuts. IsSomeAnd (slice_get told.nodes node) (λ n. cuts ≡ n.cuts)) → IfOk r (λ cuts. (k : ℕ) → h ≡ Some k → cuts ≡ cuts_in b.nodes k)
+cuts_held (Err e) b told h node same is r = tt
+cuts_held (Ok cuts) b told h node same is r = λ k at.
+    let here : node ≡ k = let both : Some node ≡ Some k = sym is ∙ at in cc (both) in
+    cuts_are (slice_get told.nodes node) cuts r ∙ ap (λ (x : Book). cuts_in x.nodes node) same ∙ ap (cuts_in b.nodes) here
+
+pub cuts_few : {E : Type 0} (r : Result (List Cut) E) (node : ℕ) → node ≤ 2 ^ 24 → IfOk r (λ cuts. length cuts ≤ node) → IfOk r (λ cuts. length cuts ≤ 2 ^ 24)
+cuts_few (Err e) node small r = tt
+cuts_few (Ok cuts) node small r = omega (arith, small, r)
