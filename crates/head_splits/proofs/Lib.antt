@@ -11,4 +11,4 @@ pub mod ListsBelow
 pub mod Walked
 pub mod WholeWalk
 pub mod SplitPlaces
-pub mod CutsOnShift
+pub mod Narrowed

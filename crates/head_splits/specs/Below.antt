@@ -1,5 +1,5 @@
 -- The legal duties below a class, in order, and what a walk over them finds.
-use Rattle.std.specs.Prelude.{◌≡◌, ℕ, ◌<◌, Bool, not, ◌||◌, ◌==◌, nat_lt, List, ◌++◌, Option, None, IsSomeAnd, length, take, map, slice_get}
+use Rattle.std.specs.Prelude.{◌≡◌, ℕ, ◌<◌, Bool, not, ◌||◌, nat_lt, List, ◌++◌, Option, None, IsSomeAnd, length, take, map, slice_get}
 use Rattle.std.specs.List.{filter, find, flat_map}
 use Rattle.break_rules.specs.declared.Break.{Break}
 use Rattle.break_rules.specs.Breaks.{begins_with}
@@ -49,7 +49,3 @@ shift_duties i s = flat_map (λ day. map (λ list. record { shift = s; day = day
 -- nodes are the graph of a shift
 abbrev pub IsGraphOf : Problem → ℕ → List Node → Type 0
 IsGraphOf i s nodes = IsSomeAnd (slice_get (shift_list i) s) (λ x. IsGraph x.1 x.0.len nodes)
-
--- the cuts on the classes of a shift
-abbrev pub cuts_on : List Cut → ℕ → List Cut
-cuts_on cuts s = filter (λ c. c.class.shift == s) cuts

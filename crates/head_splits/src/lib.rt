@@ -9,6 +9,7 @@ mod ranges;
 #[cfg(test)]
 mod settled_tests;
 mod settling;
+mod table;
 #[cfg(test)]
 mod tests;
 

@@ -15,7 +15,7 @@ fn is_class(class: &Class, shift: u16, day: u8, prefix: &[Break]) -> bool
 }
 
 /// A lower bound, raised by a cut of that side and number.
-fn raise(side: Side, m: u16, low: u16) -> u16
+pub fn raise(side: Side, m: u16, low: u16) -> u16
     ensures { result ≡ raised side m low }
 {
     match side {
@@ -25,7 +25,7 @@ fn raise(side: Side, m: u16, low: u16) -> u16
 }
 
 /// An upper bound, lowered by a cut of that side and number.
-fn lower(side: Side, m: u16, high: u16) -> u16
+pub fn lower(side: Side, m: u16, high: u16) -> u16
     ensures { result ≡ lowered side m high }
 {
     match side {

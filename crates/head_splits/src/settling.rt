@@ -3,47 +3,47 @@ ghost use Rattle.std.specs.Prelude.{◌≡◌, ◌+◌, ◌*◌, ◌<◌, ◌≤
 ghost use Rattle.std.specs.List.{find, list_all};
 ghost use Rattle.shift_instance.specs.Problem.{shift_list};
 ghost use Rattle.shift_instance.specs.Rota.{rota_of, heads_on};
-ghost use Rattle.head_splits.specs.Below.{IsWalked, StandsOn, IsClear, IsGraphOf, duties_below, shift_duties, is_open, cuts_on};
+ghost use Rattle.head_splits.specs.Below.{IsWalked, StandsOn, IsClear, IsGraphOf, duties_below, shift_duties, is_open};
 ghost use Rattle.head_splits.specs.Cuts.{low, high, meets};
+ghost use Rattle.head_splits.specs.Ranges.{AreRanges};
 ghost use Rattle.head_splits.specs.Settled.{class_of, prefixes, all_duties, is_settled, settled_rows};
 ghost use Rattle.head_splits.specs.Settling.{IsSettle};
 
 use crate::ranges::range_at;
-use crate::{Class, Cut, Cuts, Settle, meets, range};
+use crate::table::{Place, RangeTable};
+use crate::{Class, Cuts, Settle, meets, range};
 use break_graph::{Graph, Node};
-use break_rules::{Break, Breaks, NoMemory};
+use break_rules::{Breaks, NoMemory};
 use shift_instance::{Duty, Instance, Row, Rows};
 use std::alloc::Global;
 
 /// A walk over the legal duties in order: the duties below which it stands, and the rows of those that it has passed.
 #[derive(Drop)]
 struct Walk {
-    shift: u16,
-    day: u8,
-    prefix: Vec<Break>,
+    place: Place,
     rows: Vec<Row>,
 }
 
 /// Passes the duties of a whole legal list, whose number is in this range. Where that isn't fixed, the duty is given.
 fn pass(walk: &mut Walk, low: u16, high: u16) -> Result<Option<Duty>, NoMemory>
-    ensures found { IfOk result (λ found. found ≡ (if nat_lt low high then Some (record { shift = walk.old.shift; day = walk.old.day; breaks = walk.old.prefix.items }) else None)) }
-    ensures rows { IfOk result (λ found. found ≡ None → walk.new.rows.items ≡ walk.old.rows.items ++ (if nat_lt 0 low then record { shift = walk.old.shift; day = walk.old.day; breaks = walk.old.prefix.items; count = low } ∷ [] else [])) }
-    ensures place { IfOk result (λ _. (walk.new.shift ≡ walk.old.shift) × (walk.new.day ≡ walk.old.day) × (walk.new.prefix.items ≡ walk.old.prefix.items)) }
+    ensures found { IfOk result (λ found. found ≡ (if nat_lt low high then Some (record { shift = walk.old.place.shift; day = walk.old.place.day; breaks = walk.old.place.prefix.items }) else None)) }
+    ensures rows { IfOk result (λ found. found ≡ None → walk.new.rows.items ≡ walk.old.rows.items ++ (if nat_lt 0 low then record { shift = walk.old.place.shift; day = walk.old.place.day; breaks = walk.old.place.prefix.items; count = low } ∷ [] else [])) }
+    ensures place { IfOk result (λ _. (walk.new.place.shift ≡ walk.old.place.shift) × (walk.new.place.day ≡ walk.old.place.day) × (walk.new.place.prefix.items ≡ walk.old.place.prefix.items)) }
 {
     if low < high {
         return Ok(Some(Duty {
-            shift: walk.shift,
-            day: walk.day,
-            breaks: Breaks::new(walk.prefix.clone()?),
+            shift: walk.place.shift,
+            day: walk.place.day,
+            breaks: Breaks::new(walk.place.prefix.clone()?),
         }));
     }
     if low == 0 {
         return Ok(None);
     }
     walk.rows.push(Row {
-        shift: walk.shift,
-        day: walk.day,
-        breaks: Breaks::new(walk.prefix.clone()?),
+        shift: walk.place.shift,
+        day: walk.place.day,
+        breaks: Breaks::new(walk.place.prefix.clone()?),
         count: low,
     })?;
     Ok(None)
@@ -53,16 +53,18 @@ fn pass(walk: &mut Walk, low: u16, high: u16) -> Result<Option<Duty>, NoMemory>
 fn walk_below(
     instance: &Instance,
     cuts: &Cuts,
+    table: &RangeTable,
     nodes: &[Node],
     node: usize,
     walk: &mut Walk,
 ) -> Result<Option<Duty>, NoMemory>
-    requires stands { StandsOn instance.now walk.old.shift nodes.now node walk.old.prefix.items }
-    requires clear { IsClear instance.now cuts.now walk.old.shift walk.old.day walk.old.prefix.items }
-    ensures walked { IfOk result (λ found. IsWalked instance.now cuts.now (duties_below instance.now walk.old.shift walk.old.day walk.old.prefix.items) found walk.old.rows.items walk.new.rows.items) }
-    ensures place { IfOk result (λ found. found ≡ None → (walk.new.shift ≡ walk.old.shift) × (walk.new.day ≡ walk.old.day) × (walk.new.prefix.items ≡ walk.old.prefix.items)) }
+    requires table { AreRanges instance.now cuts.now table.now }
+    requires stands { StandsOn instance.now walk.old.place.shift nodes.now node walk.old.place.prefix.items }
+    requires clear { IsClear instance.now cuts.now walk.old.place.shift walk.old.place.day walk.old.place.prefix.items }
+    ensures walked { IfOk result (λ found. IsWalked instance.now cuts.now (duties_below instance.now walk.old.place.shift walk.old.place.day walk.old.place.prefix.items) found walk.old.rows.items walk.new.rows.items) }
+    ensures place { IfOk result (λ found. found ≡ None → (walk.new.place.shift ≡ walk.old.place.shift) × (walk.new.place.day ≡ walk.old.place.day) × (walk.new.place.prefix.items ≡ walk.old.place.prefix.items)) }
 {
-    let (low, high) = range_at(instance, cuts, walk.shift, walk.day, &walk.prefix);
+    let (low, high) = table.range_of(&walk.place);
     if high == 0 {
         return Ok(None);
     }
@@ -71,12 +73,12 @@ fn walk_below(
         return pass(walk, low, high);
     }
     for edge in edges {
-        walk.prefix.push(edge.stop)?;
-        let found = walk_below(instance, cuts, nodes, edge.next as usize, walk)?;
+        walk.place.prefix.push(edge.stop)?;
+        let found = walk_below(instance, cuts, table, nodes, edge.next as usize, walk)?;
         if found.is_some() {
             return Ok(found);
         }
-        walk.prefix.pop();
+        walk.place.prefix.pop();
     }
     Ok(None)
 }
@@ -85,20 +87,22 @@ fn walk_below(
 fn walk_days(
     instance: &Instance,
     cuts: &Cuts,
+    table: &RangeTable,
     nodes: &[Node],
     walk: &mut Walk,
 ) -> Result<Option<Duty>, NoMemory>
-    requires graph { IsGraphOf instance.now walk.old.shift nodes.now }
-    requires start { walk.old.prefix.items ≡ [] }
-    ensures walked { IfOk result (λ found. IsWalked instance.now cuts.now (shift_duties instance.now walk.old.shift) found walk.old.rows.items walk.new.rows.items) }
-    ensures start { IfOk result (λ found. found ≡ None → walk.new.prefix.items ≡ []) }
+    requires table { AreRanges instance.now cuts.now table.now }
+    requires graph { IsGraphOf instance.now walk.old.place.shift nodes.now }
+    requires start { walk.old.place.prefix.items ≡ [] }
+    ensures walked { IfOk result (λ found. IsWalked instance.now cuts.now (shift_duties instance.now walk.old.place.shift) found walk.old.rows.items walk.new.rows.items) }
+    ensures start { IfOk result (λ found. found ≡ None → walk.new.place.prefix.items ≡ []) }
 {
     if nodes.is_empty() {
         return Ok(None);
     }
     for day in 0..instance.days() {
-        walk.day = day;
-        let found = walk_below(instance, cuts, nodes, nodes.len() - 1, walk)?;
+        walk.place.day = day;
+        let found = walk_below(instance, cuts, table, nodes, nodes.len() - 1, walk)?;
         if found.is_some() {
             return Ok(found);
         }
@@ -112,59 +116,23 @@ fn walk_graph(
     alloc: Global,
     instance: &Instance,
     cuts: &Cuts,
+    table: &RangeTable,
     walk: &mut Walk,
 ) -> Result<Option<Duty>, NoMemory>
-    requires shift { walk.old.shift < length (shift_list instance.now) }
-    requires start { walk.old.prefix.items ≡ [] }
-    ensures walked { IfOk result (λ found. IsWalked instance.now cuts.now (shift_duties instance.now walk.old.shift) found walk.old.rows.items walk.new.rows.items) }
-    ensures start { IfOk result (λ found. found ≡ None → walk.new.prefix.items ≡ []) }
+    requires table { AreRanges instance.now cuts.now table.now }
+    requires shift { walk.old.place.shift < length (shift_list instance.now) }
+    requires start { walk.old.place.prefix.items ≡ [] }
+    ensures walked { IfOk result (λ found. IsWalked instance.now cuts.now (shift_duties instance.now walk.old.place.shift) found walk.old.rows.items walk.new.rows.items) }
+    ensures start { IfOk result (λ found. found ≡ None → walk.new.place.prefix.items ≡ []) }
 {
-    match instance.graph(walk.shift) {
-        Some(graph) => walk_days(instance, cuts, graph.nodes(), walk),
+    match instance.graph(walk.place.shift) {
+        Some(graph) => walk_days(instance, cuts, table, graph.nodes(), walk),
         None => {
-            let shift = instance.shift(walk.shift);
-            let graph = Graph::new(alloc, instance.rule_of(walk.shift), shift.len)?;
-            walk_days(instance, cuts, graph.nodes(), walk)
+            let shift = instance.shift(walk.place.shift);
+            let graph = Graph::new(alloc, instance.rule_of(walk.place.shift), shift.len)?;
+            walk_days(instance, cuts, table, graph.nodes(), walk)
         }
     }
-}
-
-/// Adds a cut to those on the classes of a shift, if it is one.
-fn keep(list: &mut Vec<Cut>, cut: &Cut, shift: u16) -> Result<(), NoMemory>
-    ensures { OnOk result (list.new.items ≡ (if cut.now.class.shift == shift then list.old.items ++ cut.now ∷ [] else list.old.items)) }
-{
-    if cut.class.shift != shift {
-        return Ok(());
-    }
-    list.push(cut.clone()?)?;
-    Ok(())
-}
-
-/// The cuts on the classes of a shift, in their order.
-fn cuts_on(alloc: Global, cuts: &[Cut], shift: u16) -> Result<Cuts, NoMemory>
-    ensures { IfOk result (λ on. on ≡ cuts_on cuts.now shift) }
-{
-    let mut list = Vec::new(alloc);
-    for cut in cuts {
-        keep(&mut list, cut, shift)?;
-    }
-    Ok(Cuts::new(list))
-}
-
-/// Walks over the legal duties of the walk's shift to the first one whose number isn't fixed, by the cuts on that shift.
-fn walk_shift(
-    alloc: Global,
-    instance: &Instance,
-    cuts: &Cuts,
-    walk: &mut Walk,
-) -> Result<Option<Duty>, NoMemory>
-    requires shift { walk.old.shift < length (shift_list instance.now) }
-    requires start { walk.old.prefix.items ≡ [] }
-    ensures walked { IfOk result (λ found. IsWalked instance.now cuts.now (shift_duties instance.now walk.old.shift) found walk.old.rows.items walk.new.rows.items) }
-    ensures start { IfOk result (λ found. found ≡ None → walk.new.prefix.items ≡ []) }
-{
-    let on = cuts_on(alloc, cuts.as_slice(), walk.shift)?;
-    walk_graph(alloc, instance, &on, walk)
 }
 
 /// Walks over all legal duties to the first one whose number isn't fixed.
@@ -172,14 +140,16 @@ fn walk_shifts(
     alloc: Global,
     instance: &Instance,
     cuts: &Cuts,
+    table: &RangeTable,
     walk: &mut Walk,
 ) -> Result<Option<Duty>, NoMemory>
-    requires start { walk.old.prefix.items ≡ [] }
+    requires table { AreRanges instance.now cuts.now table.now }
+    requires start { walk.old.place.prefix.items ≡ [] }
     ensures walked { IfOk result (λ found. IsWalked instance.now cuts.now (all_duties instance.now) found walk.old.rows.items walk.new.rows.items) }
 {
     for shift in 0..instance.shifts().len() {
-        walk.shift = shift as u16;
-        let found = walk_shift(alloc, instance, cuts, walk)?;
+        walk.place.shift = shift as u16;
+        let found = walk_graph(alloc, instance, cuts, table, walk)?;
         if found.is_some() {
             return Ok(found);
         }
@@ -278,13 +248,17 @@ fn judge(instance: &Instance, cuts: &Cuts, rows: Rows) -> Settle
 pub fn settled(alloc: Global, instance: &Instance, cuts: &Cuts) -> Result<Settle, NoMemory>
     ensures { IfOk result (λ s. IsSettle instance.now cuts.now s) }
 {
-    let mut walk = Walk {
+    let table = RangeTable::new(alloc, instance, cuts)?;
+    let place = Place {
         shift: 0,
         day: 0,
         prefix: Vec::new(alloc),
+    };
+    let mut walk = Walk {
+        place,
         rows: Vec::new(alloc),
     };
-    match walk_shifts(alloc, instance, cuts, &mut walk)? {
+    match walk_shifts(alloc, instance, cuts, &table, &mut walk)? {
         Some(duty) => {
             let (class, m) = split(alloc, instance, cuts, &duty)?;
             Ok(Settle::Unsettled { class, m })

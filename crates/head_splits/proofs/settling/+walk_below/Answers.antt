@@ -15,21 +15,21 @@ pub returns-then-high-eq0-clause-walked : goal.returns-then-high-eq0-clause-walk
 returns-then-high-eq0-clause-walked t c =
     let i = c.args.instance.now in
     let cuts = c.args.cuts.now in
-    let s = c.args.walk.now.shift in
-    let day = c.args.walk.now.day in
-    closed_walked i cuts s day c.args.walk.now.prefix.items c.args.walk.now.rows.items
-    (ap (λ l. high i cuts (class_of s day l)) (sym c.deref.ensures.value) ∙ sym c.range_at-low.ensures.high ∙ c.if-high-eq0.true)
+    let s = c.args.walk.now.place.shift in
+    let day = c.args.walk.now.place.day in
+    closed_walked i cuts s day c.args.walk.now.place.prefix.items c.args.walk.now.rows.items
+    (sym (c.range_of-low.ensures i cuts c.requires.table).1 ∙ c.if-high-eq0.true)
 
 pub returns-then-is_empty-clause-walked : goal.returns-then-is_empty-clause-walked
 returns-then-is_empty-clause-walked t c =
     let i = c.args.instance.now in
     let cuts = c.args.cuts.now in
     let nodes = c.args.nodes.now in
-    let s = c.args.walk.now.shift in
-    let day = c.args.walk.now.day in
-    let list = c.args.walk.now.prefix.items in
-    let low_is : c.range_at-low.result.0 ≡ low cuts (class_of s day list) = c.range_at-low.ensures.low ∙ ap (λ l. low cuts (class_of s day l)) c.deref.ensures.value in
-    let high_is : c.range_at-low.result.1 ≡ high i cuts (class_of s day list) = c.range_at-low.ensures.high ∙ ap (λ l. high i cuts (class_of s day l)) c.deref.ensures.value in
+    let s = c.args.walk.now.place.shift in
+    let day = c.args.walk.now.place.day in
+    let list = c.args.walk.now.place.prefix.items in
+    let low_is : c.range_of-low.result.0 ≡ low cuts (class_of s day list) = (c.range_of-low.ensures i cuts c.requires.table).0 in
+    let high_is : c.range_of-low.result.1 ≡ high i cuts (class_of s day list) = (c.range_of-low.ensures i cuts c.requires.table).1 in
     let room : 0 < high i cuts (class_of s day list) = omega (arith, c.if-high-eq0.false) in
     let here = index_any nodes c.args.node c.index-nodes-node.result _ (stands_within i cuts s day nodes c.args.node list c.requires.stands) in
     let edges : c.as_slice-edges.result.now ≡ (node_at nodes c.args.node).edges = c.as_slice-edges.ensures ∙ ap (λ (n : Node). n.edges) here in
@@ -37,7 +37,7 @@ returns-then-is_empty-clause-walked t c =
     let only = whole_duties i cuts s day nodes c.args.node list c.requires.stands empty in
     both_ok c.pass.result _ _ _ c.pass.ensures.found c.pass.ensures.rows (λ found is rows.
     whole_walked i cuts s day list found c.args.walk.now.rows.items c.pass.new.walk.rows.items c.requires.clear room only
-    (subst (λ l. found ≡ cond (nat_lt l (high i cuts (class_of s day list))) (Some (duty i cuts s day list)) None) low_is (subst (λ h. found ≡ cond (nat_lt c.range_at-low.result.0 h) (Some (duty i cuts s day list)) None) high_is is))
+    (subst (λ l. found ≡ cond (nat_lt l (high i cuts (class_of s day list))) (Some (duty i cuts s day list)) None) low_is (subst (λ h. found ≡ cond (nat_lt c.range_of-low.result.0 h) (Some (duty i cuts s day list)) None) high_is is))
     (λ none. subst (λ l. c.pass.new.walk.rows.items ≡ c.args.walk.now.rows.items ++ cond (nat_lt 0 l) (row_of (duty i cuts s day list) l ∷ []) []) low_is (rows none)))
 
 pub walk_below-requires : goal.walk_below-requires
@@ -45,9 +45,9 @@ walk_below-requires t c =
     let i = c.args.instance.now in
     let cuts = c.args.cuts.now in
     let nodes = c.args.nodes.now in
-    let s = c.args.walk.now.shift in
-    let day = c.args.walk.now.day in
-    let list = c.args.walk.now.prefix.items in
+    let s = c.args.walk.now.place.shift in
+    let day = c.args.walk.now.place.day in
+    let list = c.args.walk.now.place.prefix.items in
     let node = c.args.node in
     let es = c.as_slice-edges.result.now in
     let at = c.loop-edge.edge-index in
@@ -56,14 +56,17 @@ walk_below-requires t c =
     let here = index_any nodes node c.index-nodes-node.result _ (stands_within i cuts s day nodes node list c.requires.stands) in
     let edges : es ≡ (node_at nodes node).edges = c.as_slice-edges.ensures ∙ ap (λ (n : Node). n.edges) here in
     let longer : list ++ e.stop ∷ [] ≡ c.push.new.self.items = ap (λ l. l ++ e.stop ∷ []) (sym c.loop-edge.invariant.prefix) ∙ sym c.in_ok-push.ensures.items in
-    let room : 0 < high i cuts (class_of s day list) = omega (arith, c.if-high-eq0.false, c.range_at-low.ensures.high, ap (λ l. high i cuts (class_of s day l)) c.deref.ensures.value) in
+    let room : 0 < high i cuts (class_of s day list) = omega (arith, c.if-high-eq0.false, (c.range_of-low.ensures i cuts c.requires.table).1) in
     let next = stands_next i cuts s day nodes node at e list c.requires.stands (subst (λ es. slice_get es at ≡ Some e) edges (index_get es at none c.loop-edge-test.true)) in
     let stands : StandsOn i s nodes e.next c.push.new.self.items = subst (StandsOn i s nodes e.next) longer next.1 in
     let clear : IsClear i cuts s day c.push.new.self.items = subst (IsClear i cuts s day) longer (clear_more i cuts s day list e.stop c.requires.clear room) in (
       omega (arith, next.0, c.decreases),
       (
-        subst (λ z. StandsOn i z nodes e.next c.push.new.self.items) (sym c.loop-edge.invariant.shift) stands,
-        subst (λ z. IsClear i cuts z c.loop-edge.walk.day c.push.new.self.items) (sym c.loop-edge.invariant.shift) (subst (λ z. IsClear i cuts s z c.push.new.self.items) (sym c.loop-edge.invariant.day) clear),
+        c.requires.table,
+        (
+          subst (λ z. StandsOn i z nodes e.next c.push.new.self.items) (sym c.loop-edge.invariant.shift) stands,
+          subst (λ z. IsClear i cuts z c.loop-edge.walk.place.day c.push.new.self.items) (sym c.loop-edge.invariant.shift) (subst (λ z. IsClear i cuts s z c.push.new.self.items) (sym c.loop-edge.invariant.day) clear),
+        ),
       ),
     )
 
@@ -72,9 +75,9 @@ returns-then-is_some-clause-walked t c =
     let i = c.args.instance.now in
     let cuts = c.args.cuts.now in
     let nodes = c.args.nodes.now in
-    let s = c.args.walk.now.shift in
-    let day = c.args.walk.now.day in
-    let list = c.args.walk.now.prefix.items in
+    let s = c.args.walk.now.place.shift in
+    let day = c.args.walk.now.place.day in
+    let list = c.args.walk.now.place.prefix.items in
     let node = c.args.node in
     let es = c.as_slice-edges.result.now in
     let at = c.loop-edge.edge-index in
@@ -85,8 +88,8 @@ returns-then-is_some-clause-walked t c =
     let longer : list ++ e.stop ∷ [] ≡ c.push.new.self.items = ap (λ l. l ++ e.stop ∷ []) (sym c.loop-edge.invariant.prefix) ∙ sym c.in_ok-push.ensures.items in
     let some : (length (node_at nodes node).edges == 0) ≡ false = ap (λ (es : List Edge). length es == 0) (sym edges) ∙ sym c.is_empty.ensures ∙ c.if-is_empty.false in
     let f : Edge → List Duty = λ e. duties_below i s day (list ++ e.stop ∷ []) in
-    let same : duties_below i c.loop-edge.walk.shift c.loop-edge.walk.day c.push.new.self.items ≡ f e =
-    ap (λ z. duties_below i z c.loop-edge.walk.day c.push.new.self.items) c.loop-edge.invariant.shift ∙ ap (λ z. duties_below i s z c.push.new.self.items) c.loop-edge.invariant.day
+    let same : duties_below i c.loop-edge.walk.place.shift c.loop-edge.walk.place.day c.push.new.self.items ≡ f e =
+    ap (λ z. duties_below i z c.loop-edge.walk.place.day c.push.new.self.items) c.loop-edge.invariant.shift ∙ ap (λ z. duties_below i s z c.push.new.self.items) c.loop-edge.invariant.day
     ∙ ap (duties_below i s day) (sym longer) in
     let below : IsWalked i cuts (f e) c.in_ok-found.found c.loop-edge.walk.rows.items c.walk_below.new.walk.rows.items =
     subst (λ ds. IsWalked i cuts ds c.in_ok-found.found c.loop-edge.walk.rows.items c.walk_below.new.walk.rows.items) same c.in_ok-found.ensures.walked in
@@ -102,9 +105,9 @@ loop-edge-preserved t c =
     let i = c.args.instance.now in
     let cuts = c.args.cuts.now in
     let nodes = c.args.nodes.now in
-    let s = c.args.walk.now.shift in
-    let day = c.args.walk.now.day in
-    let list = c.args.walk.now.prefix.items in
+    let s = c.args.walk.now.place.shift in
+    let day = c.args.walk.now.place.day in
+    let list = c.args.walk.now.place.prefix.items in
     let node = c.args.node in
     let es = c.as_slice-edges.result.now in
     let at = c.loop-edge.edge-index in
@@ -114,8 +117,8 @@ loop-edge-preserved t c =
     let edges : es ≡ (node_at nodes node).edges = c.as_slice-edges.ensures ∙ ap (λ (n : Node). n.edges) here in
     let longer : list ++ e.stop ∷ [] ≡ c.push.new.self.items = ap (λ l. l ++ e.stop ∷ []) (sym c.loop-edge.invariant.prefix) ∙ sym c.in_ok-push.ensures.items in
     let f : Edge → List Duty = λ e. duties_below i s day (list ++ e.stop ∷ []) in
-    let same : duties_below i c.loop-edge.walk.shift c.loop-edge.walk.day c.push.new.self.items ≡ f e =
-    ap (λ z. duties_below i z c.loop-edge.walk.day c.push.new.self.items) c.loop-edge.invariant.shift ∙ ap (λ z. duties_below i s z c.push.new.self.items) c.loop-edge.invariant.day
+    let same : duties_below i c.loop-edge.walk.place.shift c.loop-edge.walk.place.day c.push.new.self.items ≡ f e =
+    ap (λ z. duties_below i z c.loop-edge.walk.place.day c.push.new.self.items) c.loop-edge.invariant.shift ∙ ap (λ z. duties_below i s z c.push.new.self.items) c.loop-edge.invariant.day
     ∙ ap (duties_below i s day) (sym longer) in
     let below : IsWalked i cuts (f e) c.in_ok-found.found c.loop-edge.walk.rows.items c.walk_below.new.walk.rows.items =
     subst (λ ds. IsWalked i cuts ds c.in_ok-found.found c.loop-edge.walk.rows.items c.walk_below.new.walk.rows.items) same c.in_ok-found.ensures.walked in
@@ -127,7 +130,7 @@ loop-edge-preserved t c =
     record {
       shift = place.0 ∙ c.loop-edge.invariant.shift;
       day = place.1 ∙ c.loop-edge.invariant.day;
-      prefix = popped list e.stop c.walk_below.new.walk.prefix.items c.pop.new.self.items c.walk_below.new.walk.prefix.len (place.2 ∙ sym longer) c.walk_below.new.walk.prefix.ok.0 c.pop.ensures.rest;
+      prefix = popped list e.stop c.walk_below.new.walk.place.prefix.items c.pop.new.self.items c.walk_below.new.walk.place.prefix.len (place.2 ∙ sym longer) c.walk_below.new.walk.place.prefix.ok.0 c.pop.ensures.rest;
       walked = subst (λ o. IsWalked i cuts (flat_map f (take (at + 1) es)) o c.args.walk.now.rows.items c.walk_below.new.walk.rows.items) nothing more;
     }
 
@@ -136,9 +139,9 @@ returns-clause-walked t c =
     let i = c.args.instance.now in
     let cuts = c.args.cuts.now in
     let nodes = c.args.nodes.now in
-    let s = c.args.walk.now.shift in
-    let day = c.args.walk.now.day in
-    let list = c.args.walk.now.prefix.items in
+    let s = c.args.walk.now.place.shift in
+    let day = c.args.walk.now.place.day in
+    let list = c.args.walk.now.place.prefix.items in
     let here = index_any nodes c.args.node c.index-nodes-node.result _ (stands_within i cuts s day nodes c.args.node list c.requires.stands) in
     let edges : c.as_slice-edges.result.now ≡ (node_at nodes c.args.node).edges = c.as_slice-edges.ensures ∙ ap (λ (n : Node). n.edges) here in
     let some : (length (node_at nodes c.args.node).edges == 0) ≡ false = ap (λ (es : List Edge). length es == 0) (sym edges) ∙ sym c.is_empty.ensures ∙ c.if-is_empty.false in

@@ -9,8 +9,8 @@ decreases-walk_below l = l.node
 
 abbrev pub invariant-loop-edge : goal.invariant-loop-edge
 invariant-loop-edge l = record {
-  shift : l.walk.shift ≡ l.fn.walk.shift;
-  day : l.walk.day ≡ l.fn.walk.day;
-  prefix : l.walk.prefix.items ≡ l.fn.walk.prefix.items;
-  walked : IsWalked l.instance l.cuts (flat_map (λ (e : Edge). duties_below l.instance l.fn.walk.shift l.fn.walk.day (l.fn.walk.prefix.items ++ e.stop ∷ [])) (take l.edge-index l.edges)) None l.fn.walk.rows.items l.walk.rows.items;
+  shift : l.walk.place.shift ≡ l.fn.walk.place.shift;
+  day : l.walk.place.day ≡ l.fn.walk.place.day;
+  prefix : l.walk.place.prefix.items ≡ l.fn.walk.place.prefix.items;
+  walked : IsWalked l.instance l.cuts (flat_map (λ (e : Edge). duties_below l.instance l.fn.walk.place.shift l.fn.walk.place.day (l.fn.walk.place.prefix.items ++ e.stop ∷ [])) (take l.edge-index l.edges)) None l.fn.walk.rows.items l.walk.rows.items;
 }

@@ -14,8 +14,8 @@ split-requires c = (open_where_some c.args.instance.now c.args.cuts.now c.in-Som
 pub judge-requires-clause-settled : goal.judge-requires-clause-settled
 judge-requires-clause-settled c = settled_where_none c.args.instance.now c.args.cuts.now (sym c.in-None.is ∙ c.in_ok-duty.ensures.walked.first)
 
-pub returns-in_ok-class-in-Some : goal.returns-in_ok-class-in-Some
-returns-in_ok-class-in-Some c =
+pub returns-in-Some : goal.returns-in-Some
+returns-in-Some c =
     let i = c.args.instance.now in
     let cuts = c.args.cuts.now in
     let first = sym c.in-Some.is ∙ c.in_ok-duty.ensures.walked.first in

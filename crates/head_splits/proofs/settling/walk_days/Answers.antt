@@ -12,20 +12,20 @@ returns-then-is_empty-clause-walked c =
     let i = c.args.instance.now in
     let cuts = c.args.cuts.now in
     subst (λ ds. IsWalked i cuts ds None c.args.walk.now.rows.items c.args.walk.now.rows.items)
-    (sym (no_duties i cuts c.args.walk.now.shift c.args.nodes.now c.requires.graph (eqb-true _ 0 (sym c.is_empty.ensures ∙ c.if-is_empty.true))))
+    (sym (no_duties i cuts c.args.walk.now.place.shift c.args.nodes.now c.requires.graph (eqb-true _ 0 (sym c.is_empty.ensures ∙ c.if-is_empty.true))))
     (none_walked i cuts c.args.walk.now.rows.items)
 
 pub returns-then-is_some-clause-walked : goal.returns-then-is_some-clause-walked
 returns-then-is_some-clause-walked c =
     let i = c.args.instance.now in
     let cuts = c.args.cuts.now in
-    let s = c.args.walk.now.shift in
+    let s = c.args.walk.now.place.shift in
     let f : ℕ → List Duty = λ day. duties_below i s day [] in
     let found = c.in_ok-found.found in
     let before = c.args.walk.now.rows.items in
     let after = c.walk_below.new.walk.rows.items in
-    let same : duties_below i c.loop-day.walk.shift c.loop-day.day c.loop-day.walk.prefix.items ≡ f c.loop-day.day =
-    ap (λ z. duties_below i z c.loop-day.day c.loop-day.walk.prefix.items) c.loop-day.invariant.shift ∙ ap (duties_below i s c.loop-day.day) c.loop-day.invariant.prefix in
+    let same : duties_below i c.loop-day.walk.place.shift c.loop-day.day c.loop-day.walk.place.prefix.items ≡ f c.loop-day.day =
+    ap (λ z. duties_below i z c.loop-day.day c.loop-day.walk.place.prefix.items) c.loop-day.invariant.shift ∙ ap (duties_below i s c.loop-day.day) c.loop-day.invariant.prefix in
     let next = next_walked i cuts f c.loop-day.day found before c.loop-day.walk.rows.items after c.loop-day.invariant.walked (subst (λ ds. IsWalked i cuts ds found c.loop-day.walk.rows.items after) same c.in_ok-found.ensures.walked) in
     subst (λ ds. IsWalked i cuts ds found before after) (shift_days i cuts s)
     (stopped i cuts f i.days c.loop-day.day found before after (omega (arith, c.loop-day-test.true, c.days-day-end.ensures.days)) (sym c.is_some.ensures ∙ c.if-is_some.true) next)
@@ -34,13 +34,13 @@ pub loop-day-preserved : goal.loop-day-preserved
 loop-day-preserved c =
     let i = c.args.instance.now in
     let cuts = c.args.cuts.now in
-    let s = c.args.walk.now.shift in
+    let s = c.args.walk.now.place.shift in
     let f : ℕ → List Duty = λ day. duties_below i s day [] in
     let found = c.in_ok-found.found in
     let before = c.args.walk.now.rows.items in
     let after = c.walk_below.new.walk.rows.items in
-    let same : duties_below i c.loop-day.walk.shift c.loop-day.day c.loop-day.walk.prefix.items ≡ f c.loop-day.day =
-    ap (λ z. duties_below i z c.loop-day.day c.loop-day.walk.prefix.items) c.loop-day.invariant.shift ∙ ap (duties_below i s c.loop-day.day) c.loop-day.invariant.prefix in
+    let same : duties_below i c.loop-day.walk.place.shift c.loop-day.day c.loop-day.walk.place.prefix.items ≡ f c.loop-day.day =
+    ap (λ z. duties_below i z c.loop-day.day c.loop-day.walk.place.prefix.items) c.loop-day.invariant.shift ∙ ap (duties_below i s c.loop-day.day) c.loop-day.invariant.prefix in
     let next = next_walked i cuts f c.loop-day.day found before c.loop-day.walk.rows.items after c.loop-day.invariant.walked (subst (λ ds. IsWalked i cuts ds found c.loop-day.walk.rows.items after) same c.in_ok-found.ensures.walked) in
     let nothing : found ≡ None = no_some found (sym c.is_some.ensures ∙ c.if-is_some.false) in
     let place = c.in_ok-found.ensures.place nothing in
@@ -54,7 +54,7 @@ pub returns-clause-walked : goal.returns-clause-walked
 returns-clause-walked c =
     let i = c.args.instance.now in
     let cuts = c.args.cuts.now in
-    let s = c.args.walk.now.shift in
+    let s = c.args.walk.now.place.shift in
     let all : c.loop-day.day ≡ i.days = omega (arith, c.loop-day-test.false, c.loop-day.auto, c.days-day-end.ensures.days) in
     subst (λ ds. IsWalked i cuts ds None c.args.walk.now.rows.items c.loop-day.walk.rows.items)
     (ap (λ n. flat_map (λ day. duties_below i s day []) (below n)) all ∙ shift_days i cuts s) c.loop-day.invariant.walked

@@ -1,0 +1,6 @@
+use Rattle.std.proofs.Common.{take}
+use Rattle.head_splits.specs.Ranges.{AreRanges}
+use Rattle.head_splits.proofs.table.RangeTable.new.Given as goal
+
+abbrev pub invariant-loop-cut : goal.invariant-loop-cut
+invariant-loop-cut l = AreRanges l.instance (take l.cut-index l.cuts) l.table
