@@ -50,20 +50,6 @@ fn range_below(heads: u16, cuts: &[Cut], shift: u16, day: u8, prefix: &[Break]) 
     (low, high)
 }
 
-/// The least and the greatest number of duties that cuts leave to the class of a shift, a day and a prefix, as [`range`].
-pub fn range_at(
-    instance: &Instance,
-    cuts: &Cuts,
-    shift: u16,
-    day: u8,
-    prefix: &[Break],
-) -> (u16, u16)
-    ensures low { result.0 ≡ low cuts.now (class_of shift day prefix.now) }
-    ensures high { result.1 ≡ high instance.now cuts.now (class_of shift day prefix.now) }
-{
-    range_below(instance.heads(), cuts.as_slice(), shift, day, prefix)
-}
-
 /// The least and the greatest number of duties that cuts leave to a class. The first is the greatest number of the cuts
 /// that bound exactly this class from below, and 0 where there is none. The second is the least of the numbers of those
 /// that bound it from above and of the most duties of one shift on one day. The first may be above the second, and then
@@ -72,9 +58,9 @@ pub fn range(instance: &Instance, cuts: &Cuts, class: &Class) -> (u16, u16)
     ensures low { result.0 ≡ low cuts.now class.now }
     ensures high { result.1 ≡ high instance.now cuts.now class.now }
 {
-    range_at(
-        instance,
-        cuts,
+    range_below(
+        instance.heads(),
+        cuts.as_slice(),
         class.shift,
         class.day,
         class.prefix.as_slice(),

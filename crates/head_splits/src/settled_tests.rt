@@ -123,6 +123,49 @@ fn shortest_open_prefix_is_split(rt: HostRuntime) -> Result<(), Fail> {
     Ok(())
 }
 
+/// Adds bounds of classes to others: those of a list, or the widest in their place.
+fn add_round(
+    rounds: &mut Vec<(u8, u32, u16, u16)>,
+    list: &[(u8, u32, u16, u16)],
+    wide: bool,
+) -> Result<(), NoMemory> {
+    for (day, number, low, high) in list {
+        let bounds = if wide { (0, 2) } else { (*low, *high) };
+        rounds.push((*day, *number, bounds.0, bounds.1))?;
+    }
+    Ok(())
+}
+
+/// The class to split and the number by which, of fifty rounds of bounds, which are the widest ones in all rounds but one.
+fn split_by_rounds(
+    alloc: Global,
+    list: &[(u8, u32, u16, u16)],
+    narrow: u32,
+) -> Result<Option<(u8, usize, u16, u16)>, Fail> {
+    let mut rounds = Vec::new(alloc);
+    for round in 0..50u32 {
+        add_round(&mut rounds, list, round != narrow)?;
+    }
+    split_by(alloc, &rounds)
+}
+
+#[test]
+fn hundreds_of_cuts_keep_the_narrowest_ranges(rt: HostRuntime) -> Result<(), Fail> {
+    let alloc = rt.alloc();
+    let first = [(0, 0, 2, 2), (0, 1, 1, 1), (0, 3, 0, 0)];
+    let second = [(0, 0, 0, 0), (1, 0, 2, 2), (1, 1, 1, 1)];
+    for narrow in [0, 20, 49] {
+        assert_eq!(rt; split_by_rounds(alloc, &first, narrow)?, Some((0, 2, 4, 1)));
+        assert_eq!(rt;
+            split_by_rounds(alloc, &second, narrow)?,
+            Some((1, 2, 3, 1))
+        );
+    }
+    // Where no round is narrow, the whole class of the first day is open.
+    assert_eq!(rt; split_by_rounds(alloc, &first, 50)?, Some((0, 0, 0, 1)));
+    Ok(())
+}
+
 /// The next number of a generator.
 fn next(number: u32) -> u32 {
     number.wrapping_mul(1_664_525).wrapping_add(1_013_904_223)

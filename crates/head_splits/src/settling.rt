@@ -1,17 +1,16 @@
 //! Which class to split at a node, or what its cuts leave.
-ghost use Rattle.std.specs.Prelude.{◌≡◌, ◌+◌, ◌*◌, ◌<◌, ◌≤◌, ◌/◌, ◌&&◌, ◌==◌, ◌++◌, ◌∷◌, [], length, map, take, nat_lt, nat_le, IsTrue, IfOk, OnOk, None, Some, if◌then◌else◌};
+ghost use Rattle.std.specs.Prelude.{◌≡◌, ◌+◌, ◌*◌, ◌<◌, ◌≤◌, ◌/◌, ◌&&◌, ◌==◌, ◌++◌, ◌∷◌, [], length, map, nat_lt, nat_le, IsTrue, IfOk, OnOk, None, Some, if◌then◌else◌};
 ghost use Rattle.std.specs.List.{find, list_all};
 ghost use Rattle.shift_instance.specs.Problem.{shift_list};
 ghost use Rattle.shift_instance.specs.Rota.{rota_of, heads_on};
 ghost use Rattle.head_splits.specs.Below.{IsWalked, StandsOn, IsClear, IsGraphOf, duties_below, shift_duties, is_open};
 ghost use Rattle.head_splits.specs.Cuts.{low, high, meets};
-ghost use Rattle.head_splits.specs.Ranges.{AreRanges};
+ghost use Rattle.head_splits.specs.Ranges.{AreRanges, class_at};
 ghost use Rattle.head_splits.specs.Settled.{class_of, prefixes, all_duties, is_settled, settled_rows};
 ghost use Rattle.head_splits.specs.Settling.{IsSettle};
 
-use crate::ranges::range_at;
 use crate::table::{Place, RangeTable};
-use crate::{Class, Cuts, Settle, meets, range};
+use crate::{Class, Cuts, Settle, meets};
 use break_graph::{Graph, Node};
 use break_rules::{Breaks, NoMemory};
 use shift_instance::{Duty, Instance, Row, Rows};
@@ -157,20 +156,31 @@ fn walk_shifts(
     Ok(None)
 }
 
-/// The length of the shortest prefix of a duty's breaks whose number isn't fixed.
-fn open_length(instance: &Instance, cuts: &Cuts, duty: &Duty) -> usize
-    requires { IsTrue (is_open instance.now cuts.now duty.now) }
-    ensures few { result ≤ length duty.now.breaks }
-    ensures first { find (λ c. nat_lt (low cuts.now c) (high instance.now cuts.now c)) (map (class_of duty.now.shift duty.now.day) (prefixes duty.now.breaks)) ≡ Some (class_of duty.now.shift duty.now.day (take result duty.now.breaks)) }
+/// The class of the shortest prefix of a duty's breaks whose number isn't fixed.
+fn open_place(
+    alloc: Global,
+    instance: &Instance,
+    cuts: &Cuts,
+    table: &RangeTable,
+    duty: &Duty,
+) -> Result<Place, NoMemory>
+    requires table { AreRanges instance.now cuts.now table.now }
+    requires duty { IsTrue (is_open instance.now cuts.now duty.now) }
+    ensures first { IfOk result (λ place. find (λ c. nat_lt (low cuts.now c) (high instance.now cuts.now c)) (map (class_of duty.now.shift duty.now.day) (prefixes duty.now.breaks)) ≡ Some (class_at place)) }
 {
-    let breaks = duty.breaks.as_slice();
-    for len in 0..breaks.len() {
-        let (low, high) = range_at(instance, cuts, duty.shift, duty.day, &breaks[..len]);
+    let mut place = Place {
+        shift: duty.shift,
+        day: duty.day,
+        prefix: Vec::new(alloc),
+    };
+    for stop in duty.breaks.as_slice() {
+        let (low, high) = table.range_of(&place);
         if low < high {
-            return len;
+            return Ok(place);
         }
+        place.prefix.push(*stop)?;
     }
-    breaks.len()
+    Ok(place)
 }
 
 /// Half of two numbers together, rounded down.
@@ -185,20 +195,21 @@ fn split(
     alloc: Global,
     instance: &Instance,
     cuts: &Cuts,
+    table: &RangeTable,
     duty: &Duty,
 ) -> Result<(Class, u16), NoMemory>
-    requires { IsTrue (is_open instance.now cuts.now duty.now) }
+    requires table { AreRanges instance.now cuts.now table.now }
+    requires duty { IsTrue (is_open instance.now cuts.now duty.now) }
     ensures class { IfOk result (λ r. find (λ c. nat_lt (low cuts.now c) (high instance.now cuts.now c)) (map (class_of duty.now.shift duty.now.day) (prefixes duty.now.breaks)) ≡ Some r.0) }
     ensures m { IfOk result (λ r. r.1 ≡ (low cuts.now r.0 + high instance.now cuts.now r.0) / 2) }
 {
-    let len = open_length(instance, cuts, duty);
-    let prefix = Vec::from_slice(alloc, &duty.breaks.as_slice()[..len])?;
+    let place = open_place(alloc, instance, cuts, table, duty)?;
+    let (low, high) = table.range_of(&place);
     let class = Class {
-        shift: duty.shift,
-        day: duty.day,
-        prefix: Breaks::new(prefix),
+        shift: place.shift,
+        day: place.day,
+        prefix: Breaks::new(place.prefix),
     };
-    let (low, high) = range(instance, cuts, &class);
     Ok((class, middle(low, high)))
 }
 
@@ -244,7 +255,9 @@ fn judge(instance: &Instance, cuts: &Cuts, rows: Rows) -> Settle
 }
 
 /// The class to split at a node with these cuts, or, where they fix the number of each legal duty, their plan. The walk
-/// goes only into classes that the cuts leave open, and ends at the first legal duty whose number isn't fixed.
+/// goes only into classes that the cuts leave open, and ends at the first legal duty whose number isn't fixed. The cuts
+/// are gone through once, into a table that the walk and the split look their classes up in, and once more to see whether
+/// the plan meets them.
 pub fn settled(alloc: Global, instance: &Instance, cuts: &Cuts) -> Result<Settle, NoMemory>
     ensures { IfOk result (λ s. IsSettle instance.now cuts.now s) }
 {
@@ -260,7 +273,7 @@ pub fn settled(alloc: Global, instance: &Instance, cuts: &Cuts) -> Result<Settle
     };
     match walk_shifts(alloc, instance, cuts, &table, &mut walk)? {
         Some(duty) => {
-            let (class, m) = split(alloc, instance, cuts, &duty)?;
+            let (class, m) = split(alloc, instance, cuts, &table, &duty)?;
             Ok(Settle::Unsettled { class, m })
         }
         None => Ok(judge(instance, cuts, Rows::new(walk.rows))),

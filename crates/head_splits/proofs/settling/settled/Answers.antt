@@ -8,8 +8,8 @@ use Rattle.head_splits.specs.Settled.{class_of, prefixes}
 use Rattle.head_splits.proofs.WholeWalk.{settled_where_none, open_where_some}
 use Rattle.head_splits.proofs.settling.settled.Goals as goal
 
-pub split-requires : goal.split-requires
-split-requires c = (open_where_some c.args.instance.now c.args.cuts.now c.in-Some.duty (sym c.in-Some.is ∙ c.in_ok-duty.ensures.walked.first)).1
+pub split-requires-clause-duty : goal.split-requires-clause-duty
+split-requires-clause-duty c = (open_where_some c.args.instance.now c.args.cuts.now c.in-Some.duty (sym c.in-Some.is ∙ c.in_ok-duty.ensures.walked.first)).1
 
 pub judge-requires-clause-settled : goal.judge-requires-clause-settled
 judge-requires-clause-settled c = settled_where_none c.args.instance.now c.args.cuts.now (sym c.in-None.is ∙ c.in_ok-duty.ensures.walked.first)
