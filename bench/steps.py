@@ -1,0 +1,61 @@
+#!/usr/bin/env python3
+"""Measures searches of many steps over a real journal file: `solve` of the usual week with 2,000 and with 20,000 steps, the opening
+of the journals that they leave (`--steps 0`), and `shift_check check` of their reports. Seconds and peak memory of the whole process.
+Build the programs first, by `./run shift_solve` and `./run shift_check` with any words."""
+import os
+import subprocess
+import sys
+import tempfile
+import time
+
+TOP = os.path.dirname(os.path.dirname(os.path.abspath(__file__)))
+SOLVE = os.path.join(TOP, "crates", "shift_solve", "out", "shift_solve")
+CHECK = os.path.join(TOP, "crates", "shift_check", "out", "shift_check")
+EXAMPLES = os.path.join(TOP, "examples")
+
+
+def timed(words, source, target):
+    """Seconds and peak memory in MB of one process."""
+    with open(source, "rb") as given, open(target, "wb") as out:
+        begin = time.perf_counter()
+        child = subprocess.Popen(words, stdin=given, stdout=out, stderr=subprocess.DEVNULL)
+        _, _, usage = os.wait4(child.pid, 0)
+        return time.perf_counter() - begin, usage.ru_maxrss / 1024
+
+
+def show(what, measured):
+    print("%-44s %9.3f s %8.1f MB" % (what, measured[0], measured[1]), flush=True)
+
+
+def search(example, steps, folder):
+    """One search, the opening of its journal, and the check of its report."""
+    instance = os.path.join(EXAMPLES, example)
+    journal = os.path.join(folder, "search.journal")
+    report = os.path.join(folder, "search.report")
+    verdict = os.path.join(folder, "search.verdict")
+    if os.path.exists(journal):
+        os.remove(journal)
+    show("%s, %d steps" % (example, steps), timed([SOLVE, "solve", journal, "--steps", str(steps)], instance, report))
+    with open(report, "rb") as text:
+        head = [next(text, b"").decode().strip() for _ in range(4)]
+    print("    %s; journal %d bytes, report %d bytes" % (", ".join(head[1:]), os.path.getsize(journal), os.path.getsize(report)))
+    show("  its journal opened, 0 steps", timed([SOLVE, "solve", journal, "--steps", "0"], instance, os.path.join(folder, "again.report")))
+    show("  its report checked", timed([CHECK, "check", instance, report], instance, verdict))
+    with open(verdict) as line:
+        print("    " + line.read().strip())
+
+
+def main():
+    for program in (SOLVE, CHECK):
+        if not os.path.exists(program):
+            sys.exit("build the programs first: ./run shift_solve, ./run shift_check")
+    cases = [("usual_week.json", 2000), ("usual_week.json", 20000), ("call_week.json", 2000)]
+    if len(sys.argv) > 2:
+        cases = [(sys.argv[1], int(sys.argv[2]))]
+    with tempfile.TemporaryDirectory() as folder:
+        for example, steps in cases:
+            search(example, steps, folder)
+
+
+if __name__ == "__main__":
+    main()
