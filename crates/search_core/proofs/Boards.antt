@@ -1,5 +1,5 @@
 -- A board's takes and commits are events of its core.
-use Rattle.std.proofs.Common.{◌≡◌, ◌⊎◌, inl, inr, ℕ, ◌<◌, Bool, true, false, cond, ◌&&◌, ◌==◌, not, List, [], ◌∷◌, ◌++◌, length, set, refl, sym, ap, ◌∙◌, subst, nat_lt, Option, Some, None, eq-eqb}
+use Rattle.std.proofs.Common.{◌≡◌, inl, inr, ℕ, ◌<◌, Bool, true, false, cond, ◌&&◌, ◌==◌, not, List, [], ◌∷◌, ◌++◌, length, set, refl, sym, ap, ◌∙◌, subst, nat_lt, Option, Some, None, eq-eqb}
 use Rattle.std.specs.Prelude.{is_none}
 use Rattle.std.specs.Option.{option_map_or}
 use Rattle.std.specs.List.{list_all, list_any}
@@ -18,7 +18,7 @@ use Rattle.search_core.specs.declared.step_posts.Close.{Close}
 use Rattle.search_core.specs.declared.step_posts.Close.TheVariants.{ByPrice, Split as CloseBySplit, Settled as CloseAsSettled}
 use Rattle.search_core.specs.Board.{BoardView, book_at, core_of, is_free, Commits, IsSoundBoard, TakeMakes}
 use Rattle.search_core.specs.Book.{Book, book_after, book_of, is_node_and, is_open, opening}
-use Rattle.search_core.specs.Core.{Core, hand, happens, is_node, is_of, may_commit, may_take, HoldsApart}
+use Rattle.search_core.specs.Core.{hand, happens, is_node, is_of, may_commit, may_take, HoldsApart}
 use Rattle.search_core.specs.State.{book_or_opening}
 use Rattle.search_core.specs.Steps.{after_step, book_then, close_posts, plan_of, plan_posts, posts_of, where_open}
 use Rattle.search_core.proofs.Runs.{dropped, hand_set, posts_keep}
