@@ -3,6 +3,9 @@
 #![tactic(auto)]
 
 mod below;
+mod checking;
+mod judged;
+mod judging;
 mod rests;
 mod settled;
 mod sums;
@@ -10,4 +13,8 @@ mod terms;
 #[cfg(test)]
 mod tests;
 mod totals;
+mod tree;
 mod value;
+
+pub use checking::check;
+pub use judged::{Accepted, Refused};
