@@ -3,6 +3,8 @@
 #![tactic(auto)]
 
 mod below;
+#[cfg(test)]
+mod check_tests;
 mod checking;
 mod judged;
 mod judging;
