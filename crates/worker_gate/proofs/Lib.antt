@@ -1,0 +1,4 @@
+pub mod Counts
+pub mod Closed
+pub mod Closing
+pub mod Rounds
