@@ -1,5 +1,5 @@
 -- Nodes that aren't open stay so under the posts of a step.
-use Rattle.std.proofs.Common.{◌≡◌, ◌⊎◌, inl, inr, ⊥, ℕ, zero, suc, ◌+◌, ◌<◌, ◌≤◌, Bool, true, false, cond, ◌&&◌, ◌==◌, not, List, [], ◌∷◌, ◌++◌, set, refl, sym, ap, ◌∙◌, subst, arith, max, nat_le, nat_lt, Option, Some, None}
+use Rattle.std.proofs.Common.{◌≡◌, ◌⊎◌, inl, inr, ℕ, zero, suc, ◌+◌, ◌<◌, ◌≤◌, Bool, true, false, cond, ◌&&◌, ◌==◌, not, List, [], ◌∷◌, ◌++◌, set, refl, sym, ap, ◌∙◌, subst, arith, max, nat_le, nat_lt, Option, Some, None}
 use Rattle.std.specs.Prelude.{slice_get, count_by}
 use Rattle.std.specs.Option.{option_map_or, option_and_then}
 use Rattle.std.proofs.lemmas.Bool.{and_parts, not-true, false≢true, ltb-true, ltb-false, le-ltb, cases_eq}
@@ -44,10 +44,10 @@ some_node p None h = absurd (false≢true h)
 some_node p (Some x) h = (x, refl, h)
 
 pub node_is : {X : Type 0} (p : X → Bool) (o : Option X) (x : X) → o ≡ Some x → p x ≡ true → option_map_or p o false ≡ true
-node_is p o x e h = ap (λ (m : Option X). option_map_or p m false) e ∙ h
+node_is p o x e h = ap (λ m. option_map_or p m false) e ∙ h
 
 pub node_not : {X : Type 0} (p : X → Bool) (o : Option X) (x : X) → o ≡ Some x → p x ≡ false → option_map_or p o false ≡ false
-node_not p o x e h = ap (λ (m : Option X). option_map_or p m false) e ∙ h
+node_not p o x e h = ap (λ m. option_map_or p m false) e ∙ h
 
 -- a node isn't open and closed
 not_both : (b : Book) (k : ℕ) → is_node_and b k (is_open b) ≡ true → is_closed b k ≡ true → ⊥

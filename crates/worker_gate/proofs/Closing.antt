@@ -56,21 +56,21 @@ plan_made i b w None same costed = record { after = b; folds = refl; nodes = ref
 plan_made i b w (Some p) same costed =
     let post : Post = Plan w p.rows p.cost in
     elim (cases_Bool (nat_lt p.cost b.cost)) [
-      | inl yes ↦
+      | inl hit ↦
         let next : Book = record b { best = p.rows; cost = p.cost } in
-        let one : book_after i b (post ∷ []) ≡ Some next = ap (option_and_then (λ (d : Book). book_after i d [])) (plan_step i b w p same costed yes) in
-        let less : p.cost < b.cost = ltb-true p.cost b.cost yes in
+        let one : book_after i b (post ∷ []) ≡ Some next = ap (option_and_then (λ (d : Book). book_after i d [])) (plan_step i b w p same costed hit) in
+        let less : p.cost < b.cost = ltb-true p.cost b.cost hit in
         record {
           after = next;
-          folds = ap (λ (t : Bool). book_after i b (cond t (post ∷ []) [])) yes ∙ one;
+          folds = ap (λ (t : Bool). book_after i b (cond t (post ∷ []) [])) hit ∙ one;
           nodes = refl;
           cost = let e : p.cost ≡ min b.cost p.cost = omega arith in e;
         }
-      | inr no ↦
-        let more : b.cost ≤ p.cost = ltb-false p.cost b.cost no in
+      | inr miss ↦
+        let more : b.cost ≤ p.cost = ltb-false p.cost b.cost miss in
         record {
           after = b;
-          folds = ap (λ (t : Bool). book_after i b (cond t (post ∷ []) [])) no;
+          folds = ap (λ (t : Bool). book_after i b (cond t (post ∷ []) [])) miss;
           nodes = refl;
           cost = let e : b.cost ≡ min b.cost p.cost = omega arith in e;
         }
@@ -119,16 +119,16 @@ closes i b w step is fits costed proved cuts opened reach =
     λ ys. book_after-append i b (plan_posts w step.plan b) ys ∙ ap (option_and_then (λ (c : Book). book_after i c ys)) p.folds in
     let leaves : Book → Bool = λ c. is_node_and c k (is_open c) in
     elim (cases_Bool (is_node_and d k (is_open d))) [
-      | inl yes ↦
+      | inl hit ↦
         let next : Book = record d { nodes = with_floor d.nodes k n (max n.floor step.proved.bound) } in
         let post : Post = Priced w k step.proved.prices in
         let one : book_after i d (where_open k post d) ≡ Some next =
-        ap (λ (t : Bool). book_after i d (cond t (post ∷ []) [])) yes ∙ ap (option_and_then (λ (c : Book). book_after i c [])) (price_step i d w k step n at unsplit fits.proved proved of_node) in
-        let after : after_step i b w step ≡ next = ap (book_then i b) posts ∙ then_is i b next _ (joined (where_open k post d) ∙ one) in
+        ap (λ (t : Bool). book_after i d (cond t (post ∷ []) [])) hit ∙ ap (option_and_then (λ (c : Book). book_after i c [])) (price_step i d w k step n at unsplit fits.proved proved of_node) in
+        let after : after_step i b w step ≡ next = ap (book_then i b) posts ∙ then_is i b next (plan_posts w step.plan b ++ where_open k post d) (joined (where_open k post d) ∙ one) in
         let shut : is_open next (record n { floor = max n.floor step.proved.bound }) ≡ false = not_below n.split (max n.floor step.proved.bound) d.cost far in
         ap leaves after ∙ node_not (is_open next) (slice_get next.nodes k) (record n { floor = max n.floor step.proved.bound }) (at_set d.nodes k n (record n { floor = max n.floor step.proved.bound }) at) shut
-      | inr no ↦
-        let none : book_after i d (where_open k (Priced w k step.proved.prices) d) ≡ Some d = ap (λ (t : Bool). book_after i d (cond t (Priced w k step.proved.prices ∷ []) [])) no in
-        let after : after_step i b w step ≡ d = ap (book_then i b) posts ∙ then_is i b d _ (joined (where_open k (Priced w k step.proved.prices) d) ∙ none) in
-        ap leaves after ∙ no
+      | inr miss ↦
+        let none : book_after i d (where_open k (Priced w k step.proved.prices) d) ≡ Some d = ap (λ (t : Bool). book_after i d (cond t (Priced w k step.proved.prices ∷ []) [])) miss in
+        let after : after_step i b w step ≡ d = ap (book_then i b) posts ∙ then_is i b d (plan_posts w step.plan b ++ where_open k (Priced w k step.proved.prices) d) (joined (where_open k (Priced w k step.proved.prices) d) ∙ none) in
+        ap leaves after ∙ miss
     ]

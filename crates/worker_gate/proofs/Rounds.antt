@@ -1,18 +1,18 @@
 -- What rounds leave: the posts of the board begin with the old ones, each round has posted a plan or prices, and each has closed a node.
-use Rattle.std.proofs.Common.{◌≡◌, ℕ, zero, suc, ◌+◌, ◌-◌, ◌*◌, ◌^◌, ◌<◌, ◌≤◌, Bool, true, false, cond, ◌&&◌, not, List, [], ◌∷◌, ◌++◌, length, drop, refl, sym, ap, ◌∙◌, subst, arith, nat_lt, Option, Some, None, ⊥, inl, inr}
+use Rattle.std.proofs.Common.{◌≡◌, ℕ, zero, suc, ◌+◌, ◌-◌, ◌*◌, ◌^◌, ◌<◌, ◌≤◌, Bool, true, false, cond, ◌&&◌, not, List, [], ◌∷◌, ◌++◌, length, drop, refl, sym, ap, ◌∙◌, subst, arith, nat_lt, replicate, Option, Some, None, inl, inr}
 use Rattle.std.specs.Prelude.{slice_get, count_by}
 use Rattle.std.specs.Option.{option_map_or}
-use Rattle.std.specs.List.{list_all}
-use Rattle.std.proofs.lemmas.Bool.{and_parts, cases_Bool, false≢true}
+use Rattle.std.specs.List.{list_all, list_any}
+use Rattle.std.proofs.lemmas.Bool.{and_parts, and_from, cases_Bool, false≢true}
 use Rattle.std.proofs.lemmas.List.{append-nil, append_assoc}
 use Rattle.std.proofs.Math.Nat.{pow-suc}
 use Rattle.shift_instance.specs.Problem.{Problem}
 use Rattle.head_splits.specs.Nodes.{Node}
 use Rattle.head_splits.specs.Settled.{span}
 use Rattle.post_codec.specs.declared.post.Post.{Post}
-use Rattle.search_core.specs.Board.{BoardView, book_at}
+use Rattle.search_core.specs.Board.{BoardView, book_at, NoneIsFree}
 use Rattle.search_core.specs.Book.{Book, book_after, book_of, is_finished, is_node_and, is_open}
-use Rattle.search_core.specs.Core.{IsFront}
+use Rattle.search_core.specs.Core.{empty_hands, is_node, IsFront}
 use Rattle.search_core.specs.Steps.{posts_of}
 use Rattle.search_core.proofs.FewNodes.{few_nodes}
 use Rattle.search_core.proofs.Outlines.{book_is}
@@ -31,17 +31,17 @@ pub record Made (i : Problem) (old new : BoardView) (rounds : ℕ) : Type 0 wher
   counted : rounds ≤ count_by is_plan_or_prices rest
   closed : rounds ≤ passing (is_closed book) (steps_enough i)
 
+there_below : {X : Type 0} (xs : List X) (k : ℕ) (x : X) → slice_get xs k ≡ Some x → k < length xs
+there_below [] k x e = absurd (cc)
+there_below (y ∷ xs) zero x e = omega arith
+there_below (y ∷ xs) (suc k) x e = let r : k < length xs = there_below xs k x e in omega arith
+
 nodes_within : (i : Problem) (posts : List Post) (b : Book) (k : ℕ) (n : Node) → book_of i posts ≡ Some b → slice_get b.nodes k ≡ Some n → k < steps_enough i
 nodes_within i posts b k n folds at =
     let few : length b.nodes + 1 ≤ 2 * 2 ^ span i [] = few_nodes i posts b folds in
     let low : k < length b.nodes = there_below b.nodes k n at in
     let twice : 2 ^ (span i [] + 1) ≡ 2 ^ span i [] * 2 = ap (λ m. 2 ^ m) (let e : span i [] + 1 ≡ suc (span i []) = omega arith in e) ∙ pow-suc 2 (span i []) in
     let e : k < 2 ^ (span i [] + 1) - 1 = omega arith in e
-
-there_below : {X : Type 0} (xs : List X) (k : ℕ) (x : X) → slice_get xs k ≡ Some x → k < length xs
-there_below [] k x e = absurd (cc)
-there_below (y ∷ xs) zero x e = omega arith
-there_below (y ∷ xs) (suc k) x e = let r : k < length xs = there_below xs k x e in omega arith
 
 closed_now : (c : Book) (k : ℕ) → is_node_and c k (is_open c) ≡ false → is_there c k ≡ true → is_closed c k ≡ true
 closed_now c k shut there =
@@ -113,12 +113,22 @@ some_open : (b : Book) (nodes : List Node) → list_all (λ n. not (is_open b n)
 some_open b [] h = absurd (false≢true (sym h))
 some_open b (n ∷ nodes) h =
     elim (cases_Bool (is_open b n)) [
-      | inl yes ↦ (0, n, refl, yes)
-      | inr no ↦
-        let rest : list_all (λ m. not (is_open b m)) nodes ≡ false = sym (ap (λ (t : Bool). not t && list_all (λ m. not (is_open b m)) nodes) no) ∙ h in
+      | inl hit ↦ (0, n, refl, hit)
+      | inr miss ↦
+        let rest : list_all (λ m. not (is_open b m)) nodes ≡ false = sym (ap (λ (t : Bool). not t && list_all (λ m. not (is_open b m)) nodes) miss) ∙ h in
         let r = some_open b nodes rest in
         (suc r.0, r.1, r.2, r.3)
     ]
+
+-- where no hand holds a node, an open node may be taken
+pub some_free : (i : Problem) (v : BoardView) → is_finished (book_at i v) ≡ false → NoneIsFree (book_at i v) v.hands → v.hands ≡ empty_hands → ⊥
+some_free i v unfinished nothing empty =
+    let b : Book = book_at i v in
+    let found = some_open b b.nodes unfinished in
+    let k : ℕ = found.0 in
+    let opened : is_node_and b k (is_open b) ≡ true = node_is (is_open b) (slice_get b.nodes k) found.1 found.2 found.3 in
+    let apart : not (list_any (is_node k) v.hands) ≡ true = ap (λ (l : List (Option ℕ)). not (list_any (is_node k) l)) empty in
+    false≢true (sym (nothing k) ∙ and_from (is_node_and b k (is_open b)) (not (list_any (is_node k) v.hands)) opened apart)
 
 -- with that many steps a board is finished
 pub not_spent : (i : Problem) (old new : BoardView) (rounds budget : ℕ) → Made i old new rounds → is_finished (book_at i new) ≡ false → rounds ≡ budget → steps_enough i ≤ budget → ⊥

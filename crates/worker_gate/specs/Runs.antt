@@ -1,5 +1,5 @@
 -- The run of one worker over a board. Source: this project's profile.
-use Rattle.std.specs.Prelude.{◌≡◌, ⊥, ℕ, ◌+◌, ◌-◌, ◌^◌, Bool, true, false, IsTrue, IsFalse, List, [], ◌++◌, Option, Some, None, length, drop, count_by, slice_set, MatchOption}
+use Rattle.std.specs.Prelude.{◌≡◌, ℕ, ◌+◌, ◌-◌, ◌^◌, Bool, true, false, IsTrue, IsFalse, List, [], ◌++◌, Option, Some, None, length, drop, count_by, slice_set, MatchOption}
 use Rattle.shift_instance.specs.Problem.{Problem}
 use Rattle.head_splits.specs.Settled.{span}
 use Rattle.post_codec.specs.declared.post.Post.{Post}
@@ -89,13 +89,13 @@ IsCutOff old new Finished = ⊥
 IsCutOff old new Spent = ⊥
 
 -- a board on which a run ended, with the posts of the board before
-pub record IsEnded (i : Problem) (budget : ℕ) (old new : BoardView) (end : RunEnd) : Type 0 where
-  pub ends : RunEnds i budget new end
+pub record IsEnded (i : Problem) (budget : ℕ) (old new : BoardView) (how : RunEnd) : Type 0 where
+  pub ends : RunEnds i budget new how
   pub posts : new.history ≡ old.history
-  pub whole : IsTrue (is_whole end) → new ≡ old
+  pub whole : IsTrue (is_whole how) → new ≡ old
 
 -- a run so far: rounds, and, if it has come to its end, how
-pub record IsRun (i : Problem) (budget : ℕ) (old new : BoardView) (end : Option RunEnd) : Type 0 where
+pub record IsRun (i : Problem) (budget : ℕ) (old new : BoardView) (how : Option RunEnd) : Type 0 where
   pub last : BoardView
   pub rounds : AreRounds i budget old last last.taken
-  pub end : MatchOption end ((new ≡ last) × IsIdle new) (IsEnded i budget last new)
+  pub end : MatchOption how ((new ≡ last) × IsIdle new) (IsEnded i budget last new)

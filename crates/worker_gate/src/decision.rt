@@ -1,6 +1,6 @@
 //! A worker's decision.
-ghost use Rattle.std.specs.Prelude.{◌≡◌, ◌≤◌, ◌^◌, ◌↔◌, IsTrue, IfOk, IfSome, length, max, nat_le};
-ghost use Rattle.std.specs.Option.{option_map, option_copied};
+ghost use Rattle.std.specs.Prelude.{◌≡◌, ◌≢◌, ◌≤◌, ◌^◌, ◌↔◌, IsTrue, IfOk, IfSome, length, max, nat_le};
+ghost use Rattle.std.specs.Option.{option_map};
 ghost use Rattle.dual_bound.specs.Proved.{IsProved};
 ghost use Rattle.rota_cost.specs.Costed.{IsCosted};
 ghost use Rattle.search_core.specs.Steps.{Fits, FitsClose};
@@ -14,7 +14,7 @@ use head_splits::{CutPrices, Cuts, Prices, SlotPrices};
 use rota_cost::{Costed, cost_rows};
 use search_core::{Close, StepPosts};
 use shift_instance::{Instance, Rows};
-use std::alloc::Global;
+use std::alloc::{AllocError, Global};
 
 /// The rows of a plan with their cost, where there are some and they are legal.
 fn cost_plan(instance: &Instance, plan: Option<Rows>) -> Option<Costed>
@@ -29,6 +29,14 @@ fn cost_plan(instance: &Instance, plan: Option<Rows>) -> Option<Costed>
         }
         Err(_) => None,
     }
+}
+
+/// The cuts once more.
+fn copy_of(cuts: &Cuts) -> Result<Cuts, NoMemory>
+    ensures { IfOk result (λ copy. copy ≡ cuts.now) }
+{
+    let copy = cuts.clone()?;
+    Ok(copy)
 }
 
 /// Price 0 for each slot and each of that many cuts, at scale 1.
@@ -51,14 +59,14 @@ fn prove_zero(alloc: Global, instance: &Instance, cuts: &Cuts) -> Result<Proved,
     ensures proved { IfOk result (λ p. IsProved p) }
 {
     let prices = zero_prices(alloc, instance, cuts.len())?;
-    match prove(alloc, instance, cuts.clone()?, prices) {
+    match prove(alloc, instance, copy_of(cuts)?, prices) {
         Ok(proved) => {
             // Its clauses say that the bound is the prices' own.
             let _bound = proved.bound();
             Ok(proved)
         }
         // these prices have no fault
-        Err(_) => Err(NoMemory),
+        Err(_) => Err(AllocError),
     }
 }
 
@@ -73,20 +81,22 @@ fn prove_lawful(
     ensures prices { IfOk result (λ p. (p.instance ≡ instance.now) × (p.cuts ≡ cuts.now) × (p.prices ≡ lawful_prices instance.now cuts.now prices)) }
     ensures proved { IfOk result (λ p. IsProved p) }
 {
-    match prove(alloc, instance, cuts.clone()?, prices) {
+    match prove(alloc, instance, copy_of(cuts)?, prices) {
         Ok(proved) => {
             // Its clauses say that the bound is the prices' own.
             let _bound = proved.bound();
             Ok(proved)
         }
-        Err(PriceFault::NoMemory) => Err(NoMemory),
-        Err(_) => prove_zero(alloc, instance, cuts),
+        Err(fault) => match fault {
+            PriceFault::NoMemory => Err(AllocError),
+            _ => prove_zero(alloc, instance, cuts),
+        },
     }
 }
 
 /// What a node's floor has to reach: the cost of the best rota or, where it is cheaper, that of the plan.
-fn cost_to_reach(best: u64, plan: Option<&Costed>) -> u64
-    ensures { result ≡ cost_to_reach best (option_copied plan) }
+fn cost_to_reach(best: u64, plan: &Option<Costed>) -> u64
+    ensures { result ≡ cost_to_reach best plan.now }
 {
     match plan {
         Some(plan) => best.min(plan.cost()),
@@ -125,7 +135,7 @@ pub fn step_of(
     let Advice { prices, plan } = advice;
     let plan = cost_plan(instance, plan);
     let proved = prove_lawful(alloc, instance, &cuts, prices)?;
-    let close = if cost_to_reach(best, plan.as_ref()) <= floor.max(proved.bound()) {
+    let close = if cost_to_reach(best, &plan) <= floor.max(proved.bound()) {
         Close::ByPrice
     } else {
         close_of(alloc, instance, cuts)?

@@ -181,6 +181,7 @@ pub fn run_worker<B: Board>(alloc: Global, instance: &Instance, board: &mut B) -
     ensures posts { IsTrue (is_whole result) → B.taken board.new ≤ plans_and_prices_since (B.history board.old) (B.history board.new) }
     ensures enough { steps_enough (B.instance board.old) ≤ B.budget board.old → result ≢ RunEnd.Spent }
 {
+    keeps_sound(&*board);
     let mut adviser = Greedy::new(alloc);
     let mut end = None;
     while end.is_none() {
