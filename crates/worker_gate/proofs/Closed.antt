@@ -1,7 +1,7 @@
 -- Nodes that aren't open stay so under the posts of a step.
 use Rattle.std.proofs.Common.{◌≡◌, ◌⊎◌, inl, inr, ℕ, zero, suc, ◌+◌, ◌<◌, ◌≤◌, Bool, true, false, cond, ◌&&◌, ◌==◌, not, List, [], ◌∷◌, ◌++◌, set, refl, sym, ap, ◌∙◌, subst, arith, max, nat_le, nat_lt, Option, Some, None}
 use Rattle.std.specs.Prelude.{slice_get, count_by}
-use Rattle.std.specs.Option.{option_map_or, option_and_then}
+use Rattle.std.specs.Option.{option_map_or}
 use Rattle.std.proofs.lemmas.Bool.{and_parts, not-true, false≢true, ltb-true, ltb-false, le-ltb, cases_eq}
 use Rattle.std.proofs.lemmas.List.{append-nil}
 use Rattle.break_rules.proofs.Counts.{count_by-append}
@@ -21,7 +21,7 @@ use Rattle.post_codec.specs.declared.post.Post.TheVariants.{Plan, Priced, Split,
 use Rattle.search_core.specs.declared.step_posts.StepPosts.{StepPosts}
 use Rattle.search_core.specs.declared.step_posts.Close.{Close}
 use Rattle.search_core.specs.declared.step_posts.Close.TheVariants.{ByPrice, Split as CloseBySplit, Settled as CloseAsSettled}
-use Rattle.search_core.specs.Book.{Book, is_open, is_node_and, priced, divided, settled, is_better, step, book_after, at_node}
+use Rattle.search_core.specs.Book.{Book, is_open, is_node_and, priced, divided, settled, is_better, step, book_after}
 use Rattle.search_core.specs.Steps.{book_then, close_posts, plan_of, plan_posts, posts_of, where_open}
 use Rattle.search_core.proofs.Sound.{cond_some, bind_some, at_node_some}
 use Rattle.search_core.proofs.Runs.{book_after-append, slice_get_other, slice_get_front}
@@ -72,9 +72,9 @@ plan_keeps i b c w n rows e j =
     let less : n < b.cost = ltb-true n b.cost p.1 in
     let next : Book = record b { best = rows; cost = n } in (
       λ h.
-        let m = some_node (λ (x : Node). not (is_open b x)) (slice_get b.nodes j) h in
-        let stays : not (is_open next m.0) ≡ true = still_closed m.0.split m.0.floor b.cost n (let l : n ≤ b.cost = omega arith in l) m.2 in
-        subst (λ (d : Book). is_closed d j ≡ true) r.1 (node_is (λ (x : Node). not (is_open next x)) (slice_get next.nodes j) m.0 m.1 stays),
+          let m = some_node (λ (x : Node). not (is_open b x)) (slice_get b.nodes j) h in
+          let stays : not (is_open next m.0) ≡ true = still_closed m.0.split m.0.floor b.cost n (let l : n ≤ b.cost = omega arith in l) m.2 in
+          subst (λ (d : Book). is_closed d j ≡ true) r.1 (node_is (λ (x : Node). not (is_open next x)) (slice_get next.nodes j) m.0 m.1 stays),
       λ h. subst (λ (d : Book). is_there d j ≡ true) r.1 h,
     )
 
@@ -88,24 +88,24 @@ node_keeps : (b : Book) (k : ℕ) (x : Node) (more : List Node) → is_node_and 
 node_keeps b k x more opened j =
     let nodes : List Node = set b.nodes k x ++ more in (
       λ h.
-        let m = some_node (λ (y : Node). not (is_open b y)) (slice_get b.nodes j) h in
-        elim (cases_eq j k) [
-          | inl same ↦ absurd (not_both b k opened (subst (λ z. is_closed b z ≡ true) same h))
-          | inr other ↦
-            let there : slice_get nodes j ≡ Some m.0 = slice_get_front (set b.nodes k x) more j m.0 (slice_get_other b.nodes k j x other ∙ m.1) in
-            node_is (λ (y : Node). not (is_open b y)) (slice_get nodes j) m.0 there m.2
-        ],
+          let m = some_node (λ (y : Node). not (is_open b y)) (slice_get b.nodes j) h in
+          elim (cases_eq j k) [
+            | inl same ↦ absurd (not_both b k opened (subst (λ z. is_closed b z ≡ true) same h))
+            | inr other ↦
+                let there : slice_get nodes j ≡ Some m.0 = slice_get_front (set b.nodes k x) more j m.0 (slice_get_other b.nodes k j x other ∙ m.1) in
+                node_is (λ (y : Node). not (is_open b y)) (slice_get nodes j) m.0 there m.2
+          ],
       λ h.
-        let m = some_node (λ (y : Node). true) (slice_get b.nodes j) h in
-        elim (cases_eq j k) [
-          | inl same ↦
-            let at : slice_get b.nodes k ≡ Some m.0 = subst (λ z. slice_get b.nodes z ≡ Some m.0) same m.1 in
-            let there : slice_get nodes k ≡ Some x = slice_get_front (set b.nodes k x) more k x (at_set b.nodes k m.0 x at) in
-            subst (λ z. option_map_or (λ (n : Node). true) (slice_get nodes z) false ≡ true) (sym same) (node_is (λ (y : Node). true) (slice_get nodes k) x there refl)
-          | inr other ↦
-            let there : slice_get nodes j ≡ Some m.0 = slice_get_front (set b.nodes k x) more j m.0 (slice_get_other b.nodes k j x other ∙ m.1) in
-            node_is (λ (y : Node). true) (slice_get nodes j) m.0 there refl
-        ],
+          let m = some_node (λ (y : Node). true) (slice_get b.nodes j) h in
+          elim (cases_eq j k) [
+            | inl same ↦
+                let at : slice_get b.nodes k ≡ Some m.0 = subst (λ z. slice_get b.nodes z ≡ Some m.0) same m.1 in
+                let there : slice_get nodes k ≡ Some x = slice_get_front (set b.nodes k x) more k x (at_set b.nodes k m.0 x at) in
+                subst (λ z. option_map_or (λ (n : Node). true) (slice_get nodes z) false ≡ true) (sym same) (node_is (λ (y : Node). true) (slice_get nodes k) x there refl)
+            | inr other ↦
+                let there : slice_get nodes j ≡ Some m.0 = slice_get_front (set b.nodes k x) more j m.0 (slice_get_other b.nodes k j x other ∙ m.1) in
+                node_is (λ (y : Node). true) (slice_get nodes j) m.0 there refl
+          ],
     )
 
 floor_keeps : (b : Book) (k : ℕ) (x : Node) → is_node_and b k (is_open b) ≡ true → StayClosed b (record b { nodes = set b.nodes k x })
@@ -263,10 +263,10 @@ step_counts i b c w step opened e =
       | inl none ↦ elim (plans_none w (plan_of step.close) p.planned) [
         | inr more ↦ let m : 1 ≤ counted second = more in omega arith
         | inl nothing ↦
-          let same_one : b ≡ p.planned = unchanged i b p.planned first none p.plan in
-          let same_two : p.planned ≡ p.plans = unchanged i p.planned p.plans second nothing p.settled in
-          let m : 1 ≤ counted third = open_counts k w step.proved.prices p.plans (subst (λ (d : Book). is_node_and d k (is_open d) ≡ true) (same_one ∙ same_two) opened) in
-          omega arith
+            let same_one : b ≡ p.planned = unchanged i b p.planned first none p.plan in
+            let same_two : p.planned ≡ p.plans = unchanged i p.planned p.plans second nothing p.settled in
+            let m : 1 ≤ counted third = open_counts k w step.proved.prices p.plans (subst (λ (d : Book). is_node_and d k (is_open d) ≡ true) (same_one ∙ same_two) opened) in
+            omega arith
       ]
     ] in
     subst (λ (l : List Post). 1 ≤ counted l) (sym p.posts) (let m : 1 ≤ counted (((first ++ second) ++ third) ++ last) = omega arith in m)

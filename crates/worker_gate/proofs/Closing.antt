@@ -1,8 +1,8 @@
 -- A step that is closed by its price leaves its node closed, where the floor and the best cost are those of the take.
-use Rattle.std.proofs.Common.{◌≡◌, ◌⊎◌, inl, inr, ℕ, zero, suc, ◌<◌, ◌≤◌, Bool, true, false, cond, ◌&&◌, ◌==◌, not, List, [], ◌∷◌, ◌++◌, set, refl, sym, ap, ◌∙◌, subst, arith, min, max, nat_lt, Option, Some, None, eq-eqb}
-use Rattle.std.specs.Prelude.{slice_get, IfSome, IsTrue}
+use Rattle.std.proofs.Common.{◌≡◌, inl, inr, ℕ, ◌<◌, ◌≤◌, Bool, true, false, cond, ◌&&◌, not, List, [], ◌∷◌, ◌++◌, refl, sym, ap, ◌∙◌, subst, arith, min, max, nat_lt, Option, Some, None, eq-eqb}
+use Rattle.std.specs.Prelude.{slice_get, IfSome}
 use Rattle.std.specs.Option.{option_map_or, option_and_then}
-use Rattle.std.proofs.lemmas.Bool.{and_parts, and_from, cases_Bool, ltb-true, ltb-false, le-ltb}
+use Rattle.std.proofs.lemmas.Bool.{and_from, cases_Bool, ltb-true, ltb-false, le-ltb}
 use Rattle.std.proofs.lemmas.List.{append-nil}
 use Rattle.shift_instance.specs.Problem.{Problem}
 use Rattle.shift_instance.specs.Rota.{are_legal_rows, cost, rota_of}
@@ -22,7 +22,7 @@ use Rattle.search_core.specs.Kept.{cuts_in}
 use Rattle.search_core.specs.Steps.{after_step, book_then, close_posts, followed_by, plan_of, plan_posts, posts_of, where_open, Fits}
 use Rattle.search_core.proofs.Runs.{book_after-append}
 use Rattle.worker_gate.specs.Decision.{cost_to_reach}
-use Rattle.worker_gate.proofs.Closed.{at_set, node_is, node_not, some_node, then_is}
+use Rattle.worker_gate.proofs.Closed.{at_set, node_not, some_node, then_is}
 
 module _ (i : Problem) (b : Book) (w : ℕ) (step : StepPosts) where
   abbrev priced_at : Book → List Post
@@ -57,23 +57,23 @@ plan_made i b w (Some p) same costed =
     let post : Post = Plan w p.rows p.cost in
     elim (cases_Bool (nat_lt p.cost b.cost)) [
       | inl hit ↦
-        let next : Book = record b { best = p.rows; cost = p.cost } in
-        let one : book_after i b (post ∷ []) ≡ Some next = ap (option_and_then (λ (d : Book). book_after i d [])) (plan_step i b w p same costed hit) in
-        let less : p.cost < b.cost = ltb-true p.cost b.cost hit in
-        record {
-          after = next;
-          folds = ap (λ (t : Bool). book_after i b (cond t (post ∷ []) [])) hit ∙ one;
-          nodes = refl;
-          cost = let e : p.cost ≡ min b.cost p.cost = omega arith in e;
-        }
+          let next : Book = record b { best = p.rows; cost = p.cost } in
+          let one : book_after i b (post ∷ []) ≡ Some next = ap (option_and_then (λ (d : Book). book_after i d [])) (plan_step i b w p same costed hit) in
+          let less : p.cost < b.cost = ltb-true p.cost b.cost hit in
+          record {
+            after = next;
+            folds = ap (λ (t : Bool). book_after i b (cond t (post ∷ []) [])) hit ∙ one;
+            nodes = refl;
+            cost = let e : p.cost ≡ min b.cost p.cost = omega arith in e;
+          }
       | inr miss ↦
-        let more : b.cost ≤ p.cost = ltb-false p.cost b.cost miss in
-        record {
-          after = b;
-          folds = ap (λ (t : Bool). book_after i b (cond t (post ∷ []) [])) miss;
-          nodes = refl;
-          cost = let e : b.cost ≡ min b.cost p.cost = omega arith in e;
-        }
+          let more : b.cost ≤ p.cost = ltb-false p.cost b.cost miss in
+          record {
+            after = b;
+            folds = ap (λ (t : Bool). book_after i b (cond t (post ∷ []) [])) miss;
+            nodes = refl;
+            cost = let e : b.cost ≡ min b.cost p.cost = omega arith in e;
+          }
     ]
 
 price_step : (i : Problem) (b : Book) (w k : ℕ) (step : StepPosts) (n : Node) → slice_get b.nodes k ≡ Some n → n.split ≡ false → step.proved.instance ≡ i → IsProved step.proved → step.proved.cuts ≡ n.cuts
@@ -120,15 +120,15 @@ closes i b w step is fits costed proved cuts opened reach =
     let leaves : Book → Bool = λ c. is_node_and c k (is_open c) in
     elim (cases_Bool (is_node_and d k (is_open d))) [
       | inl hit ↦
-        let next : Book = record d { nodes = with_floor d.nodes k n (max n.floor step.proved.bound) } in
-        let post : Post = Priced w k step.proved.prices in
-        let one : book_after i d (where_open k post d) ≡ Some next =
-        ap (λ (t : Bool). book_after i d (cond t (post ∷ []) [])) hit ∙ ap (option_and_then (λ (c : Book). book_after i c [])) (price_step i d w k step n at unsplit fits.proved proved of_node) in
-        let after : after_step i b w step ≡ next = ap (book_then i b) posts ∙ then_is i b next (plan_posts w step.plan b ++ where_open k post d) (joined (where_open k post d) ∙ one) in
-        let shut : is_open next (record n { floor = max n.floor step.proved.bound }) ≡ false = not_below n.split (max n.floor step.proved.bound) d.cost far in
-        ap leaves after ∙ node_not (is_open next) (slice_get next.nodes k) (record n { floor = max n.floor step.proved.bound }) (at_set d.nodes k n (record n { floor = max n.floor step.proved.bound }) at) shut
+          let next : Book = record d { nodes = with_floor d.nodes k n (max n.floor step.proved.bound) } in
+          let post : Post = Priced w k step.proved.prices in
+          let one : book_after i d (where_open k post d) ≡ Some next =
+          ap (λ (t : Bool). book_after i d (cond t (post ∷ []) [])) hit ∙ ap (option_and_then (λ (c : Book). book_after i c [])) (price_step i d w k step n at unsplit fits.proved proved of_node) in
+          let after : after_step i b w step ≡ next = ap (book_then i b) posts ∙ then_is i b next (plan_posts w step.plan b ++ where_open k post d) (joined (where_open k post d) ∙ one) in
+          let shut : is_open next (record n { floor = max n.floor step.proved.bound }) ≡ false = not_below n.split (max n.floor step.proved.bound) d.cost far in
+          ap leaves after ∙ node_not (is_open next) (slice_get next.nodes k) (record n { floor = max n.floor step.proved.bound }) (at_set d.nodes k n (record n { floor = max n.floor step.proved.bound }) at) shut
       | inr miss ↦
-        let none : book_after i d (where_open k (Priced w k step.proved.prices) d) ≡ Some d = ap (λ (t : Bool). book_after i d (cond t (Priced w k step.proved.prices ∷ []) [])) miss in
-        let after : after_step i b w step ≡ d = ap (book_then i b) posts ∙ then_is i b d (plan_posts w step.plan b ++ where_open k (Priced w k step.proved.prices) d) (joined (where_open k (Priced w k step.proved.prices) d) ∙ none) in
-        ap leaves after ∙ miss
+          let none : book_after i d (where_open k (Priced w k step.proved.prices) d) ≡ Some d = ap (λ (t : Bool). book_after i d (cond t (Priced w k step.proved.prices ∷ []) [])) miss in
+          let after : after_step i b w step ≡ d = ap (book_then i b) posts ∙ then_is i b d (plan_posts w step.plan b ++ where_open k (Priced w k step.proved.prices) d) (joined (where_open k (Priced w k step.proved.prices) d) ∙ none) in
+          ap leaves after ∙ miss
     ]

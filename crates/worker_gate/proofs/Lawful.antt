@@ -1,5 +1,5 @@
 -- Which prices count.
-use Rattle.std.proofs.Common.{◌≡◌, ℕ, ◌+◌, ◌/◌, ◌<◌, ◌≤◌, arith, inl, inr, ◌⊎◌, true, false, cond, List, length, sym, ap, ◌∙◌, subst, Option, Some, None}
+use Rattle.std.proofs.Common.{◌≡◌, ℕ, ◌+◌, ◌/◌, ◌<◌, ◌≤◌, arith, inl, inr, true, cond, List, length, sym, ap, ◌∙◌, subst, Some, None}
 use Rattle.std.proofs.lemmas.Bool.{cases_Bool}
 use Rattle.std.specs.Prelude.{IsTrue, IsSomeAnd}
 use Rattle.break_rules.specs.Causes.{first_cause}

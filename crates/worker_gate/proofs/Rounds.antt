@@ -1,5 +1,5 @@
 -- What rounds leave: the posts of the board begin with the old ones, each round has posted a plan or prices, and each has closed a node.
-use Rattle.std.proofs.Common.{◌≡◌, ℕ, zero, suc, ◌+◌, ◌-◌, ◌*◌, ◌^◌, ◌<◌, ◌≤◌, Bool, true, false, cond, ◌&&◌, not, List, [], ◌∷◌, ◌++◌, length, drop, refl, sym, ap, ◌∙◌, subst, arith, nat_lt, replicate, Option, Some, None, inl, inr}
+use Rattle.std.proofs.Common.{◌≡◌, ℕ, zero, suc, ◌+◌, ◌-◌, ◌*◌, ◌^◌, ◌<◌, ◌≤◌, Bool, true, false, ◌&&◌, not, List, [], ◌∷◌, ◌++◌, length, drop, refl, sym, ap, ◌∙◌, subst, arith, Option, Some, inl, inr}
 use Rattle.std.specs.Prelude.{slice_get, count_by}
 use Rattle.std.specs.Option.{option_map_or}
 use Rattle.std.specs.List.{list_all, list_any}
@@ -115,9 +115,9 @@ some_open b (n ∷ nodes) h =
     elim (cases_Bool (is_open b n)) [
       | inl hit ↦ (0, n, refl, hit)
       | inr miss ↦
-        let rest : list_all (λ m. not (is_open b m)) nodes ≡ false = sym (ap (λ (t : Bool). not t && list_all (λ m. not (is_open b m)) nodes) miss) ∙ h in
-        let r = some_open b nodes rest in
-        (suc r.0, r.1, r.2, r.3)
+          let rest : list_all (λ m. not (is_open b m)) nodes ≡ false = sym (ap (λ (t : Bool). not t && list_all (λ m. not (is_open b m)) nodes) miss) ∙ h in
+          let r = some_open b nodes rest in
+          (suc r.0, r.1, r.2, r.3)
     ]
 
 -- where no hand holds a node, an open node may be taken

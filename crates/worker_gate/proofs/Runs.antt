@@ -1,6 +1,6 @@
 -- How a round follows from its calls, and a run from its rounds.
-use Rattle.std.proofs.Common.{◌≡◌, ℕ, ◌+◌, ◌-◌, ◌<◌, ◌≤◌, Bool, true, false, List, set, refl, sym, ap, ◌∙◌, subst, arith, max, Option, Some, None}
-use Rattle.std.specs.Prelude.{IfSome, IsTrue, IsFalse, MatchOption}
+use Rattle.std.proofs.Common.{◌≡◌, ℕ, ◌+◌, ◌-◌, ◌<◌, ◌≤◌, true, false, List, set, refl, sym, ap, ◌∙◌, subst, arith, max, Option, Some, None}
+use Rattle.std.specs.Prelude.{IsTrue, MatchOption}
 use Rattle.std.proofs.lemmas.Bool.{and_parts, false≢true}
 use Rattle.shift_instance.specs.Problem.{Problem}
 use Rattle.post_codec.specs.declared.post.Post.{Post}
@@ -8,7 +8,6 @@ use Rattle.advisers.specs.declared.advice.Advice.{Advice}
 use Rattle.advisers.specs.Advised.{greedy_advice}
 use Rattle.search_core.specs.declared.board.Kept.{Kept}
 use Rattle.search_core.specs.declared.board.Taken.TheVariants.{Node as TakenNode}
-use Rattle.search_core.specs.declared.board.Shutting.{Shutting}
 use Rattle.search_core.specs.declared.step_posts.StepPosts.{StepPosts}
 use Rattle.search_core.specs.declared.step_posts.Close.TheVariants.{ByPrice}
 use Rattle.search_core.specs.Board.{BoardView, book_at, floor_of_node, leaves_open, Commits, HoldsStep, TakeMakes}

@@ -1,5 +1,5 @@
 -- The run of one worker over a board. Source: this project's profile.
-use Rattle.std.specs.Prelude.{◌≡◌, ℕ, ◌+◌, ◌-◌, ◌^◌, Bool, true, false, IsTrue, IsFalse, List, [], ◌++◌, Option, Some, None, length, drop, count_by, slice_set, MatchOption}
+use Rattle.std.specs.Prelude.{◌≡◌, ℕ, ◌+◌, ◌-◌, ◌^◌, Bool, true, false, IsTrue, IsFalse, List, [], Option, Some, None, length, drop, count_by, slice_set, MatchOption}
 use Rattle.shift_instance.specs.Problem.{Problem}
 use Rattle.head_splits.specs.Settled.{span}
 use Rattle.post_codec.specs.declared.post.Post.{Post}

@@ -110,12 +110,12 @@ fn commit_step<B: Board>(board: &mut B, step: StepPosts) -> Option<RunEnd>
     ensures root { (B.instance board.new ≡ B.instance board.old) × (B.budget board.new ≡ B.budget board.old) × (B.origin board.new ≡ B.origin board.old) }
     ensures commits { MatchOption result
         ((kept : Kept) × Commits (B.instance board.old) 0 step
-            (seen (B.history board.old) (B.hands board.old) (B.taken board.old) (B.shut board.old) (B.halted board.old))
-            (seen (B.history board.new) (B.hands board.new) (B.taken board.new) (B.shut board.new) (B.halted board.new))
-            kept)
+        (seen (B.history board.old) (B.hands board.old) (B.taken board.old) (B.shut board.old) (B.halted board.old))
+        (seen (B.history board.new) (B.hands board.new) (B.taken board.new) (B.shut board.new) (B.halted board.new))
+        kept)
         (IsCutOff
-            (seen (B.history board.old) (B.hands board.old) (B.taken board.old) (B.shut board.old) (B.halted board.old))
-            (seen (B.history board.new) (B.hands board.new) (B.taken board.new) (B.shut board.new) (B.halted board.new))) }
+        (seen (B.history board.old) (B.hands board.old) (B.taken board.old) (B.shut board.old) (B.halted board.old))
+        (seen (B.history board.new) (B.hands board.new) (B.taken board.new) (B.shut board.new) (B.halted board.new))) }
 {
     match board.commit(WORKER, step) {
         Ok(_) => None,
@@ -145,11 +145,11 @@ fn round<B: Board>(
     ensures root { (B.instance board.new ≡ B.instance board.old) × (B.budget board.new ≡ B.budget board.old) × (B.origin board.new ≡ B.origin board.old) }
     ensures round { MatchOption result
         (IsRound (B.instance board.old) (B.budget board.old)
-            (seen (B.history board.old) (B.hands board.old) (B.taken board.old) (B.shut board.old) (B.halted board.old))
-            (seen (B.history board.new) (B.hands board.new) (B.taken board.new) (B.shut board.new) (B.halted board.new)))
+        (seen (B.history board.old) (B.hands board.old) (B.taken board.old) (B.shut board.old) (B.halted board.old))
+        (seen (B.history board.new) (B.hands board.new) (B.taken board.new) (B.shut board.new) (B.halted board.new)))
         (IsEnded (B.instance board.old) (B.budget board.old)
-            (seen (B.history board.old) (B.hands board.old) (B.taken board.old) (B.shut board.old) (B.halted board.old))
-            (seen (B.history board.new) (B.hands board.new) (B.taken board.new) (B.shut board.new) (B.halted board.new))) }
+        (seen (B.history board.old) (B.hands board.old) (B.taken board.old) (B.shut board.old) (B.halted board.old))
+        (seen (B.history board.new) (B.hands board.new) (B.taken board.new) (B.shut board.new) (B.halted board.new))) }
 {
     let taken = match take_node(board) {
         Ok(taken) => taken,

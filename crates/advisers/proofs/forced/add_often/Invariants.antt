@@ -1,5 +1,4 @@
-use Rattle.std.proofs.Common.{◌≡◌, ◌++◌, ◌<◌, replicate, ◌+◌, ◌≤◌, length}
-use Rattle.std.specs.Prelude.{ℕ}
+use Rattle.std.proofs.Common.{◌≡◌, ◌++◌, replicate}
 use Rattle.advisers.proofs.forced.add_often.Given as goal
 
 abbrev pub invariant-loop : goal.invariant-loop

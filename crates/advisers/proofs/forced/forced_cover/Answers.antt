@@ -1,7 +1,5 @@
-use Rattle.std.proofs.Common.{◌∙◌, ap, arith, refl, rules}
-use Rattle.std.specs.List.{flat_map}
-use Rattle.shift_instance.specs.Problem.{below}
-use Rattle.advisers.specs.Forced.{forced_of, forced_rota}
+use Rattle.std.proofs.Common.{◌∙◌, arith, rules}
+use Rattle.advisers.specs.Forced.{forced_of}
 use Rattle.advisers.proofs.Forcing.{flat_more_alone, rota_is}
 use Rattle.advisers.proofs.forced.forced_cover.Goals as goal
 

@@ -1,4 +1,4 @@
-use Rattle.std.proofs.Common.{◌≡◌, ◌<◌, ℕ, take}
+use Rattle.std.proofs.Common.{◌≡◌, take}
 use Rattle.advisers.proofs.kept.are_same_types.Given as goal
 
 abbrev pub invariant-loop-k : goal.invariant-loop-k

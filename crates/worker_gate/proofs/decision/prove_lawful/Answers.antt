@@ -1,4 +1,4 @@
-use Rattle.std.proofs.Common.{◌≡◌, ◌∙◌, List, length, sym, subst}
+use Rattle.std.proofs.Common.{◌≡◌, ◌∙◌, List, sym, subst}
 use Rattle.std.specs.Prelude.{IfOk}
 use Rattle.break_rules.specs.Causes.{first_cause}
 use Rattle.head_splits.specs.declared.Cut.{Cut}

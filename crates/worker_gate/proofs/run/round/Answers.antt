@@ -1,14 +1,13 @@
 use Rattle.std.proofs.Common.{◌≡◌, ◌∙◌, false, sym, ap, subst}
 use Rattle.std.specs.Prelude.{MatchOption}
 use Rattle.shift_instance.specs.Problem.{Problem}
-use Rattle.post_codec.specs.declared.post.Post.{Post}
 use Rattle.search_core.specs.declared.board.Kept.{Kept}
 use Rattle.search_core.specs.Board.{seen, leaves_open, BoardView, Commits, HoldsStep}
 use Rattle.search_core.specs.Book.{book_of}
 use Rattle.search_core.specs.Kept.{cuts_in}
 use Rattle.search_core.specs.State.{book_or_opening}
 use Rattle.search_core.specs.Steps.{Fits}
-use Rattle.std.specs.Prelude.{List, Some}
+use Rattle.std.specs.Prelude.{Some}
 use Rattle.advisers.specs.Advised.{greedy_advice}
 use Rattle.worker_gate.specs.Runs.{IsCutOff}
 use Rattle.worker_gate.proofs.Runs.{closes_step, holds_step, round_ends}
