@@ -27,6 +27,7 @@ use std::marker::Model;
 ///
 /// Contracts see the instance, its posts with the book that they make, its disk, what shut it, the node in the hand of each
 /// worker, the steps taken and those of the budget, and whether a worker let go of its node without a commit.
+#[derive(Drop)]
 pub struct SearchBook<D: Disk> {
     session: Session<D>,
 }

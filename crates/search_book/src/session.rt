@@ -20,6 +20,7 @@ use std::alloc::Global;
 
 /// The posts of a search with their disk, the node in the hand of each worker, how many steps were taken and how many may
 /// be, and whether a worker let go of its node without a commit.
+#[derive(Drop)]
 pub(crate) struct Session<D: Disk> {
     alloc: Global,
     log: PostLog<D>,
