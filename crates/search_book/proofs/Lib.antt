@@ -23,3 +23,6 @@ pub mod Drafted
 pub mod Handing
 pub mod Stepped
 pub mod Heads
+pub mod Closing
+pub mod Committed
+pub mod Boarding
