@@ -23,3 +23,4 @@ pub mod Drafted
 pub mod Handing
 pub mod Stepped
 pub mod Heads
+pub mod Opens

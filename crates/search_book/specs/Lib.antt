@@ -18,3 +18,5 @@ pub mod Recorded
 pub mod Drafting
 pub mod Origins
 pub mod Head
+pub mod OpenFaultText
+pub mod Opened

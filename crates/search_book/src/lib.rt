@@ -13,7 +13,10 @@ mod fault;
 mod folding;
 mod head;
 mod laws;
+mod log_opening;
 mod open_fault;
+#[cfg(test)]
+mod open_tests;
 mod opening;
 mod post_log;
 mod preparing;
