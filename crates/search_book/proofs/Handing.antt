@@ -43,6 +43,10 @@ no_hand (suc n) (suc w) x e = no_hand n w x e
 abbrev pub AreUnsplit : Book → List (Option ℕ) → Type 0
 AreUnsplit b hands = (w x : ℕ) → hand hands w ≡ Some x → is_node_and b x (λ n. not n.split) ≡ true
 
+-- steps were taken where a node is in a hand
+abbrev pub AreCounted : ℕ → List (Option ℕ) → Type 0
+AreCounted taken hands = (w x : ℕ) → hand hands w ≡ Some x → 0 < taken
+
 pub none_unsplit : (b : Book) → AreUnsplit b empty_hands
 none_unsplit b w x e = absurd (no_hand 16 w x e)
 
@@ -64,6 +68,13 @@ emptied_unsplit b hands w unsplit v x e = elim (hand_set hands w v None x e) [ i
 
 pub free_alone : (b : Book) (hands : List (Option ℕ)) (k : ℕ) → is_free b hands k ≡ true → list_any (is_node k) hands ≡ false
 free_alone b hands k free = not-true _ ((and_parts (is_node_and b k (is_open b)) (not (list_any (is_node k) hands)) free).1)
+
+-- hands that are empty, and that one is let go of
+pub none_counted : (taken : ℕ) → AreCounted taken empty_hands
+none_counted taken w x e = absurd (no_hand 16 w x e)
+
+pub emptied_counted : (taken : ℕ) (hands : List (Option ℕ)) (w : ℕ) → AreCounted taken hands → AreCounted taken (set hands w None)
+emptied_counted taken hands w counted v x e = elim (hand_set hands w v None x e) [ inl p ↦ absurd (cc (p.1)) | inr p ↦ counted v x p.1 ]
 
 -- a node of which something holds is there
 node_there : (o : Option Node) (p : Node → Bool) → option_map_or p o false ≡ true → (n : Node) × (o ≡ Some n)
@@ -99,7 +110,7 @@ finished_is b [] = refl
 finished_is b (n ∷ nodes) = both_all _ _ _ _ (closed_node n.split n.floor b.cost) (finished_is b nodes)
 
 -- ---- the cuts of the node in a hand
-cuts_are : (o : Option Node) (cuts : List Cut) → IsSomeAnd o (λ n. cuts ≡ n.cuts) → cuts ≡ option_map_or (λ n. n.cuts) o []
+pub cuts_are : (o : Option Node) (cuts : List Cut) → IsSomeAnd o (λ n. cuts ≡ n.cuts) → cuts ≡ option_map_or (λ n. n.cuts) o []
 cuts_are None cuts h = absurd h
 cuts_are (Some n) cuts h = h
 

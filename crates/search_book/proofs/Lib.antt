@@ -24,3 +24,6 @@ pub mod Handing
 pub mod Stepped
 pub mod Heads
 pub mod Opens
+pub mod Closing
+pub mod Committed
+pub mod Boarding

@@ -20,3 +20,5 @@ pub mod Origins
 pub mod Head
 pub mod OpenFaultText
 pub mod Opened
+pub mod Search
+pub mod Committing

@@ -3,10 +3,13 @@
 #![tactic(auto)]
 
 mod adding;
+mod as_board;
 mod board_book;
 mod book;
+mod committing;
 #[cfg(test)]
 mod crash_tests;
+mod differing;
 mod drafting;
 mod entry;
 mod fault;
@@ -24,6 +27,7 @@ mod readers;
 mod reading;
 mod record_log;
 mod sends;
+mod session;
 mod spelling;
 mod stepping;
 #[cfg(test)]

@@ -9,7 +9,7 @@ use Rattle.search_core.specs.State.{book_or_opening}
 use Rattle.search_core.proofs.Outlines.{book_is}
 use Rattle.search_core.proofs.Runs.{taken_apart}
 use Rattle.search_book.proofs.Handing.{free_alone, free_there, taken_unsplit, AreUnsplit}
-use Rattle.search_book.proofs.board_book.SearchBook.take.Goals as goal
+use Rattle.search_book.proofs.session.Session.take.Goals as goal
 
 none_of : {X : Type 0} (o : Option X) → is_some o ≡ false → o ≡ None
 none_of None e = refl
@@ -62,6 +62,7 @@ invariant_of-self-2 g c =
       folds = b.folds;
       apart = subst AreApart (sym c.take.ensures) (taken_apart b.hands c.args.worker c.in-Some.node b.apart (free_alone b.log.book b.hands c.in-Some.node free));
       unsplit = subst (AreUnsplit b.log.book) (sym c.take.ensures) (taken_unsplit b.log.book b.hands c.args.worker c.in-Some.node b.unsplit free);
+      counted = λ w x held. omega arith;
       sixteen = ap length c.take.ensures ∙ length-set b.hands c.args.worker (Some c.in-Some.node) ∙ b.sixteen;
       within = omega (arith, b.within, c.if-self-2.false);
       front = b.front;

@@ -2,7 +2,7 @@ use Rattle.std.proofs.Common.{◌≡◌, ◌<◌, length, Some, sym, ◌∙◌, 
 use Rattle.search_core.specs.Book.{Book}
 use Rattle.search_core.specs.Core.{hand}
 use Rattle.search_book.proofs.Handing.{cuts_few, cuts_held, is_there}
-use Rattle.search_book.proofs.board_book.SearchBook.cuts.Goals as goal
+use Rattle.search_book.proofs.session.Session.cuts.Goals as goal
 
 pub cuts_of-requires : goal.cuts_of-requires
 cuts_of-requires g c =
