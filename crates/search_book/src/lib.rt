@@ -6,6 +6,9 @@ mod adding;
 mod as_board;
 mod board_book;
 mod book;
+#[cfg(test)]
+mod book_open_tests;
+mod book_opening;
 mod committing;
 #[cfg(test)]
 mod crash_tests;

@@ -168,10 +168,8 @@ fn a_closed_gate_ends_the_posts(rt: HostRuntime) -> Result<(), Fail> {
     let alloc = rt.alloc();
     let instance = one_shift(alloc, 3)?;
     let new = new_journal(&rt, alloc, &instance)?;
-    let mut bytes = with_record(alloc, &new, &PLAN)?;
-    if let Some(gate) = bytes.get_mut(384) {
-        *gate = 0x77;
-    }
+    let posted = with_record(alloc, &new, &PLAN)?;
+    let bytes = changed(alloc, &posted, 384, 0x77, &[])?;
     let log = found(&rt, alloc, &instance, &bytes)?;
     assert!(rt; log.state().history().is_empty() && log.state().cost() == 8);
     assert!(rt; log.into_disk().bytes() == bytes.as_slice());
@@ -193,31 +191,48 @@ fn another_instance_is_told_by_its_first_other_byte(rt: HostRuntime) -> Result<(
     Ok(())
 }
 
+/// Bytes with another at a place, and with others behind them.
+fn changed(alloc: Global, bytes: &[u8], at: usize, byte: u8, more: &[u8]) -> Result<Vec<u8>, Fail> {
+    let mut bytes = Vec::from_slice(alloc, bytes)?;
+    if let Some(place) = bytes.get_mut(at) {
+        *place = byte;
+    }
+    bytes.extend_from_slice(more)?;
+    Ok(bytes)
+}
+
 #[test]
-fn damage_is_told_by_its_place(rt: HostRuntime) -> Result<(), Fail> {
+fn damage_comes_before_another_instance(rt: HostRuntime) -> Result<(), Fail> {
     let alloc = rt.alloc();
     let instance = one_shift(alloc, 3)?;
     let new = new_journal(&rt, alloc, &instance)?;
-    let mut cut_short = Vec::from_slice(alloc, &new)?;
-    if let Some(gate) = cut_short.get_mut(384) {
-        *gate = 1;
-    }
-    cut_short.extend_from_slice(&[255; 4])?;
+    let cut_short = changed(alloc, &new, 384, 1, &[255; 4])?;
     let shown = refusal(&rt, alloc, &instance, &cut_short, LIMIT)?;
     assert_eq!(rt; shown.as_str(), "4 384");
-    // damage comes before the head
     let dearer = one_shift(alloc, 9)?;
     let shown = refusal(&rt, alloc, &dearer, &cut_short, LIMIT)?;
     assert_eq!(rt; shown.as_str(), "4 384");
-    let posted = with_record(alloc, &new, &PLAN)?;
-    let shown = refusal(
-        &rt,
-        alloc,
-        &instance,
-        &posted[..412.min(posted.len())],
-        LIMIT,
-    )?;
+    Ok(())
+}
+
+#[test]
+fn a_journal_without_its_last_gate_is_damaged(rt: HostRuntime) -> Result<(), Fail> {
+    let alloc = rt.alloc();
+    let instance = one_shift(alloc, 3)?;
+    let new = new_journal(&rt, alloc, &instance)?;
+    let mut posted = with_record(alloc, &new, &PLAN)?;
+    let _ = posted.pop();
+    let shown = refusal(&rt, alloc, &instance, &posted, LIMIT)?;
     assert_eq!(rt; shown.as_str(), "4 384");
+    Ok(())
+}
+
+#[test]
+fn a_journal_past_the_limit_is_damaged(rt: HostRuntime) -> Result<(), Fail> {
+    let alloc = rt.alloc();
+    let instance = one_shift(alloc, 3)?;
+    let new = new_journal(&rt, alloc, &instance)?;
+    let posted = with_record(alloc, &new, &PLAN)?;
     let shown = refusal(&rt, alloc, &instance, &posted, 400)?;
     assert_eq!(rt; shown.as_str(), "4 400");
     Ok(())
