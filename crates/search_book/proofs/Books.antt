@@ -10,7 +10,7 @@ use Rattle.gated_journal.specs.View.{IsStored, JournalView}
 use Rattle.instance_json.specs.Canonical.{canonical_text}
 use Rattle.post_codec.specs.declared.post.Post.{Post}
 use Rattle.post_codec.specs.declared.post.Post.TheVariants.{Plan, Priced, Split, Settled}
-use Rattle.post_codec.specs.Spelling.{EachSpellsOnce, Spells}
+use Rattle.post_codec.specs.Spelling.{Spells}
 use Rattle.shift_instance.specs.declared.Row.{Row}
 use Rattle.shift_instance.specs.Problem.{Problem}
 use Rattle.shift_instance.specs.Rota.{are_legal_rows, cost, rota_of}
@@ -18,14 +18,11 @@ use Rattle.search_book.specs.declared.fault.Shutting.{Shutting}
 use Rattle.search_book.specs.declared.fault.Shutting.TheVariants.{DiskFault, Full}
 use Rattle.search_book.specs.Fold.{Book, opening, is_better, step, cost_after, book_after, book_of, IsFoldAt, IsSound}
 use Rattle.search_book.specs.Front.{IsKept, ShutFor}
-use Rattle.search_book.specs.Opening.{IsFound, IsOpenedFrom}
 use Rattle.search_book.specs.Posting.{rows_cost, rows_in}
-use Rattle.search_book.specs.Posts.{bytes_used, SpellPosts}
+use Rattle.search_book.specs.Posts.{bytes_used}
 use Rattle.search_book.specs.View.{BookView}
 use Rattle.search_book.specs.Written.{IsWritten, ShutBy}
-use Rattle.search_book.proofs.Batches.{posts_once, none_spelled}
 use Rattle.search_book.proofs.Folds.{book_with}
-use Rattle.search_book.proofs.Used.{used_fresh}
 use Rattle.search_book.proofs.Written.{written_spells}
 
 -- ---- the disk of a running book
@@ -39,19 +36,6 @@ kept_of images book journal first (Some file) is lim used w stored = record {
     stands = subst (λ (h : List ℕ). StandsFor book.limit h journal.records file) is (subst (λ (l : ℕ). StandsFor l journal.head journal.records file) lim stored.stands);
     ends = used ∙ ap (λ (h : List ℕ). bytes_used h journal.records) is;
   };
-}
-
--- ---- what an opening gives
-pub opened_from : EachSpellsOnce → (limit : ℕ) (i : Problem) (records : List (List ℕ)) (posts : List Post) (used : ℕ) (o o' : Option (List ℕ)) → used ≡ bytes_used (canonical_text i) records → SpellPosts records posts → IfSome o (IsFound limit (canonical_text i) records o') → IfSome o (IsOpenedFrom limit i posts used o')
-opened_from once limit i records posts used None o' is s found = tt
-opened_from once limit i records posts used (Some file) o' is s found = record {
-  new = λ e.
-      let n = found.new e in (
-        posts_once once [] posts [] (subst (λ (l : List (List ℕ)). SpellPosts l posts) n.0 s) none_spelled,
-        is ∙ ap (bytes_used (canonical_text i)) n.0 ∙ used_fresh (canonical_text i),
-        n.1,
-      );
-  old = λ some. let f = found.old some in (record { records = records; spells = s; stands = f.0; ends = is }, f.1);
 }
 
 -- ---- a fold is sound

@@ -23,6 +23,7 @@ pub mod Drafted
 pub mod Handing
 pub mod Stepped
 pub mod Heads
+pub mod Opens
 pub mod Closing
 pub mod Committed
 pub mod Boarding

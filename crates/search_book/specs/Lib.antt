@@ -18,5 +18,7 @@ pub mod Recorded
 pub mod Drafting
 pub mod Origins
 pub mod Head
+pub mod OpenFaultText
+pub mod Opened
 pub mod Search
 pub mod Committing

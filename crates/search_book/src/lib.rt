@@ -6,6 +6,9 @@ mod adding;
 mod as_board;
 mod board_book;
 mod book;
+#[cfg(test)]
+mod book_open_tests;
+mod book_opening;
 mod committing;
 #[cfg(test)]
 mod crash_tests;
@@ -16,7 +19,10 @@ mod fault;
 mod folding;
 mod head;
 mod laws;
+mod log_opening;
 mod open_fault;
+#[cfg(test)]
+mod open_tests;
 mod opening;
 mod post_log;
 mod preparing;

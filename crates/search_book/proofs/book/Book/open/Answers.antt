@@ -4,7 +4,7 @@ use Rattle.post_codec.proofs.Formats.{one_list}
 use Rattle.search_book.specs.Opening.{IsOpenedFrom}
 use Rattle.search_book.specs.Posts.{bytes_used}
 use Rattle.search_book.specs.View.{BookView}
-use Rattle.search_book.proofs.Books.{opened_from}
+use Rattle.search_book.proofs.Opens.{opened_from}
 use Rattle.search_book.proofs.book.Book.open.Goals as goal
 
 pub returns-in-Ok-clause-found : goal.returns-in-Ok-clause-found
