@@ -146,8 +146,10 @@ live_few (Some x) prefix rule h =
     let few : length (prefix ++ whole.0) ≤ 48 = few_of_shift (Some x) (prefix ++ whole.0) rule whole.1 in
     omega (arith, length-append prefix whole.0)
 
-pub class_fits : (i : Problem) (class : Class) → IsValid i → IsTrue (is_live_class i class) → length class.prefix < 2 ^ 8
-class_fits i class valid live =
+pub class_few : (i : Problem) (class : Class) → IsValid i → IsTrue (is_live_class i class) → length class.prefix ≤ 48
+class_few i class valid live =
     let there = (and_parts (nat_lt class.day i.days) (is_shift_and i class.shift (λ x. is_live x.1 x.0.len class.prefix)) live).1 in
-    let few : length class.prefix ≤ 48 = live_few (slice_get (shift_list i) class.shift) class.prefix (λ x at. ranges_from_none x.1 (rule_passes i valid x (Has_at (shift_list i) class.shift x at))) there in
-    omega arith
+    live_few (slice_get (shift_list i) class.shift) class.prefix (λ x at. ranges_from_none x.1 (rule_passes i valid x (Has_at (shift_list i) class.shift x at))) there
+
+pub class_fits : (i : Problem) (class : Class) → IsValid i → IsTrue (is_live_class i class) → length class.prefix < 2 ^ 8
+class_fits i class valid live = let few : length class.prefix ≤ 48 = class_few i class valid live in omega arith

@@ -74,8 +74,10 @@ impl<D: Disk> SearchBook<D> {
     /// The posts, from the first one in the file on.
     pub fn history(&self) -> &[Post]
         ensures history { result.now ≡ self.now.history }
+        ensures few { length self.now.history < 2 ^ 24 }
         ensures folds { book_of self.now.instance self.now.history ≡ Some self.now.book }
     {
+        let _made = self.session.log().made();
         self.session.log().state().history()
     }
 
@@ -86,6 +88,7 @@ impl<D: Disk> SearchBook<D> {
         ensures made { result ≡ self.now.made }
         ensures lasts { PostsLast D.reads D.images_since D.calls (log_of self.now) }
         ensures running { self.now.in_flight ≡ [] → IsRunningPosts D.reads D.images D.calls (log_of self.now) }
+        ensures counted { (length self.now.history ≤ self.now.opening + self.now.made) × (self.now.opening + self.now.made ≤ length self.now.history + length self.now.in_flight) }
         ensures moment { D.calls self.now.opened + 4 * self.now.made ≤ D.calls self.now.disk }
         ensures telling { TellsAlike (D.reads self.now.opened) (D.reads self.now.disk) }
         ensures faults { D.faults self.now.opened ≤ D.faults self.now.disk }
