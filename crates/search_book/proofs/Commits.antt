@@ -44,9 +44,6 @@ none_flies : {D : Type 0} (log : LogView D) (s : StateView) (limit opening : ℕ
 none_flies log s limit opening flight None inside is = inside.shut
 none_flies log s limit opening flight (Some why) inside is = absurd (cc)
 
-pub quiet_log : {D : Type 0} (log : LogView D) (s : StateView) (limit opening : ℕ) (flight : List Post) (shut : Option Shutting) → IsPostLogInside log limit (view_of log s opening flight shut) → shut ≡ None → log.in_flight ≡ []
-quiet_log log s limit opening flight shut inside is = (inside.quiet (none_flies log s limit opening flight shut inside is)).0
-
 written_of : {D : Type 0} (log : LogView D) (s : StateView) (limit opening : ℕ) (flight : List Post) (shut : Option Shutting) → IsPostLogInside log limit (view_of log s opening flight shut) → shut ≡ None → IsWritten log.records s.history log.opening opening log.added
 written_of log s limit opening flight shut inside is =
     let none = none_flies log s limit opening flight shut inside is in
@@ -195,9 +192,6 @@ state_all s mid s2 entries rest same is =
 -- entries that a book allows are allowed by the state with it
 pub makes_in : {D : Type 0} (log : LogView D) (s : StateView) (opening : ℕ) (flight : List Post) (shut : Option Shutting) (old : PostLogView D) (entries : List Entry) (c : Book) → view_of log s opening flight shut ≡ old → Makes old.instance old.book entries c → Makes s.instance s.book entries c
 makes_in {D} log s opening flight shut old entries c is m = subst (λ (v : PostLogView D). Makes v.instance v.book entries c) (sym is) m
-
-pub makes_mid : (s mid : StateView) (entries : List Entry) (c : Book) → mid ≡ record s { spare = mid.spare } → Makes s.instance s.book entries c → Makes mid.instance mid.book entries c
-makes_mid s mid entries c is m = subst (λ (t : StateView). Makes t.instance t.book entries c) (sym is) m
 
 pub makes_back : (s mid : StateView) (entries : List Entry) (c : Book) → mid ≡ record s { spare = mid.spare } → Makes mid.instance mid.book entries c → Makes s.instance s.book entries c
 makes_back s mid entries c is m = subst (λ (t : StateView). Makes t.instance t.book entries c) is m

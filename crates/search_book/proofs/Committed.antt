@@ -1,7 +1,6 @@
 -- What a commit makes of a book, and why it is refused.
 use Rattle.std.proofs.Common.{◌≡◌, ◌≢◌, ℕ, zero, suc, ◌==◌, ◌<◌, ◌≤◌, ◌+◌, ◌*◌, List, [], ◌∷◌, ◌++◌, length, Option, None, Some, Bool, true, false, ◌&&◌, not, refl, sym, ◌∙◌, ap, subst, arith}
 use Rattle.std.specs.Prelude.{is_some, IsSome, IsTrue, slice_get, slice_set}
-use Rattle.std.specs.List.{list_all}
 use Rattle.std.specs.Option.{option_map_or}
 use Rattle.std.proofs.lemmas.List.{append-nil, length-map}
 use Rattle.std.proofs.lemmas.Bool.{and_parts, false≢true, not-true}
@@ -24,7 +23,7 @@ use Rattle.search_core.specs.declared.step_posts.StepPosts.{StepPosts}
 use Rattle.search_core.specs.declared.step_posts.Close.TheVariants.{ByPrice}
 use Rattle.search_core.specs.Board.{book_at, floor_of_node, leaves_open, seen, BoardView, CommitRefuses, Commits, DifferAt, HasPosts, HoldsStep}
 use Rattle.search_core.specs.Book.{Book, book_after, book_of, is_node_and, is_open}
-use Rattle.search_core.specs.Core.{hand, HoldsApart, IsFront}
+use Rattle.search_core.specs.Core.{hand, HoldsApart}
 use Rattle.search_core.specs.Kept.{cuts_in}
 use Rattle.search_core.specs.Steps.{after_step, book_then, is_cheaper, posts_of}
 use Rattle.search_core.proofs.Boards.{others_held_after}
@@ -33,7 +32,7 @@ use Rattle.search_core.proofs.Runs.{front_folds}
 use Rattle.search_core.proofs.Sound.{fold_sound}
 use Rattle.search_book.specs.declared.drafting.Draft.{Draft}
 use Rattle.search_book.specs.declared.entry.Entry.{Entry}
-use Rattle.search_book.specs.Committing.{commit_fault_of, step_posts, LeavesLog, MayCommit, MayNot, RecordsStep, StepFails}
+use Rattle.search_book.specs.Committing.{commit_fault_of, step_posts, MayCommit, MayNot, RecordsStep, StepFails}
 use Rattle.search_book.specs.Drafting.{IsAfter, IsDraft, LeavesOpen}
 use Rattle.search_book.specs.Entries.{bytes_of, posts_in, Makes}
 use Rattle.search_book.specs.Recorded.{RecordFails, Records}
@@ -190,25 +189,6 @@ module _ {D : Type 0} (old new : PostLogView D) (hands : List (Option ℕ)) (tak
   record_refuses faults floor best may closed (NotClosing f c back) h = absurd h
   record_refuses faults floor best may closed (OtherCuts at) h = absurd h
 
--- ---- what a refusal leaves
-pub may_leaves : {D : Type 0} (faults : D → ℕ) (log : PostLogView D) (hands : List (Option ℕ)) (w : ℕ) (step : StepPosts) (fault : CommitFault) → MayNot log hands w step fault → LeavesLog faults w step log log fault
-may_leaves faults log hands w step Shut h = refl
-may_leaves faults log hands w step (NotHeld held) h = refl
-may_leaves faults log hands w step (OtherCuts at) h = refl
-may_leaves faults log hands w step NoMemory h = refl
-may_leaves faults log hands w step DiskFault h = absurd h
-may_leaves faults log hands w step (Full end most) h = absurd h
-may_leaves faults log hands w step (NotClosing floor best back) h = absurd h
-
-pub record_leaves : {D : Type 0} (faults : D → ℕ) (old new : PostLogView D) (w : ℕ) (step : StepPosts) (fault : CommitFault) → StepFails faults w step old new fault → LeavesLog faults w step old new fault
-record_leaves faults old new w step DiskFault h = h
-record_leaves faults old new w step (Full end most) h = h.1
-record_leaves faults old new w step NoMemory h = h
-record_leaves faults old new w step (NotHeld held) h = absurd h
-record_leaves faults old new w step Shut h = absurd h
-record_leaves faults old new w step (NotClosing floor best back) h = absurd h
-record_leaves faults old new w step (OtherCuts at) h = absurd h
-
 -- ---- what a draft that is recorded says
 pub some_there : (n : ℕ) → (n == 0) ≡ false → 0 < n
 some_there zero e = absurd (false≢true (sym e))
@@ -282,9 +262,6 @@ none_of (Some x) e = absurd (cc)
 
 pub none_told : {X : Type 0} (o told : Option X) (b : Bool) → told ≡ o → b ≡ is_some told → b ≡ false → o ≡ None
 none_told o told b same is absent = none_of o (ap is_some (sym same) ∙ sym is ∙ absent)
-
-pub front_of : {D : Type 0} (calls : D → ℕ) (old new : PostLogView D) (w : ℕ) (step : StepPosts) (kept : Kept) → RecordsStep calls w step old new kept → IsFront old.history new.history
-front_of {D = D} calls old new w step kept r = (step_posts w step old, sym (ap (λ (v : PostLogView D). v.history) r.log))
 
 pub root_of : {D : Type 0} (calls : D → ℕ) (old new : PostLogView D) (w : ℕ) (step : StepPosts) (kept : Kept) → RecordsStep calls w step old new kept
     → (new.instance ≡ old.instance) × (new.opening ≡ old.opening) × (new.opened ≡ old.opened) × (new.limit ≡ old.limit) × (new.shut ≡ old.shut)

@@ -10,13 +10,9 @@ use Rattle.search_book.specs.contracts.board_book.SearchBook.{the_row as search_
 use Rattle.search_book.specs.contracts.board_book.SearchBook.TheInside as inside
 use Rattle.search_book.specs.contracts.session.Session.{the_field as session_field}
 use Rattle.search_book.specs.contracts.record_log.RecordLog.{the_row as log_row}
-use Rattle.search_book.specs.contracts.book.Book.{the_row}
 
 log_send : (T : RattleType) (g : Ghosts T.Denot) → IsSend T → IsSend (log_row T g)
 log_send T g s = search (journal.the_send, crosses, sendable) depth 60 fits 20000
-
-pub book_send : (T : RattleType) (g : Ghosts T.Denot) → IsSend T → IsSend (the_row T g)
-book_send T g s = search (log_send, crosses, sendable) depth 60 fits 20000
 
 pub posts_send : (T : RattleType) (g : Ghosts T.Denot) → IsSend T → IsSend (posts_row T g)
 posts_send T g s = search (log_send, crosses, sendable) depth 60 fits 20000

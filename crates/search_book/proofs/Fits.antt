@@ -28,10 +28,7 @@ use Rattle.shift_instance.proofs.Rotas.{heads_within, legal_duties}
 use Rattle.shift_instance.proofs.Shifts.{Has_at, rule_passes}
 use Rattle.rota_cost.proofs.Counting.{Has_copy, legal_rows_parts}
 use Rattle.rota_cost.proofs.Coverage.{split_count}
-use Rattle.post_codec.specs.declared.post.Post.{Post}
-use Rattle.post_codec.specs.declared.post.Post.TheVariants.{Plan, Priced, Split, Settled}
-use Rattle.post_codec.specs.Spelling.{CountsFitRow, CountsFitRows, CountsFitPost, CountsFit}
-use Rattle.search_book.specs.Posting.{IsLegalPlan}
+use Rattle.post_codec.specs.Spelling.{CountsFitRow, CountsFitRows}
 
 -- ---- how many breaks a row has
 totals_small : (len : ℕ) (totals : List (ℕ × ℕ)) (t : ℕ) → t ≤ 48 → AllByRecursion IsTotal totals → fold (λ t e. cond (nat_le e.0 len) e.1 t) t totals ≤ 48
@@ -131,12 +128,6 @@ rows_fit i rows valid h =
           let duty = legal_duties i (rota_of rows) p.legal (duty_of r) (Has-flat_map (λ r. replicate r.count (duty_of r)) rows r (duty_of r) m copy) in
           omega (arith, few_breaks i r.shift r.breaks valid duty.breaks))),
     )
-
-pub post_fits : (i : Problem) (post : Post) → IsValid i → IsLegalPlan i post → CountsFit (post ∷ [])
-post_fits i (Plan worker rows cost) valid h = (omega arith, All-from_recursion CountsFitPost (Plan worker rows cost ∷ []) (rows_fit i rows valid h, tt))
-post_fits i (Priced worker node prices) valid h = absurd h
-post_fits i (Split worker node class m) valid h = absurd h
-post_fits i (Settled worker node) valid h = absurd h
 
 -- ---- a live class has few breaks
 live_few : (o : Option (Shift × Rule)) (prefix : List Break) → ((x : Shift × Rule) → o ≡ Some x → IsRule x.1) → option_map_or (λ x. is_live x.1 x.0.len prefix) o false ≡ true → length prefix ≤ 48

@@ -9,24 +9,19 @@ use Rattle.post_codec.specs.declared.post.Post.{Post}
 use Rattle.post_codec.specs.Spelling.{EachSpellsOnce}
 use Rattle.recovery.specs.declared.fault.RebuildFault.{RebuildFault}
 use Rattle.recovery.specs.declared.fault.RebuildFault.TheVariants.{Rejected as IsRejected, NoMemory as RebuildsMemory}
-use Rattle.recovery.specs.declared.fault.Why.{Why}
 use Rattle.recovery.specs.Records.{MakeBook}
-use Rattle.recovery.specs.Refusals.{IsFirstRejected, Refuses}
+use Rattle.recovery.specs.Refusals.{Refuses}
 use Rattle.search_core.specs.Book.{Book, book_of}
 use Rattle.shift_instance.specs.Problem.{Problem}
 use Rattle.search_book.specs.declared.open_fault.OpenFault.{OpenFault}
 use Rattle.search_book.specs.declared.open_fault.OpenFault.TheVariants.{DiskFault, NotAJournal, OtherInstance, Damaged, Rejected, NoMemory}
 use Rattle.search_book.specs.Head.{HasOtherHead, HeadCause, KeepsHead}
-use Rattle.search_book.specs.Opened.{HasRejected, HoldsBook, OpenCause, of_rebuild_fault}
+use Rattle.search_book.specs.Opened.{HoldsBook, of_rebuild_fault}
 use Rattle.search_book.specs.Opening.{IsFound, IsOpenedFrom}
 use Rattle.search_book.specs.Posts.{bytes_used, SpellPosts}
 use Rattle.search_book.proofs.Batches.{none_spelled, posts_once}
 use Rattle.search_book.proofs.Used.{used_fresh}
 use Rattle.search_book.proofs.Openings.{found_content, may_be_new, no_posts_left}
-
--- ---- posts of records, said of a book
-pub spell_posts : (i : Problem) (records : List (List ℕ)) (posts : List Post) (b : Book) → MakeBook i records posts b → SpellPosts records posts
-spell_posts i records posts b m = record { batches = m.spell.batches; spelled = m.spell.spelled; all = m.spell.all }
 
 make_book : (i : Problem) (records : List (List ℕ)) (posts : List Post) (b : Book) → SpellPosts records posts → book_of i posts ≡ Some b → MakeBook i records posts b
 make_book i records posts b s f = record { spell = record { batches = s.batches; spelled = s.spelled; all = s.all }; make = f }
@@ -44,30 +39,10 @@ opened_from once limit i records posts used (Some file) o' is s found = record {
   old = λ some. let f = found.old some in (record { records = records; spells = s; stands = f.0; ends = is }, f.1);
 }
 
--- ---- why none is opened
-pub open_cause : (limit : ℕ) (i : Problem) (o : Option (List ℕ)) (before now : ℕ) (e : OpenFault) → HeadCause limit (canonical_text i) o before now e → OpenCause limit i o before now e
-open_cause limit i o before now DiskFault cause = cause
-open_cause limit i o before now NotAJournal cause = cause
-open_cause limit i o before now (Damaged at) cause = cause
-open_cause limit i o before now (OtherInstance at) cause = cause
-open_cause limit i o before now (Rejected at why) cause = absurd cause
-open_cause limit i o before now NoMemory cause = tt
-
 none_rejected : (i : Problem) (records : List (List ℕ)) (fault : RebuildFault) → Refuses i records fault → (of_rebuild_fault fault ≡ NoMemory → ⊥) → records ≡ [] → ⊥
 none_rejected i records RebuildsMemory refuses some none = some refl
 none_rejected i [] (IsRejected at why) refuses some none = absurd (cc (refuses.next))
 none_rejected i (r ∷ rs) (IsRejected at why) refuses some none = absurd (cc)
-
-rejected : (limit : ℕ) (i : Problem) (records : List (List ℕ)) (at : ℕ) (why : Why) (o o' : Option (List ℕ)) → IfSome o (IsFound limit (canonical_text i) records o') → IsFirstRejected i records at why → IfSome o (λ file. (file ≢ []) × HasRejected limit i at why file)
-rejected limit i records at why None o' found first = tt
-rejected limit i records at why (Some []) o' found first = absurd (none_rejected i records (IsRejected at why) first (λ e. absurd (cc)) (found.new refl).0)
-rejected limit i records at why (Some (x ∷ xs)) o' found first =
-    let some : (x ∷ xs) ≢ [] = λ e. absurd (cc) in
-    (some, record { records = records; stands = (found.old some).0; first = first })
-
-pub rebuild_cause : (limit : ℕ) (i : Problem) (records : List (List ℕ)) (o o' : Option (List ℕ)) (before now : ℕ) (fault : RebuildFault) → IfSome o (IsFound limit (canonical_text i) records o') → Refuses i records fault → OpenCause limit i o before now (of_rebuild_fault fault)
-rebuild_cause limit i records o o' before now RebuildsMemory found refuses = tt
-rebuild_cause limit i records o o' before now (IsRejected at why) found refuses = rejected limit i records at why o o' found refuses
 
 pub rebuild_keeps : (limit : ℕ) (i : Problem) (head : List ℕ) (records : List (List ℕ)) (o o' : Option (List ℕ)) (fault : RebuildFault) → TellsAlike o o' → IfSome o (IsFound limit head records o') → Refuses i records fault → KeepsHead head o o' (of_rebuild_fault fault)
 rebuild_keeps limit i head records o o' RebuildsMemory alike found refuses = may_be_new head records o o' (found_content limit head records o o' alike found)

@@ -1,5 +1,4 @@
 use Rattle.std.proofs.Common.{◌≡◌, ◌<◌, ◌^◌, length, Some, ap, sym, ◌∙◌, subst, arith}
-use Rattle.head_splits.specs.declared.Cut.{Cut}
 use Rattle.search_core.specs.Board.{floor_of_node}
 use Rattle.search_core.specs.Book.{Book}
 use Rattle.search_core.specs.Core.{hand}

@@ -1,7 +1,6 @@
 use Rattle.std.proofs.Common.{◌≡◌, ◌+◌, ◌<◌, ◌≤◌, ℕ, true, false, not, List, [], length, length-set, Option, Some, None, ap, sym, ◌∙◌, subst, arith}
 use Rattle.std.proofs.lemmas.List.{append-nil, length-append}
 use Rattle.shift_instance.specs.Problem.{Problem}
-use Rattle.post_codec.specs.declared.post.Post.{Post}
 use Rattle.search_core.specs.Board.{leaves_open, seen, Commits}
 use Rattle.search_core.specs.Book.{Book, book_of, is_node_and}
 use Rattle.search_core.specs.Core.{AreApart, HoldsApart}
