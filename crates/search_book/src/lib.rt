@@ -6,6 +6,8 @@ mod adding;
 mod as_board;
 mod board_book;
 mod book;
+#[cfg(test)]
+mod commit_tests;
 mod committing;
 #[cfg(test)]
 mod crash_tests;
