@@ -8,6 +8,8 @@ mod board_book;
 #[cfg(test)]
 mod book_open_tests;
 mod book_opening;
+#[cfg(test)]
+mod commit_tests;
 mod committing;
 mod differing;
 mod drafting;

@@ -1,6 +1,6 @@
 //! A small instance.
-use break_rules::Rule;
-use shift_instance::{Instance, Parts, TypeParts};
+use break_rules::{Breaks, Rule};
+use shift_instance::{Instance, Parts, Row, Rows, TypeParts};
 use std::alloc::Global;
 use std::test::Fail;
 
@@ -36,4 +36,15 @@ pub(crate) fn one_shift(alloc: Global, shift: u32) -> Result<Instance, Fail> {
             types: vec![in alloc; kind]?,
         },
     )?)
+}
+
+/// One duty of the shift.
+pub(crate) fn one_duty(alloc: Global) -> Result<Rows, Fail> {
+    let row = Row {
+        shift: 0,
+        day: 0,
+        breaks: Breaks::new(Vec::new(alloc)),
+        count: 1,
+    };
+    Ok(Rows::new(vec![in alloc; row]?))
 }
