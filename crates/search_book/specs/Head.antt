@@ -4,7 +4,7 @@ use Rattle.plan_base.specs.Causes.{Rose}
 use Rattle.gated_journal.specs.Cuts.{IsNoJournal}
 use Rattle.gated_journal.specs.Faults.{IsDamagedAt}
 use Rattle.gated_journal.specs.declared.fault.JournalFault.{JournalFault}
-use Rattle.gated_journal.specs.declared.fault.JournalFault.TheVariants.{DiskFault as JournalsDisk, NoMemory as JournalsMemory, NotAJournal as IsNone, Damaged as IsDamaged, Full}
+use Rattle.gated_journal.specs.declared.fault.JournalFault.TheVariants.{DiskFault as JournalsDisk, NoMemory as JournalsMemory, NotAJournal as NoJournal, Damaged as IsDamaged, Full}
 use Rattle.gated_journal.specs.Format.{StandsFor, fresh}
 use Rattle.search_book.specs.declared.open_fault.OpenFault.{OpenFault}
 use Rattle.search_book.specs.declared.open_fault.OpenFault.TheVariants.{DiskFault, NotAJournal, OtherInstance, Damaged, Rejected, NoMemory}
@@ -38,7 +38,7 @@ HeadCause limit text reads before now NoMemory = ⊤
 abbrev pub of_journal_fault : JournalFault → OpenFault
 of_journal_fault JournalsDisk = DiskFault
 of_journal_fault JournalsMemory = NoMemory
-of_journal_fault IsNone = NotAJournal
+of_journal_fault NoJournal = NotAJournal
 of_journal_fault (IsDamaged at) = Damaged at
 of_journal_fault (Full end limit) = NoMemory
 
