@@ -8,3 +8,5 @@ pub mod Priced
 pub mod Whole
 pub mod ShiftTerms
 pub mod Passing
+pub mod KeptNodes
+pub mod Causes

@@ -3,6 +3,11 @@
 #![tactic(auto)]
 
 mod below;
+#[cfg(test)]
+mod check_tests;
+mod checking;
+mod judged;
+mod judging;
 mod rests;
 mod settled;
 mod sums;
@@ -10,4 +15,8 @@ mod terms;
 #[cfg(test)]
 mod tests;
 mod totals;
+mod tree;
 mod value;
+
+pub use checking::check;
+pub use judged::{Accepted, Refused};

@@ -11,7 +11,7 @@ use std::test::Fail;
 
 /// A day of hours that needs one employee from 8 to 12, with one shift from 8 on, of so many hours. From 8 hours on it has
 /// a break of one hour, and no work period is longer than `work_max` hours.
-fn one_morning(alloc: Global, heads: u16, len: u16, work_max: u16) -> Result<Parts, NoMemory> {
+pub fn one_morning(alloc: Global, heads: u16, len: u16, work_max: u16) -> Result<Parts, NoMemory> {
     let mut rule = Rule::plain(alloc)?;
     rule.work_max = work_max;
     rule.long_work = work_max;

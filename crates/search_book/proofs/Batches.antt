@@ -1,8 +1,6 @@
 -- Records and the batches that they spell.
 use Rattle.std.proofs.Common.{◌≡◌, ℕ, zero, suc, ◌+◌, ◌<◌, List, [], ◌∷◌, ◌++◌, length, map, take, get_or, refl, sym, ◌∙◌, ap, subst, arith}
 use Rattle.std.specs.List.{AllZip}
-use Rattle.std.proofs.lemmas.List.{append-nil, map_more}
-use Rattle.std.proofs.lemmas.List.Concat.{flat_map-append}
 use Rattle.post_codec.specs.declared.post.Post.{Post}
 use Rattle.post_codec.specs.Spelling.{Spells, EachSpellsOnce}
 use Rattle.search_book.specs.Posts.{joined, SpellPosts}
@@ -27,12 +25,6 @@ zip_take R (suc n) [] (b ∷ bs) z = absurd z
 zip_take R (suc n) (a ∷ xs) [] z = absurd z
 zip_take R (suc n) (a ∷ xs) (b ∷ ys) z = (z.0, zip_take R n xs ys z.1)
 
-pub zip_at : {A B : Type 0} (R : A → B → Type 0) (xs : List A) (ys : List B) (k : ℕ) (d : A) → k < length xs → AllZip R xs ys → (y : B) × R (get_or xs k d) y
-zip_at R [] ys k d small z = absurd (omega arith)
-zip_at R (a ∷ xs) [] k d small z = absurd z
-zip_at R (a ∷ xs) (b ∷ ys) zero d small z = (b, z.0)
-zip_at R (a ∷ xs) (b ∷ ys) (suc k) d small z = let less : k < length xs = omega arith in zip_at R xs ys k d less z.1
-
 -- ---- records spell one list of batches
 pub batches_once : EachSpellsOnce → (records : List (List ℕ)) (one other : List (List Post)) → AllZip Spells records one → AllZip Spells records other → one ≡ other
 batches_once once [] [] [] a b = refl
@@ -50,28 +42,3 @@ posts_once once records one other a b = sym a.all ∙ ap joined (batches_once on
 
 pub none_spelled : SpellPosts [] []
 none_spelled = record { batches = []; spelled = tt; all = refl }
-
--- one record more
-pub spell_more : (records : List (List ℕ)) (posts : List Post) (bytes : List ℕ) (batch : List Post) → SpellPosts records posts → Spells bytes batch → SpellPosts (records ++ bytes ∷ []) (posts ++ batch)
-spell_more records posts bytes batch s b = record {
-  batches = s.batches ++ batch ∷ [];
-  spelled = zip_push Spells records s.batches bytes batch s.spelled b;
-  all = flat_map-append (λ (l : List Post). l) s.batches (batch ∷ []) ∙ ap (λ (l : List Post). joined s.batches ++ l) (append-nil batch) ∙ ap (λ (l : List Post). l ++ batch) s.all;
-}
-
--- the same at a place of a list of records
-pub spell_next : {V : Type 0} (f : V → List ℕ) (records : List V) (k : ℕ) (x : V) (posts batch : List Post) → k < length records → x ≡ get_or records k x → SpellPosts (map f (take k records)) posts → Spells (f x) batch → SpellPosts (map f (take (k + 1) records)) (posts ++ batch)
-spell_next {V} f records k x posts batch small at s b =
-    let more : map f (take (k + 1) records) ≡ map f (take k records) ++ f x ∷ [] = map_more f records k x small ∙ ap (λ (y : V). map f (take k records) ++ f y ∷ []) (sym at) in
-    subst (λ (l : List (List ℕ)). SpellPosts l (posts ++ batch)) (sym more) (spell_more (map f (take k records)) posts (f x) batch s b)
-
-spelled_at : {V : Type 0} (f : V → List ℕ) (records : List V) (batches : List (List Post)) (k : ℕ) (d : V) → k < length records → AllZip Spells (map f records) batches → (batch : List Post) × Spells (f (get_or records k d)) batch
-spelled_at f [] batches k d small z = absurd (omega arith)
-spelled_at f (r ∷ rs) [] k d small z = absurd z
-spelled_at f (r ∷ rs) (b ∷ bs) zero d small z = (b, z.0)
-spelled_at f (r ∷ rs) (b ∷ bs) (suc k) d small z = let less : k < length rs = omega arith in spelled_at f rs bs k d less z.1
-
-pub spell_at : {V : Type 0} (f : V → List ℕ) (records : List V) (k : ℕ) (x : V) (posts : List Post) → k < length records → x ≡ get_or records k x → SpellPosts (map f records) posts → (batch : List Post) × Spells (f x) batch
-spell_at {V} f records k x posts small at s =
-    let y = spelled_at f records s.batches k x small s.spelled in
-    (y.0, subst (λ (v : V). Spells (f v) y.0) (sym at) y.1)

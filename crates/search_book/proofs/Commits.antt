@@ -44,9 +44,6 @@ none_flies : {D : Type 0} (log : LogView D) (s : StateView) (limit opening : ℕ
 none_flies log s limit opening flight None inside is = inside.shut
 none_flies log s limit opening flight (Some why) inside is = absurd (cc)
 
-pub quiet_log : {D : Type 0} (log : LogView D) (s : StateView) (limit opening : ℕ) (flight : List Post) (shut : Option Shutting) → IsPostLogInside log limit (view_of log s opening flight shut) → shut ≡ None → log.in_flight ≡ []
-quiet_log log s limit opening flight shut inside is = (inside.quiet (none_flies log s limit opening flight shut inside is)).0
-
 written_of : {D : Type 0} (log : LogView D) (s : StateView) (limit opening : ℕ) (flight : List Post) (shut : Option Shutting) → IsPostLogInside log limit (view_of log s opening flight shut) → shut ≡ None → IsWritten log.records s.history log.opening opening log.added
 written_of log s limit opening flight shut inside is =
     let none = none_flies log s limit opening flight shut inside is in
@@ -77,6 +74,7 @@ module _ {D : Type 0} (log : LogView D) (s : StateView) (limit opening : ℕ) (f
         recorded = recorded_quiet (log.records ++ rs) log.in_flight (s.history ++ posts) flight log.opening opening (log.added + length rs) q.0 none more;
         folds = folds;
         next = (after, ap (book_of s.instance) same ∙ folds);
+        counted = (omega (arith, q.1, size, length-append s.history posts), omega (arith, q.1, size, length-append s.history posts));
         quiet = λ _. (q.0, omega (arith, q.1, size, length-append s.history posts));
         front = omega (arith, inside.front, length-append s.history posts);
         few = omega (arith, few_posts log.head (log.records ++ rs) (s.history ++ posts) (written_spells (log.records ++ rs) (s.history ++ posts) log.opening opening (log.added + length rs) more), used_all log.head log.records rs, within, inside.small);
@@ -100,6 +98,7 @@ module _ {D : Type 0} (log : LogView D) (s : StateView) (limit opening : ℕ) (f
       (view_of (record log { disk = disk; records = log.records ++ take count rs; added = log.added + count; in_flight = bytes ∷ []; spare = spare }) (record s { spare = room }) opening posts (Some DiskFault))
   stop_inside disk spare room count bytes rs posts after z makes at =
       let w = written_of log s limit opening flight shut inside opens in
+      let q = inside.quiet (none_flies log s limit opening flight shut inside opens) in
       let size : length rs ≡ length posts = zip_length Spells rs (map single posts) z ∙ singles_size posts in
       record {
         head = inside.head;
@@ -109,6 +108,7 @@ module _ {D : Type 0} (log : LogView D) (s : StateView) (limit opening : ℕ) (f
         recorded = recorded_stop log.records rs s.history posts log.opening opening log.added count bytes z at w;
         folds = inside.folds;
         next = (after, fold_more s.instance s.history posts s.book after inside.folds makes);
+        counted = (omega (arith, q.1), omega (arith, q.1, size, place_below rs count bytes at));
         quiet = λ none. let empty : length posts ≡ 0 = ap length none in absurd (omega (arith, place_below rs count bytes at));
         front = inside.front;
         few = inside.few;
@@ -140,6 +140,7 @@ module _ {D : Type 0} (log : LogView D) (s : StateView) (limit opening : ℕ) (f
         recorded = inside.recorded;
         folds = inside.folds;
         next = inside.next;
+        counted = inside.counted;
         quiet = inside.quiet;
         front = inside.front;
         few = inside.few;
@@ -160,6 +161,7 @@ module _ {D : Type 0} (log : LogView D) (s : StateView) (limit opening : ℕ) (f
         recorded = inside.recorded;
         folds = inside.folds;
         next = inside.next;
+        counted = inside.counted;
         quiet = inside.quiet;
         front = inside.front;
         few = inside.few;
@@ -191,9 +193,6 @@ state_all s mid s2 entries rest same is =
 pub makes_in : {D : Type 0} (log : LogView D) (s : StateView) (opening : ℕ) (flight : List Post) (shut : Option Shutting) (old : PostLogView D) (entries : List Entry) (c : Book) → view_of log s opening flight shut ≡ old → Makes old.instance old.book entries c → Makes s.instance s.book entries c
 makes_in {D} log s opening flight shut old entries c is m = subst (λ (v : PostLogView D). Makes v.instance v.book entries c) (sym is) m
 
-pub makes_mid : (s mid : StateView) (entries : List Entry) (c : Book) → mid ≡ record s { spare = mid.spare } → Makes s.instance s.book entries c → Makes mid.instance mid.book entries c
-makes_mid s mid entries c is m = subst (λ (t : StateView). Makes t.instance t.book entries c) (sym is) m
-
 pub makes_back : (s mid : StateView) (entries : List Entry) (c : Book) → mid ≡ record s { spare = mid.spare } → Makes mid.instance mid.book entries c → Makes s.instance s.book entries c
 makes_back s mid entries c is m = subst (λ (t : StateView). Makes t.instance t.book entries c) is m
 
@@ -222,6 +221,7 @@ opened_inside log s limit opening records head rs disk spare most is text same s
       recorded = recorded_of rs s.history records opening 0 (written_first rs s.history records opening counted size spells);
       folds = folds;
       next = (s.book, ap (book_of s.instance) (append-nil s.history) ∙ folds);
+      counted = (omega (arith, size), omega (arith, size));
       quiet = λ none. (refl, omega (arith, size));
       front = omega (arith, size);
       few = omega (arith, few_posts head rs s.history spells, within, small);

@@ -28,10 +28,7 @@ use Rattle.shift_instance.proofs.Rotas.{heads_within, legal_duties}
 use Rattle.shift_instance.proofs.Shifts.{Has_at, rule_passes}
 use Rattle.rota_cost.proofs.Counting.{Has_copy, legal_rows_parts}
 use Rattle.rota_cost.proofs.Coverage.{split_count}
-use Rattle.post_codec.specs.declared.post.Post.{Post}
-use Rattle.post_codec.specs.declared.post.Post.TheVariants.{Plan, Priced, Split, Settled}
-use Rattle.post_codec.specs.Spelling.{CountsFitRow, CountsFitRows, CountsFitPost, CountsFit}
-use Rattle.search_book.specs.Posting.{IsLegalPlan}
+use Rattle.post_codec.specs.Spelling.{CountsFitRow, CountsFitRows}
 
 -- ---- how many breaks a row has
 totals_small : (len : ℕ) (totals : List (ℕ × ℕ)) (t : ℕ) → t ≤ 48 → AllByRecursion IsTotal totals → fold (λ t e. cond (nat_le e.0 len) e.1 t) t totals ≤ 48
@@ -132,12 +129,6 @@ rows_fit i rows valid h =
           omega (arith, few_breaks i r.shift r.breaks valid duty.breaks))),
     )
 
-pub post_fits : (i : Problem) (post : Post) → IsValid i → IsLegalPlan i post → CountsFit (post ∷ [])
-post_fits i (Plan worker rows cost) valid h = (omega arith, All-from_recursion CountsFitPost (Plan worker rows cost ∷ []) (rows_fit i rows valid h, tt))
-post_fits i (Priced worker node prices) valid h = absurd h
-post_fits i (Split worker node class m) valid h = absurd h
-post_fits i (Settled worker node) valid h = absurd h
-
 -- ---- a live class has few breaks
 live_few : (o : Option (Shift × Rule)) (prefix : List Break) → ((x : Shift × Rule) → o ≡ Some x → IsRule x.1) → option_map_or (λ x. is_live x.1 x.0.len prefix) o false ≡ true → length prefix ≤ 48
 live_few None prefix rule h = absurd (false≢true h)
@@ -146,8 +137,10 @@ live_few (Some x) prefix rule h =
     let few : length (prefix ++ whole.0) ≤ 48 = few_of_shift (Some x) (prefix ++ whole.0) rule whole.1 in
     omega (arith, length-append prefix whole.0)
 
-pub class_fits : (i : Problem) (class : Class) → IsValid i → IsTrue (is_live_class i class) → length class.prefix < 2 ^ 8
-class_fits i class valid live =
+pub class_few : (i : Problem) (class : Class) → IsValid i → IsTrue (is_live_class i class) → length class.prefix ≤ 48
+class_few i class valid live =
     let there = (and_parts (nat_lt class.day i.days) (is_shift_and i class.shift (λ x. is_live x.1 x.0.len class.prefix)) live).1 in
-    let few : length class.prefix ≤ 48 = live_few (slice_get (shift_list i) class.shift) class.prefix (λ x at. ranges_from_none x.1 (rule_passes i valid x (Has_at (shift_list i) class.shift x at))) there in
-    omega arith
+    live_few (slice_get (shift_list i) class.shift) class.prefix (λ x at. ranges_from_none x.1 (rule_passes i valid x (Has_at (shift_list i) class.shift x at))) there
+
+pub class_fits : (i : Problem) (class : Class) → IsValid i → IsTrue (is_live_class i class) → length class.prefix < 2 ^ 8
+class_fits i class valid live = let few : length class.prefix ≤ 48 = class_few i class valid live in omega arith

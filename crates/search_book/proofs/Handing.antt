@@ -9,7 +9,7 @@ use Rattle.head_splits.specs.Nodes.{Node}
 use Rattle.search_core.specs.declared.outline.NodeState.{NodeState}
 use Rattle.search_core.specs.Board.{is_free}
 use Rattle.search_core.specs.Book.{Book, is_node_and, is_open}
-use Rattle.search_core.specs.Core.{empty_hands, hand, is_node}
+use Rattle.search_core.specs.Core.{hand, is_node}
 use Rattle.search_core.specs.Kept.{cuts_in}
 use Rattle.search_core.specs.State.{state_of}
 use Rattle.search_core.proofs.Sound.{bind_some}
@@ -34,17 +34,13 @@ hand_set hands w v h x e =
     elim (slice_get_set hands w v h (Some x) (hand_some (set hands w h) v x e))
     [ inl p ↦ inl p | inr p ↦ inr (p.0, ap (option_and_then (λ (h : Option ℕ). h)) p.1) ]
 
-no_hand : (n w x : ℕ) → hand (replicate n None) w ≡ Some x → ⊥
-no_hand zero w x e = cc
-no_hand (suc n) zero x e = cc
-no_hand (suc n) (suc w) x e = no_hand n w x e
-
 -- ---- the nodes in the hands are unsplit
 abbrev pub AreUnsplit : Book → List (Option ℕ) → Type 0
 AreUnsplit b hands = (w x : ℕ) → hand hands w ≡ Some x → is_node_and b x (λ n. not n.split) ≡ true
 
-pub none_unsplit : (b : Book) → AreUnsplit b empty_hands
-none_unsplit b w x e = absurd (no_hand 16 w x e)
+-- steps were taken where a node is in a hand
+abbrev pub AreCounted : ℕ → List (Option ℕ) → Type 0
+AreCounted taken hands = (w x : ℕ) → hand hands w ≡ Some x → 0 < taken
 
 open_unsplit : (b : Book) (o : Option Node) → option_map_or (is_open b) o false ≡ true → option_map_or (λ n. not n.split) o false ≡ true
 open_unsplit b None h = absurd (false≢true h)
@@ -59,11 +55,11 @@ taken_unsplit b hands w k unsplit free v x e =
       | inr p ↦ unsplit v x p.1
     ]
 
-pub emptied_unsplit : (b : Book) (hands : List (Option ℕ)) (w : ℕ) → AreUnsplit b hands → AreUnsplit b (set hands w None)
-emptied_unsplit b hands w unsplit v x e = elim (hand_set hands w v None x e) [ inl p ↦ absurd (cc (p.1)) | inr p ↦ unsplit v x p.1 ]
-
 pub free_alone : (b : Book) (hands : List (Option ℕ)) (k : ℕ) → is_free b hands k ≡ true → list_any (is_node k) hands ≡ false
 free_alone b hands k free = not-true _ ((and_parts (is_node_and b k (is_open b)) (not (list_any (is_node k) hands)) free).1)
+
+pub emptied_counted : (taken : ℕ) (hands : List (Option ℕ)) (w : ℕ) → AreCounted taken hands → AreCounted taken (set hands w None)
+emptied_counted taken hands w counted v x e = elim (hand_set hands w v None x e) [ inl p ↦ absurd (cc (p.1)) | inr p ↦ counted v x p.1 ]
 
 -- a node of which something holds is there
 node_there : (o : Option Node) (p : Node → Bool) → option_map_or p o false ≡ true → (n : Node) × (o ≡ Some n)
@@ -99,7 +95,7 @@ finished_is b [] = refl
 finished_is b (n ∷ nodes) = both_all _ _ _ _ (closed_node n.split n.floor b.cost) (finished_is b nodes)
 
 -- ---- the cuts of the node in a hand
-cuts_are : (o : Option Node) (cuts : List Cut) → IsSomeAnd o (λ n. cuts ≡ n.cuts) → cuts ≡ option_map_or (λ n. n.cuts) o []
+pub cuts_are : (o : Option Node) (cuts : List Cut) → IsSomeAnd o (λ n. cuts ≡ n.cuts) → cuts ≡ option_map_or (λ n. n.cuts) o []
 cuts_are None cuts h = absurd h
 cuts_are (Some n) cuts h = h
 

@@ -1,14 +1,10 @@
 pub mod Prefixes
 pub mod Adds
 pub mod Sizes
-pub mod Folds
 pub mod Batches
 pub mod Openings
-pub mod Same
 pub mod Written
 pub mod Used
-pub mod Books
-pub mod Posted
 pub mod Crosses
 pub mod Telling
 pub mod Fits
@@ -23,3 +19,7 @@ pub mod Drafted
 pub mod Handing
 pub mod Stepped
 pub mod Heads
+pub mod Opens
+pub mod Closing
+pub mod Committed
+pub mod Boarding

@@ -5,18 +5,11 @@ use Rattle.std.specs.Prelude.{Option, None, Some, OnSome}
 use Rattle.std.proofs.lemmas.List.{take_all, take-append-le, append-nil, append_assoc}
 use Rattle.std.proofs.lemmas.List.Concat.{flat_map-append}
 use Rattle.std.proofs.lemmas.Bool.{cases_lt}
-use Rattle.gated_journal.specs.Format.{StandsFor}
-use Rattle.instance_json.specs.Canonical.{canonical_text}
 use Rattle.post_codec.specs.declared.post.Post.{Post}
 use Rattle.post_codec.specs.Spelling.{Spells}
-use Rattle.shift_instance.specs.Problem.{Problem}
-use Rattle.search_book.specs.Fold.{IsFoldAt}
-use Rattle.search_book.specs.Front.{HoldsFront}
-use Rattle.search_book.specs.Posts.{joined, bytes_used, SpellPosts}
-use Rattle.search_book.specs.Prefix.{HoldsPrefix}
+use Rattle.search_book.specs.Posts.{joined, SpellPosts}
 use Rattle.search_book.specs.Written.{IsWritten}
-use Rattle.search_book.proofs.Batches.{zip_push, zip_length, zip_take}
-use Rattle.search_book.proofs.Folds.{take_folds}
+use Rattle.search_book.proofs.Batches.{zip_push, zip_length}
 
 -- at the opening
 pub written_first : (records : List (List ℕ)) (posts : List Post) (first opening : ℕ) → first ≡ length records → opening ≡ length posts → SpellPosts records posts → IsWritten records posts first opening 0
@@ -61,41 +54,6 @@ written_more records posts first opening made bytes post w s =
           (cases_lt k (made + 1));
     }
 
--- a front of the records holds a front of the posts
-pub front_of : (limit : ℕ) (i : Problem) (head : List ℕ) (records : List (List ℕ)) (posts : List Post) (first opening made b : ℕ) (file : List ℕ) → head ≡ canonical_text i → IsWritten records posts first opening made → (c : ℕ) × IsFoldAt i posts c → HoldsPrefix limit head records (first + b) file → HoldsFront limit i posts (opening + b) file
-front_of limit i head records posts first opening made b file is w folds front =
-    let k : ℕ = front.count - first in
-    let count : front.count ≡ first + k = omega (arith, front.at_least) in
-    let small : k ≤ made = omega (arith, front.at_most, w.records_made) in
-    let whole_fold = folds.1.folds in
-    let part = take_folds i posts (opening + k) _ whole_fold in
-    record {
-      count = opening + k;
-      at_least = omega (arith, front.at_least);
-      at_most = omega (arith, w.posts_made);
-      holds = record {
-        used = bytes_used (canonical_text i) (take front.count records);
-        journal = record {
-          records = take front.count records;
-          spells = record {
-            batches = take front.count w.batches;
-            spelled = zip_take Spells front.count records w.batches w.spelled;
-            all = ap (λ (n : ℕ). joined (take n w.batches)) count ∙ w.fronts k small;
-          };
-          stands = subst (λ (h : List ℕ). StandsFor limit h (take front.count records) file) is front.holds;
-          ends = refl;
-        };
-      };
-      book = part.0;
-      folds = part.1;
-    }
-
--- nothing in flight
-pub flight_none : (flight : List (List ℕ)) (posts : List Post) → AllZip Spells flight (map (λ (p : Post). p ∷ []) posts) → posts ≡ [] → flight ≡ []
-flight_none [] posts z e = refl
-flight_none (r ∷ rs) [] z e = absurd z
-flight_none (r ∷ rs) (p ∷ ps) z e = absurd (cc)
-
 -- what is in flight counts as the last
 pub written_flight : (records : List (List ℕ)) (posts : List Post) (first opening made : ℕ) (flight : List (List ℕ)) (in_flight : List Post) → AllZip Spells flight (map (λ (p : Post). p ∷ []) in_flight) → IsWritten records posts first opening made → IsWritten (records ++ flight) (posts ++ in_flight) first opening (made + length in_flight)
 written_flight records posts first opening made [] [] z w =
@@ -109,12 +67,3 @@ written_flight records posts first opening made (r ∷ rs) (p ∷ ps) z w =
     subst (λ (n : ℕ). IsWritten (records ++ r ∷ rs) (posts ++ p ∷ ps) first opening n) count
     (subst (λ (l : List Post). IsWritten (records ++ r ∷ rs) l first opening (made + 1 + length ps)) (append_assoc posts (p ∷ []) ps)
     (subst (λ (l : List (List ℕ)). IsWritten l ((posts ++ p ∷ []) ++ ps) first opening (made + 1 + length ps)) (append_assoc records (r ∷ []) rs) more))
-
--- what a crash may leave, in posts
-pub lasts_of : (reads : Option (List ℕ)) (since : ℕ → List ℕ → Type 0) (start limit : ℕ) (i : Problem) (head : List ℕ) (records flight : List (List ℕ)) (posts in_flight : List Post) (first opening made : ℕ)
-    → head ≡ canonical_text i → IsWritten records posts first opening made → AllZip Spells flight (map (λ (p : Post). p ∷ []) in_flight) → (c : ℕ) × IsFoldAt i (posts ++ in_flight) c
-    → OnSome reads ((b : ℕ) (image : List ℕ) → b ≤ made → since (start + 4 * b) image → HoldsPrefix limit head (records ++ flight) (first + b) image)
-    → OnSome reads ((b : ℕ) (image : List ℕ) → b ≤ made → since (start + 4 * b) image → HoldsFront limit i (posts ++ in_flight) (opening + b) image)
-lasts_of None since start limit i head records flight posts in_flight first opening made is w z folds lasts = tt
-lasts_of (Some file) since start limit i head records flight posts in_flight first opening made is w z folds lasts = λ b image le left.
-    front_of limit i head (records ++ flight) (posts ++ in_flight) first opening (made + length in_flight) b image is (written_flight records posts first opening made flight in_flight z w) folds (lasts b image le left)

@@ -4,10 +4,10 @@ use Rattle.plan_base.specs.Causes.{Rose}
 use Rattle.gated_journal.specs.Cuts.{IsNoJournal}
 use Rattle.gated_journal.specs.Faults.{IsDamagedAt}
 use Rattle.gated_journal.specs.declared.fault.JournalFault.{JournalFault}
-use Rattle.gated_journal.specs.declared.fault.JournalFault.TheVariants.{DiskFault as JournalsDisk, NoMemory as JournalsMemory, NotAJournal as IsNone, Damaged as IsDamaged, Full}
+use Rattle.gated_journal.specs.declared.fault.JournalFault.TheVariants.{DiskFault as JournalsDisk, NoMemory as JournalsMemory, NotAJournal as NoJournal, Damaged as IsDamaged, Full}
 use Rattle.gated_journal.specs.Format.{StandsFor, fresh}
 use Rattle.search_book.specs.declared.open_fault.OpenFault.{OpenFault}
-use Rattle.search_book.specs.declared.open_fault.OpenFault.TheVariants.{DiskFault, NotAJournal, OtherInstance, Damaged, NoMemory}
+use Rattle.search_book.specs.declared.open_fault.OpenFault.TheVariants.{DiskFault, NotAJournal, OtherInstance, Damaged, Rejected, NoMemory}
 
 -- the first place at which two texts differ, and the length of the shorter where it begins the other
 abbrev pub DifferAt : List ℕ → List ℕ → ℕ → Type 0
@@ -31,13 +31,14 @@ HeadCause limit text reads before now DiskFault = Rose before now
 HeadCause limit text reads before now NotAJournal = IfSome reads (λ file. (file ≢ []) × IsNoJournal file)
 HeadCause limit text reads before now (Damaged at) = IfSome reads (λ file. (file ≢ []) × IsDamagedFile limit at file)
 HeadCause limit text reads before now (OtherInstance at) = IfSome reads (λ file. (file ≢ []) × HasOtherHead limit text at file)
+HeadCause limit text reads before now (Rejected at why) = ⊥
 HeadCause limit text reads before now NoMemory = ⊤
 
 -- a journal's fault, as a book's
 abbrev pub of_journal_fault : JournalFault → OpenFault
 of_journal_fault JournalsDisk = DiskFault
 of_journal_fault JournalsMemory = NoMemory
-of_journal_fault IsNone = NotAJournal
+of_journal_fault NoJournal = NotAJournal
 of_journal_fault (IsDamaged at) = Damaged at
 of_journal_fault (Full end limit) = NoMemory
 
@@ -48,4 +49,5 @@ KeepsHead head before after DiskFault = (after ≡ before) ⊎ (before ≡ Some 
 KeepsHead head before after NotAJournal = after ≡ before
 KeepsHead head before after (Damaged at) = after ≡ before
 KeepsHead head before after (OtherInstance at) = after ≡ before
+KeepsHead head before after (Rejected at why) = after ≡ before
 KeepsHead head before after NoMemory = (after ≡ before) ⊎ ((before ≡ Some []) × (after ≡ Some (fresh head)))

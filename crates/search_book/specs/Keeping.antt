@@ -52,6 +52,8 @@ pub record IsPostLog {D : Type 0} (reads : D → Option (List ℕ)) (images : D 
   pub folds : book_of log.instance log.history ≡ Some log.book
   pub running : log.in_flight ≡ [] → IsRunningPosts reads images calls log
   pub front : log.opening ≤ length log.history
+  -- each post that was committed since the opening has its record, and no more were made than for those in flight
+  pub counted : (length log.history ≤ log.opening + log.made) × (log.opening + log.made ≤ length log.history + length log.in_flight)
   pub few : length log.history < 2 ^ 24
   pub nodes : length log.book.nodes ≤ 2 ^ 24
   pub shut : ShutOf log.limit (faults log.opened) (faults log.disk) log.in_flight log.shut

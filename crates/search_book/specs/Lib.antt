@@ -1,14 +1,8 @@
-pub mod Fold
 pub mod Posts
-pub mod View
-pub mod Front
-pub mod Faults
 pub mod Prefix
 pub mod Records
 pub mod Inside
-pub mod Reading
 pub mod Opening
-pub mod Posting
 pub mod Written
 pub mod PostLog
 pub mod Entries
@@ -18,3 +12,7 @@ pub mod Recorded
 pub mod Drafting
 pub mod Origins
 pub mod Head
+pub mod OpenFaultText
+pub mod Opened
+pub mod Search
+pub mod Committing

@@ -36,6 +36,7 @@ pub record IsPostLogInside {D : Type 0} (log : LogView D) (limit : ℕ) (posts :
   pub recorded : IsRecorded log.records log.in_flight (posts.history ++ posts.in_flight) log.opening posts.opening log.added
   pub folds : book_of posts.instance posts.history ≡ Some posts.book
   pub next : (b : Book) × (book_of posts.instance (posts.history ++ posts.in_flight) ≡ Some b)
+  pub counted : (length posts.history ≤ posts.opening + log.added) × (posts.opening + log.added ≤ length posts.history + length posts.in_flight)
   pub quiet : posts.in_flight ≡ [] → (log.in_flight ≡ []) × (length posts.history ≡ posts.opening + log.added)
   pub front : posts.opening ≤ length posts.history
   pub few : length posts.history < 2 ^ 24

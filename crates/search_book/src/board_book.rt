@@ -1,153 +1,148 @@
 //! The book of a search on a disk, from which workers take nodes.
-ghost use Rattle.std.specs.Prelude.{◌≡◌, ℕ, ◌+◌, ◌*◌, ◌^◌, ◌<◌, ◌≤◌, [], false, true, length, not, slice_set, IfOk, IsSome, None, Some};
+ghost use Rattle.std.specs.Prelude.{◌≡◌, ℕ, ◌+◌, ◌*◌, ◌^◌, ◌<◌, ◌≤◌, [], false, true, length, slice_set, IfErr, IfOk, IsSome, None, Some};
 ghost use Rattle.plan_base.specs.Disk.{TellsAlike};
-ghost use Rattle.search_core.specs.Board.{seen, TakeMakes};
-ghost use Rattle.search_core.specs.Book.{book_of, is_finished, is_node_and, floor_of, IsSound};
-ghost use Rattle.search_core.specs.Core.{empty_hands, hand, AreApart};
+ghost use Rattle.search_core.specs.Board.{CommitRefuses, Commits, TakeMakes};
+ghost use Rattle.search_core.specs.Book.{book_of, is_finished, floor_of, IsSound};
+ghost use Rattle.search_core.specs.Core.{empty_hands, hand, IsFront};
 ghost use Rattle.search_core.specs.Kept.{cuts_in};
-ghost use Rattle.search_core.specs.declared.board.Shutting.TheVariants.{Full};
+ghost use Rattle.search_core.specs.Steps.{Fits};
+ghost use Rattle.search_book.specs.Committing.{LeavesLog, RecordsStep};
 ghost use Rattle.search_book.specs.Keeping.{IsRunningPosts, PostsLast, ShutOf};
+ghost use Rattle.search_book.specs.Search.{board_of, log_of};
 
 use crate::post_log::PostLog;
-use crate::readers::{floor_and_best, is_finished};
+use crate::readers::is_finished;
+use crate::session::Session;
 use break_rules::NoMemory;
 use head_splits::Cuts;
 use plan_base::Disk;
 use post_codec::Post;
-use search_core::{Hands, Taken};
+use search_core::{CommitFault, Kept, StepPosts, Taken};
 use shift_instance::Rows;
 use std::alloc::Global;
+use std::marker::Model;
 
 /// The book of a search for an instance, with the disk that holds its posts. Whoever opens the disk again after a crash
 /// finds a book of the same posts, or of a front of them with all that were acknowledged.
 ///
-/// Contracts see its log of posts with the book that they make, the node in the hand of each worker, the steps taken and
-/// those of the budget, and whether a worker let go of its node without a commit.
+/// Contracts see the instance, its posts with the book that they make, its disk, what shut it, the node in the hand of each
+/// worker, the steps taken and those of the budget, and whether a worker let go of its node without a commit.
+#[derive(Drop)]
 pub struct SearchBook<D: Disk> {
-    alloc: Global,
-    log: PostLog<D>,
-    hands: Hands,
-    taken: u64,
-    budget: u64,
-    halted: bool,
-    ghost folds: { book_of log.instance log.history ≡ Some log.book },
-    ghost apart: { AreApart hands },
-    ghost unsplit: { (w x : ℕ) → hand hands w ≡ Some x → is_node_and log.book x (λ n. not n.split) ≡ true },
-    ghost sixteen: { length hands ≡ 16 },
-    ghost within: { taken ≤ budget },
-    ghost front: { log.opening ≤ length log.history },
-    ghost fresh: { taken ≡ 0 → length log.history ≡ log.opening },
-    ghost past: { (end most : ℕ) → log.shut ≡ Some (Full end most) → log.limit < end },
-    ghost most: { (end most : ℕ) → log.shut ≡ Some (Full end most) → most ≡ log.limit },
+    session: Session<D>,
+}
+
+impl<D: Disk> Model for SearchBook<D> {
+    ghost use Rattle.search_book.specs.Search.{SearchView};
+
+    ghost Value = { SearchView D };
+
+    ghost view = { λ b. record { instance = b.session.log.instance; history = b.session.log.history; book = b.session.log.book; disk = b.session.log.disk; limit = b.session.log.limit; opening = b.session.log.opening; opened = b.session.log.opened; made = b.session.log.made; used = b.session.log.used; in_flight = b.session.log.in_flight; shut = b.session.log.shut; hands = b.session.hands; taken = b.session.taken; budget = b.session.budget; halted = b.session.halted; keeps = record { folds = b.session.folds; apart = b.session.apart; unsplit = b.session.unsplit; counted = b.session.counted; sixteen = b.session.sixteen; within = b.session.within; front = b.session.front; fresh = b.session.fresh; past = b.session.past; most = b.session.most } } };
 }
 
 impl<D: Disk> SearchBook<D> {
     /// The rows of the best rota, which are legal for the instance.
     pub fn best(&self) -> &Rows
-        ensures best { result.now ≡ self.now.log.book.best }
-        ensures sound { IsSound self.now.log.instance self.now.log.book }
+        ensures best { result.now ≡ self.now.book.best }
+        ensures sound { IsSound self.now.instance self.now.book }
     {
-        self.log.state().best()
+        self.session.log().state().best()
     }
 
     /// What every legal rota is known to cost at least.
     pub fn floor(&self) -> u64
-        ensures floor { result ≡ floor_of self.now.log.book }
-        ensures sound { IsSound self.now.log.instance self.now.log.book }
+        ensures floor { result ≡ floor_of self.now.book }
+        ensures sound { IsSound self.now.instance self.now.book }
     {
-        self.log.state().floor()
+        self.session.log().state().floor()
     }
 
     /// How many steps were taken since the book was opened.
     pub fn taken(&self) -> u64
         ensures { result ≡ self.now.taken }
     {
-        self.taken
+        self.session.taken()
     }
 
     /// Whether no node is open. Then the best rota is cheapest.
     pub fn finished(&self) -> bool
-        ensures { result ≡ is_finished self.now.log.book }
+        ensures { result ≡ is_finished self.now.book }
     {
-        is_finished(self.log.state())
+        is_finished(self.session.log().state())
     }
 
     /// The posts, from the first one in the file on.
     pub fn history(&self) -> &[Post]
-        ensures history { result.now ≡ self.now.log.history }
-        ensures folds { book_of self.now.log.instance self.now.log.history ≡ Some self.now.log.book }
+        ensures history { result.now ≡ self.now.history }
+        ensures few { length self.now.history < 2 ^ 24 }
+        ensures folds { book_of self.now.instance self.now.history ≡ Some self.now.book }
     {
-        self.log.state().history()
+        let _made = self.session.log().made();
+        self.session.log().state().history()
     }
 
     /// How many records were made since the book was opened, with all that a crash at any moment may leave, and why the
     /// book is shut, where it is. The moment at which the last of them was acknowledged isn't after now, even where a disk
     /// fault shut the book. Each record whose addition ended well counts, also those of a commit that ended in a disk fault.
     pub fn batches(&self) -> u64
-        ensures made { result ≡ self.now.log.made }
-        ensures lasts { PostsLast D.reads D.images_since D.calls self.now.log }
-        ensures running { self.now.log.in_flight ≡ [] → IsRunningPosts D.reads D.images D.calls self.now.log }
-        ensures moment { D.calls self.now.log.opened + 4 * self.now.log.made ≤ D.calls self.now.log.disk }
-        ensures telling { TellsAlike (D.reads self.now.log.opened) (D.reads self.now.log.disk) }
-        ensures faults { D.faults self.now.log.opened ≤ D.faults self.now.log.disk }
-        ensures fault { ShutOf self.now.log.limit (D.faults self.now.log.opened) (D.faults self.now.log.disk) self.now.log.in_flight self.now.log.shut }
+        ensures made { result ≡ self.now.made }
+        ensures lasts { PostsLast D.reads D.images_since D.calls (log_of self.now) }
+        ensures running { self.now.in_flight ≡ [] → IsRunningPosts D.reads D.images D.calls (log_of self.now) }
+        ensures counted { (length self.now.history ≤ self.now.opening + self.now.made) × (self.now.opening + self.now.made ≤ length self.now.history + length self.now.in_flight) }
+        ensures moment { D.calls self.now.opened + 4 * self.now.made ≤ D.calls self.now.disk }
+        ensures telling { TellsAlike (D.reads self.now.opened) (D.reads self.now.disk) }
+        ensures faults { D.faults self.now.opened ≤ D.faults self.now.disk }
+        ensures fault { ShutOf self.now.limit (D.faults self.now.opened) (D.faults self.now.disk) self.now.in_flight self.now.shut }
     {
-        self.log.made()
+        self.session.log().made()
     }
 
     /// A worker whose hand is empty takes a node, if one is to be had.
     pub fn take(&mut self, worker: u32) -> Taken
         requires worker { worker < 16 }
         requires empty { hand self.old.hands worker ≡ None }
-        ensures log { self.new.log ≡ self.old.log }
+        ensures log { log_of self.new ≡ log_of self.old }
         ensures budget { self.new.budget ≡ self.old.budget }
-        ensures makes { TakeMakes result worker self.old.log.instance self.old.budget (seen self.old.log.history self.old.hands self.old.taken self.old.log.shut self.old.halted) (seen self.new.log.history self.new.hands self.new.taken self.new.log.shut self.new.halted) }
+        ensures makes { TakeMakes result worker self.old.instance self.old.budget (board_of self.old) (board_of self.new) }
     {
-        if self.log.shut().is_some() {
-            return Taken::Closed;
-        }
-        if is_finished(self.log.state()) {
-            return Taken::Finished;
-        }
-        if self.halted {
-            return Taken::Halted;
-        }
-        if self.taken == self.budget {
-            return Taken::Spent;
-        }
-        let _made = self.log.made();
-        let Some(node) = self.log.state().next_node(&self.hands) else {
-            return Taken::Idle;
-        };
-        let (floor, best) = floor_and_best(self.log.state(), node);
-        self.hands.take(worker, node);
-        self.taken += 1;
-        Taken::Node { node, floor, best }
+        self.session.take(worker)
     }
 
     /// The cuts of the node in a worker's hand.
     pub fn cuts(&self, worker: u32) -> Result<Cuts, NoMemory>
         requires worker { worker < 16 }
         requires full { IsSome (hand self.now.hands worker) }
-        ensures cuts { IfOk result (λ cuts. (k : ℕ) → hand self.now.hands worker ≡ Some k → cuts ≡ cuts_in self.now.log.book.nodes k) }
+        ensures cuts { IfOk result (λ cuts. (k : ℕ) → hand self.now.hands worker ≡ Some k → cuts ≡ cuts_in self.now.book.nodes k) }
         ensures few { IfOk result (λ cuts. length cuts ≤ 2 ^ 24) }
     {
-        let _made = self.log.made();
-        match self.hands.held(worker) {
-            Some(node) => self.log.state().cuts_of(node),
-            None => unreachable!(),
-        }
+        self.session.cuts(worker)
+    }
+
+    /// A worker commits a step for the node in its hand, and lets go of it. The step's posts are recorded, each as a record of
+    /// its own; memory is taken before the first call on the disk, and the limit judged over all of them. Where a step has no
+    /// posts, no record is made.
+    pub fn commit(&mut self, worker: u32, step: StepPosts) -> Result<Kept, CommitFault>
+        requires worker { worker < 16 }
+        requires fits { Fits self.old.instance step }
+        ensures root { (self.new.instance ≡ self.old.instance) × (self.new.opening ≡ self.old.opening) × (self.new.opened ≡ self.old.opened) × (self.new.limit ≡ self.old.limit) }
+        ensures budget { self.new.budget ≡ self.old.budget }
+        ensures begins { IsFront self.old.history self.new.history }
+        ensures ok { IfOk result (Commits self.old.instance worker step (board_of self.old) (board_of self.new)) }
+        ensures recorded { IfOk result (RecordsStep D.calls worker step (log_of self.old) (log_of self.new)) }
+        ensures err { IfErr result (CommitRefuses self.old.instance self.old.limit worker step (board_of self.old) (board_of self.new)) }
+        ensures left { IfErr result (LeavesLog D.faults worker step (log_of self.old) (log_of self.new)) }
+    {
+        self.session.commit(worker, step)
     }
 
     /// A worker lets go of the node in its hand, if there is one, without a commit. The book gives no more nodes then.
     pub fn yield_node(&mut self, worker: u32)
         requires { worker < 16 }
-        ensures same { (self.new.log ≡ self.old.log) × (self.new.taken ≡ self.old.taken) × (self.new.budget ≡ self.old.budget) }
+        ensures same { (log_of self.new ≡ log_of self.old) × (self.new.taken ≡ self.old.taken) × (self.new.budget ≡ self.old.budget) }
         ensures emptied { self.new.hands ≡ slice_set self.old.hands worker None }
         ensures halted { self.new.halted ≡ true }
     {
-        self.hands.release(worker);
-        self.halted = true;
+        self.session.yield_node(worker);
     }
 
     /// The node in a worker's hand.
@@ -155,56 +150,41 @@ impl<D: Disk> SearchBook<D> {
         requires { worker < 16 }
         ensures { result ≡ hand self.now.hands worker }
     {
-        self.hands.held(worker)
+        self.session.held(worker)
     }
 
     /// What the best rota costs.
     pub fn best_cost(&self) -> u64
-        ensures { result ≡ self.now.log.book.cost }
+        ensures { result ≡ self.now.book.cost }
     {
-        self.log.state().cost()
+        self.session.log().state().cost()
     }
 
     /// How many posts there are.
     pub fn posts(&self) -> u64
-        ensures { result ≡ length self.now.log.history }
+        ensures { result ≡ length self.now.history }
     {
-        self.log.state().history().len() as u64
+        self.session.log().state().history().len() as u64
     }
 
     /// The disk, handed back. It takes no memory.
     pub fn into_disk(self) -> D
-        ensures { result ≡ self.log.disk }
+        ensures { result ≡ self.disk }
     {
-        let SearchBook {
-            alloc: _,
-            log,
-            hands: _,
-            taken: _,
-            budget: _,
-            halted: _,
-        } = self;
-        log.into_disk()
+        let SearchBook { session } = self;
+        session.into_disk()
     }
 
     // The book of a log of posts, before any step.
     pub(crate) fn over(alloc: Global, log: PostLog<D>, budget: u64) -> SearchBook<D>
         requires open { log.shut ≡ None }
         requires new { log.opening ≡ length log.history }
-        ensures log { result.log ≡ log }
+        ensures log { log_of result ≡ log }
         ensures hands { result.hands ≡ empty_hands }
         ensures steps { (result.taken ≡ 0) × (result.budget ≡ budget) × (result.halted ≡ false) }
     {
-        let _made = log.made();
-        let hands = Hands::empty();
-        let _held = hands.held(0);
         SearchBook {
-            alloc,
-            log,
-            hands,
-            taken: 0,
-            budget,
-            halted: false,
+            session: Session::over(alloc, log, budget),
         }
     }
 }

@@ -3,33 +3,35 @@
 #![tactic(auto)]
 
 mod adding;
+mod as_board;
 mod board_book;
-mod book;
 #[cfg(test)]
-mod crash_tests;
+mod book_open_tests;
+mod book_opening;
+#[cfg(test)]
+mod commit_tests;
+mod committing;
+mod differing;
 mod drafting;
 mod entry;
-mod fault;
-mod folding;
 mod head;
 mod laws;
+mod log_opening;
 mod open_fault;
-mod opening;
+#[cfg(test)]
+mod open_tests;
 mod post_log;
 mod preparing;
 mod readers;
-mod reading;
 mod record_log;
 mod sends;
-mod spelling;
+mod session;
 mod stepping;
 #[cfg(test)]
 mod test_books;
-#[cfg(test)]
-mod tests;
 
 pub use board_book::SearchBook;
-pub use book::{Book, Unopened};
-pub use fault::{BookFault, CommitFault, Kept, Shutting};
-pub use laws::{fold_is_sound, one_history};
-pub use sends::{sent, sent_search};
+pub use laws::one_history;
+pub use log_opening::Unopened;
+pub use open_fault::OpenFault;
+pub use sends::sent;

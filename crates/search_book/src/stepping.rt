@@ -2,6 +2,7 @@
 ghost use Rattle.std.specs.Prelude.{◌≡◌, ◌<◌, ◌^◌, ◌≤◌, [], ℕ, Bool, false, length, None, IfOk, IfSome};
 ghost use Rattle.shift_instance.specs.Problem.{Problem};
 ghost use Rattle.shift_instance.specs.Valid.{IsValid};
+ghost use Rattle.shift_instance.specs.declared.TheConstants.{TOP};
 ghost use Rattle.search_core.specs.declared.step_posts.Close.TheVariants.{ByPrice};
 ghost use Rattle.search_core.specs.Board.{leaves_open};
 ghost use Rattle.search_core.specs.Book.{Book};
@@ -57,18 +58,27 @@ pub(crate) fn draft_of(
     }
 }
 
-/// The node's floor and the best cost after a step that is closed by its bound, where the node would be open then.
+/// The node's floor and the best cost after a step, where the node would be open then. Only a step that is closed by its
+/// bound may leave it open.
 pub(crate) fn stays_open(step: &StepPosts, floor: u64, best: u64) -> Option<(u64, u64)>
     ensures open { IfSome result (λ p. (step.now.close ≡ ByPrice) × ((i : Problem) (b : Book) (w : ℕ) → Fits i step.now → IsAfter i b step.now.node step.now.proved.cuts [] best floor false → LeavesOpen i b w step.now p.0 p.1)) }
-    ensures closed { result ≡ None → step.now.close ≡ ByPrice → (i : Problem) (b : Book) (w : ℕ) → Fits i step.now → IsAfter i b step.now.node step.now.proved.cuts [] best floor false → leaves_open i b w step.now ≡ false }
+    ensures closed { result ≡ None → best < TOP → (i : Problem) (b : Book) (w : ℕ) → Fits i step.now → IsAfter i b step.now.node step.now.proved.cuts [] best floor false → leaves_open i b w step.now ≡ false }
 {
-    let Close::ByPrice = &step.close else {
-        return None;
-    };
     let best = best_with(&step.plan, best);
-    let floor = floor_with(step.proved.bound(), best, floor);
-    if floor < best {
-        return Some((floor, best));
+    let bound = step.proved.bound();
+    match &step.close {
+        Close::ByPrice => {
+            let floor = floor_with(bound, best, floor);
+            if floor < best {
+                return Some((floor, best));
+            }
+            None
+        }
+        Close::Split { class: _, m: _ } => None,
+        Close::Settled(settled) => {
+            // Its clauses say that its plan is the one that the cuts leave.
+            let _floor = settled.floor();
+            None
+        }
     }
-    None
 }

@@ -1,14 +1,7 @@
-//! A small instance, and books of it on disks in memory.
-ghost use Rattle.std.specs.Prelude.{◌≡◌, ◌^◌, ◌<◌, IfOk};
-
-use crate::{Book, CommitFault, Kept, Unopened};
+//! A small instance.
 use break_rules::{Breaks, Rule};
-use instance_json::canonical;
-use plan_base::{Disk, MemDisk};
-use rota_cost::legal_rows;
 use shift_instance::{Instance, Parts, Row, Rows, TypeParts};
 use std::alloc::Global;
-use std::process::Abort;
 use std::test::Fail;
 
 pub(crate) const LIMIT: u32 = 1 << 26;
@@ -54,67 +47,4 @@ pub(crate) fn one_duty(alloc: Global) -> Result<Rows, Fail> {
         count: 1,
     };
     Ok(Rows::new(vec![in alloc; row]?))
-}
-
-/// Opens a book, whose head has room.
-pub(crate) fn open(
-    rt: &impl Abort,
-    alloc: Global,
-    instance: &Instance,
-    disk: MemDisk,
-    limit: u32,
-) -> Result<Result<Book<MemDisk>, Unopened<MemDisk>>, Fail>
-    requires { ⟦<MemDisk as Disk>⟧.calls disk < 2 ^ 62 }
-    ensures { IfOk result (λ opened. IfOk opened (λ book. book.instance ≡ instance.now)) }
-{
-    let head = canonical(alloc, instance)?;
-    assert!(rt; head.len() < 1 << 20);
-    assert!(rt; 13 + head.len() as u32 <= limit);
-    assert!(rt; limit <= 1 << 26);
-    Ok(Book::open(alloc, instance, disk, 0, limit))
-}
-
-/// Posts rows that are legal.
-pub(crate) fn post<D: Disk>(
-    rt: &impl Abort,
-    instance: &Instance,
-    book: &mut Book<D>,
-    rows: Rows,
-) -> Result<Kept, CommitFault>
-    requires { book.old.instance ≡ instance.now }
-    ensures { book.new.instance ≡ instance.now }
-{
-    assert!(rt; legal_rows(instance, &rows).is_ok());
-    book.post(rows)
-}
-
-/// The answer where a plan of cost 3 becomes best.
-pub(crate) const KEPT: Kept = Kept {
-    plan: true,
-    records: 1,
-    best: 3,
-    floor: 0,
-};
-
-/// A disk with a new journal, and with the record of one plan where it is wanted.
-pub(crate) fn journal(
-    rt: &impl Abort,
-    alloc: Global,
-    instance: &Instance,
-    plan: bool,
-) -> Result<MemDisk, Fail> {
-    let disk = MemDisk::new(alloc, Vec::new(alloc), Vec::new(alloc));
-    match open(rt, alloc, instance, disk, LIMIT)? {
-        Ok(mut book) => {
-            if plan {
-                let answer = post(rt, instance, &mut book, one_duty(alloc)?);
-                assert_eq!(rt; answer, Ok(KEPT));
-            }
-            Ok(book.into_disk())
-        }
-        Err(unopened) => {
-            assert!(rt; false);
-            Ok(unopened.disk)
-        }
-    }
 }

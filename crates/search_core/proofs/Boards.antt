@@ -1,5 +1,5 @@
 -- A board's takes and commits are events of its core.
-use Rattle.std.proofs.Common.{◌≡◌, ℕ, ◌<◌, Bool, true, false, cond, ◌&&◌, ◌==◌, not, List, [], ◌∷◌, ◌++◌, length, set, refl, sym, ap, ◌∙◌, subst, nat_lt, Option, Some, None, eq-eqb}
+use Rattle.std.proofs.Common.{◌≡◌, inl, inr, ℕ, ◌<◌, Bool, true, false, cond, ◌&&◌, ◌==◌, not, List, [], ◌∷◌, ◌++◌, length, set, refl, sym, ap, ◌∙◌, subst, nat_lt, Option, Some, None, eq-eqb}
 use Rattle.std.specs.Prelude.{is_none}
 use Rattle.std.specs.Option.{option_map_or}
 use Rattle.std.specs.List.{list_all, list_any}
@@ -17,10 +17,11 @@ use Rattle.search_core.specs.declared.step_posts.StepPosts.{StepPosts}
 use Rattle.search_core.specs.declared.step_posts.Close.{Close}
 use Rattle.search_core.specs.declared.step_posts.Close.TheVariants.{ByPrice, Split as CloseBySplit, Settled as CloseAsSettled}
 use Rattle.search_core.specs.Board.{BoardView, book_at, core_of, is_free, Commits, IsSoundBoard, TakeMakes}
-use Rattle.search_core.specs.Book.{Book, book_of, is_node_and, is_open, opening}
-use Rattle.search_core.specs.Core.{Core, hand, happens, is_node, is_of, may_commit, may_take}
+use Rattle.search_core.specs.Book.{Book, book_after, book_of, is_node_and, is_open, opening}
+use Rattle.search_core.specs.Core.{hand, happens, is_node, is_of, may_commit, may_take, HoldsApart}
 use Rattle.search_core.specs.State.{book_or_opening}
-use Rattle.search_core.specs.Steps.{book_then, close_posts, plan_of, plan_posts, posts_of, where_open}
+use Rattle.search_core.specs.Steps.{after_step, book_then, close_posts, plan_of, plan_posts, posts_of, where_open}
+use Rattle.search_core.proofs.Runs.{dropped, hand_set, posts_keep}
 
 -- ---- the posts of a step are its worker's, for its node
 
@@ -46,7 +47,7 @@ close_of_worker w x ByPrice b = refl
 close_of_worker w x (CloseBySplit class m) b = one_of w x (Split w x class m) (is_node_and b x (is_open b)) (own_node w x)
 close_of_worker w x (CloseAsSettled node) b = one_of w x (Settled w x) (is_node_and b x (is_open b)) (own_node w x)
 
-step_of_worker : (i : Problem) (b : Book) (w : ℕ) (step : StepPosts) → are_of w step.node (posts_of i b w step) ≡ true
+pub step_of_worker : (i : Problem) (b : Book) (w : ℕ) (step : StepPosts) → are_of w step.node (posts_of i b w step) ≡ true
 step_of_worker i b w step =
     let x = step.node in
     let first : List Post = plan_posts w step.plan b in
@@ -91,3 +92,25 @@ commit_happens i budget origin old new acked w step kept s m =
     let held : option_map_or (may_commit i (core_of acked old) w posts) (hand old.hands w) false ≡ true = ap (λ (h : Option ℕ). option_map_or (may_commit i (core_of acked old) w posts) h false) m.holds.held ∙ may in
     ap (λ (t : Bool). cond t (Some (record { history = old.history ++ posts; acked = length old.history; hands = set old.hands w None })) None) held
     ∙ ap (λ (v : BoardView). Some (core_of (length old.history) v)) (sym m.makes)
+
+-- ---- what the other hands hold after posts
+
+pub others_held : (i : Problem) (b c : Book) (hands : List (Option ℕ)) (w x : ℕ) (posts : List Post) → HoldsApart b hands → hand hands w ≡ Some x → list_all (is_of w x) posts ≡ true → book_after i b posts ≡ Some c
+    → HoldsApart c (set hands w None)
+others_held i b c hands w x posts h held own e =
+    let left = dropped b hands w h in
+    record {
+      distinct = left.distinct;
+      unsplit = λ v y q.
+          elim (hand_set hands w v None y q) [
+            | inl a ↦ absurd (cc (a.1))
+            | inr a ↦ posts_keep i b c posts w x y own (λ z. a.0 (h.distinct v w x (subst (λ n. hand hands v ≡ Some n) z a.1) held)) e (h.unsplit v y a.1)
+          ];
+    }
+
+pub others_held_after : (i : Problem) (b : Book) (hands : List (Option ℕ)) (w : ℕ) (step : StepPosts) → HoldsApart b hands → hand hands w ≡ Some step.node → HoldsApart (after_step i b w step) (set hands w None)
+others_held_after i b hands w step h held = at (book_after i b (posts_of i b w step)) refl
+  where
+    at : (o : Option Book) → book_after i b (posts_of i b w step) ≡ o → HoldsApart (option_map_or (λ (c : Book). c) o b) (set hands w None)
+    at None e = dropped b hands w h
+    at (Some c) e = others_held i b c hands w step.node (posts_of i b w step) h held (step_of_worker i b w step) e

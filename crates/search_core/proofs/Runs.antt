@@ -46,12 +46,12 @@ hand_some : (hands : List (Option ℕ)) (w x : ℕ) → hand hands w ≡ Some x 
 hand_some hands w x e =
     let r = bind_some (λ (h : Option ℕ). h) (slice_get hands w) x e in r.1 ∙ ap (λ (h : Option ℕ). Some h) r.2
 
-hand_set : (hands : List (Option ℕ)) (w v : ℕ) (h : Option ℕ) (x : ℕ) → hand (set hands w h) v ≡ Some x → ((v ≡ w) × (h ≡ Some x)) ⊎ ((v ≢ w) × (hand hands v ≡ Some x))
+pub hand_set : (hands : List (Option ℕ)) (w v : ℕ) (h : Option ℕ) (x : ℕ) → hand (set hands w h) v ≡ Some x → ((v ≡ w) × (h ≡ Some x)) ⊎ ((v ≢ w) × (hand hands v ≡ Some x))
 hand_set hands w v h x e =
     elim (slice_get_set hands w v h (Some x) (hand_some (set hands w h) v x e))
     [ inl p ↦ inl p | inr p ↦ inr (p.0, ap (option_and_then (λ (h : Option ℕ). h)) p.1) ]
 
-no_hand : (n w x : ℕ) → hand (replicate n None) w ≡ Some x → ⊥
+pub no_hand : (n w x : ℕ) → hand (replicate n None) w ≡ Some x → ⊥
 no_hand zero w x e = cc
 no_hand (suc n) zero x e = cc
 no_hand (suc n) (suc w) x e = no_hand n w x e
@@ -105,7 +105,7 @@ node_some p None h = absurd (false≢true h)
 node_some p (Some n) h = (n, refl, h)
 
 -- a post for one node leaves each other node unsplit
-step_keeps : (i : Problem) (b c : Book) (post : Post) (w x y : ℕ) → is_of w x post ≡ true → y ≢ x → step i b post ≡ Some c → is_unsplit b y ≡ true → is_unsplit c y ≡ true
+pub step_keeps : (i : Problem) (b c : Book) (post : Post) (w x y : ℕ) → is_of w x post ≡ true → y ≢ x → step i b post ≡ Some c → is_unsplit b y ≡ true → is_unsplit c y ≡ true
 step_keeps i b c (Plan worker rows n) w x y o ne e u =
     let r = cond_some (is_better i b rows n) (record b { best = rows; cost = n }) c e in
     subst (λ d. is_unsplit d y ≡ true) r.1 u
@@ -133,7 +133,8 @@ step_keeps i b c (Settled worker k) w x y o ne e u =
     (subst (λ (nodes : List Node). option_map_or (λ (n : Node). not n.split) (slice_get nodes y) false ≡ true) q.1
     (ap (λ (m : Option Node). option_map_or (λ (n : Node). not n.split) m false) (slice_get_other b.nodes k y _ (λ (s : y ≡ k). ne (s ∙ at))) ∙ u))
 
-posts_keep : (i : Problem) (b c : Book) (posts : List Post) (w x y : ℕ) → list_all (is_of w x) posts ≡ true → y ≢ x → book_after i b posts ≡ Some c → is_unsplit b y ≡ true → is_unsplit c y ≡ true
+-- so do posts in order
+pub posts_keep : (i : Problem) (b c : Book) (posts : List Post) (w x y : ℕ) → list_all (is_of w x) posts ≡ true → y ≢ x → book_after i b posts ≡ Some c → is_unsplit b y ≡ true → is_unsplit c y ≡ true
 posts_keep i b c [] w x y o ne e u = let same : b ≡ c = cc in subst (λ d. is_unsplit d y ≡ true) same u
 posts_keep i b c (post ∷ posts) w x y o ne e u =
     let p = and_parts (is_of w x post) (list_all (is_of w x) posts) o in
@@ -155,13 +156,13 @@ open_unsplit b k h =
 
 -- ---- each event keeps a core sound
 
-dropped : (b : Book) (hands : List (Option ℕ)) (w : ℕ) → HoldsApart b hands → HoldsApart b (set hands w None)
+pub dropped : (b : Book) (hands : List (Option ℕ)) (w : ℕ) → HoldsApart b hands → HoldsApart b (set hands w None)
 dropped b hands w h = record {
   distinct = emptied_apart hands w h.distinct;
   unsplit = λ v x p. elim (hand_set hands w v None x p) [ inl a ↦ absurd (cc (a.1)) | inr a ↦ h.unsplit v x a.1 ];
 }
 
-event_sound : (i : Problem) (c d : Core) (event : Event) → IsSoundCore i c → happens i c event ≡ Some d → IsSoundCore i d
+pub event_sound : (i : Problem) (c d : Core) (event : Event) → IsSoundCore i c → happens i c event ≡ Some d → IsSoundCore i d
 event_sound i c d (Take w k) s e =
     let r = cond_some (may_take i c w k) (record { history = c.history; acked = length c.history; hands = set c.hands w (Some k) }) d e in
     let p3 = and_parts (nat_lt w 16 && is_none (hand c.hands w) && option_map_or (λ b. is_node_and b k (is_open b)) (book_of i c.history) false) (not (list_any (is_node k) c.hands)) r.0 in

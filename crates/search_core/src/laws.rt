@@ -1,5 +1,6 @@
 //! Laws of books and of runs. Each function's contract is the law; the functions do nothing.
-ghost use Rattle.std.specs.Prelude.{◌≡◌, ◌+◌, ◌*◌, ◌^◌, ◌<◌, ◌≤◌, ℕ, Any, IsTrue, IsFalse, List, [], None, Some, length, take};
+ghost use Rattle.std.specs.Prelude.{◌≡◌, ◌+◌, ◌*◌, ◌^◌, ◌<◌, ◌≤◌, ℕ, Any, IsTrue, IsFalse, List, [], Option, None, Some, length, slice_set, take};
+ghost use Rattle.std.specs.List.{list_all};
 ghost use Rattle.shift_instance.specs.declared.Duty.{Duty};
 ghost use Rattle.shift_instance.specs.Problem.{Problem};
 ghost use Rattle.shift_instance.specs.Rota.{is_legal_rota, cost};
@@ -14,9 +15,9 @@ ghost use Rattle.search_core.specs.declared.event.Event.{Event};
 ghost use Rattle.search_core.specs.declared.event.Event.TheVariants.{Commit, Crash, Take};
 ghost use Rattle.search_core.specs.declared.step_posts.StepPosts.{StepPosts};
 ghost use Rattle.search_core.specs.Board.{BoardView, book_at, core_of, Commits, IsSoundBoard, TakeMakes};
-ghost use Rattle.search_core.specs.Book.{Book, book_of, floor_of, is_open, is_finished, IsLeastFloor, IsSound};
-ghost use Rattle.search_core.specs.Core.{Core, hand, start, run, happens, IsSoundCore, IsFront};
-ghost use Rattle.search_core.specs.Steps.{posts_of};
+ghost use Rattle.search_core.specs.Book.{Book, book_after, book_of, floor_of, is_open, is_finished, IsLeastFloor, IsSound};
+ghost use Rattle.search_core.specs.Core.{Core, hand, is_of, start, run, happens, HoldsApart, IsSoundCore, IsFront};
+ghost use Rattle.search_core.specs.Steps.{after_step, posts_of};
 
 use crate::State;
 
@@ -74,4 +75,19 @@ pub fn boards_are_cores()
     ensures commit { (i : Problem) (budget : ℕ) (origin : Origin) (old new : BoardView) (acked w : ℕ) (step : StepPosts) (kept : Kept)
         → IsSoundBoard i budget origin new → Commits i w step old new kept
         → happens i (core_of acked old) (Commit w (posts_of i (book_at i old) w step)) ≡ Some (core_of (length old.history) new) }
+{}
+
+/// Where a worker adds posts that are its own, for the node in its hand, and lets go of the node, the hands hold distinct
+/// unsplit nodes as before. So it is with the posts of its step.
+pub fn others_stay_held()
+    ensures posts { (i : Problem) (b c : Book) (hands : List (Option ℕ)) (w x : ℕ) (posts : List Post)
+        → HoldsApart b hands → hand hands w ≡ Some x → IsTrue (list_all (is_of w x) posts) → book_after i b posts ≡ Some c
+        → HoldsApart c (slice_set hands w None) }
+    ensures step { (i : Problem) (b : Book) (hands : List (Option ℕ)) (w : ℕ) (step : StepPosts)
+        → HoldsApart b hands → hand hands w ≡ Some step.node → HoldsApart (after_step i b w step) (slice_set hands w None) }
+{}
+
+/// Each event that is allowed keeps a core sound.
+pub fn events_keep_sound()
+    ensures { (i : Problem) (c d : Core) (event : Event) → IsSoundCore i c → happens i c event ≡ Some d → IsSoundCore i d }
 {}

@@ -4,12 +4,17 @@
 mod board;
 mod class_text;
 mod event;
+mod event_fault;
 mod fault;
 mod hands;
 mod judging;
 pub mod laws;
 mod outline;
 mod posts;
+mod refolding;
+mod running;
+#[cfg(test)]
+mod running_tests;
 mod state;
 mod step_posts;
 #[cfg(test)]
@@ -19,10 +24,12 @@ mod tests;
 
 pub use board::{Board, CommitFault, Kept, Origin, Shutting, Taken, keeps_sound};
 pub use event::Event;
+pub use event_fault::EventFault;
 pub use fault::StepFault;
 pub use hands::Hands;
 pub use outline::NodeState;
 pub use posts::Posts;
+pub use running::Core;
 pub use state::State;
 pub use step_posts::{Close, StepPosts};
 

@@ -1,4 +1,5 @@
 pub mod Words
 pub mod Status
 pub mod Recount
+pub mod Verdict
 pub mod Check

@@ -6,16 +6,7 @@ use Rattle.shift_instance.specs.Problem.{Problem}
 use Rattle.shift_instance.specs.Rota.{cost, rota_of}
 use Rattle.rota_cost.specs.RowFaults.{row_fault}
 use Rattle.rota_cost.specs.declared.RowFault.{RowFault}
-use Rattle.rota_cost.specs.declared.RowFault.TheVariants.{UnknownShift, Day, Breaks, ZeroCount, HeadsOver, NotSorted}
-
--- the row at which a fault is, from 0 on
-abbrev pub row_of : RowFault → ℕ
-row_of (UnknownShift row) = row
-row_of (Day row) = row
-row_of (Breaks row) = row
-row_of (ZeroCount row) = row
-row_of (HeadsOver row) = row
-row_of (NotSorted row) = row
+use Rattle.cert_check.specs.Judged.{row_of}
 
 -- what is said of rows whose first fault is given: their cost, or the bad row
 abbrev pub said_of : Problem → List Row → Option RowFault → List ℕ
@@ -32,7 +23,7 @@ abbrev pub is_faultless : Option RowFault → Bool
 is_faultless None = true
 is_faultless (Some fault) = false
 
--- whether a report is accepted: it has no rows, or its rows are legal
-abbrev pub is_accepted : Problem → Option (List Row) → Bool
-is_accepted i None = true
-is_accepted i (Some rows) = is_faultless (row_fault i rows)
+-- whether the rows of a report are accepted: it has none, or they are legal
+abbrev pub are_accepted : Problem → Option (List Row) → Bool
+are_accepted i None = true
+are_accepted i (Some rows) = is_faultless (row_fault i rows)

@@ -1,12 +1,12 @@
 //! The run of `shift_check`.
 
 ghost use Rattle.std.specs.Prelude.{◌≡◌, map, string_bytes, IfOk, IfErr};
-ghost use Rattle.shift_check.specs.Check.{Explains, IsReportOf, Recounted, ReportUnread, Told};
+ghost use Rattle.shift_check.specs.Check.{EndsOver, Explains, IsReportOf, ReportUnread, Told};
 ghost use Rattle.shift_check.specs.Status.{EndsEarly, EndsUnwritten};
 
-use crate::recounting::{Verdict, judge};
 use crate::status::{BundleFault, CheckStatus};
-use crate::words::files_of;
+use crate::verdict::{Verdict, judge};
+use crate::words::{Command, request_of};
 use certificate::{BUNDLE_MAX, Cert, CertText, read};
 use instance_input::{Unread, read_instance};
 use plan_base::{Failed, ReadEnd, Sink, Source, read_all, write_all};
@@ -42,14 +42,15 @@ fn tell<K: Sink>(out: &mut K, verdict: &Verdict) -> CheckStatus
     }
 }
 
-/// Reads the report, recounts its rows for the instance, and writes what comes of it.
-fn recount_report<T: Source, K: Sink>(
+/// Reads the report, judges it for the instance as the command does, and writes what comes of it.
+fn judge_report<T: Source, K: Sink>(
     alloc: Global,
+    command: Command,
     instance: &Instance,
     bundle: &mut T,
     out: &mut K,
 ) -> CheckStatus
-    ensures status { Recounted instance.now
+    ensures status { EndsOver command instance.now
         (record { left = T.left bundle.old; faults = (T.faults bundle.old, T.faults bundle.new) })
         (record { held = K.held out.old; held_after = K.held out.new; faults = (K.faults out.old, K.faults out.new) })
         result }
@@ -59,15 +60,24 @@ fn recount_report<T: Source, K: Sink>(
         Ok(cert) => cert,
         Err(status) => return status,
     };
-    match judge(alloc, instance, &cert) {
+    match judge(alloc, command, instance, &cert) {
         Ok(verdict) => tell(out, &verdict),
         Err(_) => CheckStatus::NoMemory,
     }
 }
 
-/// The run of `recount INSTANCE REPORT`: reads the instance document and then the report to their ends, judges the rows of the
-/// report and counts their cost again by the definition, whatever the report claims, and writes one line to `out`: `cost C`,
-/// `cost -` for a report without rows, or `refused 5 R` where R, counted from 0, is the first bad row.
+/// The run of `check INSTANCE REPORT` or `recount INSTANCE REPORT`: reads the instance document and then the report to their
+/// ends, judges the report as the command does, and writes one line to `out`.
+///
+/// `check` judges the certificate by `cert_check::check`. Its line is `accepted cost C bound L`, with the cost that the report
+/// claims, `-` where it has no plan, and the bound that it claims; then every legal rota of the instance costs at least L, and
+/// the rows of the report, where it has a plan, are legal and cost C. Or it is `refused K` with the numbers of the first cause:
+/// `refused 1 LINE` for a bad split, `refused 2 LINE` for bad prices, `refused 3 LINE` for a node that isn't settled, LINE being
+/// the proof line, from 1 on; `refused 4 CLAIMED FOUND` for a bound above the one that the proof lines find; `refused 5 ROW` for
+/// the first bad row, from 0 on; and `refused 6 CLAIMED FOUND` for rows that cost FOUND.
+///
+/// `recount` judges the rows alone and counts their cost again by the definition, whatever the report claims. Its line is
+/// `cost C`, `cost -` for a report without rows, or `refused 5 ROW`.
 ///
 /// The status is `Accepted` or `Refused` where that line was written; `Usage` where the words aren't such a command; `Input`
 /// where the document is refused; `Bundle` where the report has more than `BUNDLE_MAX` bytes or isn't in the grammar of reports;
@@ -92,11 +102,12 @@ pub fn check_run<S: Source, T: Source, K: Sink>(
     ensures untouched { EndsEarly result → bundle.new ≡ bundle.old }
     ensures unwritten { EndsUnwritten result → out.new ≡ out.old }
 {
-    if files_of(words).is_none() {
-        return CheckStatus::Usage;
-    }
+    let command = match request_of(words) {
+        Some(request) => request.command,
+        None => return CheckStatus::Usage,
+    };
     match read_instance(alloc, instance) {
-        Ok(instance) => recount_report(alloc, &instance, bundle, out),
+        Ok(instance) => judge_report(alloc, command, &instance, bundle, out),
         Err(Unread::Refused(why)) => CheckStatus::Input(why),
         Err(Unread::ReadFault) => CheckStatus::ReadFault,
         Err(Unread::NoMemory) => CheckStatus::NoMemory,

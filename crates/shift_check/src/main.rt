@@ -1,11 +1,14 @@
-//! The checker: `shift_check recount INSTANCE REPORT` judges the rows of a report and counts their cost again.
+//! The checker: `shift_check check INSTANCE REPORT` judges the proof of a report, its rows and their cost, and
+//! `shift_check recount INSTANCE REPORT` judges the rows alone and counts their cost again.
 #![tactic(auto)]
 
+mod certifying;
 mod checking;
 mod recounting;
 mod status;
 #[cfg(test)]
 mod tests;
+mod verdict;
 mod words;
 
 pub use checking::check_run;
@@ -14,7 +17,13 @@ pub use status::{BundleFault, CheckStatus};
 use std::alloc::AllocError;
 use std::process::ExitCode;
 use std::{env, io};
-pub use words::{Files, files_of};
+pub use words::{Command, Files, Request, request_of};
+
+/// Files without a name.
+const NO_FILES: Files<'static> = Files {
+    instance: "",
+    report: "",
+};
 
 /// The words of the command line, without the program's name. Words that aren't UTF-8 are no command.
 fn command_words(rt: &HostRuntime) -> Result<Vec<String>, CheckStatus> {
@@ -32,10 +41,10 @@ fn command_words(rt: &HostRuntime) -> Result<Vec<String>, CheckStatus> {
 
 /// The run of these words over the files that they name, or over files without a name, which aren't touched.
 fn check(rt: HostRuntime, words: &[String]) -> Result<CheckStatus, AllocError> {
-    let files = files_of(words).unwrap_or(Files {
-        instance: "",
-        report: "",
-    });
+    let files = match request_of(words) {
+        Some(request) => request.files,
+        None => NO_FILES,
+    };
     let instance = String::from_str(rt.alloc(), files.instance)?;
     let report = String::from_str(rt.alloc(), files.report)?;
     let mut document = FileSource::new(rt, instance);

@@ -1,9 +1,11 @@
 //! The rows of a report, judged and counted again.
 
 ghost use Rattle.std.specs.Prelude.{◌≡◌, Some, true, IfOk, string_bytes, codes};
-ghost use Rattle.shift_check.specs.Check.{plan_rows, recount_line};
-ghost use Rattle.shift_check.specs.Recount.{is_accepted, recount_text, row_of};
+ghost use Rattle.cert_check.specs.Judged.{row_of};
+ghost use Rattle.shift_check.specs.Recount.{are_accepted, recount_text};
+ghost use Rattle.shift_check.specs.Verdict.{plan_rows};
 
+use crate::verdict::Verdict;
 use certificate::Cert;
 use rota_cost::{RowFault, legal_rows, recount};
 use shift_instance::{Instance, Rows};
@@ -23,20 +25,11 @@ fn row_of(fault: RowFault) -> u64
     }
 }
 
-/// A line that a recount writes, with its line feed, and whether the rows are accepted.
-#[derive(Drop)]
-pub(crate) struct Verdict {
-    /// The line.
-    pub line: String,
-    /// Whether the report has no rows or legal ones.
-    pub accepted: bool,
-}
-
 /// What is said of the rows of a report: the cost of legal rows by the definition, whatever the report claims, or the first
 /// bad row.
 fn judge_rows(alloc: Global, instance: &Instance, rows: &Rows) -> Result<Verdict, AllocError>
     ensures said { IfOk result (λ v. string_bytes v.line ≡ recount_text instance.now (Some rows.now)) }
-    ensures accepted { IfOk result (λ v. v.accepted ≡ is_accepted instance.now (Some rows.now)) }
+    ensures accepted { IfOk result (λ v. v.accepted ≡ are_accepted instance.now (Some rows.now)) }
 {
     match legal_rows(instance, rows) {
         Ok(()) => {
@@ -70,15 +63,17 @@ fn judge_none(alloc: Global) -> Result<Verdict, AllocError>
     })
 }
 
-/// The verdict on the plan of a report, or on a report without a plan.
-pub(crate) fn judge(alloc: Global, instance: &Instance, cert: &Cert) -> Result<Verdict, AllocError>
-    ensures line { IfOk result (λ v. string_bytes v.line ≡ recount_line instance.now cert.now) }
-    ensures accepted { IfOk result (λ v. v.accepted ≡ is_accepted instance.now (plan_rows cert.now)) }
+/// What a recount says of a report: its rows are judged, where it has any.
+pub(crate) fn judge_plan(
+    alloc: Global,
+    instance: &Instance,
+    cert: &Cert,
+) -> Result<Verdict, AllocError>
+    ensures said { IfOk result (λ v. string_bytes v.line ≡ recount_text instance.now (plan_rows cert.now)) }
+    ensures accepted { IfOk result (λ v. v.accepted ≡ are_accepted instance.now (plan_rows cert.now)) }
 {
-    let mut verdict = match &cert.plan {
-        Some((_, rows)) => judge_rows(alloc, instance, rows)?,
-        None => judge_none(alloc)?,
-    };
-    verdict.line.push_str("\n")?;
-    Ok(verdict)
+    match &cert.plan {
+        Some((_, rows)) => judge_rows(alloc, instance, rows),
+        None => judge_none(alloc),
+    }
 }

@@ -17,11 +17,11 @@ pub enum BundleFault {
 /// How a run of `shift_check` ends.
 #[derive(Debug, Drop)]
 pub enum CheckStatus {
-    /// The rows are legal, or there are none, and the line with their cost was written.
+    /// The command accepts the report, and the line that says so was written.
     Accepted,
-    /// A row is bad, and the line that names it was written.
+    /// The command doesn't accept the report, and the line that says why was written.
     Refused,
-    /// The words aren't `recount INSTANCE REPORT`, with files that aren't empty and don't begin with `-`.
+    /// The words aren't `check INSTANCE REPORT` or `recount INSTANCE REPORT`, with files that aren't empty and don't begin with `-`.
     Usage,
     /// The instance document is refused. Never holds `NoMemory`.
     Input(ReadRefusal),

@@ -1,2 +1,4 @@
-pub mod Certs
+pub mod Accepting
+pub mod Digits
 pub mod Sessions
+pub mod Ending

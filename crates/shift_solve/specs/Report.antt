@@ -1,21 +1,25 @@
 -- What a run writes of its book.
-use Rattle.std.specs.Prelude.{ℕ, ◌==◌, Bool, List, [], ◌++◌, Some, if◌then◌else◌}
+use Rattle.std.specs.Prelude.{ℕ, Bool, List, [], ◌++◌, Some, if◌then◌else◌}
+use Rattle.post_codec.specs.declared.post.Post.{Post}
 use Rattle.shift_instance.specs.Problem.{Problem}
 use Rattle.certificate.specs.declared.Cert.{Cert}
 use Rattle.certificate.specs.declared.CertStatus.{CertStatus}
 use Rattle.certificate.specs.declared.CertStatus.TheVariants.{Optimal, Stopped}
+use Rattle.certificate.specs.History.{lines_of}
 use Rattle.certificate.specs.Text.{cert_text}
 use Rattle.rota_writer.specs.Table.{table_text}
-use Rattle.search_book.specs.Fold.{Book}
+use Rattle.search_core.specs.Book.{Book, floor_of, is_finished}
 
--- what is said of a plan whose cost is the bound, and of another
-abbrev pub status_over : ℕ → ℕ → CertStatus
-status_over cost bound = if cost == bound then Optimal else Stopped
+-- what is said of a book: that its plan is optimal where no node is open, and else that the search was stopped
+abbrev pub status_of_book : Book → CertStatus
+status_of_book book = if is_finished book then Optimal else Stopped
 
--- the certificate of a book, with the bound 0 that every plan keeps to, and no proof line
-abbrev pub cert_of : Book → Cert
-cert_of book = record { status = status_over book.cost 0; plan = Some (book.cost, book.best); bound = 0; lines = [] }
+-- the certificate of posts and the book that they make: its best plan with its cost, its floor as the bound, and the proof lines of
+-- the posts
+abbrev pub cert_of : List Post → Book → Cert
+cert_of posts book = record { status = status_of_book book; plan = Some (book.cost, book.best); bound = floor_of book; lines = lines_of posts }
 
--- what is written of a book: the text of its certificate, and the table of its plan where it is asked for
-abbrev pub output_of : Problem → Bool → Book → List ℕ
-output_of i table book = cert_text (cert_of book) ++ (if table then table_text i book.best else [])
+-- what is written of posts and the book that they make: the text of the certificate, and the table of the best plan where it is
+-- asked for
+abbrev pub output_of : Problem → Bool → List Post → Book → List ℕ
+output_of i table posts book = cert_text (cert_of posts book) ++ (if table then table_text i book.best else [])

@@ -1,69 +1,79 @@
 -- What a run does to the book that it opened, step by step.
-use Rattle.std.specs.Prelude.{◌≡◌, ◌⊎◌, ℕ, ◌<◌, Bool, List, [], ◌∷◌, ◌++◌, length, Option, Some}
+use Rattle.std.specs.Prelude.{◌≡◌, ⊤, ℕ, ◌<◌, ◌≤◌, Bool, true, false, List, Option, None, take}
 use Rattle.std.specs.Io.KnownBytes.{Appends}
 use Rattle.plan_base.specs.Causes.{Rose}
 use Rattle.plan_base.specs.Streams.{AppendsPart}
-use Rattle.post_codec.specs.declared.post.Post.{Post}
-use Rattle.shift_instance.specs.declared.Row.{Row}
-use Rattle.shift_instance.specs.Problem.{Problem}
-use Rattle.search_book.specs.Fold.{book_of, IsSound}
-use Rattle.search_book.specs.Posting.{end_with}
-use Rattle.search_book.specs.View.{BookView}
-use Rattle.certificate.specs.declared.Cert.{Cert}
+use Rattle.search_core.specs.declared.board.Origin.{Origin}
+use Rattle.search_core.specs.Core.{empty_hands, IsFront}
+use Rattle.search_book.specs.Origins.{origin_at, tells}
+use Rattle.search_book.specs.Search.{SearchView, board_of}
+use Rattle.worker_gate.specs.declared.run.RunEnd.{RunEnd}
+use Rattle.worker_gate.specs.declared.run.RunEnd.TheVariants.{Finished, Spent, Full as FullEnd, DiskFault as DiskEnd, NoMemory as MemoryEnd}
+use Rattle.worker_gate.specs.Runs.{plans_and_prices_since, steps_enough, RunEnds}
 use Rattle.shift_solve.specs.declared.status.Status.{Status}
 use Rattle.shift_solve.specs.declared.status.Status.TheVariants.{Optimal, Budget, Full, Usage, Input, ReadFault, WriteFault, DiskFault, NoMemory, Journal}
-use Rattle.shift_solve.specs.Report.{cert_of, output_of}
-use Rattle.shift_solve.specs.Session.{greedy_post, greedy_cost, posts_over}
+use Rattle.shift_solve.specs.Report.{output_of}
 
--- a book as it was opened, with more posts in it, each a record, and those of a record that ended in a disk fault; its disk, its cost,
--- its size and what shut it are as they are now
-abbrev pub grown : {D : Type 0} → BookView D → BookView D → List Post → List Post → BookView D
-grown old new added in_flight = record old {
-  disk = new.disk;
-  history = old.history ++ added;
-  cost = new.cost;
-  made = length added;
-  used = new.used;
-  in_flight = in_flight;
-  shut = new.shut;
-}
+-- a book from which no node was taken yet
+pub record IsBegun {D : Type 0} (book : SearchView D) : Type 0 where
+  pub running : book.shut ≡ None
+  pub empty : book.hands ≡ empty_hands
+  pub fresh : book.taken ≡ 0
+  pub going : book.halted ≡ false
 
--- a book has these posts beside those with which it was opened
-abbrev pub Grows : {D : Type 0} → BookView D → BookView D → List Post → List Post → Type 0
-Grows old new added in_flight = new ≡ grown old new added in_flight
+-- where a book began
+abbrev pub origin_of : {D : Type 0} → (D → Option (List ℕ)) → (D → ℕ) → (D → ℕ) → SearchView D → Origin
+origin_of reads calls faults book = origin_at (take book.opening book.history) (calls book.opened) (faults book.opened) book.limit (tells (reads book.opened))
 
--- the certificate of a book's best plan, which is legal
-pub record IsCertOf {D : Type 0} (book : BookView D) (c : Cert) : Type 0 where
-  pub best : List Row
-  pub folds : book_of book.instance book.history ≡ Some (record { best = best; cost = book.cost })
-  pub sound : IsSound book.instance (record { best = best; cost = book.cost })
-  pub is : c ≡ cert_of (record { best = best; cost = book.cost })
+-- a book of the same instance and origin, with the same posts first
+pub record GoesOn {D : Type 0} (reads : D → Option (List ℕ)) (calls faults : D → ℕ) (old new : SearchView D) : Type 0 where
+  pub instance : new.instance ≡ old.instance
+  pub origin : origin_of reads calls faults new ≡ origin_of reads calls faults old
+  pub begins : IsFront old.history new.history
 
--- the bytes are the report of a book's best plan, with its table where that is asked for
-pub record IsOutputOf {D : Type 0} (book : BookView D) (table : Bool) (bytes : List ℕ) : Type 0 where
-  pub best : List Row
-  pub folds : book_of book.instance book.history ≡ Some (record { best = best; cost = book.cost })
-  pub sound : IsSound book.instance (record { best = best; cost = book.cost })
-  pub is : bytes ≡ output_of book.instance table (record { best = best; cost = book.cost })
+-- how a search over a book ended; one that took all its steps had too few of them for each search of the instance, and made no
+-- fewer posts that are plans or prices
+pub record Ends {D : Type 0} (old new : SearchView D) (end : RunEnd) : Type 0 where
+  pub ends : RunEnds old.instance old.budget (board_of new) end
+  pub shown : end ≡ Spent → old.budget ≤ plans_and_prices_since old.history new.history
+  pub few : end ≡ Spent → old.budget < steps_enough old.instance
 
--- the report of a book's best plan was written, with its table where that is asked for
-pub record IsReported {D : Type 0} (book : BookView D) (table : Bool) (held holds : Option (List ℕ)) : Type 0 where
-  pub best : List Row
-  pub folds : book_of book.instance book.history ≡ Some (record { best = best; cost = book.cost })
-  pub sound : IsSound book.instance (record { best = best; cost = book.cost })
-  pub written : Appends held holds (output_of book.instance table (record { best = best; cost = book.cost }))
+-- whether a search came to an end of which a report is written
+abbrev pub is_reported : RunEnd → Bool
+is_reported Finished = true
+is_reported Spent = true
+is_reported (FullEnd end limit) = true
+is_reported DiskEnd = false
+is_reported MemoryEnd = false
+
+-- how a run ends whose search ended so, and whose report was written, where there is one
+abbrev pub status_at : RunEnd → Status
+status_at Finished = Optimal
+status_at Spent = Budget
+status_at (FullEnd end limit) = Full end limit
+status_at DiskEnd = DiskFault
+status_at MemoryEnd = NoMemory
+
+-- a search that the disk didn't end
+abbrev pub IsLanded : RunEnd → Type 0
+IsLanded Finished = ⊤
+IsLanded Spent = ⊤
+IsLanded (FullEnd end limit) = ⊤
+IsLanded DiskEnd = ⊥
+IsLanded MemoryEnd = ⊤
+
+-- the report of a book was written, with its table where that is asked for
+abbrev pub IsReported : {D : Type 0} → SearchView D → Bool → Option (List ℕ) → Option (List ℕ) → Type 0
+IsReported book table held holds = Appends held holds (output_of book.instance table book.history book.book)
 
 -- a beginning of that was written, and the sink had a fault
-pub record IsReportedPart {D : Type 0} (book : BookView D) (table : Bool) (held holds : Option (List ℕ)) (faults : ℕ × ℕ) : Type 0 where
-  pub best : List Row
-  pub folds : book_of book.instance book.history ≡ Some (record { best = best; cost = book.cost })
-  pub written : AppendsPart held holds (output_of book.instance table (record { best = best; cost = book.cost }))
-  pub cause : Rose faults.0 faults.1
+abbrev pub IsReportedPart : {D : Type 0} → SearchView D → Bool → Option (List ℕ) → Option (List ℕ) → ℕ × ℕ → Type 0
+IsReportedPart book table held holds faults = AppendsPart held holds (output_of book.instance table book.history book.book) × Rose faults.0 faults.1
 
 -- why the report of a book wasn't written, or not whole: a fault of the sink, or want of memory
-abbrev pub Unwritten : {D : Type 0} → BookView D → Bool → Option (List ℕ) → Option (List ℕ) → ℕ × ℕ → Status → Type 0
+abbrev pub Unwritten : {D : Type 0} → SearchView D → Bool → Option (List ℕ) → Option (List ℕ) → ℕ × ℕ → Status → Type 0
 Unwritten book table held holds faults WriteFault = IsReportedPart book table held holds faults
-Unwritten book table held holds faults NoMemory = Unit {0}
+Unwritten book table held holds faults NoMemory = ⊤
 Unwritten book table held holds faults Optimal = ⊥
 Unwritten book table held holds faults Budget = ⊥
 Unwritten book table held holds faults (Full end limit) = ⊥
@@ -73,46 +83,15 @@ Unwritten book table held holds faults ReadFault = ⊥
 Unwritten book table held holds faults DiskFault = ⊥
 Unwritten book table held holds faults (Journal why) = ⊥
 
--- the greedy plan is in the book where it is cheaper than the best before it
-abbrev pub IsPosted : {D : Type 0} → BookView D → BookView D → Problem → Type 0
-IsPosted old new i = Grows old new (posts_over i old.cost) []
-
--- the greedy plan is cheaper, and there is no room for it
-pub record Overflows {D : Type 0} (old new : BookView D) (i : Problem) (end limit : ℕ) : Type 0 where
-  pub grown : Grows old new [] []
-  pub cheaper : greedy_cost i < old.cost
-  pub ends : end ≡ end_with old (greedy_post i)
-  pub most : limit ≡ old.limit
-  pub over : limit < end
-
--- the greedy plan is cheaper, and its record ended in a disk fault
-pub record Tears {D : Type 0} (faults : D → ℕ) (old new : BookView D) (i : Problem) : Type 0 where
-  pub grown : Grows old new [] (greedy_post i ∷ [])
-  pub cheaper : greedy_cost i < old.cost
-  pub cause : Rose (faults old.disk) (faults new.disk)
-
--- how a run ends that couldn't post the greedy plan
-abbrev pub GreedyFails : {D : Type 0} → (D → ℕ) → BookView D → BookView D → Problem → Status → Type 0
-GreedyFails faults old new i DiskFault = Tears faults old new i
-GreedyFails faults old new i NoMemory = Grows old new [] []
-GreedyFails faults old new i Optimal = ⊥
-GreedyFails faults old new i Budget = ⊥
-GreedyFails faults old new i (Full end limit) = ⊥
-GreedyFails faults old new i Usage = ⊥
-GreedyFails faults old new i (Input why) = ⊥
-GreedyFails faults old new i ReadFault = ⊥
-GreedyFails faults old new i WriteFault = ⊥
-GreedyFails faults old new i (Journal why) = ⊥
-
--- how a search over a book ends
-abbrev pub SearchEnds : {D : Type 0} → (D → ℕ) → BookView D → BookView D → Problem → Bool → Option (List ℕ) → Option (List ℕ) → ℕ × ℕ → Status → Type 0
-SearchEnds faults old new i table held holds writes Optimal = IsPosted old new i × IsReported new table held holds × (new.cost ≡ 0)
-SearchEnds faults old new i table held holds writes Budget = IsPosted old new i × IsReported new table held holds × (0 < new.cost)
-SearchEnds faults old new i table held holds writes (Full end limit) = Overflows old new i end limit × IsReported new table held holds
-SearchEnds faults old new i table held holds writes WriteFault = (IsPosted old new i ⊎ ((end : ℕ) × (limit : ℕ) × Overflows old new i end limit)) × IsReportedPart new table held holds writes
-SearchEnds faults old new i table held holds writes DiskFault = Tears faults old new i
-SearchEnds faults old new i table held holds writes NoMemory = Grows old new [] [] ⊎ IsPosted old new i
-SearchEnds faults old new i table held holds writes Usage = ⊥
-SearchEnds faults old new i table held holds writes (Input why) = ⊥
-SearchEnds faults old new i table held holds writes ReadFault = ⊥
-SearchEnds faults old new i table held holds writes (Journal why) = ⊥
+-- how a search over a book and its report end
+abbrev pub SearchEnds : {D : Type 0} → SearchView D → SearchView D → Bool → Option (List ℕ) → Option (List ℕ) → ℕ × ℕ → Status → Type 0
+SearchEnds old new table held holds writes Optimal = Ends old new Finished × IsReported new table held holds
+SearchEnds old new table held holds writes Budget = Ends old new Spent × IsReported new table held holds
+SearchEnds old new table held holds writes (Full end limit) = Ends old new (FullEnd end limit) × IsReported new table held holds
+SearchEnds old new table held holds writes WriteFault = (end : RunEnd) × Ends old new end × (is_reported end ≡ true) × IsReportedPart new table held holds writes
+SearchEnds old new table held holds writes DiskFault = Ends old new DiskEnd
+SearchEnds old new table held holds writes NoMemory = (end : RunEnd) × Ends old new end × IsLanded end
+SearchEnds old new table held holds writes Usage = ⊥
+SearchEnds old new table held holds writes (Input why) = ⊥
+SearchEnds old new table held holds writes ReadFault = ⊥
+SearchEnds old new table held holds writes (Journal why) = ⊥

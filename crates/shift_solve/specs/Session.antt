@@ -1,15 +1,13 @@
 -- What a run makes of the book that it opens on its disk.
-use Rattle.std.specs.Prelude.{◌≡◌, ℕ, ◌+◌, ◌*◌, ◌≤◌, nat_lt, if◌then◌else◌, List, [], ◌∷◌, ◌++◌, length, Option, Some, IsSome, IfSome, OnSome}
+use Rattle.std.specs.Prelude.{◌≡◌, ℕ, ◌+◌, ◌*◌, ◌≤◌, List, [], ◌++◌, length, Option, Some, IsSome, IfSome, OnSome}
 use Rattle.plan_base.specs.Disk.{IsOnlyImage}
 use Rattle.gated_journal.specs.declared.TheConstants.{JOURNAL_MAX}
 use Rattle.post_codec.specs.declared.post.Post.{Post}
 use Rattle.shift_instance.specs.Problem.{Problem}
-use Rattle.search_book.specs.Fold.{Book, book_of}
-use Rattle.search_book.specs.Front.{HoldsFront}
+use Rattle.search_core.specs.Book.{Book, book_of}
+use Rattle.search_book.specs.Keeping.{HoldsFrontOf}
 use Rattle.search_book.specs.Opening.{IsOpenedFrom}
-use Rattle.search_book.specs.Posting.{plan_of, rows_cost}
 use Rattle.search_book.specs.Posts.{StandsForPosts}
-use Rattle.greedy.specs.Greedy.{greedy_rows}
 
 -- what shows of a run's disk: its content before and after the run (none where it doesn't tell), what a crash may leave before
 -- and after it and since a moment, and the numbers of its calls and of its faults before and after
@@ -34,25 +32,13 @@ met_of reads images images_since calls faults old new = record {
   faults = (faults old, faults new);
 }
 
--- the greedy plan as a post of worker 0
-abbrev pub greedy_post : Problem → Post
-greedy_post i = plan_of i (greedy_rows i)
-
--- what the greedy plan costs
-abbrev pub greedy_cost : Problem → ℕ
-greedy_cost i = rows_cost i (greedy_rows i)
-
--- the posts of a run over a book whose best plan costs that much: the greedy plan where it is cheaper, and else none
-unfoldable pub posts_over : Problem → ℕ → List Post
-posts_over i best = if nat_lt (greedy_cost i) best then greedy_post i ∷ [] else []
-
 -- the disk's content is the only image, and it stands for the posts
 pub record IsOnlyJournal (met : DiskMet) (i : Problem) (posts : List Post) (file : List ℕ) : Type 0 where
   pub only : IsOnlyImage file met.images_after
   pub stands : StandsForPosts JOURNAL_MAX i posts file
 
--- A run over a book that it opened. The posts of its session are those that were acknowledged, and that of a record which
--- ended in a disk fault.
+-- A run over a book that it opened. The posts of its session are those of the steps that were committed, each a record, and those of
+-- a step during which the disk failed.
 pub record Session (met : DiskMet) (i : Problem) : Type 0 where
   -- the posts of the file before it, the book that they make, and the bytes of its journal; an empty file becomes the new one
   pub opening : List Post
@@ -61,23 +47,32 @@ pub record Session (met : DiskMet) (i : Problem) : Type 0 where
   pub used : ℕ
   pub opened_as : Option (List ℕ)
   pub found : IfSome met.file (IsOpenedFrom JOURNAL_MAX i opening used opened_as)
-  -- the posts of the session, and the book that those acknowledged make
+  -- the posts of the steps that were committed, those of the step during which the disk failed, and the book of the committed ones
   pub added : List Post
   pub in_flight : List Post
   pub last : Book
   pub ends : book_of i (opening ++ added) ≡ Some last
+  -- how many records were acknowledged: those of the committed posts, and the first of those in flight
+  pub made : ℕ
+  pub committed : length added ≤ made
+  pub begun_at_most : made ≤ length added + length in_flight
   -- the moment of the opening, in the run
   pub since : ℕ
   pub begun : met.calls.0 ≤ since
   -- each record is acknowledged with the fourth call after the one before it, the last of them in the run
-  pub moment : since + 4 * length added ≤ met.calls.1
+  pub moment : since + 4 * made ≤ met.calls.1
   -- a disk that told its content before the run tells it after
   pub tells : OnSome met.file (IsSome met.file_after)
-  -- each image since the b-th record was acknowledged holds a front of all posts with the opening ones and those b in it
-  pub lasts : OnSome met.file_after ((b : ℕ) (image : List ℕ) → b ≤ length added → met.images_since (since + 4 * b) image
-      → HoldsFront JOURNAL_MAX i ((opening ++ added) ++ in_flight) (length opening + b) image)
+  -- each image since the b-th record was acknowledged holds a front of all posts with the opening ones and those b in it, and that
+  -- front makes a book
+  pub lasts : OnSome met.file_after ((b : ℕ) (image : List ℕ) → b ≤ made → met.images_since (since + 4 * b) image
+      → HoldsFrontOf JOURNAL_MAX i ((opening ++ added) ++ in_flight) (length opening + b) image)
   -- each image after the run holds a front of all posts with every acknowledged one in it
-  pub after : OnSome met.file_after ((image : List ℕ) → met.images_after image → HoldsFront JOURNAL_MAX i ((opening ++ added) ++ in_flight) (length opening + length added) image)
-  -- where no record ended in a disk fault, the disk holds these posts and nothing else
+  pub after : OnSome met.file_after ((image : List ℕ) → met.images_after image → HoldsFrontOf JOURNAL_MAX i ((opening ++ added) ++ in_flight) (length opening + made) image)
+  -- where no step ended in a disk fault, the disk holds the committed posts and nothing else, and each of them took four calls
   pub kept : in_flight ≡ [] → IfSome met.file_after (IsOnlyJournal met i (opening ++ added))
   pub time : in_flight ≡ [] → met.calls.1 ≡ since + 4 * length added
+
+-- all posts that a session's book has
+abbrev pub posts_in : {met : DiskMet} {i : Problem} → Session met i → List Post
+posts_in session = session.opening ++ session.added

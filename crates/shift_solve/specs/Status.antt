@@ -2,7 +2,7 @@
 use Rattle.std.specs.Prelude.{ℕ, List, [], ◌++◌, codes}
 use Rattle.std.specs.Fmt.{decimal}
 use Rattle.instance_json.specs.RefusalText.{refusal_text}
-use Rattle.search_book.specs.Faults.{book_fault_text}
+use Rattle.search_book.specs.OpenFaultText.{open_fault_text}
 use Rattle.shift_solve.specs.declared.status.Status.{Status}
 use Rattle.shift_solve.specs.declared.status.Status.TheVariants.{Optimal, Budget, Full, Usage, Input, ReadFault, WriteFault, DiskFault, NoMemory, Journal}
 
@@ -34,7 +34,7 @@ status_text ReadFault = codes "read fault"
 status_text WriteFault = codes "write fault"
 status_text DiskFault = codes "disk fault"
 status_text NoMemory = codes "no memory"
-status_text (Journal why) = codes "journal refused: " ++ book_fault_text why
+status_text (Journal why) = codes "journal refused: " ++ open_fault_text why
 
 -- a run with this end has written nothing
 abbrev pub EndsUnwritten : Status → Type 0

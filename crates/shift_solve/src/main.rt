@@ -1,5 +1,5 @@
-//! The shift planner: `shift_solve solve JOURNAL` reads an instance document from the standard input, makes the greedy plan
-//! and prints its report.
+//! The shift planner: `shift_solve solve JOURNAL` reads an instance document from the standard input, searches for a cheapest
+//! plan over the journal, and prints the report of the search.
 #![tactic(auto)]
 
 mod report;

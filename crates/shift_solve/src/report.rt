@@ -1,21 +1,23 @@
 //! What a run writes of its book.
 
 ghost use Rattle.std.specs.Prelude.{◌≡◌, ◌++◌, IfOk};
-ghost use Rattle.shift_solve.specs.Report.{status_over};
-ghost use Rattle.shift_solve.specs.Search.{IsCertOf, IsOutputOf};
+ghost use Rattle.certificate.specs.Text.{Agrees};
+ghost use Rattle.shift_instance.specs.Valid.{IsValid};
+ghost use Rattle.shift_solve.specs.Report.{cert_of, output_of, status_of_book};
 
-use certificate::{Cert, CertStatus, Lines};
+use break_rules::NoMemory;
+use certificate::{Cert, CertStatus, of_history};
 use plan_base::Disk;
 use rota_writer::{report, table};
-use search_book::Book;
+use search_book::SearchBook;
 use shift_instance::Instance;
-use std::alloc::{AllocError, Global};
+use std::alloc::Global;
 
-/// What is said of a plan by its cost and the bound.
-fn status_over(cost: u64, bound: u64) -> CertStatus
-    ensures { result ≡ status_over cost bound }
+/// What is said of a book.
+fn status_of<D: Disk>(book: &SearchBook<D>) -> CertStatus
+    ensures { result ≡ status_of_book book.now.book }
 {
-    if cost == bound {
+    if book.finished() {
         CertStatus::Optimal
     } else {
         CertStatus::Stopped
@@ -23,29 +25,31 @@ fn status_over(cost: u64, bound: u64) -> CertStatus
 }
 
 /// The certificate of a book.
-fn cert_of<D: Disk>(alloc: Global, book: &Book<D>) -> Result<Cert, AllocError>
-    ensures { IfOk result (IsCertOf book.now) }
+fn cert_of<D: Disk>(alloc: Global, book: &SearchBook<D>) -> Result<Cert, NoMemory>
+    ensures is { IfOk result (λ cert. cert ≡ cert_of book.now.history book.now.book) }
+    ensures agrees { IfOk result (λ cert. IsValid book.now.instance → Agrees cert) }
 {
-    let rows = book.best().clone()?;
-    let cost = book.best_cost();
-    let bound = book.floor();
-    Ok(Cert {
-        status: status_over(cost, bound),
-        plan: Some((cost, rows)),
-        bound,
-        lines: Lines::new(Vec::new(alloc)),
-    })
+    let posts = book.history();
+    let cert = of_history(
+        alloc,
+        posts,
+        status_of(book),
+        book.best(),
+        book.best_cost(),
+        book.floor(),
+    )?;
+    Ok(cert)
 }
 
 /// The report of a book, with the table of its plan where that is asked for.
 pub(crate) fn output_of<D: Disk>(
     alloc: Global,
     instance: &Instance,
-    book: &Book<D>,
+    book: &SearchBook<D>,
     with_table: bool,
-) -> Result<Vec<u8>, AllocError>
+) -> Result<Vec<u8>, NoMemory>
     requires same { book.now.instance ≡ instance.now }
-    ensures { IfOk result (λ bytes. IsOutputOf book.now with_table bytes.items) }
+    ensures { IfOk result (λ bytes. bytes.items ≡ output_of book.now.instance with_table book.now.history book.now.book) }
 {
     // a legal plan of a valid instance has few rows
     let _heads = instance.heads();

@@ -5,7 +5,7 @@ ghost use Rattle.std.specs.Prelude.{◌<◌, ◌^◌};
 use crate::{Status, journal_path, solve_run, status_line};
 use instance_json::ReadRefusal;
 use plan_base::{Disk, MemDisk, MemSink, MemSource};
-use search_book::BookFault;
+use search_book::OpenFault;
 use std::alloc::{AllocError, Global};
 use std::test::Fail;
 
@@ -22,11 +22,23 @@ const NOTHING: &str = "0,0,0,0,0,0,0,0,0,0,0,0,0,0,0,0,0,0,0,0,0,0,0,0";
 
 const TOO_FEW: &str = "0,0,0,0,0,0,0,0,1,1,1,1,0,0,0,0,0,0,0,0,0,0,0";
 
+/// What the morning is short of, in weight, by hours.
+const MORNING_PRICES: &str = "0,0,0,0,0,0,0,0,2,2,2,2,0,0,0,0,0,0,0,0,0,0,0,0";
+
+/// What it has too much of where two employees are there, in weight, by hours.
+const MORNING_PENALTIES: &str = "0,0,0,0,0,0,0,0,-1,-1,-1,-1,0,0,0,0,0,0,0,0,0,0,0,0";
+
+/// The same of the day with a break.
+const NOON_PRICES: &str = "0,0,0,0,0,0,0,0,2,2,2,2,0,2,2,2,0,0,0,0,0,0,0,0";
+
 const MORNING_REPORT: &str =
-    "shift-report 1\nstatus stopped\ncost 3\nbound 0\nrows 1\nrow 0 0 1 -\nproof 0\nend\n";
+    "shift-report 1\nstatus optimal\ncost 3\nbound 3\nrows 1\nrow 0 0 1 -\nproof 1\npriced 0 1 0,0,0,0,0,0,0,0,2,2,2,2,0,0,0,0,0,0,0,0,0,0,0,0 -\nend\n";
 
 const NOTHING_REPORT: &str =
     "shift-report 1\nstatus optimal\ncost 0\nbound 0\nrows 0\nproof 0\nend\n";
+
+const OPENING_REPORT: &str =
+    "shift-report 1\nstatus stopped\ncost 8\nbound 0\nrows 0\nproof 0\nend\n";
 
 /// A day that needs one employee from 8:00 to 16:00, and nobody at 12:00, with one shift of those hours and its break of an hour; the
 /// longest work and the hours to resettle are filled in.
@@ -112,21 +124,126 @@ fn run_over(alloc: Global, content: &[u8], bad_call: u64) -> Result<Ran, AllocEr
 }
 
 #[test]
-fn a_plan_is_printed(rt: HostRuntime) -> Result<(), Fail> {
+fn one_step_closes_the_root(rt: HostRuntime) -> Result<(), Fail> {
     let alloc = rt.alloc();
+    let text = document(alloc, MORNING, "null")?;
     for most in [1usize, 7, 100000] {
-        let text = document(alloc, MORNING, "null")?;
-        let ran = run(alloc, "solve J", text.as_bytes(), most, 0, 0)?;
-        assert_eq!(rt; (ran.number, ran.opened), (10, true));
-        assert_eq!(rt; ran.line.as_str(), "stopped: step budget spent");
+        let ran = run(alloc, "solve J --steps 1", text.as_bytes(), most, 0, 0)?;
+        assert_eq!(rt; (ran.number, ran.opened), (0, true));
+        assert_eq!(rt; ran.line.as_str(), "");
         assert_eq!(rt; ran.written.as_slice(), MORNING_REPORT.as_bytes());
-        assert_eq!(rt; (ran.disk.bytes().len(), ran.disk.calls()), (413, 8));
+        assert_eq!(rt; (ran.disk.bytes().len(), ran.disk.calls()), (629, 12));
     }
-    let text = document(alloc, NOTHING, "null")?;
-    let ran = run(alloc, "solve J", text.as_bytes(), 100000, 0, 0)?;
-    assert_eq!(rt; (ran.number, ran.line.as_str()), (0, ""));
-    assert_eq!(rt; ran.written.as_slice(), NOTHING_REPORT.as_bytes());
-    assert_eq!(rt; (ran.disk.bytes().len(), ran.disk.calls()), (385, 4));
+    Ok(())
+}
+
+#[test]
+fn no_step_is_needed_or_taken(rt: HostRuntime) -> Result<(), Fail> {
+    let alloc = rt.alloc();
+    for (needs, line, number, said, report) in [
+        (NOTHING, "solve J --steps 1", 0u8, "", NOTHING_REPORT),
+        (
+            MORNING,
+            "solve J --steps 0",
+            10,
+            "stopped: step budget spent",
+            OPENING_REPORT,
+        ),
+    ] {
+        let text = document(alloc, needs, "null")?;
+        let ran = run(alloc, line, text.as_bytes(), 100000, 0, 0)?;
+        assert_eq!(rt; (ran.number, ran.opened), (number, true));
+        assert_eq!(rt; ran.line.as_str(), said);
+        assert_eq!(rt; ran.written.as_slice(), report.as_bytes());
+        assert_eq!(rt; (ran.disk.bytes().len(), ran.disk.calls()), (385, 4));
+    }
+    Ok(())
+}
+
+/// The morning with room for two employees.
+fn morning_for_two(alloc: Global) -> Result<String, AllocError> {
+    let text = document(alloc, MORNING, "null")?;
+    text.as_str()
+        .replacen(alloc, "\"max_heads\":1", "\"max_heads\":2", 1)
+}
+
+#[test]
+fn a_split_makes_two_nodes(rt: HostRuntime) -> Result<(), Fail> {
+    let alloc = rt.alloc();
+    let text = morning_for_two(alloc)?;
+    let two = run(alloc, "solve J --steps 2", text.as_bytes(), 100000, 0, 0)?;
+    let report = format!(in alloc;
+        "shift-report 1\nstatus stopped\ncost 3\nbound 0\nrows 1\nrow 0 0 1 -\nproof 3\npriced 0 1 {MORNING_PRICES} -\nsplit 0 0 0 - 1\npriced 1 1 {MORNING_PRICES} 0\nend\n"
+    )?;
+    assert_eq!(rt; (two.number, two.opened), (10, true));
+    assert_eq!(rt; two.written.as_slice(), report.as_bytes());
+    let three = run(alloc, "solve J --steps 3", text.as_bytes(), 100000, 0, 0)?;
+    let report = format!(in alloc;
+        "shift-report 1\nstatus optimal\ncost 3\nbound 3\nrows 1\nrow 0 0 1 -\nproof 4\npriced 0 1 {MORNING_PRICES} -\nsplit 0 0 0 - 1\npriced 1 1 {MORNING_PRICES} 0\npriced 2 1 {MORNING_PENALTIES} 0\nend\n"
+    )?;
+    assert_eq!(rt; (three.number, three.opened), (0, true));
+    assert_eq!(rt; three.written.as_slice(), report.as_bytes());
+    Ok(())
+}
+
+#[test]
+fn steps_one_by_one_make_the_same_journal(rt: HostRuntime) -> Result<(), Fail> {
+    let alloc = rt.alloc();
+    let text = morning_for_two(alloc)?;
+    let whole = run(alloc, "solve J", text.as_bytes(), 100000, 0, 0)?;
+    let mut disk = MemDisk::new(alloc, Vec::new(alloc), Vec::new(alloc));
+    for wanted in [10u8, 10, 0, 0] {
+        let bytes = Vec::from_slice(alloc, disk.bytes())?;
+        let fresh = MemDisk::new(alloc, bytes, Vec::new(alloc));
+        let ran = run_on(
+            alloc,
+            fresh,
+            "solve J --steps 1",
+            text.as_bytes(),
+            100000,
+            0,
+            0,
+        )?;
+        assert_eq!(rt; (ran.number, ran.opened), (wanted, true));
+        disk = ran.disk;
+        if wanted == 0 {
+            assert_eq!(rt; ran.written.as_slice(), whole.written.as_slice());
+        }
+    }
+    assert_eq!(rt; disk.bytes(), whole.disk.bytes());
+    Ok(())
+}
+
+#[test]
+fn another_weight_and_another_night(rt: HostRuntime) -> Result<(), Fail> {
+    let alloc = rt.alloc();
+    let morning = document(alloc, MORNING, "null")?;
+    let dear = morning
+        .as_str()
+        .replacen(alloc, "\"shift\":3", "\"shift\":9", 1)?;
+    let ran = run(alloc, "solve J --steps 1", dear.as_bytes(), 100000, 0, 0)?;
+    let report = format!(in alloc;
+        "shift-report 1\nstatus optimal\ncost 8\nbound 8\nrows 0\nproof 1\npriced 0 1 {MORNING_PRICES} -\nend\n"
+    )?;
+    assert_eq!(rt; ran.number, 0);
+    assert_eq!(rt; ran.written.as_slice(), report.as_bytes());
+    let late = document(
+        alloc,
+        "1,1,0,0,0,0,0,0,0,0,0,0,0,0,0,0,0,0,0,0,0,0,1,1",
+        "null",
+    )?;
+    let late = late.as_str().replacen(
+        alloc,
+        "\"start_min\":8,\"start_max\":8",
+        "\"start_min\":22,\"start_max\":22",
+        1,
+    )?;
+    let ran = run(alloc, "solve J --steps 1", late.as_bytes(), 100000, 0, 0)?;
+    assert_eq!(rt; ran.number, 0);
+    assert_eq!(rt;
+        ran.written.as_slice(),
+        b"shift-report 1\nstatus optimal\ncost 3\nbound 3\nrows 1\nrow 0 0 1 -\nproof 1\npriced 0 1 2,2,0,0,0,0,0,0,0,0,0,0,0,0,0,0,0,0,0,0,0,0,2,2 -\nend\n".as_slice()
+    );
     Ok(())
 }
 
@@ -142,13 +259,48 @@ fn a_break_stands_where_it_costs_least(rt: HostRuntime) -> Result<(), Fail> {
         ("2", "0", "14", "0"),
     ] {
         let text = noon(alloc, work_max, resettle)?;
-        let ran = run(alloc, "solve J", text.as_bytes(), 100000, 0, 0)?;
+        let ran = run(alloc, "solve J --steps 1", text.as_bytes(), 100000, 0, 0)?;
         let report = format!(in alloc;
-            "shift-report 1\nstatus stopped\ncost {cost}\nbound 0\nrows {rows}\nproof 0\nend\n"
+            "shift-report 1\nstatus optimal\ncost {cost}\nbound {cost}\nrows {rows}\nproof 1\npriced 0 1 {NOON_PRICES} -\nend\n"
         )?;
-        assert_eq!(rt; ran.number, 10);
+        assert_eq!(rt; ran.number, 0);
         assert_eq!(rt; ran.written.as_slice(), report.as_bytes());
     }
+    // A long rest after four hours of work: the last break that is legal is the same.
+    let text = noon(alloc, "5", "0")?;
+    let text = text.as_str().replacen(
+        alloc,
+        "\"long_work\":5,\"long_rest\":1",
+        "\"long_work\":4,\"long_rest\":2",
+        1,
+    )?;
+    let ran = run(alloc, "solve J --steps 1", text.as_bytes(), 100000, 0, 0)?;
+    assert_eq!(rt; ran.number, 0);
+    assert!(rt;
+        ran.written.starts_with(
+            b"shift-report 1\nstatus optimal\ncost 3\nbound 3\nrows 1\nrow 0 0 1 4+1\n"
+        )
+    );
+    Ok(())
+}
+
+#[test]
+fn two_employees_break_apart(rt: HostRuntime) -> Result<(), Fail> {
+    let alloc = rt.alloc();
+    let text = noon(alloc, "5", "0")?;
+    let text = text
+        .as_str()
+        .replacen(alloc, "1,1,1,1,0,1,1,1", "2,2,2,1,1,2,2,2", 1)?;
+    let text = text
+        .as_str()
+        .replacen(alloc, "\"max_heads\":1", "\"max_heads\":2", 1)?;
+    let ran = run(alloc, "solve J --steps 2047", text.as_bytes(), 100000, 0, 0)?;
+    assert_eq!(rt; (ran.number, ran.opened), (0, true));
+    assert!(rt;
+        ran.written.starts_with(
+            b"shift-report 1\nstatus optimal\ncost 3\nbound 3\nrows 2\nrow 0 0 1 3+1\nrow 0 0 1 4+1\n"
+        )
+    );
     Ok(())
 }
 
@@ -157,16 +309,24 @@ fn a_journal_is_gone_on_with(rt: HostRuntime) -> Result<(), Fail> {
     let alloc = rt.alloc();
     let first = run_over(alloc, &[], 0)?;
     let again = run_over(alloc, first.disk.bytes(), 0)?;
-    assert_eq!(rt; (again.number, again.opened), (10, true));
+    assert_eq!(rt; (again.number, again.opened), (0, true));
     assert_eq!(rt; again.written.as_slice(), MORNING_REPORT.as_bytes());
     assert_eq!(rt; again.disk.bytes(), first.disk.bytes());
+    // where the first record was begun, and not made sure of, it counts for nothing
+    let mut begun = Vec::from_slice(alloc, first.disk.bytes())?;
+    if let Some(byte) = begun.get_mut(384) {
+        *byte = 0x77;
+    }
+    let anew = run_over(alloc, begun.as_slice(), 0)?;
+    assert_eq!(rt; (anew.number, anew.opened), (0, true));
+    assert_eq!(rt; anew.disk.bytes(), first.disk.bytes());
     Ok(())
 }
 
 #[test]
 fn a_failing_disk_prints_nothing(rt: HostRuntime) -> Result<(), Fail> {
     let alloc = rt.alloc();
-    for call in 1..9u64 {
+    for call in 1..13u64 {
         let ran = run_over(alloc, &[], call)?;
         assert_eq!(rt; (ran.number, ran.opened), (7, 4 < call));
         assert_eq!(rt; ran.line.as_str(), "disk fault");
@@ -178,12 +338,12 @@ fn a_failing_disk_prints_nothing(rt: HostRuntime) -> Result<(), Fail> {
 #[test]
 fn each_image_of_a_torn_record_is_gone_on_with(rt: HostRuntime) -> Result<(), Fail> {
     let alloc = rt.alloc();
-    for call in 5..9u64 {
+    for call in 5..13u64 {
         let torn = run_over(alloc, &[], call)?;
         for fill in [None, Some(0), Some(1), Some(255u8)] {
             let image = torn.disk.image(fill)?;
             let ran = run_over(alloc, image.bytes(), 0)?;
-            assert_eq!(rt; ran.number, 10, "call {call}");
+            assert_eq!(rt; ran.number, 0, "call {call}");
             assert_eq!(rt; ran.written.as_slice(), MORNING_REPORT.as_bytes());
         }
     }
@@ -194,29 +354,40 @@ fn each_image_of_a_torn_record_is_gone_on_with(rt: HostRuntime) -> Result<(), Fa
 fn other_files_are_refused_and_left(rt: HostRuntime) -> Result<(), Fail> {
     let alloc = rt.alloc();
     let whole = run_over(alloc, &[], 0)?;
-    let mut other = Vec::from_slice(alloc, whole.disk.bytes())?;
-    if let Some(byte) = other.get_mut(356) {
-        *byte = b'9';
-    }
-    let mut open = Vec::from_slice(alloc, whole.disk.bytes())?;
-    if let Some(byte) = open.get_mut(385) {
-        *byte = 255;
-    }
-    let cut = whole.disk.bytes().get(..412).unwrap_or_default();
-    let torn = whole.disk.bytes().get(..100).unwrap_or_default();
-    for content in [
-        b"no journal".as_slice(),
-        torn,
-        cut,
-        other.as_slice(),
-        open.as_slice(),
+    let mut open = Vec::from_slice(alloc, whole.disk.bytes().get(..384).unwrap_or_default())?;
+    open.extend_from_slice(&[1, 255, 255, 255, 255])?;
+    let cut = whole.disk.bytes().get(..628).unwrap_or_default();
+    let torn = whole.disk.bytes().get(..11).unwrap_or_default();
+    for (content, line) in [
+        (b"no journal".as_slice(), "journal refused: 2"),
+        (torn, "journal refused: 2"),
+        (open.as_slice(), "journal refused: 4 384"),
+        (cut, "journal refused: 4 412"),
     ] {
         let ran = run_over(alloc, content, 0)?;
         assert_eq!(rt; (ran.number, ran.opened), (9, false));
-        assert_eq!(rt; ran.line.as_str(), "journal refused: 6");
+        assert_eq!(rt; ran.line.as_str(), line);
         assert!(rt; ran.written.is_empty());
         assert_eq!(rt; ran.disk.bytes(), content);
     }
+    Ok(())
+}
+
+#[test]
+fn a_journal_of_another_instance_is_refused(rt: HostRuntime) -> Result<(), Fail> {
+    let alloc = rt.alloc();
+    let morning = document(alloc, MORNING, "null")?;
+    let whole = run_over(alloc, &[], 0)?;
+    let dear = morning
+        .as_str()
+        .replacen(alloc, "\"shift\":3", "\"shift\":9", 1)?;
+    let bytes = Vec::from_slice(alloc, whole.disk.bytes())?;
+    let disk = MemDisk::new(alloc, bytes, Vec::new(alloc));
+    let ran = run_on(alloc, disk, "solve J", dear.as_bytes(), 100000, 0, 0)?;
+    assert_eq!(rt; (ran.number, ran.opened), (9, false));
+    assert_eq!(rt; ran.line.as_str(), "journal refused: 3 356");
+    assert!(rt; ran.written.is_empty());
+    assert_eq!(rt; ran.disk.bytes(), whole.disk.bytes());
     Ok(())
 }
 
@@ -231,7 +402,7 @@ fn the_table_stands_behind_the_report(rt: HostRuntime) -> Result<(), Fail> {
         let ran = run(alloc, "solve J --table", text.as_bytes(), 100000, 0, 0)?;
         let wanted = format!(in alloc; "{report}{table}")?;
         assert_eq!(rt; ran.written.as_slice(), wanted.as_bytes());
-        assert_eq!(rt; ran.disk.calls(), if table.is_empty() { 4 } else { 8 });
+        assert_eq!(rt; ran.disk.calls(), if table.is_empty() { 4 } else { 12 });
     }
     Ok(())
 }
@@ -246,7 +417,12 @@ fn other_words_are_usage(rt: HostRuntime) -> Result<(), Fail> {
         "plan J",
         "solve -J",
         "solve J K",
-        "solve J --steps 1",
+        "solve J --steps",
+        "solve J --steps 4000000001",
+        "solve J --steps 12345678901",
+        "solve J --steps -1",
+        "solve J --steps 1 --steps 2",
+        "solve J --table --steps 1",
         "solve J --",
         "solve J --tables",
         "solve --table J",
@@ -391,7 +567,11 @@ fn each_status_has_its_number_and_line(rt: HostRuntime) -> Result<(), Fail> {
         (Status::WriteFault, 6, "write fault"),
         (Status::DiskFault, 7, "disk fault"),
         (Status::NoMemory, 8, "no memory"),
-        (Status::Journal(BookFault::NotYet), 9, "journal refused: 6"),
+        (
+            Status::Journal(OpenFault::OtherInstance { at: 356 }),
+            9,
+            "journal refused: 3 356",
+        ),
         (
             Status::Full {
                 end: 622,

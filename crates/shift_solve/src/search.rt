@@ -1,55 +1,58 @@
 //! What a run does with the book that it has opened.
 
-ghost use Rattle.std.specs.Prelude.{◌≡◌, [], None, MatchOption, OnOk, IfOk, IfErr};
-ghost use Rattle.shift_solve.specs.Search.{GreedyFails, IsPosted, IsReported, Overflows, SearchEnds, Unwritten};
+ghost use Rattle.std.specs.Prelude.{◌≡◌, OnOk, IfErr};
+ghost use Rattle.shift_solve.specs.Search.{is_reported, status_at, Ends, GoesOn, IsBegun, IsReported, SearchEnds, Unwritten};
 ghost use Rattle.shift_solve.specs.Status.{EndsUnwritten};
 
 use crate::report::output_of;
 use crate::status::Status;
-use greedy::greedy_plan;
 use plan_base::{Disk, Failed, Sink, write_all};
-use search_book::{Book, CommitFault};
+use search_book::SearchBook;
 use shift_instance::Instance;
 use std::alloc::Global;
+use worker_gate::{RunEnd, run_worker};
 
-/// There was no room for the greedy plan: with it the file would have ended at `end`, which is past `limit`.
-#[derive(Clone, Copy, Drop)]
-struct Overflow {
-    end: u64,
-    limit: u32,
+/// Runs the search over a book from which no node was taken yet.
+fn run_search<D: Disk>(alloc: Global, instance: &Instance, book: &mut SearchBook<D>) -> RunEnd
+    requires same { book.old.instance ≡ instance.now }
+    requires begun { IsBegun book.old }
+    ensures goes_on { GoesOn D.reads D.calls D.faults book.old book.new }
+    ensures ends { Ends book.old book.new result }
+{
+    run_worker(alloc, instance, book)
 }
 
-/// Posts the greedy plan, and says where there was no room for it, or how the run ends.
-fn post_greedy<D: Disk>(
-    alloc: Global,
-    instance: &Instance,
-    book: &mut Book<D>,
-) -> Result<Option<Overflow>, Status>
-    requires same { book.old.instance ≡ instance.now }
-    requires running { book.old.shut ≡ None }
-    requires landed { book.old.in_flight ≡ [] }
-    requires opened { book.old.made ≡ 0 }
-    ensures ok { IfOk result (λ full. MatchOption full (IsPosted book.old book.new instance.now) (λ o. Overflows book.old book.new instance.now o.end o.limit)) }
-    ensures err { IfErr result (GreedyFails D.faults book.old book.new instance.now) }
+/// Whether a search came to an end of which a report is written.
+fn is_reported(end: RunEnd) -> bool
+    ensures { result ≡ is_reported end }
 {
-    let Ok(rows) = greedy_plan(alloc, instance) else {
-        return Err(Status::NoMemory);
-    };
-    match book.post(rows) {
-        Ok(_) => Ok(None),
-        Err(CommitFault::Full { end, limit }) => Ok(Some(Overflow { end, limit })),
-        Err(CommitFault::DiskFault) => Err(Status::DiskFault),
-        Err(CommitFault::NoMemory) => Err(Status::NoMemory),
-        // the book is open
-        Err(CommitFault::Shut) => unreachable!(),
+    match end {
+        RunEnd::Finished => true,
+        RunEnd::Spent => true,
+        RunEnd::Full { end: _, limit: _ } => true,
+        RunEnd::DiskFault => false,
+        RunEnd::NoMemory => false,
     }
 }
 
-/// Writes the report of a book's best plan, with its table where that is asked for.
+/// How a run ends whose search ended so, and whose report was written, where there is one.
+fn status_at(end: RunEnd) -> Status
+    ensures { result ≡ status_at end }
+{
+    match end {
+        RunEnd::Finished => Status::Optimal,
+        RunEnd::Spent => Status::Budget,
+        RunEnd::Full { end, limit } => Status::Full { end, limit },
+        RunEnd::DiskFault => Status::DiskFault,
+        RunEnd::NoMemory => Status::NoMemory,
+    }
+}
+
+/// Writes the report of a book, with its table where that is asked for.
 fn write_report<K: Sink, D: Disk>(
     alloc: Global,
     instance: &Instance,
-    book: &Book<D>,
+    book: &SearchBook<D>,
     table: bool,
     out: &mut K,
 ) -> Result<(), Status>
@@ -67,31 +70,27 @@ fn write_report<K: Sink, D: Disk>(
     }
 }
 
-/// Posts the greedy plan in the book that was opened, and writes the report of the book as it is then.
+/// Runs the search over the book that was opened, and writes the report of the book as it is then. Where the disk failed or
+/// there was no memory, nothing is written.
 pub(crate) fn search<K: Sink, D: Disk>(
     alloc: Global,
     instance: &Instance,
-    book: &mut Book<D>,
+    book: &mut SearchBook<D>,
     table: bool,
     out: &mut K,
 ) -> Status
     requires same { book.old.instance ≡ instance.now }
-    requires running { book.old.shut ≡ None }
-    requires landed { book.old.in_flight ≡ [] }
-    requires opened { book.old.made ≡ 0 }
-    ensures status { SearchEnds D.faults book.old book.new instance.now table (K.held out.old) (K.held out.new) (K.faults out.old, K.faults out.new) result }
+    requires begun { IsBegun book.old }
+    ensures goes_on { GoesOn D.reads D.calls D.faults book.old book.new }
+    ensures status { SearchEnds book.old book.new table (K.held out.old) (K.held out.new) (K.faults out.old, K.faults out.new) result }
     ensures unwritten { EndsUnwritten result → out.new ≡ out.old }
 {
-    let full = match post_greedy(alloc, instance, book) {
-        Ok(full) => full,
-        Err(status) => return status,
-    };
-    if let Err(status) = write_report(alloc, instance, book, table, out) {
-        return status;
+    let end = run_search(alloc, instance, book);
+    if !is_reported(end) {
+        return status_at(end);
     }
-    match full {
-        Some(Overflow { end, limit }) => Status::Full { end, limit },
-        None if book.best_cost() == 0 => Status::Optimal,
-        None => Status::Budget,
+    match write_report(alloc, instance, book, table, out) {
+        Ok(()) => status_at(end),
+        Err(status) => status,
     }
 }

@@ -4,7 +4,7 @@ ghost use Rattle.std.specs.Prelude.{◌≡◌, IfOk, string_bytes};
 ghost use Rattle.shift_solve.specs.Status.{status_number, status_text};
 
 use instance_json::ReadRefusal;
-use search_book::BookFault;
+use search_book::OpenFault;
 use std::alloc::{AllocError, Global};
 
 /// The words of the command line, as they are shown to whoever gave others.
@@ -16,12 +16,13 @@ const USAGE: &str =
 pub enum Status {
     /// The report was written, and no legal plan costs less than the printed one.
     Optimal,
-    /// The report was written, and the search for a better plan isn't finished.
+    /// The report was written. All steps of the budget were taken, and the search isn't finished.
     Budget,
-    /// The report was written, and the journal had no room for a better plan: with it the file would have ended at `end`,
-    /// which is past `limit`. Both are lengths in bytes.
+    /// The report was written, and the journal had no room for the posts of a step: with them the file would have ended at
+    /// `end`, which is past `limit`. Both are lengths in bytes.
     Full { end: u64, limit: u32 },
-    /// The words aren't `solve JOURNAL` or `solve JOURNAL --table`, with a JOURNAL that isn't empty and doesn't begin with `-`.
+    /// The words aren't `solve JOURNAL` with `--steps B` and `--table`, each or none, in this order behind it, with a JOURNAL
+    /// that isn't empty and doesn't begin with `-`, and a B of 1 to 10 digits which is at most 4,000,000,000.
     Usage,
     /// The document that was read is refused. Never holds `NoMemory`.
     Input(ReadRefusal),
@@ -33,8 +34,9 @@ pub enum Status {
     DiskFault,
     /// There was no memory.
     NoMemory,
-    /// The journal's file isn't empty and doesn't hold the posts of a search for this instance. Never holds another fault.
-    Journal(BookFault),
+    /// The journal's file isn't empty and doesn't stand for posts of this instance that make a book, for this cause. Never
+    /// holds `DiskFault` or `NoMemory`.
+    Journal(OpenFault),
 }
 
 impl Status {

@@ -26,6 +26,7 @@ returns-clause-log g c =
             counted = q.1;
           };
       front = i.front;
+      counted = i.counted;
       few = i.few;
       nodes = i.nodes;
       shut = shut_of b.log.limit (K.faults b.log.opened) (K.faults b.log.disk) b.log.in_flight flight b.shut i.shut l.cause;

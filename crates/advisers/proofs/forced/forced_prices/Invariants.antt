@@ -1,0 +1,8 @@
+use Rattle.std.proofs.Common.{◌≡◌, map}
+use Rattle.shift_instance.specs.Problem.{below}
+use Rattle.shift_instance.specs.Rota.{cover}
+use Rattle.advisers.specs.Forced.{balance_price, forced_rota}
+use Rattle.advisers.proofs.forced.forced_prices.Given as goal
+
+abbrev pub invariant-loop-t : goal.invariant-loop-t
+invariant-loop-t l = l.prices.items ≡ map (λ t. balance_price l.instance t (cover l.instance (forced_rota l.instance l.cuts) t)) (below l.t)

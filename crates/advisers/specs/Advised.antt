@@ -1,0 +1,20 @@
+-- What an adviser advises. Source: this project's profile.
+use Rattle.std.specs.Prelude.{List, Option, Some, None, length, replicate, if◌then◌else◌}
+use Rattle.shift_instance.specs.declared.Row.{Row}
+use Rattle.shift_instance.specs.Problem.{Problem}
+use Rattle.head_splits.specs.declared.Cut.{Cut}
+use Rattle.head_splits.specs.Bound.{is_nil}
+use Rattle.greedy.specs.Greedy.{greedy_rows}
+use Rattle.advisers.specs.declared.advice.Advice.{Advice}
+use Rattle.advisers.specs.Forced.{forced_prices}
+
+-- the greedy plan, and none where it has no duty
+abbrev pub greedy_plan : Problem → Option (List Row)
+greedy_plan i = if is_nil (greedy_rows i) then None else Some (greedy_rows i)
+
+-- what the greedy adviser advises: the prices of the forced duties at scale 1, with price 0 for each cut, and the greedy plan
+abbrev pub greedy_advice : Problem → List Cut → Advice
+greedy_advice i cuts = record {
+  prices = record { q = 1; slots = forced_prices i cuts; cuts = replicate (length cuts) 0 };
+  plan = greedy_plan i;
+}

@@ -1,0 +1,3 @@
+pub mod Forced
+pub mod Advised
+pub mod Same

@@ -1,0 +1,80 @@
+//! The adviser that advises the greedy plan.
+ghost use Rattle.std.specs.Prelude.{◌≡◌, ◌≤◌, ◌^◌, IfOk, IfSome, length, replicate};
+ghost use Rattle.greedy.specs.Greedy.{greedy_rows};
+ghost use Rattle.advisers.specs.Advised.{greedy_advice, greedy_plan};
+ghost use Rattle.advisers.specs.Forced.{forced_prices};
+
+use crate::forced::forced_prices;
+use crate::kept::KeptPlan;
+use crate::{Advice, Ask};
+use break_rules::NoMemory;
+use head_splits::{CutPrices, Prices, SlotPrices};
+use shift_instance::{Instance, Rows};
+use std::alloc::Global;
+
+/// The adviser of the greedy plan. It makes the plan at its first advice, and keeps it for as long as it is asked about
+/// the same instance.
+#[derive(Drop)]
+pub struct Greedy {
+    alloc: Global,
+    kept: Option<KeptPlan>,
+}
+
+impl Greedy {
+    /// An adviser that wasn't asked yet. It takes no memory.
+    pub fn new(alloc: Global) -> Greedy {
+        Greedy { alloc, kept: None }
+    }
+
+    /// The kept rows of the greedy plan of this instance, if they are kept.
+    fn kept_rows(&self, instance: &Instance) -> Result<Option<Rows>, NoMemory>
+        ensures { IfOk result (λ rows. IfSome rows (λ rows. rows ≡ greedy_rows instance.now)) }
+    {
+        match &self.kept {
+            Some(kept) if kept.is_of(instance) => Ok(Some(kept.copy()?)),
+            _ => Ok(None),
+        }
+    }
+
+    /// The rows of the greedy plan, kept or made now.
+    fn rows(&mut self, instance: &Instance) -> Result<Rows, NoMemory>
+        ensures { IfOk result (λ rows. rows ≡ greedy_rows instance.now) }
+    {
+        if let Some(rows) = self.kept_rows(instance)? {
+            return Ok(rows);
+        }
+        let kept = KeptPlan::of(self.alloc, instance)?;
+        let rows = kept.copy()?;
+        self.kept = Some(kept);
+        Ok(rows)
+    }
+
+    /// The greedy plan, and `None` where it has no duty.
+    fn plan(&mut self, instance: &Instance) -> Result<Option<Rows>, NoMemory>
+        ensures { IfOk result (λ plan. plan ≡ greedy_plan instance.now) }
+    {
+        let rows = self.rows(instance)?;
+        if rows.is_empty() {
+            return Ok(None);
+        }
+        Ok(Some(rows))
+    }
+
+    /// Advises for a node: prices at scale 1, and the greedy plan where it has a duty. A slot's price is the cost of an
+    /// employee too few where fewer work there than needed of the duties that the cuts force, each with the least legal
+    /// list of its shift; minus the cost of an employee too many where more do; and else 0. Each cut's price is 0.
+    pub fn advise(&mut self, instance: &Instance, ask: &Ask) -> Result<Advice, NoMemory>
+        requires { length ask.now.cuts ≤ 2 ^ 33 }
+        ensures advice { IfOk result (λ advice. advice ≡ greedy_advice instance.now ask.now.cuts) }
+    {
+        let slots = forced_prices(self.alloc, instance, &ask.cuts)?;
+        let cuts = vec![in self.alloc; 0; ask.cuts.len()]?;
+        let prices = Prices {
+            q: 1,
+            slots: SlotPrices::new(slots),
+            cuts: CutPrices::new(cuts),
+        };
+        let plan = self.plan(instance)?;
+        Ok(Advice { prices, plan })
+    }
+}

@@ -1,0 +1,140 @@
+//! Whether proof lines are good, one after another.
+
+ghost use Rattle.std.specs.Prelude.{◌≡◌, ◌≤◌, ◌<◌, ◌&&◌, ◌∷◌, [], None, Some, true, length, not, slice_get, IfOk, IfErr, IsSomeAnd, OnOk, if◌then◌else◌};
+ghost use Rattle.std.specs.Option.{option_and_then};
+ghost use Rattle.head_splits.specs.Nodes.{new_node};
+ghost use Rattle.certificate.specs.declared.proof_lines.Line.TheVariants.{Priced, Settled, Split};
+ghost use Rattle.certificate.specs.Accepted.{is_split, nodes_after, nodes_of};
+ghost use Rattle.cert_check.specs.Judged.{bad_line, line_cause, IsFirstBad};
+
+use crate::judged::Refused;
+use crate::settled::settled_floor;
+use crate::tree::Tree;
+use crate::value::{are_prices, value};
+use break_rules::NoMemory;
+use certificate::Line;
+use head_splits::{Class, Prices};
+use shift_instance::Instance;
+use std::alloc::Global;
+
+/// Whether a node may be split by the number of a class's duties into at most `m` and at least `m + 1`. It doesn't matter
+/// whether any duty is in the class.
+fn is_split(instance: &Instance, class: &Class, m: u16) -> bool
+    ensures split { result ≡ is_split instance.now class.now m }
+    ensures number { result ≡ true → m ≤ 200 }
+{
+    usize::from(class.shift) < instance.shifts().len()
+        && class.day < instance.days()
+        && class.prefix.as_slice().len() <= 48
+        && m <= 200
+}
+
+/// Whether a node is there and unsplit and may be split so. If so, it is.
+fn split_node(
+    instance: &Instance,
+    tree: &mut Tree,
+    node: u32,
+    class: &Class,
+    m: u16,
+) -> Result<bool, NoMemory>
+    ensures { IfOk result (λ good. nodes_after instance.now tree.old (Split node class.now m ∷ []) ≡ (if good then Some tree.new else None)) }
+{
+    let node = node as usize;
+    if !tree.is_unsplit(node) || !is_split(instance, class, m) {
+        return Ok(false);
+    }
+    tree.split(node, class, m)?;
+    Ok(true)
+}
+
+/// Whether a node is there and unsplit and the prices are a price set for its cuts. If so, its floor is raised to their bound.
+fn price_node(
+    alloc: Global,
+    instance: &Instance,
+    tree: &mut Tree,
+    node: u32,
+    prices: &Prices,
+) -> Result<bool, NoMemory>
+    ensures { IfOk result (λ good. nodes_after instance.now tree.old (Priced node prices.now ∷ []) ≡ (if good then Some tree.new else None)) }
+{
+    let node = node as usize;
+    if !tree.is_unsplit(node) {
+        return Ok(false);
+    }
+    let cuts = tree.cuts_of(node)?;
+    if !are_prices(instance, &cuts, prices) {
+        return Ok(false);
+    }
+    let bound = value(alloc, instance, &cuts, prices)?;
+    tree.raise_floor(node, bound);
+    Ok(true)
+}
+
+/// Whether a node is there, unsplit and settled. If so, its floor becomes that of its plan.
+fn settle_node(
+    alloc: Global,
+    instance: &Instance,
+    tree: &mut Tree,
+    node: u32,
+) -> Result<bool, NoMemory>
+    ensures { IfOk result (λ good. nodes_after instance.now tree.old (Settled node ∷ []) ≡ (if good then Some tree.new else None)) }
+{
+    let node = node as usize;
+    if !tree.is_unsplit(node) {
+        return Ok(false);
+    }
+    let cuts = tree.cuts_of(node)?;
+    match settled_floor(alloc, instance, &cuts)? {
+        Some(floor) => {
+            tree.set_floor(node, floor);
+            Ok(true)
+        }
+        None => Ok(false),
+    }
+}
+
+/// Whether a proof line is good for the nodes that those before it make. If so, the nodes become what it makes of them.
+fn judge_line(
+    alloc: Global,
+    instance: &Instance,
+    tree: &mut Tree,
+    line: &Line,
+) -> Result<bool, NoMemory>
+    ensures { IfOk result (λ good. nodes_after instance.now tree.old (line.now ∷ []) ≡ (if good then Some tree.new else None)) }
+{
+    match line {
+        Line::Split { node, class, m } => split_node(instance, tree, *node, class, *m),
+        Line::Priced { node, prices } => price_node(alloc, instance, tree, *node, prices),
+        Line::Settled { node } => settle_node(alloc, instance, tree, *node),
+    }
+}
+
+/// What is answered of a proof line that isn't good.
+fn bad_line(line: &Line, number: u64) -> Refused
+    ensures { result ≡ bad_line line.now number }
+{
+    match line {
+        Line::Split {
+            node: _,
+            class: _,
+            m: _,
+        } => Refused::BadSplit { line: number },
+        Line::Priced { node: _, prices: _ } => Refused::BadPrice { line: number },
+        Line::Settled { node: _ } => Refused::NotSettled { line: number },
+    }
+}
+
+/// The nodes that proof lines make of the root, where each line is good.
+pub fn judge_lines(alloc: Global, instance: &Instance, lines: &[Line]) -> Result<Tree, Refused>
+    ensures good { IfOk result (λ tree. nodes_of instance.now lines.now ≡ Some tree) }
+    ensures causes { IfOk result (λ tree. line_cause instance.now (new_node [] ∷ []) 1 lines.now ≡ None) }
+    ensures bad { IfErr result (IsFirstBad instance.now lines.now) }
+{
+    let mut tree = Tree::root(alloc)?;
+    for (k, line) in lines.iter().enumerate() {
+        if !judge_line(alloc, instance, &mut tree, line)? {
+            return Err(bad_line(line, k as u64 + 1));
+        }
+    }
+    Ok(tree)
+}

@@ -1,0 +1,9 @@
+use Rattle.std.proofs.Common.{ap, sym, ◌∙◌}
+use Rattle.search_core.specs.Book.{Book}
+use Rattle.search_core.proofs.Outlines.{book_is}
+use Rattle.search_book.proofs.as_board.SearchBookBoard.best_cost.Goals as goal
+
+pub returns : goal.returns
+returns g c =
+    let b = c.args.self.now in
+    c.best_cost.ensures ∙ ap (λ (x : Book). x.cost) (sym (book_is b.instance b.history b.book b.keeps.folds))

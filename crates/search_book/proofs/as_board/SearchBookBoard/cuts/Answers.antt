@@ -1,0 +1,12 @@
+use Rattle.std.proofs.Common.{◌≡◌, ℕ, Some, sym, subst}
+use Rattle.std.specs.Prelude.{IfOk}
+use Rattle.search_core.specs.Book.{Book}
+use Rattle.search_core.specs.Core.{hand}
+use Rattle.search_core.specs.Kept.{cuts_in}
+use Rattle.search_core.proofs.Outlines.{book_is}
+use Rattle.search_book.proofs.as_board.SearchBookBoard.cuts.Goals as goal
+
+pub returns-clause-cuts : goal.returns-clause-cuts
+returns-clause-cuts g c =
+    let b = c.args.self.now in
+    subst (λ (x : Book). IfOk c.cuts.result (λ cuts. (k : ℕ) → hand b.hands c.args.worker ≡ Some k → cuts ≡ cuts_in x.nodes k)) (sym (book_is b.instance b.history b.book b.keeps.folds)) c.cuts.ensures.cuts

@@ -1,6 +1,0 @@
-use denote.Param.Send.{param_send, arg_send}
-use Rattle.search_book.proofs.Crosses.{search_book_send}
-use Rattle.search_book.proofs.sends.sent_search.Goals as goal
-
-pub moved-requires-send-T : goal.moved-requires-send-T
-moved-requires-send-T g c κs within = let s = c.type_bounds.send-D in search (search_book_send, param_send, arg_send)

@@ -1,0 +1,64 @@
+//! The book of a search as a board.
+use crate::SearchBook;
+use break_rules::NoMemory;
+use head_splits::Cuts;
+use plan_base::Disk;
+use search_core::{Board, CommitFault, Kept, StepPosts, Taken};
+
+impl<D: Disk> Board for SearchBook<D> {
+    ghost use Rattle.std.specs.Prelude.{take};
+    ghost use Rattle.search_book.specs.Origins.{origin_at, sound_of, tells};
+
+    ghost history = { λ b. b.history };
+
+    ghost hands = { λ b. b.hands };
+
+    ghost taken = { λ b. b.taken };
+
+    ghost shut = { λ b. b.shut };
+
+    ghost halted = { λ b. b.halted };
+
+    ghost instance = { λ b. b.instance };
+
+    ghost budget = { λ b. b.budget };
+
+    ghost origin = { λ b. origin_at (take b.opening b.history) (D.calls b.opened) (D.faults b.opened) b.limit (tells (D.reads b.opened)) };
+
+    /// A worker whose hand is empty takes a node, if one is to be had.
+    fn take(&mut self, worker: u32) -> Taken {
+        self.take(worker)
+    }
+
+    /// The cuts of the node in a worker's hand.
+    fn cuts(&self, worker: u32) -> Result<Cuts, NoMemory> {
+        self.cuts(worker)
+    }
+
+    /// A worker commits a step for the node in its hand, and lets go of it.
+    fn commit(&mut self, worker: u32, step: StepPosts) -> Result<Kept, CommitFault> {
+        self.commit(worker, step)
+    }
+
+    /// A worker lets go of the node in its hand, if there is one, without a commit. The book gives no more nodes then.
+    fn yield_node(&mut self, worker: u32) {
+        self.yield_node(worker);
+    }
+
+    /// The node in a worker's hand.
+    fn held(&self, worker: u32) -> Option<u32> {
+        self.held(worker)
+    }
+
+    /// What the best rota costs.
+    fn best_cost(&self) -> u64 {
+        self.best_cost()
+    }
+
+    /// How many posts there are.
+    fn posts(&self) -> u64 {
+        self.posts()
+    }
+
+    ghost sound = { λ b. sound_of b.instance b.history b.book b.hands b.taken b.budget b.opening (D.calls b.opened) (D.faults b.opened) b.limit (tells (D.reads b.opened)) b.halted b.shut b.keeps.folds b.keeps.apart b.keeps.unsplit b.keeps.sixteen b.keeps.within b.keeps.fresh b.keeps.past b.keeps.most };
+}

@@ -1,0 +1,13 @@
+use Rattle.std.proofs.Common.{subst, sym}
+use Rattle.search_core.specs.declared.event_fault.EventFault.{EventFault}
+use Rattle.search_core.specs.Taking.{PostsStop}
+use Rattle.search_core.proofs.Taking.{taking_more, taking_stops}
+use Rattle.search_core.proofs.refolding.add_posts.Goals as goal
+
+pub returns-in-Err-clause-err : goal.returns-in-Err-clause-err
+returns-in-Err-clause-err c =
+    subst (λ (f : EventFault). PostsStop c.args.instance.now c.args.state.now.book c.args.posts.items f) (sym c.refused_at.ensures)
+    (taking_stops _ _ _ _ _ _ _ _ c.in-Some.post c.in-Err.why c.requires c.loop-post.invariant c.in-Some.ensures.steps.0 c.in-Err.ensures.err)
+
+pub loop-post-preserved : goal.loop-post-preserved
+loop-post-preserved c = taking_more _ _ _ _ _ _ _ _ c.in-Some.post c.loop-post.invariant c.in-Some.ensures.steps.0 c.in_default.ensures.ok

@@ -1,0 +1,19 @@
+use Rattle.std.proofs.Common.{◌≡◌, map, string_bytes}
+use Rattle.shift_check.specs.Check.{Met}
+use Rattle.shift_check.proofs.Endings.{asked_for, explained}
+use Rattle.shift_check.proofs.checking.check_run.Goals as goal
+
+pub returns-in-Ok-clause-status : goal.returns-in-Ok-clause-status
+returns-in-Ok-clause-status g c =
+    let S = g.S.Source in
+    let T = g.T.Source in
+    let K = g.K.Sink in
+    let met : Met = record {
+      words = map string_bytes c.args.words.now;
+      document = record { left = S.left c.args.instance.now; faults = (S.faults c.args.instance.now, S.faults c.read_instance.new.input) };
+      report = record { left = T.left c.args.bundle.now; faults = (T.faults c.args.bundle.now, T.faults c.judge_report.new.bundle) };
+      sink = record { held = K.held c.args.out.now; held_after = K.held c.judge_report.new.out; faults = (K.faults c.args.out.now, K.faults c.judge_report.new.out) };
+    } in
+    explained met c.in-Some.request.command c.in-Ok.instance c.judge_report.result
+    (record { asked = asked_for _ c.request_of.result c.in-Some.request met.words c.request_of.ensures c.in-Some.is; document = c.in-Ok.ensures.ok })
+    c.judge_report.ensures.status
