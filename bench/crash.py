@@ -1,6 +1,6 @@
 #!/usr/bin/env python3
-"""Kills `shift_solve solve` (`kill -9`) at random moments, some hundred times, each time over a journal file of its own, looks at what
-the file holds, and opens it again with the program. Prints how many files were left how, and with which cost each opened again.
+"""Kills `shift_solve solve` (`kill -9`) at random moments of a search of some steps, some hundred times, each time over a journal file
+of its own, looks at what the file holds, and goes on with it. Prints how many files were left how, and with which cost each went on.
 Build the program first, by `./run shift_solve` with any words. Words: the number of runs (400 where none is given)."""
 import collections
 import json
@@ -19,12 +19,13 @@ import week
 TOP = os.path.dirname(os.path.dirname(os.path.abspath(__file__)))
 PROGRAM = os.path.join(TOP, "crates", "shift_solve", "out", "shift_solve")
 MARK = b"SHIFTJ1\n"
+STEPS = "20"
 
 
 def command(journal, document):
     """A run of the program over that journal, in a process of its own."""
     with open(document, "rb") as source:
-        return subprocess.Popen([PROGRAM, "solve", journal], stdin=source, stdout=subprocess.PIPE, stderr=subprocess.PIPE)
+        return subprocess.Popen([PROGRAM, "solve", journal, "--steps", STEPS], stdin=source, stdout=subprocess.PIPE, stderr=subprocess.PIPE)
 
 
 def held(path):
@@ -40,16 +41,20 @@ def held(path):
     at = 12 + struct.unpack_from("<I", content, 8)[0]
     if len(content) <= at:
         return "a torn first write"
-    cost = None
+    cost, posts = None, 0
     while content[at] == 1:
         size = struct.unpack_from("<I", content, at + 1)[0]
-        cost = struct.unpack_from("<Q", content, at + 10)[0]  # behind the length, the number of posts, the tag and the worker
+        posts += 1
+        if content[at + 7] == 1:  # a plan: behind the length and the number of posts
+            cost = struct.unpack_from("<Q", content, at + 10)[0]  # behind the tag and the worker
         at += 5 + size
-    return "a journal without posts" if cost is None else "a plan of cost %d" % cost
+    if posts == 0:
+        return "a journal without posts"
+    return "posts without a plan" if cost is None else "posts with a plan of cost %d" % cost
 
 
 def opened_again(journal, document):
-    """The status of a further run over a journal, and the cost that it prints."""
+    """The status of a further run over a journal, and the cost that it prints: at most that of the plan that it held."""
     child = command(journal, document)
     out, _ = child.communicate()
     lines = out.decode().split("\n")

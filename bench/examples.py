@@ -1,6 +1,6 @@
 #!/usr/bin/env python3
 """Measures `shift_solve solve` on each instance of `examples/`: seconds and peak memory of the whole process, the best of five runs,
-each over a new journal file. Nearly all of it is the greedy plan.
+each over a new journal file: one step, nearly all of which is the greedy plan.
 Build the program first, by `./run shift_solve` with any words."""
 import os
 import subprocess
@@ -21,7 +21,7 @@ def run(example, folder):
     report_name = os.path.join(folder, "report")
     with open(os.path.join(EXAMPLES, example), "rb") as source, open(report_name, "wb") as report:
         begin = time.perf_counter()
-        child = subprocess.Popen([PROGRAM, "solve", journal], stdin=source, stdout=report, stderr=subprocess.DEVNULL)
+        child = subprocess.Popen([PROGRAM, "solve", journal, "--steps", "1"], stdin=source, stdout=report, stderr=subprocess.DEVNULL)
         _, _, usage = os.wait4(child.pid, 0)
         seconds = time.perf_counter() - begin
     with open(report_name) as report:
