@@ -2,6 +2,8 @@
 //! plan over the journal, and prints the report of the search.
 #![tactic(auto)]
 
+#[cfg(test)]
+mod journal_tests;
 mod report;
 mod run;
 #[cfg(test)]

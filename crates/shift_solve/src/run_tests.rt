@@ -10,13 +10,13 @@ use std::alloc::{AllocError, Global};
 use std::test::Fail;
 
 /// One type `M` of one shift, 8:00 to 12:00, and the hours of one day; the needs and the breaks of `M` are filled in.
-fn document(alloc: Global, needs: &str, breaks: &str) -> Result<String, AllocError> {
+pub(crate) fn document(alloc: Global, needs: &str, breaks: &str) -> Result<String, AllocError> {
     format!(in alloc;
         "{{\"slot_minutes\":60,\"days\":1,\"need\":[{needs}],\"max_heads\":1,\"weights\":{{\"excess\":1,\"shortage\":2,\"shift\":3}},\"types\":[{{\"name\":\"M\",\"start_min\":8,\"start_max\":8,\"len_min\":4,\"len_max\":4,\"breaks\":{breaks}}}]}}"
     )
 }
 
-const MORNING: &str = "0,0,0,0,0,0,0,0,1,1,1,1,0,0,0,0,0,0,0,0,0,0,0,0";
+pub(crate) const MORNING: &str = "0,0,0,0,0,0,0,0,1,1,1,1,0,0,0,0,0,0,0,0,0,0,0,0";
 
 const NOTHING: &str = "0,0,0,0,0,0,0,0,0,0,0,0,0,0,0,0,0,0,0,0,0,0,0,0";
 
@@ -60,12 +60,12 @@ fn words_of(alloc: Global, line: &str) -> Result<Vec<String>, AllocError> {
 /// What a run says: the number of its status and its line on standard error, what the sink then holds, and its disk with whether a book
 /// was opened on it.
 #[derive(Drop)]
-struct Ran {
-    number: u8,
-    line: String,
-    written: Vec<u8>,
-    disk: MemDisk,
-    opened: bool,
+pub(crate) struct Ran {
+    pub(crate) number: u8,
+    pub(crate) line: String,
+    pub(crate) written: Vec<u8>,
+    pub(crate) disk: MemDisk,
+    pub(crate) opened: bool,
 }
 
 /// A run over a disk. The source gives `most` bytes a read and the sink takes as many; the reads and writes of the given numbers
@@ -101,7 +101,7 @@ fn run_on(
 }
 
 /// A run over a new disk.
-fn run(
+pub(crate) fn run(
     alloc: Global,
     line: &str,
     input: &[u8],
@@ -116,7 +116,7 @@ fn run(
 }
 
 /// A run of `solve J` on a disk with this content, of which one call fails, or none where its number is 0.
-fn run_over(alloc: Global, content: &[u8], bad_call: u64) -> Result<Ran, AllocError> {
+pub(crate) fn run_over(alloc: Global, content: &[u8], bad_call: u64) -> Result<Ran, AllocError> {
     let text = document(alloc, MORNING, "null")?;
     let bytes = Vec::from_slice(alloc, content)?;
     let disk = MemDisk::new(alloc, bytes, vec![in alloc; bad_call]?);
