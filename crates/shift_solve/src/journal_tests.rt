@@ -1,6 +1,7 @@
-//! A run over a journal that other prices made: posts of each kind, and what the report says of them.
+//! Runs over a journal that other prices made, with posts of each kind, and over journals that a disk fault left in a step.
 
-use crate::run_tests::{MORNING, document, run, run_over};
+use crate::run_tests::{MORNING, Ran, document, morning_for_two, run, run_on, run_over};
+use plan_base::MemDisk;
 use std::alloc::{AllocError, Global};
 use std::test::Fail;
 
@@ -60,5 +61,38 @@ fn posts_of_each_kind_are_reported(rt: HostRuntime) -> Result<(), Fail> {
     assert_eq!(rt; (ran.number, ran.opened), (0, true));
     assert_eq!(rt; ran.written.as_slice(), report.as_bytes());
     assert_eq!(rt; ran.disk.bytes(), journal.as_slice());
+    Ok(())
+}
+
+/// A run of three steps for the morning with room for two employees, on a disk with this content, of which one call fails, or none
+/// where its number is 0.
+fn three_steps(alloc: Global, content: &[u8], bad_call: u64) -> Result<Ran, AllocError> {
+    let text = morning_for_two(alloc)?;
+    let bytes = Vec::from_slice(alloc, content)?;
+    let disk = MemDisk::new(alloc, bytes, vec![in alloc; bad_call]?);
+    run_on(
+        alloc,
+        disk,
+        "solve J --steps 3",
+        text.as_bytes(),
+        100000,
+        0,
+        0,
+    )
+}
+
+#[test]
+fn a_fault_at_each_call_of_three_steps_is_gone_on_with(rt: HostRuntime) -> Result<(), Fail> {
+    let alloc = rt.alloc();
+    for call in 5..25u64 {
+        let torn = three_steps(alloc, &[], call)?;
+        assert_eq!(rt; torn.number, 7, "call {call}");
+        assert!(rt; torn.written.is_empty());
+        let image = torn.disk.image(None)?;
+        let ran = three_steps(alloc, image.bytes(), 0)?;
+        assert_eq!(rt; ran.number, 0, "call {call}");
+        let begins = "shift-report 1\nstatus optimal\ncost 3\nbound 3\n";
+        assert!(rt; ran.written.as_slice().starts_with(begins.as_bytes()));
+    }
     Ok(())
 }

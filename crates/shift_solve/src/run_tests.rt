@@ -70,7 +70,7 @@ pub(crate) struct Ran {
 
 /// A run over a disk. The source gives `most` bytes a read and the sink takes as many; the reads and writes of the given numbers
 /// fail.
-fn run_on(
+pub(crate) fn run_on(
     alloc: Global,
     disk: MemDisk,
     line: &str,
@@ -161,7 +161,7 @@ fn no_step_is_needed_or_taken(rt: HostRuntime) -> Result<(), Fail> {
 }
 
 /// The morning with room for two employees.
-fn morning_for_two(alloc: Global) -> Result<String, AllocError> {
+pub(crate) fn morning_for_two(alloc: Global) -> Result<String, AllocError> {
     let text = document(alloc, MORNING, "null")?;
     text.as_str()
         .replacen(alloc, "\"max_heads\":1", "\"max_heads\":2", 1)
