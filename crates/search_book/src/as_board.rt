@@ -1,11 +1,11 @@
 //! The book of a search as a board.
-use crate::SearchBook;
+use crate::Book;
 use break_rules::NoMemory;
 use head_splits::Cuts;
 use plan_base::Disk;
 use search_core::{Board, CommitFault, Kept, StepPosts, Taken};
 
-impl<D: Disk> Board for SearchBook<D> {
+impl<D: Disk> Board for Book<D> {
     ghost use Rattle.std.specs.Prelude.{take};
     ghost use Rattle.search_book.specs.Origins.{origin_at, sound_of, tells};
 

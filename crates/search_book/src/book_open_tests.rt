@@ -2,7 +2,7 @@
 ghost use Rattle.std.specs.Prelude.{◌≡◌, IfOk};
 ghost use Rattle.search_core.specs.Core.{empty_hands};
 
-use crate::SearchBook;
+use crate::Book;
 use crate::test_books::{LIMIT, one_shift};
 use instance_json::canonical;
 use plan_base::MemDisk;
@@ -18,13 +18,13 @@ fn new_book(
     alloc: Global,
     instance: &Instance,
     budget: u64,
-) -> Result<SearchBook<MemDisk>, Fail>
+) -> Result<Book<MemDisk>, Fail>
     ensures { IfOk result (λ b. b.hands ≡ empty_hands) }
 {
     let head = canonical(alloc, instance)?;
     assert!(rt; head.len() < 1 << 20);
     let disk = MemDisk::new(alloc, Vec::new(alloc), Vec::new(alloc));
-    match SearchBook::open(alloc, instance, disk, budget, LIMIT) {
+    match Book::open(alloc, instance, disk, budget, LIMIT) {
         Ok(book) => Ok(book),
         Err(_) => Err("it isn't opened")?,
     }

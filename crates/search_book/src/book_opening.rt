@@ -11,13 +11,13 @@ ghost use Rattle.search_book.specs.Opened.{HoldsBook, OpenCause};
 ghost use Rattle.search_book.specs.Opening.{IsOldOrShort, IsOpenedFrom};
 ghost use Rattle.search_book.specs.Search.{log_of};
 
-use crate::board_book::SearchBook;
+use crate::book::Book;
 use crate::log_opening::{Unopened, open_log};
 use plan_base::Disk;
 use shift_instance::Instance;
 use std::alloc::Global;
 
-impl<D: Disk> SearchBook<D> {
+impl<D: Disk> Book<D> {
     /// Opens the book that a disk's file holds for an instance, or creates its journal in an empty file, by four calls. The
     /// file may have `limit` bytes, and workers may take `budget` steps. No step is taken, and no worker holds a node. A
     /// refusal hands the disk back.
@@ -32,7 +32,7 @@ impl<D: Disk> SearchBook<D> {
         disk: D,
         budget: u64,
         limit: u32,
-    ) -> Result<SearchBook<D>, Unopened<D>>
+    ) -> Result<Book<D>, Unopened<D>>
         requires count { D.calls disk < 2 ^ 62 }
         requires room { 13 + length (canonical_text instance.now) ≤ limit }
         requires most { limit ≤ 2 ^ 26 }
@@ -54,7 +54,7 @@ impl<D: Disk> SearchBook<D> {
         ensures most { MatchResult result (λ book. D.calls book.disk ≤ D.calls disk + 2 ^ 33 + 2) (λ e. D.calls e.disk ≤ D.calls disk + 2 ^ 33 + 2) }
     {
         match open_log(alloc, instance, disk, limit) {
-            Ok(log) => Ok(SearchBook::over(alloc, log, budget)),
+            Ok(log) => Ok(Book::over(alloc, log, budget)),
             Err(unopened) => Err(unopened),
         }
     }

@@ -3,7 +3,7 @@ ghost use Rattle.std.specs.Prelude.{◌≡◌, ◌<◌, ◌≤◌, ◌^◌, IfOk
 ghost use Rattle.search_core.specs.Core.{empty_hands};
 ghost use Rattle.search_core.specs.Steps.{Fits};
 
-use crate::SearchBook;
+use crate::Book;
 use crate::test_books::{LIMIT, one_duty, one_shift};
 use break_rules::Breaks;
 use dual_bound::prove;
@@ -24,7 +24,7 @@ fn board(
     instance: &Instance,
     limit: u32,
     fails: &[u64],
-) -> Result<SearchBook<MemDisk>, Fail>
+) -> Result<Book<MemDisk>, Fail>
     ensures { IfOk result (λ b. (b.instance ≡ instance.now) × (b.hands ≡ empty_hands)) }
 {
     let head = canonical(alloc, instance)?;
@@ -32,14 +32,14 @@ fn board(
     assert!(rt; 13 + head.len() as u32 <= limit);
     assert!(rt; limit <= 1 << 26);
     let disk = MemDisk::new(alloc, Vec::new(alloc), Vec::from_slice(alloc, fails)?);
-    match SearchBook::open(alloc, instance, disk, 10, limit) {
+    match Book::open(alloc, instance, disk, 10, limit) {
         Ok(book) => Ok(book),
         Err(_) => Err("it isn't opened")?,
     }
 }
 
 /// A worker whose hand is empty takes a node.
-fn take(rt: &impl Abort, book: &mut SearchBook<MemDisk>, worker: u32) -> Taken
+fn take(rt: &impl Abort, book: &mut Book<MemDisk>, worker: u32) -> Taken
     requires { worker < 16 }
     ensures { book.new.instance ≡ book.old.instance }
 {

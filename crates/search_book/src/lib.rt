@@ -4,7 +4,7 @@
 
 mod adding;
 mod as_board;
-mod board_book;
+mod book;
 #[cfg(test)]
 mod book_open_tests;
 mod book_opening;
@@ -30,7 +30,7 @@ mod stepping;
 #[cfg(test)]
 mod test_books;
 
-pub use board_book::SearchBook;
+pub use book::Book;
 pub use laws::one_history;
 pub use log_opening::Unopened;
 pub use open_fault::OpenFault;

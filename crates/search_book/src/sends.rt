@@ -1,5 +1,5 @@
 //! A book may go to another thread where its disk may.
-use crate::SearchBook;
+use crate::Book;
 use plan_base::Disk;
 
 fn moved<T: Send>(value: T) -> T {
@@ -7,6 +7,6 @@ fn moved<T: Send>(value: T) -> T {
 }
 
 /// The book of a search again, which may have come from another thread.
-pub fn sent<D: Disk + Send>(book: SearchBook<D>) -> SearchBook<D> {
+pub fn sent<D: Disk + Send>(book: Book<D>) -> Book<D> {
     moved(book)
 }

@@ -9,12 +9,12 @@ use break_rules::NoMemory;
 use certificate::{Cert, CertStatus, of_history};
 use plan_base::Disk;
 use rota_writer::{report, table};
-use search_book::SearchBook;
+use search_book::Book;
 use shift_instance::Instance;
 use std::alloc::Global;
 
 /// What is said of a book.
-fn status_of<D: Disk>(book: &SearchBook<D>) -> CertStatus
+fn status_of<D: Disk>(book: &Book<D>) -> CertStatus
     ensures { result ≡ status_of_book book.now.book }
 {
     if book.finished() {
@@ -25,7 +25,7 @@ fn status_of<D: Disk>(book: &SearchBook<D>) -> CertStatus
 }
 
 /// The certificate of a book.
-fn cert_of<D: Disk>(alloc: Global, book: &SearchBook<D>) -> Result<Cert, NoMemory>
+fn cert_of<D: Disk>(alloc: Global, book: &Book<D>) -> Result<Cert, NoMemory>
     ensures is { IfOk result (λ cert. cert ≡ cert_of book.now.history book.now.book) }
     ensures agrees { IfOk result (λ cert. IsValid book.now.instance → Agrees cert) }
 {
@@ -45,7 +45,7 @@ fn cert_of<D: Disk>(alloc: Global, book: &SearchBook<D>) -> Result<Cert, NoMemor
 pub(crate) fn output_of<D: Disk>(
     alloc: Global,
     instance: &Instance,
-    book: &SearchBook<D>,
+    book: &Book<D>,
     with_table: bool,
 ) -> Result<Vec<u8>, NoMemory>
     requires same { book.now.instance ≡ instance.now }

@@ -12,7 +12,7 @@ use gated_journal::JOURNAL_MAX;
 use instance_input::{Unread, read_instance};
 use instance_json::laws::canonical_text_is_short;
 use plan_base::{Disk, Sink, Source};
-use search_book::{OpenFault, SearchBook};
+use search_book::{Book, OpenFault};
 use shift_instance::Instance;
 use std::alloc::Global;
 
@@ -46,7 +46,7 @@ fn run_book<K: Sink, D: Disk>(
     canonical_text_is_short(instance);
     // an instance is valid
     let _heads = instance.heads();
-    match SearchBook::open(alloc, instance, disk, steps, JOURNAL_MAX) {
+    match Book::open(alloc, instance, disk, steps, JOURNAL_MAX) {
         Err(left) => (unopened(left.fault), left.disk, false),
         Ok(mut book) => {
             let status = search(alloc, instance, &mut book, table, out);

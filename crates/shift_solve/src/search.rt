@@ -7,13 +7,13 @@ ghost use Rattle.shift_solve.specs.Status.{EndsUnwritten};
 use crate::report::output_of;
 use crate::status::Status;
 use plan_base::{Disk, Failed, Sink, write_all};
-use search_book::SearchBook;
+use search_book::Book;
 use shift_instance::Instance;
 use std::alloc::Global;
 use worker_gate::{RunEnd, run_worker};
 
 /// Runs the search over a book from which no node was taken yet.
-fn run_search<D: Disk>(alloc: Global, instance: &Instance, book: &mut SearchBook<D>) -> RunEnd
+fn run_search<D: Disk>(alloc: Global, instance: &Instance, book: &mut Book<D>) -> RunEnd
     requires same { book.old.instance ≡ instance.now }
     requires begun { IsBegun book.old }
     ensures goes_on { GoesOn D.reads D.calls D.faults book.old book.new }
@@ -52,7 +52,7 @@ fn status_at(end: RunEnd) -> Status
 fn write_report<K: Sink, D: Disk>(
     alloc: Global,
     instance: &Instance,
-    book: &SearchBook<D>,
+    book: &Book<D>,
     table: bool,
     out: &mut K,
 ) -> Result<(), Status>
@@ -75,7 +75,7 @@ fn write_report<K: Sink, D: Disk>(
 pub(crate) fn search<K: Sink, D: Disk>(
     alloc: Global,
     instance: &Instance,
-    book: &mut SearchBook<D>,
+    book: &mut Book<D>,
     table: bool,
     out: &mut K,
 ) -> Status

@@ -3,7 +3,7 @@ use Rattle.std.specs.Prelude.{IfErr}
 use Rattle.search_core.specs.Board.{seen, CommitRefuses}
 use Rattle.search_book.specs.Committing.{LeavesLog}
 use Rattle.search_book.specs.Search.{board_of, log_of, SearchView}
-use Rattle.search_book.proofs.board_book.SearchBook.commit.Goals as goal
+use Rattle.search_book.proofs.book.Book.commit.Goals as goal
 
 pub returns-clause-err : goal.returns-clause-err
 returns-clause-err g c =

@@ -4,7 +4,7 @@ use Rattle.search_core.specs.Book.{Book}
 use Rattle.search_core.specs.Core.{hand}
 use Rattle.search_core.specs.Kept.{cuts_in}
 use Rattle.search_core.proofs.Outlines.{book_is}
-use Rattle.search_book.proofs.as_board.SearchBookBoard.cuts.Goals as goal
+use Rattle.search_book.proofs.as_board.BookBoard.cuts.Goals as goal
 
 pub returns-clause-cuts : goal.returns-clause-cuts
 returns-clause-cuts g c =

@@ -28,11 +28,11 @@ use std::marker::Model;
 /// Contracts see the instance, its posts with the book that they make, its disk, what shut it, the node in the hand of each
 /// worker, the steps taken and those of the budget, and whether a worker let go of its node without a commit.
 #[derive(Drop)]
-pub struct SearchBook<D: Disk> {
+pub struct Book<D: Disk> {
     session: Session<D>,
 }
 
-impl<D: Disk> Model for SearchBook<D> {
+impl<D: Disk> Model for Book<D> {
     ghost use Rattle.search_book.specs.Search.{SearchView};
 
     ghost Value = { SearchView D };
@@ -40,7 +40,7 @@ impl<D: Disk> Model for SearchBook<D> {
     ghost view = { λ b. record { instance = b.session.log.instance; history = b.session.log.history; book = b.session.log.book; disk = b.session.log.disk; limit = b.session.log.limit; opening = b.session.log.opening; opened = b.session.log.opened; made = b.session.log.made; used = b.session.log.used; in_flight = b.session.log.in_flight; shut = b.session.log.shut; hands = b.session.hands; taken = b.session.taken; budget = b.session.budget; halted = b.session.halted; keeps = record { folds = b.session.folds; apart = b.session.apart; unsplit = b.session.unsplit; counted = b.session.counted; sixteen = b.session.sixteen; within = b.session.within; front = b.session.front; fresh = b.session.fresh; past = b.session.past; most = b.session.most } } };
 }
 
-impl<D: Disk> SearchBook<D> {
+impl<D: Disk> Book<D> {
     /// The rows of the best rota, which are legal for the instance.
     pub fn best(&self) -> &Rows
         ensures best { result.now ≡ self.now.book.best }
@@ -171,19 +171,19 @@ impl<D: Disk> SearchBook<D> {
     pub fn into_disk(self) -> D
         ensures { result ≡ self.disk }
     {
-        let SearchBook { session } = self;
+        let Book { session } = self;
         session.into_disk()
     }
 
     // The book of a log of posts, before any step.
-    pub(crate) fn over(alloc: Global, log: PostLog<D>, budget: u64) -> SearchBook<D>
+    pub(crate) fn over(alloc: Global, log: PostLog<D>, budget: u64) -> Book<D>
         requires open { log.shut ≡ None }
         requires new { log.opening ≡ length log.history }
         ensures log { log_of result ≡ log }
         ensures hands { result.hands ≡ empty_hands }
         ensures steps { (result.taken ≡ 0) × (result.budget ≡ budget) × (result.halted ≡ false) }
     {
-        SearchBook {
+        Book {
             session: Session::over(alloc, log, budget),
         }
     }

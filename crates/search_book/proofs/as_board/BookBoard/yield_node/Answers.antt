@@ -1,7 +1,7 @@
 use Rattle.std.proofs.Common.{ap}
 use Rattle.search_book.specs.PostLog.{PostLogView}
 use Rattle.search_book.proofs.Boarding.{origin_log}
-use Rattle.search_book.proofs.as_board.SearchBookBoard.yield_node.Goals as goal
+use Rattle.search_book.proofs.as_board.BookBoard.yield_node.Goals as goal
 
 pub returns-clause-root : goal.returns-clause-root
 returns-clause-root g c =

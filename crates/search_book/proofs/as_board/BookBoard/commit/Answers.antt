@@ -1,5 +1,5 @@
 use Rattle.search_book.proofs.Boarding.{origin_front}
-use Rattle.search_book.proofs.as_board.SearchBookBoard.commit.Goals as goal
+use Rattle.search_book.proofs.as_board.BookBoard.commit.Goals as goal
 
 pub returns-clause-root : goal.returns-clause-root
 returns-clause-root g c =
