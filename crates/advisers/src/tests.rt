@@ -1,3 +1,5 @@
+ghost use Rattle.std.specs.Prelude.{◌≡◌, IfOk, length};
+
 use crate::{Advice, Ask, Greedy};
 use break_rules::{Breaks, Rule};
 use head_splits::{Class, Cut, Cuts, Side};
@@ -36,7 +38,9 @@ fn morning(alloc: Global, heads: u16) -> Result<Parts, Fail> {
 }
 
 /// What is asked for the node below at least `least` duties of the shift.
-fn ask(alloc: Global, least: u16) -> Result<Ask, Fail> {
+fn ask(alloc: Global, least: u16) -> Result<Ask, Fail>
+    ensures { IfOk result (λ ask. length ask.cuts ≡ 1) }
+{
     let class = Class {
         shift: 0,
         day: 0,
