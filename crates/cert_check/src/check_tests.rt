@@ -80,7 +80,7 @@ fn answer(
         status: CertStatus::Stopped,
         plan,
         bound,
-        lines: Lines::new(lines),
+        lines: Lines::from_slice(alloc, &lines)?,
     };
     Ok(check(alloc, &instance, &cert))
 }

@@ -71,7 +71,7 @@ pub fn check(alloc: Global, instance: &Instance, cert: &Cert) -> Result<Accepted
     ensures enough { IfOk result (λ a. (rota : List Duty) → IsTrue (is_legal_rota instance.now rota) → a.bound ≤ cost instance.now rota) }
     ensures plan { IfOk result (λ a. (claimed : ℕ) (rows : List Row) → cert.now.plan ≡ Some (claimed, rows) → IsTrue (are_legal_rows instance.now rows) × (cost instance.now (rota_of rows) ≡ claimed)) }
 {
-    let tree = judge_lines(alloc, instance, cert.lines.as_slice())?;
+    let tree = judge_lines(alloc, instance, &cert.lines)?;
     let found = tree.least_floor();
     if found < cert.bound {
         return Err(Refused::BoundTooHigh {

@@ -12,7 +12,7 @@ use crate::settled::settled_floor;
 use crate::tree::Tree;
 use crate::value::{are_prices, value};
 use break_rules::NoMemory;
-use certificate::Line;
+use certificate::{Line, Lines};
 use head_splits::{Class, Prices};
 use shift_instance::Instance;
 use std::alloc::Global;
@@ -125,15 +125,17 @@ fn bad_line(line: &Line, number: u64) -> Refused
 }
 
 /// The nodes that proof lines make of the root, where each line is good.
-pub fn judge_lines(alloc: Global, instance: &Instance, lines: &[Line]) -> Result<Tree, Refused>
+pub fn judge_lines(alloc: Global, instance: &Instance, lines: &Lines) -> Result<Tree, Refused>
     ensures good { IfOk result (λ tree. nodes_of instance.now lines.now ≡ Some tree) }
     ensures causes { IfOk result (λ tree. line_cause instance.now (new_node [] ∷ []) 1 lines.now ≡ None) }
     ensures bad { IfErr result (IsFirstBad instance.now lines.now) }
 {
     let mut tree = Tree::root(alloc)?;
-    for (k, line) in lines.iter().enumerate() {
-        if !judge_line(alloc, instance, &mut tree, line)? {
-            return Err(bad_line(line, k as u64 + 1));
+    let mut reader = lines.reader();
+    while let Some(line) = reader.next_line(alloc)? {
+        if !judge_line(alloc, instance, &mut tree, &line)? {
+            let number = lines.len() - reader.len();
+            return Err(bad_line(&line, number as u64));
         }
     }
     Ok(tree)

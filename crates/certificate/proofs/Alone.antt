@@ -5,7 +5,8 @@ use Rattle.std.proofs.lemmas.Bool.{cases_lt}
 use Rattle.std.proofs.lemmas.List.{append-nil, take_at}
 use Rattle.std.proofs.lemmas.List.Elements.{All-nil, All-head, All-tail, All-append, All-take}
 use Rattle.certificate.specs.declared.Cert.{Cert}
-use Rattle.certificate.specs.Text.{Line, lines_text, cert_lines, cert_text}
+use Rattle.certificate.specs.Text.{cert_lines, cert_text}
+use Rattle.certificate.specs.LineText.{Line, lines_text}
 use Rattle.certificate.specs.Departing.{IsLine, IsNote, IsText, Begins, DepartBehind, EachIsWritten, EachSpellsOnce, EachBeginsAlike, EachDepartsOnce}
 use Rattle.certificate.proofs.LineReading.{right, same_ok, text_append}
 use Rattle.certificate.proofs.Certs.{cert_reads}

@@ -11,9 +11,11 @@ use Rattle.certificate.specs.declared.CertStatus.{CertStatus}
 use Rattle.certificate.specs.declared.CertStatus.TheVariants.{Optimal, Stopped, Bound}
 use Rattle.certificate.specs.declared.proof_lines.Line.{Line as ProofLine}
 use Rattle.certificate.specs.declared.proof_lines.Line.TheVariants.{Settled}
-use Rattle.certificate.specs.Text.{Line, breaks_text, row_line, proof_line, proof_lines, status_text, rows_of, cert_lines, AgreesWith, HasSlot, FitsBreak, FitsRow, FitsLine, HasText}
+use Rattle.certificate.specs.Text.{proof_lines, status_text, rows_of, cert_lines, AgreesWith, HasText}
+use Rattle.certificate.specs.LineText.{Line, breaks_text, row_line, proof_line, HasSlot, FitsBreak, FitsRow, FitsLine}
 use Rattle.certificate.specs.Departing.{IsLine}
-use Rattle.certificate.specs.Reading.{number_in, word_in, number_or_dash, status_word_in, status_in, allows_cost, cost_in, allows_bound, bound_in, go_together, count_in, line_at, opening_at, limits_at, or_zero, rows_at, proof_at, closing_at, plan_of, to_cert, cert_at}
+use Rattle.certificate.specs.Reading.{number_or_dash, status_word_in, status_in, allows_cost, cost_in, allows_bound, bound_in, go_together, count_in, opening_at, limits_at, or_zero, rows_at, proof_at, closing_at, plan_of, to_cert, cert_at}
+use Rattle.certificate.specs.Words.{number_in, word_in, line_at}
 use Rattle.certificate.proofs.Spelling.{Exact, Lacks, some_of, same_some, chosen, same_text, text_same, text_other, decimal_lacks, mapped_some, kept_exact, led_exact}
 use Rattle.certificate.proofs.Feeds.{plain, joins, word_before}
 use Rattle.certificate.proofs.Spelled.{number_below, breaks_lack, row_exact}

@@ -1,18 +1,26 @@
 -- The proof lines of a history, post by post.
-use Rattle.std.proofs.Common.{◌≡◌, ℕ, ◌+◌, ◌<◌, List, [], ◌∷◌, ◌++◌, length, take, get_or, Option, Some, None, ap, ◌∙◌}
+use Rattle.std.proofs.Common.{◌≡◌, ℕ, ◌+◌, ◌<◌, ◌≤◌, List, [], ◌∷◌, ◌++◌, length, take, get_or, map, Option, Some, None, ap, ◌∙◌, arith}
 use Rattle.std.specs.List.{cons_option}
-use Rattle.std.proofs.lemmas.List.{take_more, append-nil}
+use Rattle.std.proofs.lemmas.Grind.{flat_map-append}
+use Rattle.std.proofs.lemmas.List.{take_more, map-append}
 use Rattle.std.proofs.lemmas.List.Elements.{filter_map-append}
 use Rattle.post_codec.specs.declared.post.Post.{Post}
-use Rattle.certificate.specs.declared.proof_lines.Line.{Line}
+use Rattle.certificate.specs.declared.proof_lines.Line.{Line as ProofLine}
+use Rattle.certificate.specs.LineText.{line_text, lines_text, proof_line}
 use Rattle.certificate.specs.History.{line_of, lines_of}
 
--- one post more gives its line, if it has one
-one_more : (posts : List Post) (i : ℕ) (post : Post) → i < length posts → lines_of (take (i + 1) posts) ≡ lines_of (take i posts) ++ cons_option (line_of (get_or posts i post)) []
+-- one post more adds its lines
+pub one_more : (posts : List Post) (i : ℕ) (post : Post) → i < length posts → lines_of (take (i + 1) posts) ≡ lines_of (take i posts) ++ lines_of (get_or posts i post ∷ [])
 one_more posts i post lt = ap lines_of (take_more posts i post lt) ∙ filter_map-append line_of (take i posts) (get_or posts i post ∷ [])
 
-pub with_line : (posts : List Post) (i : ℕ) (post : Post) (line : Line) → i < length posts → line_of (get_or posts i post) ≡ Some line → lines_of (take (i + 1) posts) ≡ lines_of (take i posts) ++ line ∷ []
-with_line posts i post line lt e = one_more posts i post lt ∙ ap (λ (o : Option Line). lines_of (take i posts) ++ cons_option o []) e
+option_few : (o : Option ProofLine) → length (cons_option o []) ≤ 1
+option_few None = omega arith
+option_few (Some line) = omega arith
 
-pub without_line : (posts : List Post) (i : ℕ) (post : Post) → i < length posts → line_of (get_or posts i post) ≡ None → lines_of (take (i + 1) posts) ≡ lines_of (take i posts)
-without_line posts i post lt e = one_more posts i post lt ∙ ap (λ (o : Option Line). lines_of (take i posts) ++ cons_option o []) e ∙ append-nil (lines_of (take i posts))
+-- a post has one line at most
+pub one_at_most : (post : Post) → length (lines_of (post ∷ [])) ≤ 1
+one_at_most post = option_few (line_of post)
+
+-- the text of lines and others behind them
+pub text_of_both : (a b : List ProofLine) → lines_text (map proof_line (a ++ b)) ≡ lines_text (map proof_line a) ++ lines_text (map proof_line b)
+text_of_both a b = ap lines_text (map-append proof_line a b) ∙ flat_map-append line_text (map proof_line a) (map proof_line b)

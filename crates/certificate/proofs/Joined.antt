@@ -6,8 +6,8 @@ use Rattle.std.proofs.lemmas.Bool.{ne_eqb, cases_Bool}
 use Rattle.std.proofs.lemmas.List.{append-nil}
 use Rattle.std.proofs.lemmas.List.Elements.{All-nil, All-cons, All-append, All-from_recursion, recursion_from_All}
 use Rattle.std.proofs.lemmas.List.Splits.{slice_split_at, slice_split_none, join_with_byte-slice_split, length-slice_split}
-use Rattle.certificate.specs.Text.{joined, joined_or_dash}
-use Rattle.certificate.specs.Reading.{Words, given, each_in, parts_in, parts_or_dash}
+use Rattle.certificate.specs.LineText.{joined, joined_or_dash}
+use Rattle.certificate.specs.Words.{Words, given, each_in, parts_in, parts_or_dash}
 use Rattle.certificate.proofs.Spelling.{Exact, Lacks, some_of, same_some, given_some, same_text, text_other}
 
 each_takes : {A : Type 0} (F : A → Type 0) (s : A → List ℕ) (f : Words A) → Exact F s f → (ws : List (List ℕ)) (l : List A) → each_in f ws ≡ Some l → (ws ≡ map s l) × AllByRecursion F l

@@ -7,7 +7,7 @@ use Rattle.std.specs.Str.Parse.{digits_value, AllDigits, IsNumeral, ParsesUnsign
 use Rattle.std.proofs.lemmas.Bool.{le-leb, leb-true, ne_eqb, eq-eqb, and_parts, and_from, cases_lt}
 use Rattle.std.proofs.lemmas.Fmt.{decimal_is_IsNumeral, decimal_digit, first_decimal, decimal-digits_value, parse-decimal, IsAscii-decimal}
 use Rattle.std.proofs.lemmas.Str.Parse.{IsNumeralModel, numerals_by_value, tells_digits, digit_at, without_leading_plus_none}
-use Rattle.certificate.specs.Reading.{begins_number, plain_number}
+use Rattle.certificate.specs.Words.{begins_number, plain_number}
 use Rattle.std.specs.Char.{is_ascii_digit as is_digit}
 use Rattle.std.proofs.lemmas.Str.{IsUtf8-from_ascii}
 use Rattle.certificate.proofs.Spelling.{some_of, number}

@@ -5,8 +5,8 @@ use Rattle.std.specs.Fmt.{decimal}
 use Rattle.std.proofs.lemmas.Bool.{leb-true, le-leb, ne_eqb}
 use Rattle.std.proofs.lemmas.List.Elements.{All-cons, All-append, recursion_from_All}
 use Rattle.break_rules.specs.declared.Break.{Break}
-use Rattle.certificate.specs.Text.{break_text, breaks_text, row_line, FitsBreak, FitsRow}
-use Rattle.certificate.specs.Reading.{cut_at, number_in, to_break, break_in, breaks_in, to_row, row_in}
+use Rattle.certificate.specs.LineText.{break_text, breaks_text, row_line, FitsBreak, FitsRow}
+use Rattle.certificate.specs.Words.{cut_at, number_in, to_break, break_in, breaks_in, to_row, row_in}
 use Rattle.certificate.proofs.Spelling.{Exact, Lacks, cut_again, number, decimal_lacks, kept_exact, led_exact, sides_exact, mapped_exact}
 use Rattle.certificate.proofs.Joined.{joined_or_dash_lacks, parts_or_dash_exact}
 

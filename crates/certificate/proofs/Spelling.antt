@@ -12,7 +12,7 @@ use Rattle.std.proofs.lemmas.List.Sums.{fails_before_first}
 use Rattle.std.proofs.lemmas.Slice.Eq.{bytes_eq-Decides}
 use Rattle.std.proofs.lemmas.Fmt.{decimal_is_IsNumeral}
 use Rattle.std.proofs.lemmas.Str.Parse.{digit_at}
-use Rattle.certificate.specs.Reading.{Words, given, kept, cut_at, plain_number, behind, led_by, both_sides}
+use Rattle.certificate.specs.Words.{Words, given, kept, cut_at, plain_number, behind, led_by, both_sides}
 
 -- a reader of whole texts and a spelling are each other's inverse
 pub record Exact {A : Type 0} (Fits : A → Type 0) (spell : A → List ℕ) (read : Words A) : Type 0 where

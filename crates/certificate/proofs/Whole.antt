@@ -10,9 +10,11 @@ use Rattle.certificate.specs.declared.Cert.{Cert}
 use Rattle.certificate.specs.declared.fault.CertText.TheVariants.{Departs}
 use Rattle.certificate.specs.declared.fault.Stop.{Stop}
 use Rattle.certificate.specs.declared.fault.Stop.TheVariants.{Memory, Left}
-use Rattle.certificate.specs.Text.{Line, lines_text, cert_lines, HasText}
+use Rattle.certificate.specs.Text.{cert_lines, HasText}
+use Rattle.certificate.specs.LineText.{Line, lines_text}
 use Rattle.certificate.specs.Departing.{IsLine, IsNote, Spells, Begins, IsFaultOf}
-use Rattle.certificate.specs.Reading.{cut_at, cert_at, AreNotes, LeaveNotes, AnswersNotes, IsStopped, InLines, InNotes, AnswersWhole}
+use Rattle.certificate.specs.Reading.{cert_at, AreNotes, LeaveNotes, AnswersNotes, IsStopped, InLines, InNotes, AnswersWhole}
+use Rattle.certificate.specs.Words.{cut_at}
 use Rattle.certificate.proofs.Spelling.{some_of, same_some, cut_again}
 use Rattle.certificate.proofs.LineReading.{right, same_ok, no_fault, Stopping, line_lacks, text_append, cancel, only_value}
 use Rattle.certificate.proofs.Certs.{cert_reads}

@@ -4,7 +4,8 @@ use Rattle.std.specs.Prelude.{◌≡◌, ℕ, ◌+◌, List, [], ◌∷◌, ◌+
 use Rattle.certificate.specs.declared.Cert.{Cert}
 use Rattle.certificate.specs.declared.fault.CertText.{CertText}
 use Rattle.certificate.specs.declared.fault.CertText.TheVariants.{Departs, NoMemory}
-use Rattle.certificate.specs.Text.{Line, cert_lines, lines_text, cert_text, HasText}
+use Rattle.certificate.specs.Text.{cert_lines, cert_text, HasText}
+use Rattle.certificate.specs.LineText.{Line, lines_text}
 
 -- a line without a line feed in it
 abbrev pub IsLine : Line → Type 0

@@ -1,6 +1,9 @@
+pub mod LineText
 pub mod Text
 pub mod Departing
 pub mod FaultText
+pub mod Words
 pub mod Reading
+pub mod KeptLines
 pub mod History
 pub mod Accepted

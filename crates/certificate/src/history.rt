@@ -1,50 +1,41 @@
 //! The certificate of a search's history.
-ghost use Rattle.std.specs.Prelude.{◌≡◌, Some, IfOk};
-ghost use Rattle.certificate.specs.History.{line_of, lines_of};
+ghost use Rattle.std.specs.Prelude.{◌≡◌, ◌++◌, ◌∷◌, [], length, map, All, Some, IfOk, OnOk, string_bytes};
+ghost use Rattle.certificate.specs.History.{lines_of};
+ghost use Rattle.certificate.specs.LineText.{lines_text, proof_line, FitsLine};
 
-use crate::proof_lines::{Line, Lines};
+use crate::proof_lines::Lines;
+use crate::proof_writing::{add_priced, add_settled, add_split};
 use crate::{Cert, CertStatus};
 use break_rules::NoMemory;
 use post_codec::Post;
 use shift_instance::Rows;
 use std::alloc::Global;
 
-/// The proof line of a post, if it has one.
-fn line_of(post: &Post) -> Result<Option<Line>, NoMemory>
-    ensures { IfOk result (λ line. line ≡ line_of post.now) }
+/// Adds the proof line of a post, if it has one, and says how many that is.
+fn add_post(text: &mut String, post: &Post) -> Result<usize, NoMemory>
+    ensures count { IfOk result (λ count. count ≡ length (lines_of (post.now ∷ []))) }
+    ensures fits { OnOk result (All FitsLine (lines_of (post.now ∷ []))) }
+    ensures added { OnOk result (string_bytes text.new ≡ string_bytes text.old ++ lines_text (map proof_line (lines_of (post.now ∷ [])))) }
 {
     match post {
-        Post::Plan { .. } => Ok(None),
-        Post::Priced { node, prices, .. } => {
-            let prices = prices.clone()?;
-            Ok(Some(Line::Priced {
-                node: *node,
-                prices,
-            }))
-        }
-        Post::Split { node, class, m, .. } => {
-            let class = class.clone()?;
-            Ok(Some(Line::Split {
-                node: *node,
-                class,
-                m: *m,
-            }))
-        }
-        Post::Settled { node, .. } => Ok(Some(Line::Settled { node: *node })),
+        Post::Plan { .. } => return Ok(0),
+        Post::Priced { node, prices, .. } => add_priced(text, *node, prices)?,
+        Post::Split { node, class, m, .. } => add_split(text, *node, class, *m)?,
+        Post::Settled { node, .. } => add_settled(text, *node)?,
     }
+    Ok(1)
 }
 
 /// The proof lines of posts.
-fn lines_of(alloc: Global, posts: &[Post]) -> Result<Vec<Line>, NoMemory>
-    ensures { IfOk result (λ lines. lines.items ≡ lines_of posts.now) }
+fn lines_of(alloc: Global, posts: &[Post]) -> Result<Lines, NoMemory>
+    ensures { IfOk result (λ lines. lines ≡ lines_of posts.now) }
 {
-    let mut lines = Vec::new(alloc);
+    let mut text = String::new(alloc);
+    let mut count = 0;
     for post in posts {
-        if let Some(line) = line_of(post)? {
-            lines.push(line)?;
-        }
+        count += add_post(&mut text, post)?;
     }
-    Ok(lines)
+    Ok(Lines::of_text(text.into_bytes(), count))
 }
 
 /// The certificate of a search: its best plan with its cost, the bound, and a proof line for each post of its history that is no
@@ -68,6 +59,6 @@ pub fn of_history(
         status,
         plan: Some((cost, rows)),
         bound,
-        lines: Lines::new(lines),
+        lines,
     })
 }

@@ -14,6 +14,7 @@
 mod fault;
 mod history;
 pub mod laws;
+mod line_reader;
 mod proof_lines;
 #[cfg(test)]
 mod proof_tests;
@@ -27,6 +28,7 @@ mod writing;
 
 pub use fault::CertText;
 pub use history::of_history;
+pub use line_reader::LineReader;
 pub use proof_lines::{Line, Lines};
 pub use reading::read;
 use shift_instance::Rows;

@@ -60,7 +60,7 @@ fn proof_lines_are_written(rt: HostRuntime) -> Result<(), Fail> {
         status: CertStatus::Bound,
         plan: None,
         bound: 7,
-        lines: Lines::new(list),
+        lines: Lines::from_slice(alloc, &list)?,
     };
     assert_eq!(rt; write(alloc, &cert)?.as_slice(), REPORT.as_bytes());
     Ok(())
@@ -97,6 +97,41 @@ fn a_history_gives_its_lines(rt: HostRuntime) -> Result<(), Fail> {
     let wanted =
         "shift-report 1\nstatus stopped\ncost 9\nbound 7\nrows 0\nproof 3\npriced 0 100 -200,0,50 -\nsplit 0 2 1 3+1,8+2 4\nsettled 2\nend\n";
     assert_eq!(rt; write(alloc, &cert)?.as_slice(), wanted.as_bytes());
+    Ok(())
+}
+
+#[test]
+fn proof_lines_are_read_one_after_another(rt: HostRuntime) -> Result<(), Fail> {
+    let alloc = rt.alloc();
+    let mut list = Vec::new(alloc);
+    list.push(Line::Settled {
+        node: 4_294_967_295,
+    })?;
+    list.push(Line::Priced {
+        node: 7,
+        prices: Prices {
+            q: 0,
+            slots: SlotPrices::new(Vec::new(alloc)),
+            cuts: CutPrices::new(Vec::from_slice(alloc, &[u64::MAX])?),
+        },
+    })?;
+    list.push(Line::Split {
+        node: 0,
+        class: class(alloc)?,
+        m: 4,
+    })?;
+    let lines = Lines::from_slice(alloc, &list)?;
+    let mut reader = lines.reader();
+    for (k, line) in list.iter().enumerate() {
+        assert_eq!(rt; reader.len(), list.len() - k);
+        let read = reader.next_line(alloc)?;
+        assert_eq!(rt;
+            format!(in alloc; "{read:?}")?,
+            format!(in alloc; "Some({line:?})")?
+        );
+    }
+    assert!(rt; reader.next_line(alloc)?.is_none());
+    assert_eq!(rt; Lines::new(alloc).len(), 0);
     Ok(())
 }
 

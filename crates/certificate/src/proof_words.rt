@@ -1,6 +1,6 @@
 //! The words of a proof line, read.
 ghost use Rattle.std.specs.Prelude.{◌≡◌, ◌<◌, ◌≤◌, ◌-◌, ◌^◌, pos, nat_lt, codes, option_map};
-ghost use Rattle.certificate.specs.Reading.{Finds, kept, led_by, led_or, parts_in, number_in, minus, slot_price_in, slots_in, cuts_in, split_in, priced_in, settled_in, proof_line_in, proof_count_in};
+ghost use Rattle.certificate.specs.Words.{Finds, kept, led_by, led_or, parts_in, number_in, minus, slot_price_in, slots_in, cuts_in, split_in, priced_in, settled_in, any_line_in, has_slot, proof_line_in, proof_count_in};
 
 use crate::fault::Stop;
 use crate::proof_lines::Line;
@@ -38,7 +38,7 @@ fn positive(text: &[u8], left: usize) -> Result<i64, Stop>
 }
 
 /// The price of a slot.
-#[tactic(auto, unfolding(crate::specs::Reading::slot_price_in))]
+#[tactic(auto, unfolding(crate::specs::Words::slot_price_in))]
 fn slot_price_of(text: &[u8], left: usize) -> Result<i64, Stop>
     ensures { Finds (λ p. p) left result (slot_price_in text.now) }
 {
@@ -76,17 +76,20 @@ fn cut_list(alloc: Global, text: &[u8], left: usize) -> Result<Vec<u64>, Stop>
     Ok(list)
 }
 
-/// The prices of slots.
-#[tactic(auto, unfolding(crate::specs::Reading::slots_in))]
+/// The prices of slots, which are none for no text.
+#[tactic(auto, unfolding(crate::specs::Words::slots_in))]
 fn slots_of(alloc: Global, text: &[u8], left: usize) -> Result<SlotPrices, Stop>
     ensures { Finds (λ p. p) left result (slots_in text.now) }
 {
+    if text.is_empty() {
+        return Ok(SlotPrices::new(Vec::new(alloc)));
+    }
     let list = slot_list(alloc, text, left)?;
     Ok(SlotPrices::new(list))
 }
 
 /// The prices of cuts, which are none for `-`.
-#[tactic(auto, unfolding(crate::specs::Reading::cuts_in))]
+#[tactic(auto, unfolding(crate::specs::Words::cuts_in))]
 fn cuts_of(alloc: Global, text: &[u8], left: usize) -> Result<CutPrices, Stop>
     ensures { Finds (λ p. p) left result (cuts_in text.now) }
 {
@@ -98,7 +101,7 @@ fn cuts_of(alloc: Global, text: &[u8], left: usize) -> Result<CutPrices, Stop>
 }
 
 /// The split behind its word.
-#[tactic(auto, unfolding(crate::specs::Reading::split_in))]
+#[tactic(auto, unfolding(crate::specs::Words::split_in))]
 fn split_of(alloc: Global, text: &[u8], left: usize) -> Result<Line, Stop>
     ensures { Finds (λ l. l) left result (split_in text.now) }
 {
@@ -124,7 +127,7 @@ fn split_of(alloc: Global, text: &[u8], left: usize) -> Result<Line, Stop>
 }
 
 /// The priced node behind its word.
-#[tactic(auto, unfolding(crate::specs::Reading::priced_in))]
+#[tactic(auto, unfolding(crate::specs::Words::priced_in))]
 fn priced_of(alloc: Global, text: &[u8], left: usize) -> Result<Line, Stop>
     ensures { Finds (λ l. l) left result (priced_in text.now) }
 {
@@ -147,7 +150,7 @@ fn priced_of(alloc: Global, text: &[u8], left: usize) -> Result<Line, Stop>
 }
 
 /// The settled node behind its word.
-#[tactic(auto, unfolding(crate::specs::Reading::settled_in))]
+#[tactic(auto, unfolding(crate::specs::Words::settled_in))]
 fn settled_of(text: &[u8], left: usize) -> Result<Line, Stop>
     ensures { Finds (λ l. l) left result (settled_in text.now) }
 {
@@ -173,10 +176,10 @@ fn further_line_of(alloc: Global, line: &[u8], left: usize) -> Result<Line, Stop
     }
 }
 
-/// The proof line of a line.
-#[tactic(auto, unfolding(crate::specs::Reading::proof_line_in))]
-pub(crate) fn proof_line_of(alloc: Global, line: &[u8], left: usize) -> Result<Line, Stop>
-    ensures { Finds (λ l. l) left result (proof_line_in line.now) }
+/// The proof line of a line, also one of prices for no slot.
+#[tactic(auto, unfolding(crate::specs::Words::any_line_in))]
+pub(crate) fn any_line_of(alloc: Global, line: &[u8], left: usize) -> Result<Line, Stop>
+    ensures { Finds (λ l. l) left result (any_line_in line.now) }
 {
     match text_behind(b"split ".as_slice(), line) {
         Some(text) => split_of(alloc, text, left),
@@ -184,8 +187,36 @@ pub(crate) fn proof_line_of(alloc: Global, line: &[u8], left: usize) -> Result<L
     }
 }
 
+/// Whether prices, where a proof line has them, are for some slot.
+fn has_slot(line: &Line) -> bool
+    ensures { result ≡ has_slot line.now }
+{
+    match line {
+        Line::Priced { node: _, prices } => !prices.slots.as_slice().is_empty(),
+        Line::Split {
+            node: _,
+            class: _,
+            m: _,
+        } => true,
+        Line::Settled { node: _ } => true,
+    }
+}
+
+/// The proof line of a line of a report.
+#[tactic(auto, unfolding(crate::specs::Words::proof_line_in))]
+pub(crate) fn proof_line_of(alloc: Global, line: &[u8], left: usize) -> Result<Line, Stop>
+    ensures { Finds (λ l. l) left result (proof_line_in line.now) }
+{
+    let proof_line = any_line_of(alloc, line, left)?;
+    if has_slot(&proof_line) {
+        Ok(proof_line)
+    } else {
+        Err(Stop::Left(left))
+    }
+}
+
 /// The number of proof lines of a line.
-#[tactic(auto, unfolding(crate::specs::Reading::proof_count_in))]
+#[tactic(auto, unfolding(crate::specs::Words::proof_count_in))]
 pub(crate) fn proof_count_of(line: &[u8], left: usize) -> Result<u64, Stop>
     ensures { Finds (λ n. n) left result (proof_count_in line.now) }
 {

@@ -3,9 +3,9 @@ ghost use Rattle.std.specs.Prelude.{◌≡◌, ◌<◌, ◌++◌, ◌∷◌, ◌
 ghost use Rattle.std.specs.Int.{w64};
 ghost use Rattle.std.specs.List.{flat_map};
 ghost use Rattle.std.specs.Fmt.{decimal, signed_decimal};
-ghost use Rattle.certificate.specs.Text.{joined, joined_or_dash, line_text, lines_text, split_line, priced_line, settled_line, proof_line, proof_lines, FitsClass, FitsPrices, FitsLine};
+ghost use Rattle.certificate.specs.LineText.{joined, joined_or_dash, line_text, lines_text, split_line, priced_line, settled_line, proof_line, FitsClass, FitsPrices, FitsLine};
 
-use crate::proof_lines::{Line, Lines};
+use crate::proof_lines::Line;
 use crate::writing::add_breaks;
 use break_rules::NoMemory;
 use head_splits::{Class, Prices};
@@ -82,7 +82,7 @@ fn add_cuts(text: &mut String, prices: &[u64]) -> Result<(), NoMemory>
 }
 
 /// Adds the line of a split.
-fn add_split(text: &mut String, node: u32, class: &Class, m: u16) -> Result<(), NoMemory>
+pub(crate) fn add_split(text: &mut String, node: u32, class: &Class, m: u16) -> Result<(), NoMemory>
     ensures fits { OnOk result (FitsClass class.now) }
     ensures added { OnOk result (string_bytes text.new ≡ string_bytes text.old ++ line_text (split_line node class.now m)) }
 {
@@ -94,7 +94,7 @@ fn add_split(text: &mut String, node: u32, class: &Class, m: u16) -> Result<(), 
 }
 
 /// Adds the line of a priced node.
-fn add_priced(text: &mut String, node: u32, prices: &Prices) -> Result<(), NoMemory>
+pub(crate) fn add_priced(text: &mut String, node: u32, prices: &Prices) -> Result<(), NoMemory>
     ensures fits { OnOk result (FitsPrices prices.now) }
     ensures added { OnOk result (string_bytes text.new ≡ string_bytes text.old ++ line_text (priced_line node prices.now)) }
 {
@@ -107,7 +107,7 @@ fn add_priced(text: &mut String, node: u32, prices: &Prices) -> Result<(), NoMem
 }
 
 /// Adds the line of a settled node.
-fn add_settled(text: &mut String, node: u32) -> Result<(), NoMemory>
+pub(crate) fn add_settled(text: &mut String, node: u32) -> Result<(), NoMemory>
     ensures { OnOk result (string_bytes text.new ≡ string_bytes text.old ++ line_text (settled_line node)) }
 {
     write!(text, "settled {node}\n")
@@ -126,7 +126,7 @@ fn add_line(text: &mut String, line: &Line) -> Result<(), NoMemory>
 }
 
 /// Adds proof lines.
-fn add_lines(text: &mut String, lines: &[Line]) -> Result<(), NoMemory>
+pub(crate) fn add_lines(text: &mut String, lines: &[Line]) -> Result<(), NoMemory>
     ensures fits { OnOk result (All FitsLine lines.now) }
     ensures added { OnOk result (string_bytes text.new ≡ string_bytes text.old ++ lines_text (map proof_line lines.now)) }
 {
@@ -134,14 +134,4 @@ fn add_lines(text: &mut String, lines: &[Line]) -> Result<(), NoMemory>
         add_line(text, line)?;
     }
     Ok(())
-}
-
-/// Adds the number of proof lines, and the proof lines.
-pub(crate) fn add_proof(text: &mut String, lines: &Lines) -> Result<(), NoMemory>
-    ensures fits { OnOk result (All FitsLine lines.now) }
-    ensures added { OnOk result (string_bytes text.new ≡ string_bytes text.old ++ lines_text (proof_lines lines.now)) }
-{
-    let count = lines.len();
-    write!(text, "proof {count}\n")?;
-    add_lines(text, lines.as_slice())
 }

@@ -2,7 +2,8 @@
 ghost use Rattle.std.specs.Prelude.{◌≡◌, ◌+◌, ◌-◌, ◌==◌, length, take, count_by, codes, Some, IfOk, IfErr};
 ghost use Rattle.certificate.specs.declared.Cert.{Cert as ACert};
 ghost use Rattle.certificate.specs.Departing.{Spells, GivesCert, IsFaultOf};
-ghost use Rattle.certificate.specs.Reading.{Gives, begins_note, AnswersNotes, AnswersWhole, line_at, word_in, status_in, cost_in, bound_in, count_in, row_in, times, opening_at, limits_at, or_zero, rows_at, proof_count_in, proof_line_in, proof_at, closing_at, plan_of, cert_at};
+ghost use Rattle.certificate.specs.Reading.{begins_note, AnswersNotes, AnswersWhole, status_in, cost_in, bound_in, count_in, opening_at, limits_at, or_zero, rows_at, proof_at, closing_at, plan_of, cert_at};
+ghost use Rattle.certificate.specs.Words.{Gives, line_at, word_in, row_in, times, rest_of, proof_count_in, proof_line_in};
 
 use crate::fault::{CertText, Stop};
 use crate::proof_lines::{Line, Lines};
@@ -71,11 +72,16 @@ fn row_line(alloc: Global, bytes: &[u8]) -> Result<(Row, &[u8]), Stop>
     Ok((row, rest))
 }
 
+/// The bytes of the shortest line of a row, `row 0 0 1 -` with its line feed.
+const SHORTEST_ROW: usize = 12;
+
 /// So many rows, and the bytes after them.
 fn row_lines(alloc: Global, count: u64, bytes: &[u8]) -> Result<(Vec<Row>, &[u8]), Stop>
     ensures { Gives (λ x. (x.0.items, x.1.now)) result (times (line_at row_in) count bytes.now) }
 {
-    let mut list = Vec::new(alloc);
+    // room for as many rows as there can be, so that the list never grows into twice the memory
+    let most = bytes.len() / SHORTEST_ROW;
+    let mut list = Vec::with_capacity(alloc, most.min(count as usize))?;
     let mut rest = bytes;
     for _ in 0..count {
         let (row, after) = row_line(alloc, rest)?;
@@ -113,18 +119,25 @@ fn proof_line(alloc: Global, bytes: &[u8]) -> Result<(Line, &[u8]), Stop>
     Ok((proof_line, rest))
 }
 
-/// So many proof lines, and the bytes after them.
-fn proof_lines(alloc: Global, count: u64, bytes: &[u8]) -> Result<(Vec<Line>, &[u8]), Stop>
-    ensures { Gives (λ x. (x.0.items, x.1.now)) result (times (line_at proof_line_in) count bytes.now) }
+/// The bytes behind so many proof lines.
+fn behind_lines(alloc: Global, count: usize, bytes: &[u8]) -> Result<&[u8], Stop>
+    ensures { Gives (λ x. x.now) result (rest_of (times (line_at proof_line_in) count bytes.now)) }
 {
-    let mut list = Vec::new(alloc);
     let mut rest = bytes;
     for _ in 0..count {
-        let (line, after) = proof_line(alloc, rest)?;
-        list.push(line)?;
+        let (_, after) = proof_line(alloc, rest)?;
         rest = after;
     }
-    Ok((list, rest))
+    Ok(rest)
+}
+
+/// So many proof lines, and the bytes after them.
+fn proof_lines(alloc: Global, count: usize, bytes: &[u8]) -> Result<(Lines, &[u8]), Stop>
+    ensures { Gives (λ x. (x.0, x.1.now)) result (times (line_at proof_line_in) count bytes.now) }
+{
+    let rest = behind_lines(alloc, count, bytes)?;
+    let text = Vec::from_slice(alloc, &bytes[..bytes.len() - rest.len()])?;
+    Ok((Lines::of_text(text, count), rest))
 }
 
 /// The proof lines behind their number, and the bytes after them.
@@ -133,8 +146,7 @@ fn proof(alloc: Global, bytes: &[u8]) -> Result<(Lines, &[u8]), Stop>
     ensures { Gives (λ x. (x.0, x.1.now)) result (proof_at bytes.now) }
 {
     let (count, bytes) = proof_count_line(bytes)?;
-    let (list, rest) = proof_lines(alloc, count, bytes)?;
-    Ok((Lines::new(list), rest))
+    proof_lines(alloc, count as usize, bytes)
 }
 
 /// The proof lines, and the bytes behind the line `end`.

@@ -44,7 +44,7 @@ fn a_report_is_written(rt: HostRuntime) -> Result<(), Fail> {
         status: CertStatus::Stopped,
         plan: Some((3, rows)),
         bound: 0,
-        lines: Lines::new(Vec::new(alloc)),
+        lines: Lines::new(alloc),
     };
     assert_eq!(rt; write(alloc, &cert)?.as_slice(), REPORT.as_bytes());
     Ok(())

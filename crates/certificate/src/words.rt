@@ -1,7 +1,8 @@
 //! The words of a line, read. Each function is told how many bytes are left where the line begins, and says so where the text
 //! has no value.
 ghost use Rattle.std.specs.Prelude.{◌≡◌, ◌<◌, ◌≤◌, ◌==◌, length, IfOk, IfSome, option_map};
-ghost use Rattle.certificate.specs.Reading.{Finds, cut_at, begins_number, plain_number, number_in, behind, number_or_dash, break_in, breaks_in, row_in, status_in, allows_cost, cost_in, allows_bound, bound_in, go_together, count_in, parts_in};
+ghost use Rattle.certificate.specs.Reading.{number_or_dash, status_in, allows_cost, cost_in, allows_bound, bound_in, go_together, count_in};
+ghost use Rattle.certificate.specs.Words.{Finds, cut_at, begins_number, plain_number, number_in, behind, break_in, breaks_in, row_in, parts_in};
 ghost use Rattle.std.specs.List.{position};
 
 use crate::CertStatus;
@@ -113,7 +114,7 @@ fn number_if_any(text: &[u8], most: u64, left: usize) -> Result<Option<u64>, Sto
 }
 
 /// A break.
-#[tactic(auto, unfolding(crate::specs::Reading::break_in))]
+#[tactic(auto, unfolding(crate::specs::Words::break_in))]
 fn break_of(text: &[u8], left: usize) -> Result<Break, Stop>
     ensures { Finds (λ b. b) left result (break_in text.now) }
 {
@@ -141,7 +142,7 @@ fn break_list(alloc: Global, text: &[u8], left: usize) -> Result<Vec<Break>, Sto
 }
 
 /// Breaks, which are none for `-`.
-#[tactic(auto, unfolding(crate::specs::Reading::breaks_in))]
+#[tactic(auto, unfolding(crate::specs::Words::breaks_in))]
 pub(crate) fn breaks_of(alloc: Global, text: &[u8], left: usize) -> Result<Breaks, Stop>
     ensures { Finds (λ bs. bs) left result (breaks_in text.now) }
 {
@@ -153,7 +154,7 @@ pub(crate) fn breaks_of(alloc: Global, text: &[u8], left: usize) -> Result<Break
 }
 
 /// The row of a line.
-#[tactic(auto, unfolding(crate::specs::Reading::row_in))]
+#[tactic(auto, unfolding(crate::specs::Words::row_in))]
 pub(crate) fn row_of(alloc: Global, line: &[u8], left: usize) -> Result<Row, Stop>
     ensures { Finds (λ r. r) left result (row_in line.now) }
 {

@@ -1,9 +1,9 @@
 //! Certificates as text.
 ghost use Rattle.std.specs.Prelude.{◌≡◌, ◌++◌, ◌∷◌, map, All, OnOk, IfOk, string_bytes};
 ghost use Rattle.std.specs.List.{flat_map};
-ghost use Rattle.certificate.specs.Text.{break_text, breaks_text, row_line, line_text, lines_text, plan_lines, cert_text, status_text, rows_of, FitsBreak, FitsRow, FitsCost, Agrees, HasText};
+ghost use Rattle.certificate.specs.Text.{plan_lines, cert_text, status_text, rows_of, FitsCost, Agrees, HasText};
+ghost use Rattle.certificate.specs.LineText.{break_text, breaks_text, row_line, line_text, lines_text, FitsBreak, FitsRow};
 
-use crate::proof_writing::add_proof;
 use crate::{Cert, CertStatus};
 use break_rules::{Break, NoMemory};
 use shift_instance::{Row, Rows};
@@ -117,7 +117,10 @@ pub fn write(alloc: Global, cert: &Cert) -> Result<Vec<u8>, NoMemory>
     let status = status_word(cert.status);
     write!(text, "shift-report 1\nstatus {status}\n")?;
     add_body(&mut text, &cert.plan, cert.bound)?;
-    add_proof(&mut text, &cert.lines)?;
-    text.push_str("end\n")?;
-    Ok(text.into_bytes())
+    let count = cert.lines.len();
+    write!(text, "proof {count}\n")?;
+    let mut bytes = text.into_bytes();
+    bytes.extend_from_slice(cert.lines.text())?;
+    bytes.extend_from_slice(b"end\n".as_slice())?;
+    Ok(bytes)
 }

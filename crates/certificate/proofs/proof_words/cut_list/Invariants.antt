@@ -1,5 +1,5 @@
 use Rattle.std.proofs.Common.{length, ◌-◌, ◌^◌}
-use Rattle.certificate.specs.Reading.{number_in}
+use Rattle.certificate.specs.Words.{number_in}
 use Rattle.certificate.proofs.Loops.{Lists}
 use Rattle.certificate.proofs.proof_words.cut_list.Given as goal
 

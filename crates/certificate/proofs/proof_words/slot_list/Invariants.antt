@@ -1,5 +1,5 @@
 use Rattle.std.proofs.Common.{length}
-use Rattle.certificate.specs.Reading.{slot_price_in}
+use Rattle.certificate.specs.Words.{slot_price_in}
 use Rattle.certificate.proofs.Loops.{Lists}
 use Rattle.certificate.proofs.proof_words.slot_list.Given as goal
 

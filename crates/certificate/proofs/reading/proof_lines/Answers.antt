@@ -1,15 +1,11 @@
-use Rattle.std.proofs.lemmas.Result.{err_from_is_err_and}
-use Rattle.certificate.specs.Reading.{line_at, proof_line_in}
-use Rattle.certificate.proofs.Loops.{next_line, stops_line, done_lines}
+use Rattle.certificate.proofs.Kept.{front_short, front_lines, front_read}
 use Rattle.certificate.proofs.reading.proof_lines.Goals as goal
 
-pub returns-in_err-line : goal.returns-in_err-line
-returns-in_err-line c =
-    let p = err_from_is_err_and c.from_residual.result c.from_residual.ensures.1 in
-    rw (p.1, p.2) (stops_line (line_at proof_line_in) c.args.count c.args.bytes.now c.loop.list.items c.loop.counter c.loop.rest.now c.in_err-line.field-0.0 c.loop-test.true c.in_err-line.ensures c.loop.invariant)
+pub slice_bounds-from_slice-count : goal.slice_bounds-from_slice-count
+slice_bounds-from_slice-count c = front_short c.args.count c.args.bytes.now c.in_ok-rest.rest.now c.in_ok-rest.ensures
 
-pub loop-preserved : goal.loop-preserved
-loop-preserved c = rw c.in_ok-push.ensures.items (next_line (line_at proof_line_in) c.args.count c.args.bytes.now c.loop.list.items c.loop.counter c.loop.rest.now c.in_ok-line.line c.in_ok-line.after.now c.loop-test.true c.in_ok-line.ensures c.loop.invariant)
+pub of_text-requires : goal.of_text-requires
+of_text-requires c = rw c.in_ok-text.ensures.items (front_lines c.args.count c.args.bytes.now c.in_ok-rest.rest.now c.in_ok-rest.ensures)
 
 pub returns : goal.returns
-returns c = done_lines (line_at proof_line_in) c.args.count c.args.bytes.now c.loop.list.items c.loop.counter c.loop.rest.now c.loop-test.false c.loop.invariant
+returns c = rw (c.of_text.ensures, c.in_ok-text.ensures.items) (front_read c.args.count c.args.bytes.now c.in_ok-rest.rest.now c.in_ok-rest.ensures)

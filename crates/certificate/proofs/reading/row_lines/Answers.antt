@@ -1,11 +1,11 @@
 use Rattle.std.proofs.lemmas.Result.{err_from_is_err_and}
-use Rattle.certificate.specs.Reading.{line_at, row_in}
+use Rattle.certificate.specs.Words.{line_at, row_in}
 use Rattle.certificate.proofs.Loops.{next_line, stops_line, done_lines}
 use Rattle.certificate.proofs.reading.row_lines.Goals as goal
 
 pub returns-in_err-row : goal.returns-in_err-row
 returns-in_err-row c =
-    let p = err_from_is_err_and c.from_residual.result c.from_residual.ensures.1 in
+    let p = err_from_is_err_and c.from_residual-in_err-row.result c.from_residual-in_err-row.ensures.1 in
     rw (p.1, p.2) (stops_line (line_at row_in) c.args.count c.args.bytes.now c.loop.list.items c.loop.counter c.loop.rest.now c.in_err-row.field-0.0 c.loop-test.true c.in_err-row.ensures c.loop.invariant)
 
 pub loop-preserved : goal.loop-preserved

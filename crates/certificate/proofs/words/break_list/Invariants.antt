@@ -1,5 +1,5 @@
 use Rattle.std.proofs.Common.{length}
-use Rattle.certificate.specs.Reading.{break_in}
+use Rattle.certificate.specs.Words.{break_in}
 use Rattle.certificate.proofs.Loops.{Lists}
 use Rattle.certificate.proofs.words.break_list.Given as goal
 

@@ -1,7 +1,7 @@
 use Rattle.std.proofs.Common.{◌≡◌, ◌++◌, ◌∷◌, take, string_bytes}
 use Rattle.std.specs.Prelude.{All}
 use Rattle.std.specs.List.{flat_map}
-use Rattle.certificate.specs.Text.{break_text, FitsBreak}
+use Rattle.certificate.specs.LineText.{break_text, FitsBreak}
 use Rattle.certificate.proofs.writing.add_further.Given as goal
 
 abbrev pub invariant-loop-next : goal.invariant-loop-next
