@@ -242,17 +242,10 @@ pub all_good : (i : Problem) (c : Cert) (nodes : List Node) → line_cause i (ne
 all_good i c nodes e n h p = (cause_behind i c nodes true e n h ∙ p, accepted_behind i c nodes true n h ∙ plan_good i c.plan p)
 
 -- the same, as a check comes to it
-pub check_good : (i : Problem) (c : Cert) (lines : List Line) (nodes : List Node) (found : ℕ) → lines ≡ c.lines → nodes_of i lines ≡ Some nodes → line_cause i (new_node [] ∷ []) 1 lines ≡ None
+pub check_good : (i : Problem) (c : Cert) (nodes : List Node) (found : ℕ) → nodes_of i c.lines ≡ Some nodes → line_cause i (new_node [] ∷ []) 1 c.lines ≡ None
     → found ≡ least_floor nodes → c.bound ≤ found → plan_cause i c.plan ≡ None → is_accepted i c ≡ true
-check_good i c lines nodes found l n e f h p =
-    (all_good i c nodes (subst (λ (ls : List Line). line_cause i (new_node [] ∷ []) 1 ls ≡ None) l e) (subst (λ (ls : List Line). nodes_of i ls ≡ Some nodes) l n)
-    (le-leb c.bound (least_floor nodes) (subst (λ k. c.bound ≤ k) f h)) p).1
+check_good i c nodes found n e f h p = (all_good i c nodes e n (le-leb c.bound (least_floor nodes) (subst (λ k. c.bound ≤ k) f h)) p).1
 
-pub check_plan : (i : Problem) (c : Cert) (lines : List Line) (nodes : List Node) (found : ℕ) (why : Refused) → lines ≡ c.lines → nodes_of i lines ≡ Some nodes → line_cause i (new_node [] ∷ []) 1 lines ≡ None
+pub check_plan : (i : Problem) (c : Cert) (nodes : List Node) (found : ℕ) (why : Refused) → nodes_of i c.lines ≡ Some nodes → line_cause i (new_node [] ∷ []) 1 c.lines ≡ None
     → found ≡ least_floor nodes → c.bound ≤ found → plan_cause i c.plan ≡ Some why → IsRefused i c why
-check_plan i c lines nodes found why l n e f h p =
-    plan_refused i c nodes why (subst (λ (ls : List Line). line_cause i (new_node [] ∷ []) 1 ls ≡ None) l e) (subst (λ (ls : List Line). nodes_of i ls ≡ Some nodes) l n)
-    (le-leb c.bound (least_floor nodes) (subst (λ k. c.bound ≤ k) f h)) p
-
-pub check_line : (i : Problem) (c : Cert) (lines : List Line) (why : Refused) → lines ≡ c.lines → IsFirstBad i lines why → IsRefused i c why
-check_line i c lines why l e = line_refused i c why (subst (λ (ls : List Line). IsFirstBad i ls why) l e)
+check_plan i c nodes found why n e f h p = plan_refused i c nodes why e n (le-leb c.bound (least_floor nodes) (subst (λ k. c.bound ≤ k) f h)) p
