@@ -11,7 +11,7 @@ use Rattle.certificate.specs.declared.TheConstants.{BUNDLE_MAX}
 use Rattle.certificate.specs.declared.Cert.{Cert}
 use Rattle.certificate.specs.declared.CertText.TheVariants.{Departs}
 use Rattle.certificate.specs.Departing.{IsFaultOf, Spells}
-use Rattle.certificate.specs.Text.{line_text}
+use Rattle.certificate.specs.LineText.{line_text}
 use Rattle.shift_check.specs.declared.status.BundleFault.{BundleFault}
 use Rattle.shift_check.specs.declared.status.BundleFault.TheVariants.{TooLong, Text}
 use Rattle.shift_check.specs.declared.status.CheckStatus.{CheckStatus}

@@ -30,7 +30,8 @@ use Rattle.post_codec.specs.declared.post.Post.TheVariants.{Plan, Priced, Split,
 use Rattle.certificate.specs.declared.proof_lines.Line.{Line}
 use Rattle.certificate.specs.declared.proof_lines.Line.TheVariants.{Split as SplitLine, Priced as PricedLine, Settled as SettledLine}
 use Rattle.certificate.specs.Accepted.{is_split, node_line, node_of, nodes_after, nodes_of, least_floor, is_bound, is_plan, is_accepted}
-use Rattle.certificate.specs.Text.{Agrees, AgreesWith, HasSlot}
+use Rattle.certificate.specs.LineText.{HasSlot}
+use Rattle.certificate.specs.Text.{Agrees, AgreesWith}
 use Rattle.certificate.specs.declared.CertStatus.TheVariants.{Optimal, Stopped}
 use Rattle.certificate.specs.History.{line_of, lines_of}
 use Rattle.search_core.specs.Book.{Book, opening, floor_of, is_open, is_better, priced, divided, settled, at_node, step, book_after, book_of, IsSound, is_finished}
