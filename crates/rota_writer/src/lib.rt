@@ -1,6 +1,7 @@
 //! Texts of rotas: the report of a search, and a table for people to read.
 #![tactic(auto)]
 
+pub mod laws;
 mod reports;
 mod table_lines;
 #[cfg(test)]

@@ -2,3 +2,4 @@ pub mod Accepting
 pub mod Digits
 pub mod Sessions
 pub mod Ending
+pub mod Reading

@@ -12,6 +12,7 @@ use Rattle.shift_instance.specs.Problem.{Problem}
 use Rattle.shift_instance.specs.Valid.{IsValid}
 use Rattle.instance_json.specs.Canonical.{canonical_text}
 use Rattle.certificate.specs.Accepted.{is_accepted}
+use Rattle.certificate.specs.Departing.{Spells}
 use Rattle.search_core.specs.declared.board.Origin.{Origin}
 use Rattle.search_core.specs.declared.board.Shutting.{Shutting}
 use Rattle.search_core.specs.declared.board.Shutting.TheVariants.{DiskFault as ByDisk, Full as ByLimit}
@@ -234,9 +235,12 @@ module _ {D : Type 0} (reads : D → Option (List ℕ)) (images : D → List ℕ
     reports_of : (k : Known) → IsReported new table sink.held sink.held_after → Reports sink table (session_of k)
     unfolding session_of
     reports_of k written = record {
-      written = subst (λ (bytes : List ℕ). Appends sink.held sink.held_after bytes) (output_same k) written;
+      written = subst (λ (bytes : List ℕ). Appends sink.held sink.held_after bytes) (output_same k) written.0;
       sound = fold_sound i (old.history ++ drop (length old.history) new.history) new.book (ends_of k);
       accepted = accepted i (old.history ++ drop (length old.history) new.history) new.book k.valid k.few (ends_of k);
+      reads =
+          subst (λ (bytes : List ℕ). Spells bytes (cert_of (old.history ++ drop (length old.history) new.history) new.book)) (output_same k)
+          (subst (λ (h : List Post). Spells (output_of new.instance table new.history new.book) (cert_of h new.book)) (sym (grown k)) written.1);
     }
 
     part_of : (k : Known) → IsReportedPart new table sink.held sink.held_after sink.faults → ReportsPart sink table (session_of k)

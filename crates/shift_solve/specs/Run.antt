@@ -12,6 +12,7 @@ use Rattle.instance_json.specs.Canonical.{canonical_text}
 use Rattle.instance_input.specs.declared.Unread.TheVariants.{Refused as DocumentRefused}
 use Rattle.instance_input.specs.Unread.{IsReadAs, WhyUnread}
 use Rattle.certificate.specs.Accepted.{is_accepted}
+use Rattle.certificate.specs.Departing.{Spells}
 use Rattle.search_core.specs.Book.{is_finished, IsSound}
 use Rattle.search_book.specs.declared.open_fault.OpenFault.{OpenFault}
 use Rattle.search_book.specs.declared.open_fault.OpenFault.TheVariants.{DiskFault as OpeningsDisk, NotAJournal, OtherInstance, Damaged, Rejected, NoMemory as OpeningsMemory}
@@ -58,11 +59,13 @@ pub record IsFull (end limit : ℕ) {disk : DiskMet} {i : Problem} (session : Se
 -- ---- what is written
 
 -- the report of the posts and their book was written, with its table where that was asked for; its plan is legal at its cost, and its
--- certificate is accepted, which by itself implies the plan's cost and the bound
+-- certificate is accepted, which by itself implies the plan's cost and the bound; what was written is a text of that certificate, the
+-- lines of the table being notes, so whoever reads it reads that certificate and no other
 pub record Reports (sink : SinkMet) (table : Bool) {disk : DiskMet} {i : Problem} (session : Session disk i) : Type 0 where
   pub written : Appends sink.held sink.held_after (output_of i table (posts_in session) session.last)
   pub sound : IsSound i session.last
   pub accepted : IsTrue (is_accepted i (cert_of (posts_in session) session.last))
+  pub reads : Spells (output_of i table (posts_in session) session.last) (cert_of (posts_in session) session.last)
 
 -- the beginning of that was written, and the sink had a fault
 pub record ReportsPart (sink : SinkMet) (table : Bool) {disk : DiskMet} {i : Problem} (session : Session disk i) : Type 0 where

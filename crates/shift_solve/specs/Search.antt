@@ -3,6 +3,7 @@ use Rattle.std.specs.Prelude.{◌≡◌, ⊤, ℕ, ◌<◌, ◌≤◌, Bool, tru
 use Rattle.std.specs.Io.KnownBytes.{Appends}
 use Rattle.plan_base.specs.Causes.{Rose}
 use Rattle.plan_base.specs.Streams.{AppendsPart}
+use Rattle.certificate.specs.Departing.{Spells}
 use Rattle.search_core.specs.declared.board.Origin.{Origin}
 use Rattle.search_core.specs.Core.{empty_hands, IsFront}
 use Rattle.search_book.specs.Origins.{origin_at, tells}
@@ -12,7 +13,7 @@ use Rattle.worker_gate.specs.declared.run.RunEnd.TheVariants.{Finished, Spent, F
 use Rattle.worker_gate.specs.Runs.{plans_and_prices_since, steps_enough, RunEnds}
 use Rattle.shift_solve.specs.declared.status.Status.{Status}
 use Rattle.shift_solve.specs.declared.status.Status.TheVariants.{Optimal, Budget, Full, Usage, Input, ReadFault, WriteFault, DiskFault, NoMemory, Journal}
-use Rattle.shift_solve.specs.Report.{output_of}
+use Rattle.shift_solve.specs.Report.{cert_of, output_of}
 
 -- a book from which no node was taken yet
 pub record IsBegun {D : Type 0} (book : SearchView D) : Type 0 where
@@ -62,9 +63,10 @@ IsLanded (FullEnd end limit) = ⊤
 IsLanded DiskEnd = ⊥
 IsLanded MemoryEnd = ⊤
 
--- the report of a book was written, with its table where that is asked for
+-- the report of a book was written, with its table where that is asked for, and it is a text of the book's certificate
 abbrev pub IsReported : {D : Type 0} → SearchView D → Bool → Option (List ℕ) → Option (List ℕ) → Type 0
-IsReported book table held holds = Appends held holds (output_of book.instance table book.history book.book)
+IsReported book table held holds =
+    Appends held holds (output_of book.instance table book.history book.book) × Spells (output_of book.instance table book.history book.book) (cert_of book.history book.book)
 
 -- a beginning of that was written, and the sink had a fault
 abbrev pub IsReportedPart : {D : Type 0} → SearchView D → Bool → Option (List ℕ) → Option (List ℕ) → ℕ × ℕ → Type 0

@@ -1,6 +1,7 @@
 //! What a run writes of its book.
 
 ghost use Rattle.std.specs.Prelude.{◌≡◌, ◌++◌, IfOk};
+ghost use Rattle.certificate.specs.Departing.{Spells};
 ghost use Rattle.certificate.specs.Text.{Agrees};
 ghost use Rattle.shift_instance.specs.Valid.{IsValid};
 ghost use Rattle.shift_solve.specs.Report.{cert_of, output_of, status_of_book};
@@ -41,7 +42,7 @@ fn cert_of<D: Disk>(alloc: Global, book: &Book<D>) -> Result<Cert, NoMemory>
     Ok(cert)
 }
 
-/// The report of a book, with the table of its plan where that is asked for.
+/// The report of a book, with the table of its plan where that is asked for: a text of the book's certificate.
 pub(crate) fn output_of<D: Disk>(
     alloc: Global,
     instance: &Instance,
@@ -49,7 +50,8 @@ pub(crate) fn output_of<D: Disk>(
     with_table: bool,
 ) -> Result<Vec<u8>, NoMemory>
     requires same { book.now.instance ≡ instance.now }
-    ensures { IfOk result (λ bytes. bytes.items ≡ output_of book.now.instance with_table book.now.history book.now.book) }
+    ensures text { IfOk result (λ bytes. bytes.items ≡ output_of book.now.instance with_table book.now.history book.now.book) }
+    ensures reads { IfOk result (λ bytes. Spells bytes.items (cert_of book.now.history book.now.book)) }
 {
     // a legal plan of a valid instance has few rows
     let _heads = instance.heads();

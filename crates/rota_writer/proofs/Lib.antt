@@ -1,0 +1,2 @@
+mod Feedless
+pub mod Notes
