@@ -27,7 +27,7 @@ pub fn resumption(rule: &Rule, spot: Spot) -> usize
 fn earned_via(sums: &[i64], from: usize, start: usize, behind: i64) -> i64
     ensures { FitsSigned w64 (sum_at sums.now start -ℤ sum_at sums.now from) → FitsSigned w64 ((sum_at sums.now start -ℤ sum_at sums.now from) +ℤ behind) → result ≡ (sum_at sums.now start -ℤ sum_at sums.now from) +ℤ behind }
 {
-    stretch(sums, from, start).saturating_add(behind)
+    stretch(sums, from, start).wrapping_add(behind)
 }
 
 /// The greater of two values, the first of which may be none.
