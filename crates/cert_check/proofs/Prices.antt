@@ -1,5 +1,5 @@
 -- Sums of prices, one offset after another.
-use Rattle.std.proofs.Common.{◌≡◌, ◌⊎◌, inl, inr, ℕ, ◌+◌, ◌*◌, ◌^◌, ◌<◌, ◌≤◌, ℤ, pos, ◌+ℤ◌, ◌-ℤ◌, List, [], ◌∷◌, ◌++◌, length, sym, ap, ◌∙◌, subst, arith, Some, Option, to_z, of_z, get_or}
+use Rattle.std.proofs.Common.{◌≡◌, ◌⊎◌, inl, inr, ℕ, ◌+◌, ◌%◌, ◌*◌, ◌^◌, ◌<◌, ◌≤◌, ℤ, pos, ◌+ℤ◌, ◌-ℤ◌, List, [], ◌∷◌, ◌++◌, length, sym, ap, ◌∙◌, subst, arith, Some, Option, to_z, of_z, get_or, FitsSigned}
 use Rattle.std.specs.Int.{w64}
 use mir.Syntax.{w128}
 use Rattle.std.specs.Int.RustNames.{unsigned_abs}
@@ -9,6 +9,8 @@ use Rattle.std.proofs.lemmas.List.{get_or_append_left, get_or_push}
 use Rattle.std.proofs.lemmas.List.Elements.{All-get_or}
 use Rattle.break_rules.specs.declared.Rule.{Rule}
 use Rattle.shift_instance.specs.declared.Shift.{Shift}
+use Rattle.shift_instance.specs.Problem.{Problem, day_slots, slots, slot_of}
+use Rattle.std.proofs.Math.Nat.{add-mod, mod-mod}
 use Rattle.cert_check.specs.Rests.{sum_at, price_in, AreSmallPrices}
 use Rattle.cert_check.proofs.Stretches.{abs_add}
 
@@ -18,6 +20,12 @@ price_small prices t inside small = All-get_or (λ p. unsigned_abs p ≤ 1000000
 module _ (sum p : ℤ) (offset : ℕ) (size : unsigned_abs sum ≤ 10000000000 * offset) (few : offset < 65536) (small : unsigned_abs p ≤ 10000000000) where
   pub next_size : unsigned_abs (sum +ℤ p) ≤ 10000000000 * (offset + 1)
   next_size = let both = abs_add sum p (10000000000 * offset) 10000000000 size small in omega arith
+
+  pub next_fits : FitsSigned w64 (sum +ℤ to_z w64 (of_z w64 p))
+  next_fits =
+      let back : to_z w64 (of_z w64 p) ≡ p = to_z-of_z w64 p (fits_signed_from_abs w64 p (omega arith)) in
+      let bound = next_size in
+      subst (λ (z : ℤ). FitsSigned w64 (sum +ℤ z)) (sym back) (fits_signed_from_abs w64 (sum +ℤ p) (omega arith))
 
   -- the next sum, as it is kept
   pub next_sum : to_z w64 (of_z w64 (sum +ℤ to_z w64 (of_z w64 p))) ≡ sum +ℤ p
@@ -53,6 +61,14 @@ module _ (sums : List ℤ) (offset : ℕ) (x : ℤ) (many : length sums ≡ offs
     where
       cases : (o : ℕ) → o < offset + 1 → (o < offset) ⊎ (o ≡ offset)
       cases o l = grind arith
+
+-- the slot of the next offset
+pub next_slot_is : (i : Problem) (shift : Shift) (day offset slot : ℕ) → slot ≡ slot_of i shift day offset → (slot + 1) % slots i ≡ slot_of i shift day (offset + 1)
+next_slot_is i shift day offset slot is =
+    let n = slots i in
+    let a = day * day_slots i + shift.start + offset in
+    let e : a + 1 ≡ day * day_slots i + shift.start + (offset + 1) = omega arith in
+    ap (λ s. (s + 1) % n) is ∙ add-mod (a % n) 1 n ∙ ap (λ k. (k + 1 % n) % n) (mod-mod a n) ∙ sym (add-mod a 1 n) ∙ ap (λ k. k % n) e
 
 pub some_at : (o : Option (Shift × Rule)) (x : Shift × Rule) (P : Shift × Rule → Type 0) → o ≡ Some x → IsSomeAnd o P → P x
 some_at o x P e h = subst (λ (q : Option (Shift × Rule)). IsSomeAnd q P) e h

@@ -3,13 +3,13 @@ use Rattle.std.proofs.Common.{◌≡◌, inl, inr, ℕ, zero, suc, ◌+◌, ◌*
 use Rattle.std.specs.Int.RustNames.{unsigned_abs}
 use Rattle.std.specs.List.{zip}
 use Rattle.std.proofs.lemmas.Int.{ints}
-use Rattle.std.proofs.lemmas.Bool.{and_from, false≢true, lt-ltb, ltb-true}
+use Rattle.std.proofs.lemmas.Bool.{and_from, and_right, false≢true, lt-ltb, ltb-true}
 use Rattle.break_rules.specs.declared.Break.{Break}
 use Rattle.break_rules.specs.declared.Rule.{Rule}
 use Rattle.break_rules.specs.Breaks.{begins_with, same_break, is_legal}
 use Rattle.break_rules.specs.Ranges.{IsRule}
 use Rattle.break_rules.proofs.Lists.{Has, any_none, same_tests}
-use Rattle.break_rules.proofs.Sums.{int_sum_by-same}
+use Rattle.break_rules.proofs.Sums.{int_sum_by-same, int_sum_by_zero}
 use Rattle.break_rules.proofs.LegalLists.{same_break_decides, no_longer_list}
 use Rattle.head_splits.specs.declared.Cut.{Cut}
 use Rattle.head_splits.specs.Bound.{is_nil, bonus, signed_price}
@@ -64,6 +64,18 @@ pub bonuses_alike : (cuts : List Cut) (prices : List ℕ) (s day : ℕ) (list re
 bonuses_alike cuts prices s day list rest h =
     int_sum_by-same (bonus (duty_with s day (list ++ rest))) (bonus (duty_with s day list)) (zip cuts prices)
     (λ c m. bonus_alike s day list rest c (any_none (is_further s day list) cuts c.0 h (has_first cuts prices c m)))
+
+-- cuts add nothing to a duty without breaks
+bonus_none : (s day : ℕ) (c : Cut × ℕ) → bonus (duty_with s day []) c ≡ pos 0
+bonus_none s day c = by c.0.class.prefix
+  where
+    by : (prefix : List Break) → cond (not (is_nil prefix) && (((s == c.0.class.shift) && (day == c.0.class.day)) && begins_with [] prefix)) (signed_price c.0.side c.1) (pos 0) ≡ pos 0
+    by [] = refl
+    by (b ∷ bs) = ap (λ t. cond t (signed_price c.0.side c.1) (pos 0)) (and_right ((s == c.0.class.shift) && (day == c.0.class.day)) false refl)
+
+pub bonuses_none : (cuts : List Cut) (prices : List ℕ) (s day : ℕ) → bonuses cuts prices (duty_with s day []) ≡ pos 0
+bonuses_none cuts prices s day =
+    int_sum_by-same (bonus (duty_with s day [])) (λ c. pos 0) (zip cuts prices) (λ c m. bonus_none s day c) ∙ int_sum_by_zero (zip cuts prices)
 
 -- the size of what cuts add
 price_small : (cuts : List Cut) (prices : List ℕ) (n : ℕ) → ((k : ℕ) → get_or prices k 0 ≤ n) → (c : Cut × ℕ) → Has (zip cuts prices) c → c.1 ≤ n

@@ -71,7 +71,7 @@ fn bonus(cut: &Cut, price: u64, shift: u16, day: u8, list: &[Break]) -> i128
     }
 }
 
-/// What all cuts add to a duty.
+/// What all cuts add to a duty, which is nothing where it has no break: each prefix that adds something has one.
 fn bonuses(duties: &Duties<'_>, list: &[Break]) -> i128
     requires count { length duties.now.prices.now ≡ length duties.now.cuts.now }
     requires few { length duties.now.cuts.now ≤ 2 ^ 33 }
@@ -79,6 +79,9 @@ fn bonuses(duties: &Duties<'_>, list: &[Break]) -> i128
     ensures bonuses { result ≡ bonuses duties.now.cuts.now duties.now.prices.now (duty_with duties.now.shift duties.now.day list.now) }
     ensures small { unsigned_abs result ≤ 2 ^ 73 }
 {
+    if list.is_empty() {
+        return 0;
+    }
     let mut sum = 0;
     for (k, cut) in duties.cuts.iter().enumerate() {
         sum += bonus(cut, duties.prices[k], duties.shift, duties.day, list);

@@ -27,7 +27,7 @@ pub fn resumption(rule: &Rule, spot: Spot) -> usize
 fn earned_via(sums: &[i64], from: usize, start: usize, behind: i64) -> i64
     ensures { FitsSigned w64 (sum_at sums.now start -ℤ sum_at sums.now from) → FitsSigned w64 ((sum_at sums.now start -ℤ sum_at sums.now from) +ℤ behind) → result ≡ (sum_at sums.now start -ℤ sum_at sums.now from) +ℤ behind }
 {
-    stretch(sums, from, start).saturating_add(behind)
+    stretch(sums, from, start).wrapping_add(behind)
 }
 
 /// The greater of two values, the first of which may be none.
@@ -81,7 +81,7 @@ pub fn rest_values(
     let mut values = Vec::with_capacity(alloc, nodes.len())?;
     for k in 0..nodes.len() {
         let value = rest_value(rule, len, sums, nodes, k, &values);
-        values.push(value)?;
+        values.push_reserved(value);
     }
     Ok(values)
 }

@@ -1,6 +1,6 @@
 //! Sums of slot prices along a shift.
 
-ghost use Rattle.std.specs.Prelude.{◌≡◌, ◌<◌, ◌-ℤ◌, length, slice_get, Some, IfOk, FitsSigned};
+ghost use Rattle.std.specs.Prelude.{◌≡◌, ◌+◌, ◌%◌, ◌<◌, ◌-ℤ◌, length, slice_get, Some, IfOk, FitsSigned};
 ghost use Rattle.std.specs.Int.{w64};
 ghost use Rattle.break_rules.specs.declared.Rule.{Rule};
 ghost use Rattle.shift_instance.specs.declared.Shift.{Shift};
@@ -10,6 +10,14 @@ ghost use Rattle.cert_check.specs.Rests.{sum_at, AreSums, ArePricesOf, AreSmallP
 use break_rules::NoMemory;
 use shift_instance::Instance;
 use std::alloc::Global;
+
+/// The slot after one, the first after the last.
+fn next_slot(slot: usize, slots: usize) -> usize
+    requires { slot < slots }
+    ensures { result ≡ (slot + 1) % slots }
+{
+    if slot + 1 == slots { 0 } else { slot + 1 }
+}
 
 /// The sums of the prices of a shift's first offsets on a day: that of none, that of the first, that of the first two, and
 /// so on to that of all.
@@ -27,12 +35,14 @@ pub fn price_sums(
     ensures small { IfOk result (λ sums. (x : Shift × Rule) → slice_get (shift_list instance.now) shift ≡ Some x → AreSums x.0.len sums.items) }
 {
     let len = instance.shift(shift).len;
-    let mut sums = Vec::new(alloc);
+    let mut sums = Vec::with_capacity(alloc, usize::from(len) + 1)?;
     let mut sum = 0;
-    sums.push(0)?;
-    for offset in 0..len {
-        sum += prices[instance.slot_of(shift, day, offset)];
-        sums.push(sum)?;
+    sums.push_reserved(0);
+    let mut slot = instance.slot_of(shift, day, 0);
+    for _ in 0..len {
+        sum += prices[slot];
+        sums.push_reserved(sum);
+        slot = next_slot(slot, prices.len());
     }
     Ok(sums)
 }
@@ -48,5 +58,5 @@ pub fn number_at(numbers: &[i64], place: usize) -> i64
 pub fn stretch(sums: &[i64], from: usize, to: usize) -> i64
     ensures { FitsSigned w64 (sum_at sums.now to -ℤ sum_at sums.now from) → result ≡ sum_at sums.now to -ℤ sum_at sums.now from }
 {
-    number_at(sums, to).saturating_sub(number_at(sums, from))
+    number_at(sums, to).wrapping_sub(number_at(sums, from))
 }

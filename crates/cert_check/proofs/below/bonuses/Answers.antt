@@ -1,11 +1,24 @@
-use Rattle.std.proofs.Common.{◌<◌, ◌+◌, ◌*◌, ◌^◌, ℕ, ℤ, ◌+ℤ◌, get_or, ap, ◌∙◌, arith}
+use Rattle.std.proofs.Common.{◌≡◌, ◌<◌, ◌+◌, ◌*◌, ◌^◌, ℕ, ℤ, ◌+ℤ◌, List, [], ◌∷◌, length, get_or, refl, sym, ap, ◌∙◌, arith}
+use Rattle.std.proofs.lemmas.Bool.{eqb-true}
+use Rattle.break_rules.specs.declared.Break.{Break}
 use Rattle.break_rules.specs.Sums.{int_sum_by}
 use Rattle.head_splits.specs.declared.Cut.{Cut}
 use Rattle.head_splits.specs.Bound.{bonus}
-use Rattle.cert_check.specs.Below.{duty_with}
+use Rattle.cert_check.specs.Below.{bonuses, duty_with}
 use Rattle.cert_check.proofs.Sizes.{added_fits, added, added_small}
+use Rattle.cert_check.proofs.Whole.{bonuses_none}
 use Rattle.cert_check.proofs.Pairs.{pairs_from, sum_next}
 use Rattle.cert_check.proofs.below.bonuses.Goals as goal
+
+empty_is : (xs : List Break) → length xs ≡ 0 → xs ≡ []
+empty_is [] e = refl
+empty_is (x ∷ xs) e = absurd (omega arith)
+
+pub returns-then-is_empty-clause-bonuses : goal.returns-then-is_empty-clause-bonuses
+returns-then-is_empty-clause-bonuses c =
+    let empty : c.args.list.now ≡ [] = empty_is c.args.list.now (eqb-true (length c.args.list.now) 0 (sym c.is_empty.ensures ∙ c.if-is_empty.true)) in
+    sym (ap (λ (l : List Break). bonuses c.args.duties.now.cuts.now c.args.duties.now.prices.now (duty_with c.args.duties.now.shift c.args.duties.now.day l)) empty
+    ∙ bonuses_none c.args.duties.now.cuts.now c.args.duties.now.prices.now c.args.duties.now.shift c.args.duties.now.day)
 
 pub overflow_add-sum : goal.overflow_add-sum
 overflow_add-sum c =
