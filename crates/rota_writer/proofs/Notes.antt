@@ -13,7 +13,8 @@ use Rattle.shift_instance.specs.Problem.{Problem, shift_list}
 use Rattle.shift_instance.specs.Valid.{IsValid}
 use Rattle.certificate.specs.declared.Cert.{Cert}
 use Rattle.certificate.specs.Departing.{IsLine, IsNote, Spells}
-use Rattle.certificate.specs.Text.{Line, HasText, cert_lines, cert_text, line_text, lines_text}
+use Rattle.certificate.specs.LineText.{Line, line_text, lines_text}
+use Rattle.certificate.specs.Text.{HasText, cert_lines, cert_text}
 use Rattle.rota_writer.specs.Notes.{AreNotes, TablesAreNotes, TextsTakeTables}
 use Rattle.rota_writer.specs.Table.{period_text, breaks_text, day_number, name_of, crew_text, line_of, row_table_line, table_text}
 use Rattle.rota_writer.proofs.Feedless.{plain, joins, decimal_line, period_line, breaks_line, name_line}

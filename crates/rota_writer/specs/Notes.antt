@@ -5,7 +5,8 @@ use Rattle.shift_instance.specs.Problem.{Problem}
 use Rattle.shift_instance.specs.Valid.{IsValid}
 use Rattle.certificate.specs.declared.Cert.{Cert}
 use Rattle.certificate.specs.Departing.{IsNote, Spells}
-use Rattle.certificate.specs.Text.{Line, HasText, cert_text, lines_text}
+use Rattle.certificate.specs.LineText.{Line, lines_text}
+use Rattle.certificate.specs.Text.{HasText, cert_text}
 use Rattle.rota_writer.specs.Table.{table_text}
 
 -- these bytes are lines of notes
