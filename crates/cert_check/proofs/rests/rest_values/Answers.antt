@@ -1,7 +1,6 @@
-use Rattle.std.proofs.Common.{◌≡◌, ◌+◌, ◌++◌, ◌∷◌, [], ℤ, List, length, length-append, sym, ap, subst, ◌∙◌, arith, to_z, of_z}
+use Rattle.std.proofs.Common.{◌≡◌, ◌+◌, ◌∷◌, [], ℤ, length, length-append, sym, ap, subst, ◌∙◌, arith, to_z, of_z}
 use Rattle.std.specs.Int.{w64}
 use Rattle.std.proofs.lemmas.Int.{to_z-of_z}
-use Rattle.break_rules.specs.declared.Break.{Break}
 use Rattle.cert_check.specs.Rests.{AreValues, Completes, IsGreatest, rest_worth}
 use Rattle.cert_check.proofs.Values.{values_more}
 use Rattle.cert_check.proofs.rests.rest_values.Goals as goal

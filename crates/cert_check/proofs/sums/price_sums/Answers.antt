@@ -1,4 +1,4 @@
-use Rattle.std.proofs.Common.{◌≡◌, ℕ, ℤ, pos, length-append, ◌+◌, ◌*◌, ◌%◌, ◌+ℤ◌, ◌<◌, ◌≤◌, List, ◌++◌, ◌∷◌, [], length, sym, ap, subst, ◌∙◌, arith, get_or, to_z, of_z}
+use Rattle.std.proofs.Common.{◌≡◌, ℤ, pos, length-append, ◌+◌, ◌*◌, ◌%◌, ◌+ℤ◌, ◌<◌, ◌≤◌, List, ◌++◌, ◌∷◌, [], length, sym, ap, subst, ◌∙◌, arith, get_or, to_z, of_z}
 use Rattle.std.specs.Int.{w64}
 use Rattle.std.specs.Int.RustNames.{unsigned_abs}
 use Rattle.std.proofs.lemmas.Nat.{mod_below}
