@@ -1,11 +1,11 @@
 -- The certificate of a book is accepted, and has a text.
-use Rattle.std.proofs.Common.{◌≡◌, inl, inr, ⊎_elim, ℕ, zero, suc, ◌+◌, ◌<◌, ◌≤◌, ◌^◌, min, max, Bool, true, false, cond, ◌&&◌, ◌==◌, not, List, [], ◌∷◌, ◌++◌, length, refl, sym, ap, subst, ◌∙◌, arith, fold, nat_lt, nat_le, Option, Some, None, sum_by}
-use Rattle.std.specs.Prelude.{slice_get, IsTrue}
-use Rattle.std.specs.List.{filter_map, list_all}
+use Rattle.std.proofs.Common.{◌≡◌, inl, inr, ℕ, zero, suc, ◌<◌, ◌≤◌, ◌^◌, min, max, Bool, true, false, cond, ◌&&◌, ◌==◌, not, List, [], ◌∷◌, length, refl, sym, ap, subst, ◌∙◌, arith, fold, nat_lt, nat_le, Some, None}
+use Rattle.std.specs.Prelude.{slice_get}
+use Rattle.std.specs.List.{list_all}
 use Rattle.std.specs.Option.{option_map_or, option_and_then}
-use Rattle.std.proofs.lemmas.Bool.{and_parts, and_from, lt-ltb, le-leb, eqb-true, ltb-true, leb-true, eq-eqb, not-true, false≢true, cases_Bool}
+use Rattle.std.proofs.lemmas.Bool.{and_parts, and_from, lt-ltb, le-leb, eqb-true, ltb-true, eq-eqb, not-true, false≢true, cases_Bool}
 use Rattle.std.proofs.lemmas.Bool.{cond_both}
-use Rattle.std.specs.Prelude.{All, zip}
+use Rattle.std.specs.Prelude.{zip}
 use Rattle.std.specs.List.{AllByRecursion}
 use Rattle.std.proofs.lemmas.List.Elements.{All-from_recursion}
 use Rattle.break_rules.specs.Breaks.{is_live}
@@ -13,7 +13,7 @@ use Rattle.break_rules.proofs.Lists.{Has}
 use Rattle.shift_instance.specs.declared.TheConstants.{TOP}
 use Rattle.shift_instance.specs.Problem.{Problem, slots, shift_list}
 use Rattle.shift_instance.specs.Valid.{IsValid}
-use Rattle.shift_instance.specs.Rota.{cost, rota_of, are_legal_rows, is_legal_rota, is_shift_and}
+use Rattle.shift_instance.specs.Rota.{cost, rota_of, is_legal_rota, is_shift_and}
 use Rattle.rota_cost.proofs.Coverage.{costs_below}
 use Rattle.head_splits.specs.declared.Class.{Class}
 use Rattle.head_splits.specs.declared.Prices.{Prices}
@@ -23,8 +23,8 @@ use Rattle.head_splits.specs.declared.Side.TheVariants.{AtMost, AtLeast}
 use Rattle.head_splits.specs.declared.Cut.{Cut}
 use Rattle.head_splits.specs.Cuts.{low, high, least_high, lowered, same_class}
 use Rattle.head_splits.proofs.Nodes.{floor_at}
-use Rattle.head_splits.specs.Settled.{is_live_class, is_settled}
-use Rattle.head_splits.specs.Nodes.{Node, new_node, with_floor, with_split, settled_floor}
+use Rattle.head_splits.specs.Settled.{is_live_class}
+use Rattle.head_splits.specs.Nodes.{Node, with_floor, with_split}
 use Rattle.post_codec.specs.declared.post.Post.{Post}
 use Rattle.post_codec.specs.declared.post.Post.TheVariants.{Plan, Priced, Split, Settled}
 use Rattle.certificate.specs.declared.proof_lines.Line.{Line}
@@ -33,8 +33,8 @@ use Rattle.certificate.specs.Accepted.{is_split, node_line, node_of, nodes_after
 use Rattle.certificate.specs.LineText.{HasSlot}
 use Rattle.certificate.specs.Text.{Agrees, AgreesWith}
 use Rattle.certificate.specs.declared.CertStatus.TheVariants.{Optimal, Stopped}
-use Rattle.certificate.specs.History.{line_of, lines_of}
-use Rattle.search_core.specs.Book.{Book, opening, floor_of, is_open, is_better, priced, divided, settled, at_node, step, book_after, book_of, IsSound, is_finished}
+use Rattle.certificate.specs.History.{lines_of}
+use Rattle.search_core.specs.Book.{Book, opening, floor_of, is_open, is_better, priced, divided, settled, step, book_after, book_of, is_finished}
 use Rattle.search_core.proofs.Sound.{cond_some, bind_some, at_node_some, fold_sound}
 use Rattle.search_core.proofs.Floors.{finished_closed}
 use Rattle.shift_solve.specs.Report.{status_of_book, cert_of}

@@ -1,6 +1,6 @@
 -- How a search over a book ends, and a run whose book isn't opened.
-use Rattle.std.proofs.Common.{◌≡◌, ◌≢◌, ⊎_elim, inl, inr, sym, subst, refl, ℕ, ◌<◌, ◌≤◌, Bool, true, false, List, arith, Option, Some, None}
-use Rattle.std.specs.Prelude.{◌⊎◌, IfSome, OnSome, IsTrue}
+use Rattle.std.proofs.Common.{◌≡◌, ◌≢◌, inl, inr, sym, subst, refl, ℕ, ◌<◌, ◌≤◌, Bool, true, false, List, arith, Option, Some, None}
+use Rattle.std.specs.Prelude.{◌⊎◌, IfSome, IsTrue}
 use Rattle.std.proofs.lemmas.Bool.{cases_lt, false≢true}
 use Rattle.gated_journal.specs.declared.TheConstants.{JOURNAL_MAX}
 use Rattle.instance_json.specs.Canonical.{canonical_text}
@@ -13,7 +13,7 @@ use Rattle.search_book.specs.Search.{SearchView, board_of}
 use Rattle.worker_gate.specs.declared.run.RunEnd.{RunEnd}
 use Rattle.worker_gate.specs.declared.run.RunEnd.TheVariants.{Finished, Spent, Full as FullEnd, DiskFault as DiskEnd, NoMemory as MemoryEnd}
 use Rattle.worker_gate.specs.Runs.{is_whole, plans_and_prices_since, steps_enough, RunEnds}
-use Rattle.shift_solve.specs.Run.{SinkMet, IsLeft, IsRefusal, IsRefused, OverDisk, status_of}
+use Rattle.shift_solve.specs.Run.{SinkMet, IsLeft, IsRefusal, OverDisk, status_of}
 use Rattle.shift_solve.specs.Search.{is_reported, status_at, Ends, IsLanded, IsReported, SearchEnds, Unwritten}
 use Rattle.shift_solve.specs.Session.{DiskMet}
 use Rattle.shift_solve.specs.declared.status.Status.{Status}

@@ -1,5 +1,5 @@
 -- What is written of a book is a text of its certificate, with the table behind it or not.
-use Rattle.std.proofs.Common.{ℕ, Bool, true, false, List, []}
+use Rattle.std.proofs.Common.{Bool, true, false, List, []}
 use Rattle.post_codec.specs.declared.post.Post.{Post}
 use Rattle.shift_instance.specs.Problem.{Problem}
 use Rattle.shift_instance.specs.Valid.{IsValid}

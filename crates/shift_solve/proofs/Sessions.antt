@@ -1,41 +1,37 @@
 -- From a search over a book to what a run says of it.
-use Rattle.std.proofs.Common.{◌≡◌, ⊎_elim, inl, inr, ◌∙◌, sym, ap, subst, refl, ℕ, ◌+◌, ◌*◌, ◌<◌, ◌≤◌, List, [], ◌∷◌, ◌++◌, length, take, drop, arith, length-append}
-use Rattle.std.specs.Prelude.{◌⊎◌, Option, Some, None, OnSome, IfSome, IsSome, IsTrue, Bool, true, false, count_by}
+use Rattle.std.proofs.Common.{◌≡◌, inl, inr, ◌∙◌, sym, ap, subst, refl, ℕ, ◌+◌, ◌*◌, ◌<◌, ◌≤◌, List, [], ◌∷◌, ◌++◌, length, take, drop, arith, length-append}
+use Rattle.std.specs.Prelude.{◌⊎◌, Option, Some, None, OnSome, IfSome, IsSome, IsTrue, Bool, true, false}
 use Rattle.std.proofs.lemmas.Bool.{false≢true}
 use Rattle.std.specs.Io.KnownBytes.{Appends}
 use Rattle.plan_base.specs.Causes.{Rose}
 use Rattle.plan_base.specs.Streams.{AppendsPart}
-use Rattle.plan_base.specs.Disk.{HoldsThroughout, TellsAlike}
+use Rattle.plan_base.specs.Disk.{TellsAlike}
 use Rattle.gated_journal.specs.declared.TheConstants.{JOURNAL_MAX}
 use Rattle.post_codec.specs.declared.post.Post.{Post}
 use Rattle.shift_instance.specs.Problem.{Problem}
 use Rattle.shift_instance.specs.Valid.{IsValid}
-use Rattle.instance_json.specs.Canonical.{canonical_text}
-use Rattle.certificate.specs.Accepted.{is_accepted}
 use Rattle.certificate.specs.Departing.{Spells}
 use Rattle.search_core.specs.declared.board.Origin.{Origin}
 use Rattle.search_core.specs.declared.board.Shutting.{Shutting}
-use Rattle.search_core.specs.declared.board.Shutting.TheVariants.{DiskFault as ByDisk, Full as ByLimit}
 use Rattle.search_core.specs.Board.{book_at}
-use Rattle.search_core.specs.Book.{Book, book_of, is_finished, opening, IsSound}
+use Rattle.search_core.specs.Book.{Book, book_of, is_finished, opening}
 use Rattle.search_core.specs.Core.{IsFront}
-use Rattle.search_core.specs.State.{book_or_opening}
 use Rattle.std.proofs.Math.Seq.{drop-append_seam}
 use Rattle.std.proofs.lemmas.List.{length-take-le}
 use Rattle.search_core.proofs.Floors.{finished_best}
 use Rattle.search_core.proofs.Outlines.{book_is}
 use Rattle.search_core.proofs.Sound.{fold_sound}
 use Rattle.search_book.specs.Keeping.{HoldsFrontOf, PostsLast, IsRunningPosts, ShutOf}
-use Rattle.search_book.specs.Opening.{IsOldOrShort, IsOpenedFrom}
+use Rattle.search_book.specs.Opening.{IsOpenedFrom}
 use Rattle.search_book.specs.Origins.{tells}
 use Rattle.search_book.specs.Search.{SearchView, board_of, log_of}
 use Rattle.search_book.specs.Posts.{StandsForPosts}
 use Rattle.worker_gate.specs.declared.run.RunEnd.{RunEnd}
 use Rattle.worker_gate.specs.declared.run.RunEnd.TheVariants.{Finished, Spent, Full as FullEnd, DiskFault as DiskEnd, NoMemory as MemoryEnd}
-use Rattle.worker_gate.specs.Runs.{is_plan_or_prices, steps_enough}
+use Rattle.worker_gate.specs.Runs.{steps_enough}
 use Rattle.shift_solve.specs.Report.{cert_of, output_of}
 use Rattle.shift_solve.specs.Run.{SinkMet, OverDisk, IsFinished, IsSpent, IsFull, IsUnbeaten, Reports, ReportsPart}
-use Rattle.shift_solve.specs.Search.{origin_of, is_reported, status_at, Ends, GoesOn, IsLanded, IsReported, IsReportedPart, SearchEnds}
+use Rattle.shift_solve.specs.Search.{is_reported, Ends, GoesOn, IsLanded, IsReported, IsReportedPart, SearchEnds}
 use Rattle.shift_solve.specs.Session.{met_of, Session, IsOnlyJournal}
 use Rattle.shift_solve.specs.declared.status.Status.{Status}
 use Rattle.shift_solve.specs.declared.status.Status.TheVariants.{Optimal, Budget, Full, Usage, Input, ReadFault, WriteFault, DiskFault, NoMemory, Journal}
