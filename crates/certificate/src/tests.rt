@@ -26,7 +26,8 @@ pub(crate) fn departing(alloc: Global, text: &[u8]) -> Result<u64, AllocError> {
 pub(crate) fn again(alloc: Global, text: &[u8]) -> Result<Vec<u8>, AllocError> {
     match read(alloc, text) {
         Ok(cert) => write(alloc, &cert),
-        Err(_) => Ok(Vec::new(alloc)),
+        Err(CertText::Departs { .. }) => Ok(Vec::new(alloc)),
+        Err(CertText::NoMemory) => Err(AllocError),
     }
 }
 
