@@ -1,14 +1,11 @@
 -- The values of the nodes, one after another.
-use Rattle.std.proofs.Common.{◌≡◌, inl, inr, ℕ, zero, suc, ◌+◌, ◌*◌, ◌<◌, ◌≤◌, ℤ, pos, ◌+ℤ◌, ◌-ℤ◌, List, [], ◌∷◌, ◌++◌, length, map, take, refl, sym, ap, ◌∙◌, subst, arith, Option, Some, FitsSigned, get_or, to_z, of_z}
+use Rattle.std.proofs.Common.{◌≡◌, ℕ, zero, suc, ◌+◌, ◌*◌, ◌<◌, ◌≤◌, ℤ, ◌+ℤ◌, ◌-ℤ◌, List, [], ◌∷◌, ◌++◌, length, map, take, refl, sym, ap, ◌∙◌, subst, arith, Option, Some, FitsSigned, get_or, to_z, of_z}
 use Rattle.std.specs.Prelude.{slice_get}
 use Rattle.std.specs.Int.{w64}
 use Rattle.std.specs.Int.RustNames.{unsigned_abs}
 use Rattle.std.proofs.lemmas.Int.{ints, fits_signed_from_abs, to_z-of_z}
 use Rattle.std.proofs.lemmas.List.{take_more, take_all, get_or_default}
 use Rattle.std.proofs.lemmas.List.Sums.{fold-append}
-use Rattle.std.proofs.lemmas.Bool.{cases_lt}
-use Rattle.std.proofs.Math.ListN.{get_or-append}
-use Rattle.std.proofs.Math.Seq.{get_or-append_seam}
 use Rattle.break_rules.specs.declared.Break.{Break}
 use Rattle.break_rules.specs.declared.Rule.{Rule}
 use Rattle.break_rules.specs.declared.Spot.{Spot}
@@ -20,7 +17,7 @@ use Rattle.break_rules.proofs.Steps.{bounds, from_next}
 use Rattle.break_graph.specs.declared.Edge.{Edge}
 use Rattle.break_graph.specs.declared.Node.{Node}
 use Rattle.break_graph.specs.Graph.{StandsAt, IsGraph, node_at, live_nexts}
-use Rattle.cert_check.specs.Rests.{sum_at, price_in, AreSums, resumes, earned_from, rest_worth, Completes, Through, IsGreatest, IsGreatestOf, AreValues, greater_of}
+use Rattle.cert_check.specs.Rests.{sum_at, price_in, AreSums, resumes, earned_from, rest_worth, Completes, Through, IsGreatest, IsGreatestOf, greater_of}
 use Rattle.cert_check.proofs.Stretches.{earned_more, earned_end, earned_small, spaced_rest, resumes_behind, abs_sub}
 use Rattle.cert_check.proofs.Greatest.{longer, greatest_more}
 
@@ -86,19 +83,6 @@ pub edge_at : (edges : List Edge) (i : ℕ) (e : Edge) → i < length edges → 
 edge_at [] i e inside is = absurd (omega arith)
 edge_at (x ∷ xs) zero e inside is = ap Some (sym is)
 edge_at (x ∷ xs) (suc i) e inside is = edge_at xs i e (omega arith) is
-
--- one value more
-pub values_more : (rule : Rule) (len : ℕ) (sums : List ℤ) (nodes : List Node) (k : ℕ) (values : List ℤ) (v : ℤ) → length values ≡ k → AreValues rule len sums nodes k values
-    → ((list : List Break) → StandsAt rule len nodes k list → IsGreatest (Completes rule len list) (rest_worth sums rule len list) v)
-    → AreValues rule len sums nodes (k + 1) (values ++ v ∷ [])
-values_more rule len sums nodes k values v many known here j list less at =
-    elim (cases_lt j k) [
-      | inl l ↦ subst (IsGreatest (Completes rule len list) (rest_worth sums rule len list)) (sym (get_or-append values (v ∷ []) (pos 0) j (omega arith))) (known j list l at)
-      | inr g ↦
-          let same : j ≡ k = omega arith in
-          subst (IsGreatest (Completes rule len list) (rest_worth sums rule len list)) (sym (ap (λ n. sum_at (values ++ v ∷ []) n) (same ∙ sym many) ∙ get_or-append_seam values v [] (pos 0)))
-          (here list (subst (λ n. StandsAt rule len nodes n list) same at))
-    ]
 
 abbrev pub no_edge : Edge
 no_edge = record { stop = record { start = 0; len = 0 }; next = 0 }

@@ -81,7 +81,7 @@ pub fn rest_values(
     let mut values = Vec::with_capacity(alloc, nodes.len())?;
     for k in 0..nodes.len() {
         let value = rest_value(rule, len, sums, nodes, k, &values);
-        values.push_reserved(value);
+        values.push(value)?;
     }
     Ok(values)
 }

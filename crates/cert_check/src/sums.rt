@@ -37,11 +37,11 @@ pub fn price_sums(
     let len = instance.shift(shift).len;
     let mut sums = Vec::with_capacity(alloc, usize::from(len) + 1)?;
     let mut sum = 0;
-    sums.push_reserved(0);
+    sums.push(0)?;
     let mut slot = instance.slot_of(shift, day, 0);
     for _ in 0..len {
         sum += prices[slot];
-        sums.push_reserved(sum);
+        sums.push(sum)?;
         slot = next_slot(slot, prices.len());
     }
     Ok(sums)

@@ -11,10 +11,9 @@ use Rattle.cert_check.proofs.sums.price_sums.Goals as goal
 
 pub loop-init : goal.loop-init
 loop-init c =
-    let items : c.push_reserved.new.self.items ≡ pos 0 ∷ [] = c.push_reserved.ensures.items ∙ ap (λ (l : List ℤ). l ++ pos 0 ∷ []) c.in_ok-sums.ensures.items in
+    let items : c.push.new.self.items ≡ pos 0 ∷ [] = c.in_ok-push.ensures.items ∙ ap (λ (l : List ℤ). l ++ pos 0 ∷ []) c.in_ok-sums.ensures.items in
     record {
       many = ap length items;
-      room = omega (arith, c.push_reserved.ensures.capacity, c.in_ok-sums.ensures.exact, c.from.ensures);
       last = ap (λ (l : List ℤ). sum_at l 0) (sym items);
       size = omega arith;
       inside = omega (arith, c.slot_of-slot.ensures.below, c.requires.count);
@@ -45,11 +44,10 @@ loop-preserved c =
     let few : offset < 65536 = omega (arith, c.loop-test.true) in
     let next : ℤ = to_z w64 (of_z w64 (sum +ℤ to_z w64 (of_z w64 p))) in
     let is : next ≡ sum +ℤ p = next_sum sum p offset i.size few small in
-    let items : c.push_reserved-in-loop.new.self.items ≡ sums ++ next ∷ [] = c.push_reserved-in-loop.ensures.items in
+    let items : c.push-in-loop.new.self.items ≡ sums ++ next ∷ [] = c.in_ok-push-2.ensures.items in
     let some : 0 < length c.args.prices.now = omega (arith, i.inside) in
     record {
       many = ap length items ∙ length-append sums (next ∷ []) ∙ omega (arith, i.many);
-      room = omega (arith, i.room, c.push_reserved-in-loop.ensures.capacity);
       last = last_sum sums offset next i.many ∙ ap (λ (l : List ℤ). sum_at l (offset + 1)) (sym items);
       size = subst (λ (z : ℤ). unsigned_abs z ≤ 10000000000 * (offset + 1)) (sym is) (next_size sum p offset i.size few small);
       inside = subst (λ n. n < length c.args.prices.now) (sym c.next_slot-slot.ensures) (mod_below (c.loop.slot + 1) (length c.args.prices.now) some);

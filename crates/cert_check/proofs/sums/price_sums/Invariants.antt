@@ -1,4 +1,4 @@
-use Rattle.std.proofs.Common.{◌≡◌, ◌+◌, ◌*◌, ◌<◌, ◌≤◌, ℕ, length, Some, vec_capacity}
+use Rattle.std.proofs.Common.{◌≡◌, ◌+◌, ◌*◌, ◌<◌, ◌≤◌, ℕ, length, Some}
 use Rattle.std.specs.Prelude.{slice_get}
 use Rattle.std.specs.Int.RustNames.{unsigned_abs}
 use Rattle.break_rules.specs.declared.Rule.{Rule}
@@ -11,7 +11,6 @@ use Rattle.cert_check.proofs.sums.price_sums.Given as goal
 abbrev pub invariant-loop : goal.invariant-loop
 invariant-loop l = record {
   many : length l.sums.items ≡ l.counter + 1;
-  room : l.len + 1 ≤ vec_capacity l.sums;
   last : l.sum ≡ sum_at l.sums.items l.counter;
   size : unsigned_abs l.sum ≤ 10000000000 * l.counter;
   inside : l.slot < length l.prices;
