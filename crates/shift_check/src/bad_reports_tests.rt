@@ -173,7 +173,7 @@ fn a_proof_that_leads_nowhere_is_refused(rt: HostRuntime) -> Result<(), Fail> {
     for (claimed, lines, wanted) in [
         (0u32, 0u32, "1 refused 4 1 0"),
         (3, 3, "1 refused 4 1 0"),
-        (20_000, 20_000, "1 refused 4 1 0"),
+        (200_000, 200_000, "1 refused 4 1 0"),
         (1_000_000, 0, "4 at line 7"),
         (1_000_000, 3, "4 at line 10"),
         (4_294_967_295, 3, "4 at line 10"),

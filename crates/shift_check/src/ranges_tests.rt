@@ -10,7 +10,7 @@ type Change = (&'static str, &'static str, &'static str);
 const ACCEPTED: &str = "0 accepted cost 3 bound 3";
 
 /// Numbers of the lines before the proof.
-const PLAN: [Change; 26] = [
+const PLAN: [Change; 27] = [
     (
         "optimal\ncost 3",
         "stopped\ncost 18446744073709551615",
@@ -25,6 +25,11 @@ const PLAN: [Change; 26] = [
     ("bound 3", "bound 2", "4 at line 4"),
     ("bound 3", "bound 4", "4 at line 4"),
     ("bound 3", "bound 18446744073709551616", "4 at line 4"),
+    (
+        "optimal\ncost 3\nbound 3\nrows 1\nrow 0 0 1 4+1",
+        "bound\ncost -\nbound 18446744073709551615\nrows -",
+        "1 refused 4 18446744073709551615 3",
+    ),
     ("optimal", "bound", "4 at line 3"),
     ("optimal\ncost 3", "bound\ncost -", "4 at line 5"),
     ("cost 3", "cost -", "4 at line 3"),
