@@ -55,46 +55,49 @@ fn changed(
     answer(alloc, document, report.as_bytes(), 7)
 }
 
+/// A document, a text in it with another in its place and the end of the line that the check then writes, and the report.
+const SOLVED: [(&str, Change, &str); 11] = [
+    (DOCUMENT, ("", "", "3 bound 3"), PROVED),
+    (DOCUMENT, ("", "", "8 bound 0"), UNPROVED),
+    (DOCUMENT, ("", "", "3 bound 3"), EACH_KIND),
+    (DOCUMENT, ("1,1,1,1", "0,0,0,0", "0 bound 0"), NOTHING),
+    (
+        DOCUMENT,
+        ("heads\":1", "heads\":2", "3 bound 0"),
+        HALF_SPLIT,
+    ),
+    (
+        DOCUMENT,
+        ("heads\":1", "heads\":2", "3 bound 3"),
+        WHOLE_SPLIT,
+    ),
+    (DOCUMENT, ("shift\":3", "shift\":9", "8 bound 8"), TOO_DEAR),
+    (NOON, ("", "", "3 bound 3"), BREAK_AT_NOON),
+    (
+        NOON,
+        (
+            "\"long_work\":5,\"long_rest\":1",
+            "\"long_work\":4,\"long_rest\":2",
+            "3 bound 3",
+        ),
+        BREAK_AT_NOON,
+    ),
+    (
+        NOON,
+        ("resettle\":0", "resettle\":1", "5 bound 5"),
+        BREAK_BEFORE_NOON,
+    ),
+    (
+        NOON,
+        ("work_max\":5", "work_max\":2", "14 bound 14"),
+        NO_LEGAL_BREAK,
+    ),
+];
+
 #[test]
 fn what_is_solved_is_accepted(rt: HostRuntime) -> Result<(), Fail> {
     let alloc = rt.alloc();
-    for (document, (from, to, wanted), report) in [
-        (DOCUMENT, ("", "", "3 bound 3"), PROVED),
-        (DOCUMENT, ("", "", "8 bound 0"), UNPROVED),
-        (DOCUMENT, ("", "", "3 bound 3"), EACH_KIND),
-        (DOCUMENT, ("1,1,1,1", "0,0,0,0", "0 bound 0"), NOTHING),
-        (
-            DOCUMENT,
-            ("heads\":1", "heads\":2", "3 bound 0"),
-            HALF_SPLIT,
-        ),
-        (
-            DOCUMENT,
-            ("heads\":1", "heads\":2", "3 bound 3"),
-            WHOLE_SPLIT,
-        ),
-        (DOCUMENT, ("shift\":3", "shift\":9", "8 bound 8"), TOO_DEAR),
-        (NOON, ("", "", "3 bound 3"), BREAK_AT_NOON),
-        (
-            NOON,
-            (
-                "\"long_work\":5,\"long_rest\":1",
-                "\"long_work\":4,\"long_rest\":2",
-                "3 bound 3",
-            ),
-            BREAK_AT_NOON,
-        ),
-        (
-            NOON,
-            ("resettle\":0", "resettle\":1", "5 bound 5"),
-            BREAK_BEFORE_NOON,
-        ),
-        (
-            NOON,
-            ("work_max\":5", "work_max\":2", "14 bound 14"),
-            NO_LEGAL_BREAK,
-        ),
-    ] {
+    for (document, (from, to, wanted), report) in SOLVED {
         let document = document.replacen(alloc, from, to, 1)?;
         let accepted = format!(in alloc; "0 accepted cost {wanted}")?;
         let found = answer(alloc, document.as_str(), report.as_bytes(), 7)?;

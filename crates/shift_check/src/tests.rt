@@ -142,52 +142,55 @@ fn check_changed(
     )
 }
 
+/// Changes of the proved report: a text, another in its place, the number of the status, and what is written.
+const BOUNDS_AND_PLANS: [(&str, &str, u8, &str); 11] = [
+    ("", "", 0, "accepted cost 3 bound 3\n"),
+    (
+        "optimal\ncost 3\nbound 3",
+        "stopped\ncost 3\nbound 2",
+        0,
+        "accepted cost 3 bound 2\n",
+    ),
+    (
+        "optimal\ncost 3\nbound 3\nrows 1\nrow 0 0 1 -",
+        "bound\ncost -\nbound 3\nrows -",
+        0,
+        "accepted cost - bound 3\n",
+    ),
+    (
+        "optimal\ncost 3\nbound 3\nrows 1\nrow 0 0 1 -",
+        "bound\ncost -\nbound 4\nrows -",
+        1,
+        "refused 4 4 3\n",
+    ),
+    (
+        "cost 3\nbound 3\nrows 1\nrow 0 0 1 -",
+        "cost 4\nbound 4\nrows 1\nrow 0 0 2 -",
+        1,
+        "refused 4 4 3\n",
+    ),
+    ("row 0 0 1 -", "row 0 0 2 -", 1, "refused 5 0\n"),
+    (
+        "1\nrow 0 0 1 -",
+        "2\nrow 0 0 1 -\nrow 0 0 1 -",
+        1,
+        "refused 5 1\n",
+    ),
+    ("optimal\ncost 3", "stopped\ncost 4", 1, "refused 6 4 3\n"),
+    (
+        "end\n",
+        "end\n# of no account\n",
+        0,
+        "accepted cost 3 bound 3\n",
+    ),
+    ("shift-report 1\n", "", 4, ""),
+    ("bound 3", "bound 2", 4, ""),
+];
+
 #[test]
 fn bounds_and_plans_are_judged(rt: HostRuntime) -> Result<(), Fail> {
     let alloc = rt.alloc();
-    for (from, to, number, said) in [
-        ("", "", 0, "accepted cost 3 bound 3\n"),
-        (
-            "optimal\ncost 3\nbound 3",
-            "stopped\ncost 3\nbound 2",
-            0,
-            "accepted cost 3 bound 2\n",
-        ),
-        (
-            "optimal\ncost 3\nbound 3\nrows 1\nrow 0 0 1 -",
-            "bound\ncost -\nbound 3\nrows -",
-            0,
-            "accepted cost - bound 3\n",
-        ),
-        (
-            "optimal\ncost 3\nbound 3\nrows 1\nrow 0 0 1 -",
-            "bound\ncost -\nbound 4\nrows -",
-            1,
-            "refused 4 4 3\n",
-        ),
-        (
-            "cost 3\nbound 3\nrows 1\nrow 0 0 1 -",
-            "cost 4\nbound 4\nrows 1\nrow 0 0 2 -",
-            1,
-            "refused 4 4 3\n",
-        ),
-        ("row 0 0 1 -", "row 0 0 2 -", 1, "refused 5 0\n"),
-        (
-            "1\nrow 0 0 1 -",
-            "2\nrow 0 0 1 -\nrow 0 0 1 -",
-            1,
-            "refused 5 1\n",
-        ),
-        ("optimal\ncost 3", "stopped\ncost 4", 1, "refused 6 4 3\n"),
-        (
-            "end\n",
-            "end\n# of no account\n",
-            0,
-            "accepted cost 3 bound 3\n",
-        ),
-        ("shift-report 1\n", "", 4, ""),
-        ("bound 3", "bound 2", 4, ""),
-    ] {
+    for (from, to, number, said) in BOUNDS_AND_PLANS {
         for most in [1usize, 7, 5000] {
             let ran = check_changed(alloc, PROVED, (from, to), most)?;
             assert_eq!(rt; ran.0, number);
