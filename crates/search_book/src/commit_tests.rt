@@ -62,6 +62,14 @@ fn step_of(alloc: Global, instance: &Instance) -> Result<StepPosts, Fail>
     })
 }
 
+/// The first worker takes a node.
+fn take(rt: &impl Abort, book: &mut Book<MemDisk>) -> Taken
+    ensures { book.new.instance ≡ book.old.instance }
+{
+    assert!(rt; book.held(0).is_none());
+    book.take(0)
+}
+
 /// What a commit answers of a step for the root, which worker 0 takes before.
 fn commit_step(
     rt: &impl Abort,
@@ -72,14 +80,13 @@ fn commit_step(
     requires { book.old.instance ≡ instance.now }
 {
     let step = step_of(alloc, instance)?;
-    assert!(rt; book.held(0).is_none());
     let first = Taken::Node {
         node: 0,
         floor: 0,
         best: 8,
     };
-    assert!(rt; book.take(0) == first);
-    assert!(rt; book.held(0) == Some(0));
+    assert!(rt; take(rt, book) == first);
+    assert!(rt; book.held(0).is_some());
     assert!(rt; book.cuts(0)?.is_empty());
     Ok(book.commit(0, step))
 }

@@ -121,6 +121,7 @@ fn a_part_is_settled(rt: HostRuntime) -> Result<(), Fail> {
     let state = after(alloc, &instance, split(alloc), settled)?;
     let nodes = state.nodes();
     assert!(rt; nodes.len() == 3 && nodes[1].floor == 0 && nodes[2].floor == 3);
+    assert!(rt; state.history().len() == 2);
     assert!(rt; state.next_node(&Hands::empty()) == Some(1));
     let cut = state.cuts_of(2)?.into_vec().pop().ok_or("no cut")?;
     assert!(rt; cut.side == Side::AtLeast && cut.m == 1);
