@@ -1,5 +1,7 @@
 //! Runs of the checker over sources and sinks in memory. Whole programs are tried by the cases beside the crates.
 
+ghost use Rattle.std.specs.Prelude.{◌<◌};
+
 use crate::{BundleFault, CheckStatus, check_run};
 use plan_base::{MemSink, MemSource};
 use std::alloc::{AllocError, Global};

@@ -16,7 +16,7 @@ const MORNING_REPORT: &str =
     "shift-report 1\nstatus optimal\ncost 3\nbound 3\nrows 1\nrow 0 0 1 -\nproof 1\npriced 0 1 0,0,0,0,0,0,0,0,2,2,2,2,0,0,0,0,0,0,0,0,0,0,0,0 -\nend\n";
 
 /// The words `solve J`.
-fn words(alloc: Global) -> Result<Vec<String>, AllocError> {
+fn solve_words(alloc: Global) -> Result<Vec<String>, AllocError> {
     vec![in alloc;
         String::from_str(alloc, "solve")?,
         String::from_str(alloc, "J")?,
@@ -43,7 +43,7 @@ fn run(
 ) -> Result<Ran, AllocError>
     requires { ⟦<MemDisk as Disk>⟧.calls disk < 2 ^ 62 }
 {
-    let words = words(alloc)?;
+    let words = solve_words(alloc)?;
     let text = Vec::from_slice(alloc, text.as_bytes())?;
     let mut source = MemSource::new(alloc, text, vec![in alloc; bad_read]?, 100);
     let mut sink = MemSink::new(alloc, vec![in alloc; bad_write]?, 20);
@@ -75,7 +75,7 @@ fn a_step_closes_the_root(rt: HostRuntime) -> Result<(), Fail> {
 #[test]
 fn a_journal_has_its_path(rt: HostRuntime) -> Result<(), Fail> {
     let alloc = rt.alloc();
-    let path = journal_path(words(alloc)?.as_slice())?.ok_or("no path")?;
+    let path = journal_path(solve_words(alloc)?.as_slice())?.ok_or("no path")?;
     assert_eq!(rt; path.as_str(), "J");
     Ok(())
 }
