@@ -253,11 +253,11 @@ class Trial:
         marks = sorted(draw.sample(range(1, length), 2 * min(draw.choice((0, 1, 1, 2, 2, 3)), (length - 1) // 2)))
         shape = [(start, min(draw.randint(1, 2), end - start)) for start, end in zip(marks[::2], marks[1::2])]
         sizes, ends = [size for _, size in shape], [0] + [start + size for start, size in shape]
-        periods, long_work = [start - end for start, end in zip(marks[::2] + [length], ends)], draw.randint(1, length - 1)
-        rests = [size for period, size in zip(periods, sizes) if period > long_work] or [3]
+        periods, long_rest = [start - end for start, end in zip(marks[::2] + [length], ends)], max(sizes + [2])
+        long_work = max([1] + [period for period, size in zip(periods, sizes) if size < long_rest])
         either = lambda loose, tight: draw.choice((loose, tight))
         rule = {"lead": either(0, min(marks + [length])), "tail": either(0, length - ends[-1]), "long_work": long_work}
-        rule.update(work_min=either(1, min(periods)), work_max=either(length, max(periods)), long_rest=min(rests))
+        rule.update(work_min=either(1, min(periods)), work_max=either(length, max(periods)), long_rest=long_rest)
         rule.update(size_min=either(1, min(sizes + [2])), size_max=either(length, max(sizes + [2])), resettle=draw.randint(0, 1))
         totals = [[0, 1]][draw.randint(0, 1) :] + [[draw.randint(1, length), sum(sizes) + (draw.random() < 0.1)], [length + 1, 2]]
         rule["totals"] = totals[: len(totals) - draw.randint(0, 1)]
