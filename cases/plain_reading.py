@@ -292,7 +292,7 @@ class Trial:
             low, high = -scale * reading.excess, scale * reading.shortage
             some = [draw.randint(low, high) if draw.random() < noise else int(part * high) if need else draw.choice((0, low)) for need in reading.need]
             most = draw.choice((0, scale, high, 10**12))
-            sets.append((scale, tuple(some), tuple(draw.randint(0, most if cut.place[2] else 0) for cut in cuts)))
+            sets.append((scale, tuple(some), tuple(draw.choice((most, draw.randint(0, most))) if cut.place[2] else 0 for cut in cuts)))
         return max(sets, key=lambda one: reading.bound(cuts, *one))
 
     def split(self, cuts):
@@ -324,7 +324,7 @@ class Trial:
         sets += [(scale, prices, bent) for bent in others] + [(bent, (0,) * len(prices), cut_prices) for bent in (0, 10000, 10001)]
         splits = [(len(reading.shifts), 0, (), 0), (0, reading.days, (), 0), (0, 0, ((0, 1),) * draw.randint(48, 49), 200), (0, 0, (), 201)]
         node = draw.choice((node, node, draw.randint(0, 2 * nodes.splits + 1)))
-        return draw.choice([Settled(node), Split(node, *draw.choice(splits))] + [Priced(node, *draw.choice(sets))] * 2)
+        return draw.choice([Settled(node)] * 3 + [Split(node, *draw.choice(splits))] + [Priced(node, *draw.choice(sets))] * 2)
 
     def reports(self):
         """Random reports, each with the word of the checker that judges it."""
