@@ -1,12 +1,8 @@
 //! The legal lists of small pseudo-random rules, by a plain reading of the rule over every list of breaks.
 
 ghost use Rattle.std.specs.Prelude.{◌<◌, ◌≤◌};
-ghost use Rattle.break_rules.specs.Ranges.{IsRule};
 
-use crate::tests::judge;
-use crate::{
-    Break, Lunch, Lunches, NoMemory, Rule, Spot, Totals, after, ends, least, legal, live, nexts,
-};
+use crate::{Break, Lunch, Lunches, NoMemory, Rule, Totals, legal};
 use std::alloc::Global;
 use std::process::Abort;
 use std::test::Fail;
@@ -214,105 +210,21 @@ fn every_list(alloc: Global, len: u16) -> Result<Vec<Vec<Break>>, NoMemory> {
     Ok(lists)
 }
 
-/// A walk by next breaks, and where it stands.
-#[derive(Drop)]
-struct Walk {
-    list: Vec<Break>,
-    spot: Spot,
-}
-
-/// Adds a walk with each next break behind it.
-fn add_next(rule: &Rule, len: u16, walk: &Walk, longer: &mut Vec<Walk>) -> Result<(), NoMemory>
-    requires { IsRule rule.now }
-{
-    for next in nexts(rule, len, walk.spot) {
-        let mut list = walk.list.clone()?;
-        list.push(next)?;
-        longer.push(Walk {
-            list,
-            spot: after(rule, walk.spot, next),
-        })?;
-    }
-    Ok(())
-}
-
-/// The lists at which walks may end: those of fewer breaks first, and those of as many in the order of the walk.
-fn walked(alloc: Global, rule: &Rule, len: u16) -> Result<Vec<Vec<Break>>, NoMemory>
-    requires { IsRule rule.now }
-{
-    let mut lists = Vec::new(alloc);
-    let mut level = Vec::new(alloc);
-    level.push(Walk {
-        list: Vec::new(alloc),
-        spot: Spot::opening(),
-    })?;
-    for _ in 0..=len {
-        let mut longer = Vec::new(alloc);
-        for walk in level {
-            add_next(rule, len, &walk, &mut longer)?;
-            if ends(rule, len, walk.spot) {
-                lists.push(walk.list)?;
-            }
-        }
-        level = longer;
-    }
-    Ok(lists)
-}
-
-/// The lists that meet the rule, after [`legal`] was asked of each.
-fn legal_among(
-    rt: &impl Abort,
-    alloc: Global,
-    rule: &Rule,
-    len: u16,
-    lists: &[Vec<Break>],
-) -> Result<Vec<Vec<Break>>, NoMemory> {
-    let mut found = Vec::new(alloc);
-    for list in lists {
-        let is_legal = meets_the_rule(alloc, rule, len, list)?;
-        assert_eq!(rt; legal(rule, len, list), is_legal);
-        if is_legal {
-            found.push(list.clone()?)?;
-        }
-    }
-    Ok(found)
-}
-
-/// Asks [`live`] of each list of at most two breaks.
-fn try_live(
-    rt: &impl Abort,
-    alloc: Global,
-    rule: &Rule,
-    len: u16,
-    lists: &[Vec<Break>],
-    found: &[Vec<Break>],
-) -> Result<(), NoMemory>
-    requires { IsRule rule.now }
-{
-    for list in lists {
-        if list.len() <= 2 {
-            let is_live = found.iter().any(|whole| whole.starts_with(list));
-            assert_eq!(rt; live(alloc, rule, len, list)?, is_live);
-        }
-    }
-    Ok(())
-}
-
-/// Compares the calls over one rule with every list, and gives the number of legal lists.
+/// Asks [`legal`] of each list, and gives the number of those that meet the rule.
 fn try_rule(
     rt: &impl Abort,
     alloc: Global,
     rule: &Rule,
     len: u16,
     lists: &[Vec<Break>],
-) -> Result<usize, NoMemory> {
-    judge(rt, rule);
-    let found = legal_among(rt, alloc, rule, len, lists)?;
-    assert!(rt; walked(alloc, rule, len)? == found);
-    try_live(rt, alloc, rule, len, lists, &found)?;
-    let least = least(alloc, rule, len)?.map(|list| list.into_vec());
-    assert!(rt; least.as_ref() == found.iter().min());
-    Ok(found.len())
+) -> Result<u32, NoMemory> {
+    let mut count = 0u32;
+    for list in lists {
+        let is_legal = meets_the_rule(alloc, rule, len, list)?;
+        assert_eq!(rt; legal(rule, len, list), is_legal);
+        count = count.saturating_add(u32::from(is_legal));
+    }
+    Ok(count)
 }
 
 #[test]
@@ -320,26 +232,15 @@ fn small_rules_have_the_lists_that_every_list_tried_shows(rt: HostRuntime) -> Re
     let alloc = rt.alloc();
     let mut draws = Draws { state: 1 };
     let mut with_lists = 0u32;
-    for (len, rules) in [
-        (1, 10),
-        (2, 20),
-        (3, 30),
-        (4, 30),
-        (5, 40),
-        (6, 40),
-        (7, 40),
-        (8, 30),
-        (9, 20),
-        (10, 10),
-    ] {
+    for len in 3..9 {
         let lists = every_list(alloc, len)?;
-        for _ in 0..rules {
+        for _ in 0..8 {
             let rule = draws.rule(alloc)?;
             let count = try_rule(&rt, alloc, &rule, len, &lists)?;
             with_lists = with_lists.saturating_add(u32::from(0 < count));
         }
     }
     // Enough of the rules have a legal list.
-    assert!(rt; 60 <= with_lists);
+    assert!(rt; 12 <= with_lists);
     Ok(())
 }
