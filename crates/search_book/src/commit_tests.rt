@@ -10,7 +10,7 @@ use head_splits::{CutPrices, Cuts, Prices, SlotPrices};
 use instance_json::canonical;
 use plan_base::{Disk, MemDisk};
 use rota_cost::cost_rows;
-use search_core::{Close, CommitFault, Kept, StepPosts, Taken};
+use search_core::{Close, Kept, StepPosts, Taken};
 use shift_instance::Instance;
 use std::alloc::Global;
 use std::process::Abort;
@@ -62,33 +62,19 @@ fn step_of(alloc: Global, instance: &Instance) -> Result<StepPosts, Fail>
     })
 }
 
-/// The first worker takes a node.
-fn take(rt: &impl Abort, book: &mut Book<MemDisk>) -> Taken
-    ensures { book.new.instance ≡ book.old.instance }
+/// What the first worker's commit of a step keeps, on the node that it takes; nothing where the commit fails.
+fn commit_root(rt: &impl Abort, book: &mut Book<MemDisk>, step: StepPosts) -> Option<Kept>
+    requires { Fits book.old.instance step }
 {
     assert!(rt; book.held(0).is_none());
-    book.take(0)
-}
-
-/// What a commit answers of a step for the root, which worker 0 takes before.
-fn commit_step(
-    rt: &impl Abort,
-    alloc: Global,
-    instance: &Instance,
-    book: &mut Book<MemDisk>,
-) -> Result<Result<Kept, CommitFault>, Fail>
-    requires { book.old.instance ≡ instance.now }
-{
-    let step = step_of(alloc, instance)?;
     let first = Taken::Node {
         node: 0,
         floor: 0,
         best: 8,
     };
-    assert!(rt; take(rt, book) == first);
-    assert!(rt; book.held(0).is_some());
-    assert!(rt; book.cuts(0)?.is_empty());
-    Ok(book.commit(0, step))
+    let is_first = book.take(0) == first;
+    assert!(rt; is_first);
+    book.commit(0, step).ok()
 }
 
 // The posts have 23 and 223 bytes, and each record 5 more.
@@ -96,29 +82,31 @@ fn commit_step(
 fn a_step_is_committed(rt: HostRuntime) -> Result<(), Fail> {
     let alloc = rt.alloc();
     let instance = one_shift(alloc, 3)?;
+    let step = step_of(alloc, &instance)?;
     let mut book = board(&rt, alloc, &instance, Vec::new(alloc))?;
-    let answer = commit_step(&rt, alloc, &instance, &mut book)?;
     let kept = Kept {
         plan: true,
         records: 2,
         best: 3,
         floor: 3,
     };
-    assert!(rt; answer.ok() == Some(kept));
-    assert!(rt; book.batches() == 2 && book.posts() == 2 && book.finished());
+    let is_kept = commit_root(&rt, &mut book, step) == Some(kept);
+    assert!(rt; is_kept && book.posts() == 2 && book.finished());
     let disk = sent(book).into_disk();
     assert!(rt; disk.bytes().len() == 629 && disk.calls() == 12);
     Ok(())
 }
 
-/// Whether a commit ends in a disk fault where this call fails, and leaves no post and so many records.
+/// Whether a commit fails where this call does, and leaves a board that gives no more nodes, without a post and with so many records.
 fn is_shut_by(rt: &impl Abort, alloc: Global, call: u64, records: u64) -> Result<bool, Fail> {
     let instance = one_shift(alloc, 3)?;
+    let step = step_of(alloc, &instance)?;
     let mut book = board(rt, alloc, &instance, vec![in alloc; call; 1]?)?;
-    let answer = commit_step(rt, alloc, &instance, &mut book)?;
-    let is_fault = matches!(answer, Err(CommitFault::DiskFault));
+    let is_failed = commit_root(rt, &mut book, step).is_none();
+    assert!(rt; book.held(1).is_none());
+    let is_closed = book.take(1) == Taken::Closed;
     let is_left = book.posts() == 0 && book.batches() == records;
-    Ok(is_fault && is_left && book.into_disk().calls() == call)
+    Ok(is_failed && is_closed && is_left && book.into_disk().calls() == call)
 }
 
 #[test]
