@@ -17,10 +17,11 @@ const MORNING_REPORT: &str =
 
 /// The words `solve J`.
 fn solve_words(alloc: Global) -> Result<Vec<String>, AllocError> {
-    vec![in alloc;
+    let words = vec![in alloc;
         String::from_str(alloc, "solve")?,
         String::from_str(alloc, "J")?,
-    ]
+    ]?;
+    Ok(words)
 }
 
 /// What a run says: its status, what the sink then holds, and its disk with whether a book was opened on it.
