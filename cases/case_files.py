@@ -141,6 +141,8 @@ class CaseFile:
         for field in ("stdin", "stdout", "begins", "stderr"):
             if field in run:
                 self.check_text(run[field], run.lines[field])
+        for word in run.get("words", ()):
+            self.check_text(word, run.lines["words"])
         for field in ("files", "left"):
             for name, text in run.get(field, {}).items():
                 self.check_text(text, run[field].lines[name])
