@@ -16,20 +16,19 @@ use std::alloc::Global;
 use std::process::Abort;
 use std::test::Fail;
 
-/// The board of an instance on a new journal of at most `limit` bytes, on a disk on which these calls fail.
+/// The board of an instance on a new journal, on a disk on which these calls fail.
 fn board(
     rt: &impl Abort,
     alloc: Global,
     instance: &Instance,
     fails: Vec<u64>,
-    limit: u32,
 ) -> Result<Book<MemDisk>, Fail>
     ensures { IfOk result (λ b. (b.instance ≡ instance.now) × (b.hands ≡ empty_hands)) }
 {
     let head = canonical(alloc, instance)?;
-    assert!(rt; limit <= LIMIT && head.len() < 1 << 20 && head.len() + 13 <= limit as usize);
+    assert!(rt; head.len() < 1 << 20);
     let disk = MemDisk::new(alloc, Vec::new(alloc), fails);
-    match Book::open(alloc, instance, disk, 10, limit) {
+    match Book::open(alloc, instance, disk, 10, LIMIT) {
         Ok(book) => Ok(book),
         Err(_) => Err("it isn't opened")?,
     }
@@ -84,7 +83,7 @@ fn a_step_is_committed(rt: HostRuntime) -> Result<(), Fail> {
     let alloc = rt.alloc();
     let instance = one_shift(alloc, 3)?;
     let step = step_of(alloc, &instance)?;
-    let mut book = board(&rt, alloc, &instance, Vec::new(alloc), LIMIT)?;
+    let mut book = board(&rt, alloc, &instance, Vec::new(alloc))?;
     let kept = Kept {
         plan: true,
         records: 2,
@@ -102,7 +101,7 @@ fn a_step_is_committed(rt: HostRuntime) -> Result<(), Fail> {
 fn is_shut_by(rt: &impl Abort, alloc: Global, call: u64, records: u64) -> Result<bool, Fail> {
     let instance = one_shift(alloc, 3)?;
     let step = step_of(alloc, &instance)?;
-    let mut book = board(rt, alloc, &instance, vec![in alloc; call; 1]?, LIMIT)?;
+    let mut book = board(rt, alloc, &instance, vec![in alloc; call; 1]?)?;
     let is_failed = commit_root(rt, &mut book, step).is_none();
     assert!(rt; book.held(1).is_none());
     let is_closed = book.take(1) == Taken::Closed;
@@ -115,19 +114,5 @@ fn a_call_that_fails_shuts_the_board(rt: HostRuntime) -> Result<(), Fail> {
     let alloc = rt.alloc();
     assert!(rt; is_shut_by(&rt, alloc, 5, 0)?);
     assert!(rt; is_shut_by(&rt, alloc, 12, 1)?);
-    Ok(())
-}
-
-// With the step's records the journal would end at 629 bytes.
-#[test]
-fn a_full_journal_shuts_the_board(rt: HostRuntime) -> Result<(), Fail> {
-    let alloc = rt.alloc();
-    let instance = one_shift(alloc, 3)?;
-    let step = step_of(alloc, &instance)?;
-    let mut book = board(&rt, alloc, &instance, Vec::new(alloc), 500)?;
-    let is_refused = commit_root(&rt, &mut book, step).is_none();
-    assert!(rt; is_refused && book.held(0) == Some(0) && book.held(1).is_none());
-    let is_closed = book.take(1) == Taken::Closed;
-    assert!(rt; is_closed && book.into_disk().calls() == 4);
     Ok(())
 }
