@@ -9,14 +9,13 @@ use Rattle.shift_instance.specs.Problem.{Problem}
 use Rattle.rota_cost.specs.Costed.{Costing}
 use Rattle.post_codec.specs.declared.post.Post.{Post}
 use Rattle.post_codec.specs.declared.post.Post.TheVariants.{Plan, Priced, Split, Settled}
-use Rattle.search_core.specs.declared.board.Origin.{Origin}
 use Rattle.search_core.specs.declared.board.Kept.{Kept}
 use Rattle.search_core.specs.declared.board.Taken.TheVariants.{Node}
 use Rattle.search_core.specs.declared.event.Event.TheVariants.{Take, Commit}
 use Rattle.search_core.specs.declared.step_posts.StepPosts.{StepPosts}
 use Rattle.search_core.specs.declared.step_posts.Close.{Close}
 use Rattle.search_core.specs.declared.step_posts.Close.TheVariants.{ByPrice, Split as CloseBySplit, Settled as CloseAsSettled}
-use Rattle.search_core.specs.Board.{BoardView, book_at, core_of, is_free, Commits, IsSoundBoard, TakeMakes}
+use Rattle.search_core.specs.Board.{BoardView, book_at, core_of, is_free, posts_at, Commits, IsSoundBoard, TakeMakes}
 use Rattle.search_core.specs.Book.{Book, book_after, book_of, is_node_and, is_open, opening}
 use Rattle.search_core.specs.Core.{hand, happens, is_node, is_of, may_commit, may_take, HoldsApart}
 use Rattle.search_core.specs.State.{book_or_opening}
@@ -63,14 +62,15 @@ step_of_worker i b w step =
 
 -- ---- events
 
-folded : (i : Problem) (v : BoardView) (b : Book) → book_of i v.history ≡ Some b → book_at i v ≡ b
+folded : (v : BoardView) (b : Book) → book_of v.instance v.history ≡ Some b → book_at v ≡ b
 unfolding book_or_opening
-folded i v b e = ap (λ (o : Option Book). option_map_or (λ (b : Book). b) o (opening i)) e
+folded v b e = ap (λ (o : Option Book). option_map_or (λ (b : Book). b) o (opening v.instance)) e
 
-pub take_happens : (i : Problem) (budget : ℕ) (origin : Origin) (old new : BoardView) (acked w k floor best : ℕ) → IsSoundBoard i budget origin old → w < 16 → hand old.hands w ≡ None → TakeMakes (Node k floor best) w i budget old new
-    → happens i (core_of acked old) (Take w k) ≡ Some (core_of (length old.history) new)
-take_happens i budget origin old new acked w k floor best s low empty m =
-    let free : is_free s.book old.hands k ≡ true = subst (λ (b : Book). is_free b old.hands k ≡ true) (folded i old s.book s.folds) m.1.free in
+pub take_happens : (old new : BoardView) (acked w k floor best : ℕ) → IsSoundBoard old → w < 16 → hand old.hands w ≡ None → TakeMakes (Node k floor best) w old new
+    → happens old.instance (core_of acked old) (Take w k) ≡ Some (core_of (length old.history) new)
+take_happens old new acked w k floor best s low empty m =
+    let i = old.instance in
+    let free : is_free s.book old.hands k ≡ true = subst (λ (b : Book). is_free b old.hands k ≡ true) (folded old s.book s.folds) m.1.free in
     let p = and_parts (is_node_and s.book k (is_open s.book)) (not (list_any (is_node k) old.hands)) free in
     let idle : nat_lt w 16 && is_none (hand old.hands w) ≡ true = and_from (nat_lt w 16) (is_none (hand old.hands w)) (lt-ltb w 16 low) (ap is_none empty) in
     let opens : Option Book → Bool = λ o. option_map_or (λ (b : Book). is_node_and b k (is_open b)) o false in
@@ -79,16 +79,18 @@ take_happens i budget origin old new acked w k floor best s low empty m =
     ap (λ (t : Bool). cond t (Some (record { history = old.history; acked = length old.history; hands = set old.hands w (Some k) })) None) may
     ∙ ap (λ (v : BoardView). Some (core_of (length old.history) v)) (sym m.4)
 
-pub commit_happens : (i : Problem) (budget : ℕ) (origin : Origin) (old new : BoardView) (acked w : ℕ) (step : StepPosts) (kept : Kept) → IsSoundBoard i budget origin new → Commits i w step old new kept
-    → happens i (core_of acked old) (Commit w (posts_of i (book_at i old) w step)) ≡ Some (core_of (length old.history) new)
-commit_happens i budget origin old new acked w step kept s m =
-    let posts = posts_of i (book_at i old) w step in
+pub commit_happens : (old new : BoardView) (acked w : ℕ) (step : StepPosts) (kept : Kept) → IsSoundBoard new → Commits w step old new kept
+    → happens old.instance (core_of acked old) (Commit w (posts_at old w step)) ≡ Some (core_of (length old.history) new)
+commit_happens old new acked w step kept s m =
+    let i = old.instance in
+    let posts = posts_at old w step in
+    let same : new.instance ≡ i = ap (λ (v : BoardView). v.instance) m.makes in
     let history : new.history ≡ old.history ++ posts = ap (λ (v : BoardView). v.history) m.makes in
-    let folds : book_of i (old.history ++ posts) ≡ Some s.book = subst (λ (l : List Post). book_of i l ≡ Some s.book) history s.folds in
-    let closed : is_node_and s.book step.node (is_open s.book) ≡ false = subst (λ (b : Book). is_node_and b step.node (is_open b) ≡ false) (folded i new s.book s.folds) m.closed in
+    let folds : book_of i (old.history ++ posts) ≡ Some s.book = subst (λ (l : List Post). book_of i l ≡ Some s.book) history (subst (λ (j : Problem). book_of j new.history ≡ Some s.book) same s.folds) in
+    let closed : is_node_and s.book step.node (is_open s.book) ≡ false = subst (λ (b : Book). is_node_and b step.node (is_open b) ≡ false) (folded new s.book s.folds) m.closed in
     let closes : Option Book → Bool = λ o. option_map_or (λ (b : Book). not (is_node_and b step.node (is_open b))) o false in
     let shut : closes (book_of i (old.history ++ posts)) ≡ true = ap closes folds ∙ ap not closed in
-    let may : may_commit i (core_of acked old) w posts step.node ≡ true = and_from (are_of w step.node posts) (closes (book_of i (old.history ++ posts))) (step_of_worker i (book_at i old) w step) shut in
+    let may : may_commit i (core_of acked old) w posts step.node ≡ true = and_from (are_of w step.node posts) (closes (book_of i (old.history ++ posts))) (step_of_worker i (book_at old) w step) shut in
     let held : option_map_or (may_commit i (core_of acked old) w posts) (hand old.hands w) false ≡ true = ap (λ (h : Option ℕ). option_map_or (may_commit i (core_of acked old) w posts) h false) m.holds.held ∙ may in
     ap (λ (t : Bool). cond t (Some (record { history = old.history ++ posts; acked = length old.history; hands = set old.hands w None })) None) held
     ∙ ap (λ (v : BoardView). Some (core_of (length old.history) v)) (sym m.makes)

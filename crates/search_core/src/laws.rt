@@ -9,15 +9,14 @@ ghost use Rattle.head_splits.specs.Nodes.{Node};
 ghost use Rattle.head_splits.specs.Settled.{span};
 ghost use Rattle.post_codec.specs.declared.post.Post.{Post};
 ghost use Rattle.search_core.specs.declared.board.Kept.{Kept};
-ghost use Rattle.search_core.specs.declared.board.Origin.{Origin};
 ghost use Rattle.search_core.specs.declared.board.Taken.TheVariants.{Node as TakenNode};
 ghost use Rattle.search_core.specs.declared.event.Event.{Event};
 ghost use Rattle.search_core.specs.declared.event.Event.TheVariants.{Commit, Crash, Take};
 ghost use Rattle.search_core.specs.declared.step_posts.StepPosts.{StepPosts};
-ghost use Rattle.search_core.specs.Board.{BoardView, book_at, core_of, Commits, IsSoundBoard, TakeMakes};
+ghost use Rattle.search_core.specs.Board.{BoardView, core_of, posts_at, Commits, IsSoundBoard, TakeMakes};
 ghost use Rattle.search_core.specs.Book.{Book, book_after, book_of, floor_of, is_open, is_finished, IsLeastFloor, IsSound};
 ghost use Rattle.search_core.specs.Core.{Core, hand, is_of, start, run, happens, HoldsApart, IsSoundCore, IsFront};
-ghost use Rattle.search_core.specs.Steps.{after_step, posts_of};
+ghost use Rattle.search_core.specs.Steps.{after_step};
 
 use crate::State;
 
@@ -69,12 +68,12 @@ pub fn few_nodes()
 /// Where a worker whose hand is empty takes a node of a board, the core with the board's posts and hands has the same take.
 /// Where it commits a step, the core has the commit of the step's posts. Each acknowledges the posts before it.
 pub fn boards_are_cores()
-    ensures take { (i : Problem) (budget : ℕ) (origin : Origin) (old new : BoardView) (acked w k floor best : ℕ)
-        → IsSoundBoard i budget origin old → w < 16 → hand old.hands w ≡ None → TakeMakes (TakenNode k floor best) w i budget old new
-        → happens i (core_of acked old) (Take w k) ≡ Some (core_of (length old.history) new) }
-    ensures commit { (i : Problem) (budget : ℕ) (origin : Origin) (old new : BoardView) (acked w : ℕ) (step : StepPosts) (kept : Kept)
-        → IsSoundBoard i budget origin new → Commits i w step old new kept
-        → happens i (core_of acked old) (Commit w (posts_of i (book_at i old) w step)) ≡ Some (core_of (length old.history) new) }
+    ensures take { (old new : BoardView) (acked w k floor best : ℕ)
+        → IsSoundBoard old → w < 16 → hand old.hands w ≡ None → TakeMakes (TakenNode k floor best) w old new
+        → happens old.instance (core_of acked old) (Take w k) ≡ Some (core_of (length old.history) new) }
+    ensures commit { (old new : BoardView) (acked w : ℕ) (step : StepPosts) (kept : Kept)
+        → IsSoundBoard new → Commits w step old new kept
+        → happens old.instance (core_of acked old) (Commit w (posts_at old w step)) ≡ Some (core_of (length old.history) new) }
 {}
 
 /// Where a worker adds posts that are its own, for the node in its hand, and lets go of the node, the hands hold distinct
