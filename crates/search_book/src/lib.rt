@@ -2,8 +2,8 @@
 //! to a book of the same posts, or of a front of them with all that were acknowledged.
 #![tactic(auto)]
 
-mod adding;
 mod as_board;
+mod batched;
 mod book;
 #[cfg(test)]
 mod book_open_tests;
@@ -12,8 +12,6 @@ mod book_opening;
 mod commit_tests;
 mod committing;
 mod differing;
-mod drafting;
-mod entry;
 mod head;
 mod laws;
 mod log_opening;
@@ -21,12 +19,10 @@ mod open_fault;
 #[cfg(test)]
 mod open_tests;
 mod post_log;
-mod preparing;
 mod readers;
 mod record_log;
 mod sends;
 mod session;
-mod stepping;
 #[cfg(test)]
 mod test_books;
 

@@ -3,6 +3,7 @@
 
 mod board;
 mod class_text;
+mod drafting;
 mod event;
 mod event_fault;
 mod fault;
@@ -19,10 +20,12 @@ mod state;
 mod step_posts;
 #[cfg(test)]
 mod step_tests;
+mod stepping;
 #[cfg(test)]
 mod tests;
 
 pub use board::{Board, CommitFault, Kept, Origin, Shutting, Taken, keeps_sound};
+pub use drafting::Draft;
 pub use event::Event;
 pub use event_fault::EventFault;
 pub use fault::StepFault;
