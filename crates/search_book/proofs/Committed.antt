@@ -150,11 +150,25 @@ module _ {D : Type 0} (reads : D → Option (List ℕ)) (calls faults : D → �
   -- what the book keeps after a refusal
   pub refusal_keeps : (fault : CommitFault) → StepFails faults w step old new fault → KeepsSearch old hands taken budget → KeepsSearch new hands taken budget
   refusal_keeps DiskFault h k = subst (λ (v : PostLogView D). KeepsSearch v hands taken budget) (sym h.1.0) (record {
-    all = k.all; folds = k.folds; apart = k.apart; unsplit = k.unsplit; counted = k.counted; sixteen = k.sixteen; within = k.within; fresh = k.fresh;
+    all = k.all;
+    folds = k.folds;
+    apart = k.apart;
+    unsplit = k.unsplit;
+    counted = k.counted;
+    sixteen = k.sixteen;
+    within = k.within;
+    fresh = k.fresh;
     past = λ end most is. absurd (cc (is));
   })
   refusal_keeps (Full e m) h k = subst (λ (v : PostLogView D). KeepsSearch v hands taken budget) (sym h.3.0) (record {
-    all = k.all; folds = k.folds; apart = k.apart; unsplit = k.unsplit; counted = k.counted; sixteen = k.sixteen; within = k.within; fresh = k.fresh;
+    all = k.all;
+    folds = k.folds;
+    apart = k.apart;
+    unsplit = k.unsplit;
+    counted = k.counted;
+    sixteen = k.sixteen;
+    within = k.within;
+    fresh = k.fresh;
     past = λ end most is.
         let ends : e ≡ end = cc (is) in
         let mosts : m ≡ most = cc (is) in
@@ -179,10 +193,10 @@ no_batch : (posts : List Post) → length posts ≡ 0 → posts ≡ []
 no_batch [] e = refl
 no_batch (p ∷ posts) e = absurd (omega arith)
 
-module _ {D : Type 0} (calls : D → ℕ) (old new : PostLogView D) (w : ℕ) (step : StepPosts) (d : Draft) (kept : Kept) (drafts : Drafts old.instance old.book w step d) where
-  pub step_recorded : Records calls old new d.posts.items new.book → Makes old.instance old.book d.posts.items d.values.items new.book → 0 < length d.posts.items
+module _ {D : Type 0} (calls : D → ℕ) (old new : PostLogView D) (w : ℕ) (step : StepPosts) (d : Draft) (drafts : Drafts old.instance old.book w step d) where
+  pub step_recorded : (kept : Kept) → Records calls old new d.posts.items new.book → Makes old.instance old.book d.posts.items d.values.items new.book → 0 < length d.posts.items
       → kept.records ≡ 1 → kept.plan ≡ is_cheaper step.plan old.book → kept.best ≡ d.best → kept.floor ≡ d.floor → RecordsStep calls w step old new kept
-  step_recorded records makes some count plan best floor =
+  step_recorded kept records makes some count plan best floor =
       let posts = step_posts w step old in
       let r : Records calls old new posts new.book = subst (λ (l : List Post). Records calls old new l new.book) drafts.posts records in
       let more : 0 < length posts = subst (λ (l : List Post). 0 < length l) drafts.posts some in

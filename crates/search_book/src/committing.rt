@@ -12,7 +12,7 @@ use crate::post_log::PostLog;
 use gated_journal::JournalFault;
 use plan_base::Disk;
 use rota_cost::Costed;
-use search_core::{CommitFault, Hands, Kept, StepPosts};
+use search_core::{CommitFault, Draft, Hands, Kept, StepPosts};
 
 /// Whether a hand holds that node.
 fn holds(held: Option<u32>, node: u32) -> bool
@@ -91,18 +91,27 @@ pub(crate) fn record_step<D: Disk>(
     let Ok(draft) = log.state().draft(worker, step) else {
         return Err(CommitFault::NoMemory);
     };
-    let records = if draft.posts.is_empty() { 0 } else { 1 };
-    let kept = Kept {
-        plan,
-        records,
-        best: draft.best,
-        floor: draft.floor,
-    };
-    if draft.posts.is_empty() {
-        return Ok(kept);
+    let Draft {
+        posts,
+        values,
+        best,
+        floor,
+    } = draft;
+    if posts.is_empty() {
+        return Ok(Kept {
+            plan,
+            records: 0,
+            best,
+            floor,
+        });
     }
-    match log.commit(draft.posts, &draft.values) {
-        Ok(()) => Ok(kept),
+    match log.commit(posts, &values) {
+        Ok(()) => Ok(Kept {
+            plan,
+            records: 1,
+            best,
+            floor,
+        }),
         Err(fault) => Err(commit_fault_of(fault)),
     }
 }

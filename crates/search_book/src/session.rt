@@ -106,8 +106,9 @@ impl<D: Disk> Session<D> {
         ensures err { IfErr result (CommitRefuses worker step (board_at D.reads D.calls D.faults self.old.log self.old.hands self.old.taken self.old.budget self.old.halted) (board_at D.reads D.calls D.faults self.new.log self.new.hands self.new.taken self.new.budget self.new.halted)) }
         ensures left { IfErr result (LeavesLog D.faults worker step self.old.log self.new.log) }
     {
-        if let Err(fault) = may_commit(&self.log, &self.hands, worker, &step) {
-            return Err(fault);
+        match may_commit(&self.log, &self.hands, worker, &step) {
+            Ok(()) => {}
+            Err(fault) => return Err(fault),
         }
         if let Some((floor, best)) = self.log.state().stays_open(&step) {
             return Err(CommitFault::NotClosing { floor, best, step });

@@ -198,5 +198,5 @@ pub still_open : (o : Option (ℕ × ℕ)) (i : Problem) (b : Book) (best floor 
     → IfSome o (λ p. (step.close ≡ ByPrice) × ((i : Problem) (b : Book) (w : ℕ) → Fits i step → IsAfter i b step.node step.proved.cuts [] best floor false → LeavesOpen i b w step p.0 p.1))
     → Fits i step → IsAfter i b step.node step.proved.cuts [] best floor false
     → IfSome o (λ p. (step.close ≡ ByPrice) × ((w : ℕ) → LeavesOpen i b w step p.0 p.1))
-still_open None i b best floor step open fits after = tt
-still_open (Some p) i b best floor step open fits after = (open.0, λ w. open.1 i b w fits after)
+still_open None i b best floor step told fits after = tt
+still_open (Some p) i b best floor step told fits after = (told.0, λ w. told.1 i b w fits after)

@@ -132,7 +132,7 @@ fn one_step_closes_the_root(rt: HostRuntime) -> Result<(), Fail> {
         assert_eq!(rt; (ran.number, ran.opened), (0, true));
         assert_eq!(rt; ran.line.as_str(), "");
         assert_eq!(rt; ran.written.as_slice(), MORNING_REPORT.as_bytes());
-        assert_eq!(rt; (ran.disk.bytes().len(), ran.disk.calls()), (629, 12));
+        assert_eq!(rt; (ran.disk.bytes().len(), ran.disk.calls()), (622, 8));
     }
     Ok(())
 }
@@ -401,7 +401,7 @@ fn the_table_stands_behind_the_report(rt: HostRuntime) -> Result<(), Fail> {
         let ran = run(alloc, "solve J --table", text.as_bytes(), 100000, 0, 0)?;
         let wanted = format!(in alloc; "{report}{table}")?;
         assert_eq!(rt; ran.written.as_slice(), wanted.as_bytes());
-        assert_eq!(rt; ran.disk.calls(), if table.is_empty() { 4 } else { 12 });
+        assert_eq!(rt; ran.disk.calls(), if table.is_empty() { 4 } else { 8 });
     }
     Ok(())
 }

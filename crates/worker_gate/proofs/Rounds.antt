@@ -10,7 +10,7 @@ use Rattle.shift_instance.specs.Problem.{Problem}
 use Rattle.head_splits.specs.Nodes.{Node}
 use Rattle.head_splits.specs.Settled.{span}
 use Rattle.post_codec.specs.declared.post.Post.{Post}
-use Rattle.search_core.specs.Board.{BoardView, book_at, NoneIsFree}
+use Rattle.search_core.specs.Board.{BoardView, book_at, posts_at, NoneIsFree}
 use Rattle.search_core.specs.Book.{Book, book_after, book_of, is_finished, is_node_and, is_open}
 use Rattle.search_core.specs.Core.{empty_hands, is_node, IsFront}
 use Rattle.search_core.specs.Steps.{posts_of}
@@ -24,6 +24,7 @@ use Rattle.worker_gate.proofs.Counts.{passing, passing_less, passing_more}
 
 -- what that many rounds have made
 pub record Made (i : Problem) (old new : BoardView) (rounds : ℕ) : Type 0 where
+  root : new.instance ≡ i
   book : Book
   folds : book_of i new.history ≡ Some book
   rest : List Post
@@ -52,17 +53,21 @@ closed_now c k shut there =
 one_book : {X : Type 0} {x y : X} → Some x ≡ Some y → x ≡ y
 one_book e = cc (e)
 
-round_made : (i : Problem) (budget : ℕ) (old mid new : BoardView) (rounds : ℕ) → Made i old mid rounds → IsRound i budget mid new → Made i old new (rounds + 1)
-round_made i budget old mid new rounds m r =
+round_made : (i : Problem) (old mid new : BoardView) (rounds : ℕ) → Made i old mid rounds → IsRound mid new → Made i old new (rounds + 1)
+round_made i old mid new rounds m r =
     let b : Book = m.book in
-    let at : book_at i mid ≡ b = book_is i mid.history b m.folds in
+    let held_root : r.held.instance ≡ i = ap (λ (v : BoardView). v.instance) r.takes.4 ∙ m.root in
+    let new_root : new.instance ≡ i = ap (λ (v : BoardView). v.instance) r.commits.makes ∙ held_root in
+    let at : book_at mid ≡ b = book_is mid.instance mid.history b (ap (λ (j : Problem). book_of j mid.history) m.root ∙ m.folds) in
     let k : ℕ = r.node in
-    let posts : List Post = posts_of i (book_at i r.held) 0 r.step in
+    let posts : List Post = posts_at r.held 0 r.step in
     let held_history : r.held.history ≡ mid.history = ap (λ (v : BoardView). v.history) r.takes.4 in
-    let held_at : book_at i r.held ≡ b = book_is i r.held.history b (ap (book_of i) held_history ∙ m.folds) in
+    let held_at : book_at r.held ≡ b = book_is r.held.instance r.held.history b (ap (λ (j : Problem). book_of j r.held.history) held_root ∙ ap (book_of i) held_history ∙ m.folds) in
     let history : new.history ≡ mid.history ++ posts_of i b 0 r.step =
-    ap (λ (v : BoardView). v.history) r.commits.makes ∙ ap (λ (l : List Post). l ++ posts) held_history ∙ ap (λ (c : Book). mid.history ++ posts_of i c 0 r.step) held_at in
-    let front = front_folds i mid.history (posts_of i b 0 r.step) r.book (ap (book_of i) (sym history) ∙ r.folds) in
+    ap (λ (v : BoardView). v.history) r.commits.makes ∙ ap (λ (l : List Post). l ++ posts) held_history
+    ∙ ap (λ (j : Problem). mid.history ++ posts_of j (book_at r.held) 0 r.step) held_root ∙ ap (λ (c : Book). mid.history ++ posts_of i c 0 r.step) held_at in
+    let folds : book_of i new.history ≡ Some r.book = ap (λ (j : Problem). book_of j new.history) (sym new_root) ∙ r.folds in
+    let front = front_folds i mid.history (posts_of i b 0 r.step) r.book (ap (book_of i) (sym history) ∙ folds) in
     let same_book : front.0 ≡ b = one_book (sym front.1 ∙ m.folds) in
     let after : book_after i b (posts_of i b 0 r.step) ≡ Some r.book = subst (λ (c : Book). book_after i c (posts_of i b 0 r.step) ≡ Some r.book) same_book front.2 in
     let free = (and_parts _ _ r.takes.1.free).0 in
@@ -70,7 +75,7 @@ round_made i budget old mid new rounds m r =
     let node : r.step.node ≡ k = r.decides.node in
     let opened : is_node_and b r.step.node (is_open b) ≡ true = subst (λ j. is_node_and b j (is_open b) ≡ true) (sym node) opened_k in
     let found = some_node (is_open b) (slice_get b.nodes r.step.node) opened in
-    let new_at : book_at i new ≡ r.book = book_is i new.history r.book r.folds in
+    let new_at : book_at new ≡ r.book = book_is new.instance new.history r.book r.folds in
     let not_open : is_node_and r.book r.step.node (is_open r.book) ≡ false = subst (λ (c : Book). is_node_and c r.step.node (is_open c) ≡ false) new_at r.commits.closed in
     let keeps = step_keeps i b r.book 0 r.step after in
     let there : is_there b r.step.node ≡ true = node_is (λ (n : Node). true) (slice_get b.nodes r.step.node) found.0 found.1 refl in
@@ -83,17 +88,18 @@ round_made i budget old mid new rounds m r =
     let c = m.closed in
     let sums : count_by is_plan_or_prices (m.rest ++ posts_of i b 0 r.step) ≡ count_by is_plan_or_prices m.rest + count_by is_plan_or_prices (posts_of i b 0 r.step) = counted_append m.rest (posts_of i b 0 r.step) in
     record {
+      root = new_root;
       book = r.book;
-      folds = r.folds;
+      folds = folds;
       rest = m.rest ++ posts_of i b 0 r.step;
       posts = sym (append_assoc old.history m.rest (posts_of i b 0 r.step)) ∙ ap (λ (l : List Post). l ++ posts_of i b 0 r.step) m.posts ∙ sym history;
       counted = omega arith;
       closed = omega arith;
     }
 
-pub rounds_made : (i : Problem) (budget : ℕ) (old new : BoardView) (rounds : ℕ) (b : Book) → book_of i old.history ≡ Some b → AreRounds i budget old new rounds → Made i old new rounds
-rounds_made i budget old new rounds b folds none = record { book = b; folds = folds; rest = []; posts = append-nil old.history; counted = omega arith; closed = omega arith }
-rounds_made i budget old new rounds b folds (one_more mid next n before r) = round_made i budget old mid new n (rounds_made i budget old mid n b folds before) r
+pub rounds_made : (i : Problem) (old new : BoardView) (rounds : ℕ) (b : Book) → old.instance ≡ i → book_of i old.history ≡ Some b → AreRounds old new rounds → Made i old new rounds
+rounds_made i old new rounds b root folds none = record { root = root; book = b; folds = folds; rest = []; posts = append-nil old.history; counted = omega arith; closed = omega arith }
+rounds_made i old new rounds b root folds (one_more mid next n before r) = round_made i old mid new n (rounds_made i old mid n b root folds before) r
 
 -- ---- what follows
 
@@ -121,9 +127,9 @@ some_open b (n ∷ nodes) h =
     ]
 
 -- where no hand holds a node, an open node may be taken
-pub some_free : (i : Problem) (v : BoardView) → is_finished (book_at i v) ≡ false → NoneIsFree (book_at i v) v.hands → v.hands ≡ empty_hands → ⊥
-some_free i v unfinished nothing empty =
-    let b : Book = book_at i v in
+pub some_free : (v : BoardView) → is_finished (book_at v) ≡ false → NoneIsFree (book_at v) v.hands → v.hands ≡ empty_hands → ⊥
+some_free v unfinished nothing empty =
+    let b : Book = book_at v in
     let found = some_open b b.nodes unfinished in
     let k : ℕ = found.0 in
     let opened : is_node_and b k (is_open b) ≡ true = node_is (is_open b) (slice_get b.nodes k) found.1 found.2 found.3 in
@@ -131,10 +137,10 @@ some_free i v unfinished nothing empty =
     false≢true (sym (nothing k) ∙ and_from (is_node_and b k (is_open b)) (not (list_any (is_node k) v.hands)) opened apart)
 
 -- with that many steps a board is finished
-pub not_spent : (i : Problem) (old new : BoardView) (rounds budget : ℕ) → Made i old new rounds → is_finished (book_at i new) ≡ false → rounds ≡ budget → steps_enough i ≤ budget → ⊥
+pub not_spent : (i : Problem) (old new : BoardView) (rounds budget : ℕ) → Made i old new rounds → is_finished (book_at new) ≡ false → rounds ≡ budget → steps_enough i ≤ budget → ⊥
 not_spent i old new rounds budget m unfinished all enough =
     let b : Book = m.book in
-    let at : book_at i new ≡ b = book_is i new.history b m.folds in
+    let at : book_at new ≡ b = book_is new.instance new.history b (ap (λ (j : Problem). book_of j new.history) m.root ∙ m.folds) in
     let found = some_open b b.nodes (sym (ap is_finished at) ∙ unfinished) in
     let low : found.0 < steps_enough i = nodes_within i new.history b found.0 found.1 m.folds found.2 in
     let no : is_closed b found.0 ≡ false = node_not (λ (n : Node). not (is_open b n)) (slice_get b.nodes found.0) found.1 found.2 (ap not found.3) in

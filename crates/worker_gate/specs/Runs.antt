@@ -1,5 +1,5 @@
 -- The run of one worker over a board. Source: this project's profile.
-use Rattle.std.specs.Prelude.{◌≡◌, ℕ, ◌+◌, ◌-◌, ◌^◌, Bool, true, false, IsTrue, IsFalse, List, [], Option, Some, None, length, drop, count_by, slice_set, MatchOption}
+use Rattle.std.specs.Prelude.{◌≡◌, ℕ, ◌+◌, ◌-◌, ◌^◌, Bool, true, false, IsTrue, IsFalse, List, [], Option, Some, None, length, drop, count_by, MatchOption}
 use Rattle.shift_instance.specs.Problem.{Problem}
 use Rattle.head_splits.specs.Settled.{span}
 use Rattle.post_codec.specs.declared.post.Post.{Post}
@@ -10,7 +10,7 @@ use Rattle.search_core.specs.declared.board.Kept.{Kept}
 use Rattle.search_core.specs.declared.board.Shutting.TheVariants.{DiskFault as ShutByDiskFault, Full as ShutByFull}
 use Rattle.search_core.specs.declared.board.Taken.TheVariants.{Node as TakenNode}
 use Rattle.search_core.specs.declared.step_posts.StepPosts.{StepPosts}
-use Rattle.search_core.specs.Board.{BoardView, book_at, Commits, TakeMakes}
+use Rattle.search_core.specs.Board.{BoardView, book_at, yields, Commits, IsPast, TakeMakes}
 use Rattle.search_core.specs.Book.{Book, book_of, is_finished}
 use Rattle.search_core.specs.Core.{empty_hands}
 use Rattle.search_core.specs.Kept.{cuts_in}
@@ -23,28 +23,28 @@ abbrev pub steps_enough : Problem → ℕ
 steps_enough i = 2 ^ (span i [] + 1) - 1
 
 -- what a worker asks for a node that it has taken
-abbrev pub ask_for : Problem → BoardView → ℕ → ℕ → ℕ → Ask
-ask_for i v node floor best = record { cuts = cuts_in (book_at i v).nodes node; floor = floor; best = best }
+abbrev pub ask_for : BoardView → ℕ → ℕ → ℕ → Ask
+ask_for v node floor best = record { cuts = cuts_in (book_at v).nodes node; floor = floor; best = best }
 
 -- one round of worker 0: it takes a node, and commits the step that it makes of the greedy advice for it
-pub record IsRound (i : Problem) (budget : ℕ) (old new : BoardView) : Type 0 where
+pub record IsRound (old new : BoardView) : Type 0 where
   pub node : ℕ
   pub floor : ℕ
   pub best : ℕ
   pub held : BoardView
-  pub takes : TakeMakes (TakenNode node floor best) 0 i budget old held
+  pub takes : TakeMakes (TakenNode node floor best) 0 old held
   pub step : StepPosts
-  pub decides : IsDecision i node (ask_for i old node floor best) (greedy_advice i (cuts_in (book_at i old).nodes node)) step
+  pub decides : IsDecision old.instance node (ask_for old node floor best) (greedy_advice old.instance (cuts_in (book_at old).nodes node)) step
   pub kept : Kept
-  pub commits : Commits i 0 step held new kept
+  pub commits : Commits 0 step held new kept
   -- the posts make a book
   pub book : Book
-  pub folds : book_of i new.history ≡ Some book
+  pub folds : book_of new.instance new.history ≡ Some book
 
 -- that many rounds, one after another
-pub data AreRounds (i : Problem) (budget : ℕ) (old : BoardView) : BoardView → ℕ → Type 0 where
-  none : AreRounds i budget old old 0
-  one_more : (mid new : BoardView) (rounds : ℕ) → AreRounds i budget old mid rounds → IsRound i budget mid new → AreRounds i budget old new (rounds + 1)
+pub data AreRounds (old : BoardView) : BoardView → ℕ → Type 0 where
+  none : AreRounds old old 0
+  one_more : (mid new : BoardView) (rounds : ℕ) → AreRounds old mid rounds → IsRound mid new → AreRounds old new (rounds + 1)
 
 -- a board that still runs: nothing shut it, no worker gave up, and each hand is empty
 pub record IsIdle (v : BoardView) : Type 0 where
@@ -52,14 +52,21 @@ pub record IsIdle (v : BoardView) : Type 0 where
   pub going : v.halted ≡ false
   pub empty : v.hands ≡ empty_hands
 
--- how a run ends, and how it leaves the board: without an open node, or without a step left; shut by the journal's limit or by
--- the disk; or, for want of memory, halted with empty hands
-abbrev pub RunEnds : Problem → ℕ → BoardView → RunEnd → Type 0
-RunEnds i budget v Finished = IsIdle v × IsTrue (is_finished (book_at i v))
-RunEnds i budget v Spent = IsIdle v × IsFalse (is_finished (book_at i v)) × (v.taken ≡ budget)
-RunEnds i budget v (Full end limit) = v.shut ≡ Some (ShutByFull end limit)
-RunEnds i budget v DiskFault = v.shut ≡ Some ShutByDiskFault
-RunEnds i budget v NoMemory = (v.shut ≡ None) × (v.halted ≡ true) × (v.hands ≡ empty_hands)
+-- a board of the same search
+pub record IsSameSearch (old new : BoardView) : Type 0 where
+  pub instance : new.instance ≡ old.instance
+  pub budget : new.budget ≡ old.budget
+  pub origin : new.origin ≡ old.origin
+
+-- how a run ends, and how it leaves the board: without an open node, or without a step left; shut by the journal's limit, past
+-- which the posts of a step that its book allows would have ended there; shut by the disk; or, for want of memory, halted with
+-- empty hands
+abbrev pub RunEnds : BoardView → RunEnd → Type 0
+RunEnds v Finished = IsIdle v × IsTrue (is_finished (book_at v))
+RunEnds v Spent = IsIdle v × IsFalse (is_finished (book_at v)) × (v.taken ≡ v.budget)
+RunEnds v (Full end limit) = (v.shut ≡ Some (ShutByFull end limit)) × IsPast v end limit
+RunEnds v DiskFault = v.shut ≡ Some ShutByDiskFault
+RunEnds v NoMemory = (v.shut ≡ None) × (v.halted ≡ true) × (v.hands ≡ empty_hands)
 
 -- whether a run came to its end by itself
 abbrev pub is_whole : RunEnd → Bool
@@ -83,19 +90,21 @@ plans_and_prices_since first all = count_by is_plan_or_prices (drop (length firs
 -- a commit that ends a run leaves the posts: the board is shut by it or, for want of memory, halted with an empty hand
 abbrev pub IsCutOff : BoardView → BoardView → RunEnd → Type 0
 IsCutOff old new DiskFault = new ≡ record old { shut = Some ShutByDiskFault }
-IsCutOff old new (Full end limit) = new ≡ record old { shut = Some (ShutByFull end limit) }
-IsCutOff old new NoMemory = new ≡ record old { hands = slice_set old.hands 0 None; halted = true }
+IsCutOff old new (Full end limit) = new ≡ record old { shut = Some (ShutByFull end limit); unfit = new.unfit }
+IsCutOff old new NoMemory = new ≡ yields 0 old
 IsCutOff old new Finished = ⊥
 IsCutOff old new Spent = ⊥
 
 -- a board on which a run ended, with the posts of the board before
-pub record IsEnded (i : Problem) (budget : ℕ) (old new : BoardView) (how : RunEnd) : Type 0 where
-  pub ends : RunEnds i budget new how
+pub record IsEnded (old new : BoardView) (how : RunEnd) : Type 0 where
+  pub same : IsSameSearch old new
+  pub ends : RunEnds new how
   pub posts : new.history ≡ old.history
   pub whole : IsTrue (is_whole how) → new ≡ old
 
 -- a run so far: rounds, and, if it has come to its end, how
-pub record IsRun (i : Problem) (budget : ℕ) (old new : BoardView) (how : Option RunEnd) : Type 0 where
+pub record IsRun (old new : BoardView) (how : Option RunEnd) : Type 0 where
+  pub same : IsSameSearch old new
   pub last : BoardView
-  pub rounds : AreRounds i budget old last last.taken
-  pub end : MatchOption how ((new ≡ last) × IsIdle new) (IsEnded i budget last new)
+  pub rounds : AreRounds old last last.taken
+  pub end : MatchOption how ((new ≡ last) × IsIdle new) (IsEnded last new)
