@@ -272,6 +272,7 @@ impl State {
         ensures valid { IsValid self.now.instance }
         ensures sound { IsSound self.now.instance self.now.book }
     {
+        let _ = &self.alloc;
         let nodes = self.nodes();
         (nodes[node as usize].floor, self.cost())
     }
