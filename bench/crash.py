@@ -1,7 +1,7 @@
 #!/usr/bin/env python3
 """Kills `shift_solve solve` (`kill -9`) at random moments of a search of some steps, some hundred times, each time over a journal file
 of its own, looks at what the file holds, and goes on with it. Prints how many files were left how, and with which cost each went on.
-Build the program first, by `./run shift_solve` with any words. Words: the number of runs (400 where none is given)."""
+Build the program first, by `./run --build shift_solve`. Words: the number of runs (400 where none is given)."""
 import collections
 import json
 import os

@@ -1,7 +1,7 @@
 #!/usr/bin/env python3
 """Measures `shift_solve solve` on each instance of `examples/`: seconds and peak memory of the whole process, the best of five runs,
 each over a new journal file: one step, nearly all of which is the greedy plan.
-Build the program first, by `./run shift_solve` with any words."""
+Build the program first, by `./run --build shift_solve`."""
 import os
 import subprocess
 import sys
@@ -31,7 +31,7 @@ def run(example, folder):
 
 def main():
     if not os.path.exists(PROGRAM):
-        sys.exit("build the program first: ./run shift_solve")
+        sys.exit("build the program first: ./run --build shift_solve")
     with tempfile.TemporaryDirectory() as folder:
         for example in sorted(it for it in os.listdir(EXAMPLES) if it.endswith(".json")):
             runs = [run(example, folder) for _ in range(5)]

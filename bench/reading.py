@@ -1,7 +1,7 @@
 #!/usr/bin/env python3
 """Measures how long `shift_check recount` takes to read reports at their limit of 2^28 bytes, and how much memory: seconds and peak memory of the whole process.
 The reports have proof lines with one-digit prices, with prices at scale 100, with splits alone or with settled nodes alone, or rows alone, of the usual week; and one
-byte too many. Build the program first, by `./run shift_check` with any words. Words: the size in bytes (2^28 where none is given)."""
+byte too many. Build the program first, by `./run --build shift_check`. Words: the size in bytes (2^28 where none is given)."""
 import os
 import random
 import subprocess
@@ -77,7 +77,7 @@ def show(what, report):
 
 def main():
     if not os.path.exists(CHECK):
-        sys.exit("build the program first: ./run shift_check")
+        sys.exit("build the program first: ./run --build shift_check")
     size = int(sys.argv[1]) if len(sys.argv) > 1 else 2**28
     with tempfile.TemporaryDirectory() as folder:
         report = os.path.join(folder, "report")

@@ -1,7 +1,7 @@
 #!/usr/bin/env python3
 """Measures `shift_check recount` on a report of a thousand rows, and on the report that `shift_solve` writes for the week of week.py: seconds
-and peak memory of the whole process, the best of some runs. Build both programs first, by `./run shift_solve` and `./run shift_check` with
-any words."""
+and peak memory of the whole process, the best of some runs. Build both programs first, by `./run --build shift_solve` and
+`./run --build shift_check`."""
 import json
 import os
 import subprocess

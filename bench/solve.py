@@ -1,6 +1,6 @@
 #!/usr/bin/env python3
 """Measures `shift_solve solve` on the week of week.py: seconds and peak memory of the whole process, the best of some runs.
-Build the program first, by `./run shift_solve` with any words."""
+Build the program first, by `./run --build shift_solve`."""
 import json
 import os
 import subprocess

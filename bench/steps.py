@@ -1,7 +1,7 @@
 #!/usr/bin/env python3
 """Measures searches of many steps over a real journal file: `solve` of the usual week with 2,000 and with 20,000 steps, the opening
 of the journals that they leave (`--steps 0`), and `shift_check check` of their reports; the same of the call week with 2,000 steps. Seconds
-and peak memory of the whole process. Build the programs first, by `./run shift_solve` and `./run shift_check` with any words. Word: the
+and peak memory of the whole process. Build the programs first, by `./run --build shift_solve` and `./run --build shift_check`. Word: the
 folder for the journals (that for temporary files where none is given), so that a file system in memory can be measured too."""
 import os
 import subprocess
@@ -49,7 +49,7 @@ def search(example, steps, folder):
 def main():
     for program in (SOLVE, CHECK):
         if not os.path.exists(program):
-            sys.exit("build the programs first: ./run shift_solve, ./run shift_check")
+            sys.exit("build the programs first: ./run --build shift_solve, ./run --build shift_check")
     cases = [("usual_week.json", 2000), ("usual_week.json", 20000), ("call_week.json", 2000)]
     with tempfile.TemporaryDirectory(dir=sys.argv[1] if len(sys.argv) > 1 else None) as folder:
         for example, steps in cases:

@@ -1,22 +1,17 @@
 ghost use Rattle.std.specs.Prelude.{◌≡◌, IfOk, length};
 
-use crate::{Advice, Ask, Greedy};
+use crate::{Ask, Greedy};
 use break_rules::{Breaks, Rule};
 use head_splits::{Class, Cut, Cuts, Side};
 use shift_instance::{Instance, Parts, TypeParts};
 use std::alloc::Global;
-use std::process::Abort;
 use std::test::Fail;
 
 /// An hour is a slot of the one day. One employee is needed in the hours 8 to 11, and the one type has a shift of these
-/// hours. The costs are 1 of excess, 2 of shortage and 3 of a shift used.
-fn morning(alloc: Global, heads: u16) -> Result<Parts, Fail> {
+/// hours, of which two may be worked. The costs are 1 of excess and 2 of shortage, and one of a shift used.
+fn morning(alloc: Global, shift: u32) -> Result<Parts, Fail> {
     let mut need = vec![in alloc; 0u32; 24]?;
-    for t in 8..12 {
-        if let Some(wanted) = need.get_mut(t) {
-            *wanted = 1;
-        }
-    }
+    need[8..12].fill(1);
     let kind = TypeParts {
         name: String::from_str(alloc, "M")?,
         start_min: 8,
@@ -29,10 +24,10 @@ fn morning(alloc: Global, heads: u16) -> Result<Parts, Fail> {
         slot_minutes: 60,
         days: 1,
         need,
-        max_heads: heads,
+        max_heads: 2,
         excess: 1,
         shortage: 2,
-        shift: 3,
+        shift,
         types: vec![in alloc; kind]?,
     })
 }
@@ -58,47 +53,30 @@ fn ask(alloc: Global, least: u16) -> Result<Ask, Fail>
     })
 }
 
-/// Checks an advice: the price of the hours 8 to 11, price 0 in all other hours, one price of a cut, and the number of
-/// rows.
-fn expect_advice(rt: &impl Abort, advice: Advice, price: i64, rows: usize) {
-    let slots = advice.prices.slots.as_slice();
-    assert_eq!(rt; advice.prices.q, 1);
-    assert_eq!(rt; slots.len(), 24);
-    for (t, found) in slots.iter().enumerate() {
-        let wanted = if 8 <= t && t < 12 { price } else { 0 };
-        assert_eq!(rt; *found, wanted);
-    }
-    assert_eq!(rt; advice.prices.cuts.as_slice().len(), 1);
-    assert_eq!(rt; advice.plan.map_or(0, |plan| plan.len()), rows);
-}
-
-// Without a forced duty an employee is missing, one forced duty is what is needed, and two are one too many.
+// Two forced duties are one too many in each hour, and the greedy plan has one.
 #[test]
 fn forced_duties_are_priced(rt: HostRuntime) -> Result<(), Fail> {
     let alloc = rt.alloc();
-    let instance = Instance::new(alloc, morning(alloc, 2)?)?;
-    let mut adviser = Greedy::new(alloc);
-    for (least, price) in [(0, 2), (1, 0), (2, -1)] {
-        let asked = ask(alloc, least)?;
-        let advice = adviser.advise(&instance, &asked)?;
-        expect_advice(&rt, advice, price, 1);
-    }
+    let instance = Instance::new(alloc, morning(alloc, 3)?)?;
+    let advice = Greedy::new(alloc).advise(&instance, &ask(alloc, 2)?)?;
+    let slots = advice.prices.slots.as_slice();
+    assert_eq!(rt; (slots.get(7), slots.get(8)), (Some(&0), Some(&-1)));
+    assert_eq!(rt; (slots.get(11), slots.get(12)), (Some(&-1), Some(&0)));
+    assert_eq!(rt; advice.prices.cuts.as_slice().len(), 1);
+    assert_eq!(rt; advice.plan.map(|plan| plan.len()), Some(1));
     Ok(())
 }
 
-// Where the shift costs 9 the greedy plan has no duty.
+// Where the shift costs 9 the greedy plan has no duty, also where the adviser was asked about another instance before.
 #[test]
 fn each_instance_has_its_plan(rt: HostRuntime) -> Result<(), Fail> {
     let alloc = rt.alloc();
-    let cheap = Instance::new(alloc, morning(alloc, 1)?)?;
-    let mut parts = morning(alloc, 1)?;
-    parts.shift = 9;
-    let dear = Instance::new(alloc, parts)?;
-    let mut adviser = Greedy::new(alloc);
+    let cheap = Instance::new(alloc, morning(alloc, 3)?)?;
+    let dear = Instance::new(alloc, morning(alloc, 9)?)?;
     let asked = ask(alloc, 0)?;
-    for (instance, rows) in [(&cheap, 1), (&dear, 0), (&dear, 0), (&cheap, 1)] {
-        let advice = adviser.advise(instance, &asked)?;
-        expect_advice(&rt, advice, 2, rows);
-    }
+    let mut adviser = Greedy::new(alloc);
+    assert!(rt; adviser.advise(&cheap, &asked)?.plan.is_some());
+    assert!(rt; adviser.advise(&cheap, &asked)?.plan.is_some());
+    assert!(rt; adviser.advise(&dear, &asked)?.plan.is_none());
     Ok(())
 }

@@ -3,8 +3,6 @@
 #![tactic(auto)]
 
 mod below;
-#[cfg(test)]
-mod check_tests;
 mod checking;
 mod judged;
 mod judging;

@@ -1,20 +1,17 @@
-ghost use Rattle.std.specs.Prelude.{◌≡◌, ◌≤◌, length, IfOk};
-ghost use Rattle.shift_instance.specs.Valid.{IsValid};
+//! Whole certificates of a morning, made by hand.
 
-use crate::settled::settled_floor;
-use crate::value::{are_prices, value};
+use crate::{Accepted, Refused, check};
 use break_rules::{Break, Breaks, NoMemory, Rule, Totals};
-use head_splits::{Class, Cut, CutPrices, Cuts, Prices, Side, SlotPrices};
-use shift_instance::{Instance, Parts, TOP, TypeParts};
+use certificate::{Cert, CertStatus, Line, Lines};
+use head_splits::{Class, CutPrices, Prices, SlotPrices};
+use shift_instance::{Instance, Parts, Row, Rows, TypeParts};
 use std::alloc::Global;
 use std::test::Fail;
 
 /// A day of hours that needs one employee from 8 to 12, with one shift from 8 on, of so many hours. From 8 hours on it has
-/// a break of one hour, and no work period is longer than `work_max` hours.
-pub fn one_morning(alloc: Global, heads: u16, len: u16, work_max: u16) -> Result<Parts, NoMemory> {
+/// a break of one hour.
+fn one_morning(alloc: Global, heads: u16, len: u16) -> Result<Parts, NoMemory> {
     let mut rule = Rule::plain(alloc)?;
-    rule.work_max = work_max;
-    rule.long_work = work_max;
     rule.totals = Totals::new(Vec::from_slice(alloc, &[(8, 1)])?);
     let mut need = vec![in alloc; 0; 24]?;
     need[8..12].fill(1);
@@ -39,152 +36,136 @@ pub fn one_morning(alloc: Global, heads: u16, len: u16, work_max: u16) -> Result
     })
 }
 
-/// Prices of so many slots, 0 outside the hours from 8 to 12.
-fn slot_prices(alloc: Global, count: usize, price: i64) -> Result<SlotPrices, NoMemory> {
-    let mut list = Vec::new(alloc);
-    for t in 0..count {
-        list.push(if 8 <= t && t < 12 { price } else { 0 })?;
-    }
-    Ok(SlotPrices::new(list))
+/// A line with prices at scale 1: one of the hours from 8 to 12, 0 of all others, and those of the cuts.
+fn priced(alloc: Global, node: u32, price: i64, cuts: &[u64]) -> Result<Line, NoMemory> {
+    let mut slots = vec![in alloc; 0; 24]?;
+    slots[8..12].fill(price);
+    let slots = SlotPrices::new(slots);
+    let cuts = CutPrices::new(Vec::from_slice(alloc, cuts)?);
+    Ok(Line::Priced {
+        node,
+        prices: Prices { q: 1, slots, cuts },
+    })
 }
 
-/// A cut on the duties of the shift that begin with a break at the second hour, or on all where there is no break.
-fn cut_of(alloc: Global, has_break: bool, side: Side, m: u16) -> Result<Cut, NoMemory> {
-    let mut prefix = Vec::new(alloc);
-    if has_break {
-        prefix.push(Break { start: 1, len: 1 })?;
-    }
+/// A line that splits the root by the duties with so many breaks of an hour, the first at the second hour.
+fn split(alloc: Global, breaks: usize, m: u16) -> Result<Line, NoMemory> {
     let class = Class {
         shift: 0,
         day: 0,
-        prefix: Breaks::new(prefix),
+        prefix: Breaks::new(vec![in alloc; Break { start: 1, len: 1 }; breaks]?),
     };
-    Ok(Cut { class, side, m })
+    Ok(Line::Split { node: 0, class, m })
 }
 
-/// The cuts of a row of a test.
-fn cuts_of(alloc: Global, cuts: &[(bool, Side, u16, u64)]) -> Result<Cuts, NoMemory>
-    ensures { IfOk result (λ list. length list ≡ length cuts.now) }
-{
-    let mut list = Vec::new(alloc);
-    for (has_break, side, m, _) in cuts {
-        list.push(cut_of(alloc, *has_break, *side, *m)?)?;
-    }
-    Ok(Cuts::new(list))
+/// The plan of one duty without a break, with the cost that is claimed.
+fn one_duty(alloc: Global, cost: u64) -> Result<(u64, Rows), NoMemory> {
+    let row = Row {
+        shift: 0,
+        day: 0,
+        breaks: Breaks::new(Vec::new(alloc)),
+        count: 1,
+    };
+    let mut rows = Vec::new(alloc);
+    rows.push(row)?;
+    Ok((cost, Rows::new(rows)))
 }
 
-/// The prices of the cuts of a row of a test.
-fn cut_prices(alloc: Global, cuts: &[(bool, Side, u16, u64)]) -> Result<CutPrices, NoMemory> {
-    let mut list = Vec::new(alloc);
-    for (_, _, _, price) in cuts {
-        list.push(*price)?;
-    }
-    Ok(CutPrices::new(list))
-}
-
-/// The bound of the cuts and prices of a row of a test, and `None` where they are no price set.
-fn value_with(
+/// What is answered of a certificate with the bound 3 for a morning.
+fn answer(
     alloc: Global,
-    heads: u16,
-    len: u16,
-    cuts: &[(bool, Side, u16, u64)],
-    q: u16,
-    count: usize,
-    price: i64,
-) -> Result<Option<u64>, Fail>
-    requires { length cuts.now ≤ 2 }
-{
-    let instance = Instance::new(alloc, one_morning(alloc, heads, len, 288)?)?;
-    let list = cuts_of(alloc, cuts)?;
-    let slots = slot_prices(alloc, count, price)?;
-    let cuts = cut_prices(alloc, cuts)?;
-    let prices = Prices { q, slots, cuts };
-    if !are_prices(&instance, &list, &prices) {
-        return Ok(None);
-    }
-    Ok(Some(value(alloc, &instance, &list, &prices)?))
+    parts: Parts,
+    plan: Option<(u64, Rows)>,
+    lines: &[Line],
+) -> Result<Result<Accepted, Refused>, Fail> {
+    let instance = Instance::new(alloc, parts)?;
+    let cert = Cert {
+        status: CertStatus::Stopped,
+        plan,
+        bound: 3,
+        lines: Lines::from_slice(alloc, lines)?,
+    };
+    Ok(check(alloc, &instance, &cert))
 }
 
-/// The floor of the cuts of a row of a test, for shifts with one work period longer than 6 hours or none.
-fn floor_with(
-    alloc: Global,
-    heads: u16,
-    len: u16,
-    cuts: &[(bool, Side, u16, u64)],
-) -> Result<Option<u64>, Fail> {
-    let work_max = if len < 8 { 288 } else { 6 };
-    let instance = Instance::new(alloc, one_morning(alloc, heads, len, work_max)?)?;
-    Ok(settled_floor(alloc, &instance, &cuts_of(alloc, cuts)?)?)
+/// A bound of 3, with a plan of that cost or without one.
+fn accepted(cost: Option<u64>) -> Result<Accepted, Refused> {
+    Ok(Accepted { cost, bound: 3 })
 }
 
+// The slots pay 8, and the one duty costs 3 and earns 8.
 #[test]
-fn values_of_a_morning(rt: HostRuntime) -> Result<(), Fail> {
+fn one_priced_line(rt: HostRuntime) -> Result<(), Fail> {
     let alloc = rt.alloc();
-    let one = (false, Side::AtLeast, 1, 0);
-    let none = (false, Side::AtMost, 0, 0);
-    for (heads, len, cut, q, price, bound) in [
-        // The duty earns 8 and costs 3, and the slots pay 8.
-        (1, 4, None, 1, 2, 3),
-        // Two duties may earn 16.
-        (2, 4, None, 1, 2, 0),
-        // The one duty costs 3, and its slots pay less by 4 than they should.
-        (1, 4, Some(one), 1, -1, 3),
-        (2, 4, Some((false, Side::AtLeast, 2, 0)), 1, -1, 7),
-        // No duty can earn what the slots pay.
-        (1, 4, Some(none), 1, 2, 8),
-        (1, 4, None, 1, -1, 0),
-        // The total is 4, at scales of 2 and 3.
-        (1, 4, None, 2, 1, 2),
-        (1, 4, None, 3, 1, 2),
-        // No list begins with the break of a cut, which pays 5 or takes 2.
-        (1, 4, Some((true, Side::AtLeast, 1, 5)), 1, 2, 8),
-        (1, 4, Some((true, Side::AtMost, 2, 1)), 1, 2, 1),
-        // The slots and the cut pay 18. The duty with the break earns 6 and 5, any other 8.
-        (1, 8, Some((true, Side::AtLeast, 2, 5)), 1, 2, 10),
-        // A duty without the break earns 8.
-        (1, 8, Some((true, Side::AtMost, 0, 5)), 1, 2, 3),
-    ] {
-        let found = match cut {
-            Some(cut) => value_with(alloc, heads, len, &[cut], q, 24, price)?,
-            None => value_with(alloc, heads, len, &[], q, 24, price)?,
-        };
-        assert_eq!(rt; found, Some(bound));
-    }
+    let lines = [priced(alloc, 0, 2, &[])?];
+    let plan = Some(one_duty(alloc, 3)?);
+    let found = answer(alloc, one_morning(alloc, 1, 4)?, plan, &lines)?;
+    assert_eq!(rt; found, accepted(Some(3)));
+    Ok(())
+}
+
+// The side of at most one duty is as above. Two duties or more cost 3 for the shift and 1 for each hour that one is too many.
+#[test]
+fn both_sides_of_a_split(rt: HostRuntime) -> Result<(), Fail> {
+    let alloc = rt.alloc();
+    let lines = [
+        split(alloc, 0, 1)?,
+        priced(alloc, 1, 2, &[0])?,
+        priced(alloc, 2, -1, &[0])?,
+    ];
+    let plan = Some(one_duty(alloc, 3)?);
+    let found = answer(alloc, one_morning(alloc, 2, 4)?, plan, &lines)?;
+    assert_eq!(rt; found, accepted(Some(3)));
     Ok(())
 }
 
 #[test]
-fn other_numbers_are_no_prices(rt: HostRuntime) -> Result<(), Fail> {
+fn a_side_without_a_bound(rt: HostRuntime) -> Result<(), Fail> {
     let alloc = rt.alloc();
-    assert_eq!(rt; value_with(alloc, 1, 4, &[], 0, 24, 0)?, None);
-    assert_eq!(rt; value_with(alloc, 1, 4, &[], 10_001, 24, 0)?, None);
-    assert_eq!(rt; value_with(alloc, 1, 4, &[], 1, 23, 0)?, None);
-    assert_eq!(rt; value_with(alloc, 1, 4, &[], 1, 24, 3)?, None);
-    assert_eq!(rt; value_with(alloc, 1, 4, &[], 1, 24, -2)?, None);
-    let whole = (false, Side::AtLeast, 1, 1);
-    assert_eq!(rt; value_with(alloc, 1, 4, &[whole], 1, 24, 2)?, None);
-    let dear = (true, Side::AtLeast, 1, 1_000_000_000_001);
-    assert_eq!(rt; value_with(alloc, 1, 4, &[dear], 1, 24, 2)?, None);
+    let lines = [split(alloc, 0, 1)?, priced(alloc, 1, 2, &[0])?];
+    let found = answer(alloc, one_morning(alloc, 2, 4)?, None, &lines)?;
+    let refused = Refused::BoundTooHigh {
+        claimed: 3,
+        found: 0,
+    };
+    assert_eq!(rt; found, Err(refused));
     Ok(())
 }
 
+// No duty costs 8, and one costs 3.
 #[test]
-fn floors_of_a_morning(rt: HostRuntime) -> Result<(), Fail> {
+fn settled_sides(rt: HostRuntime) -> Result<(), Fail> {
     let alloc = rt.alloc();
-    let none = (false, Side::AtMost, 0, 0);
-    let one = (false, Side::AtLeast, 1, 0);
-    assert_eq!(rt; floor_with(alloc, 1, 4, &[])?, None);
-    assert_eq!(rt; floor_with(alloc, 1, 4, &[none])?, Some(8));
-    assert_eq!(rt; floor_with(alloc, 1, 4, &[one])?, Some(3));
-    assert_eq!(rt; floor_with(alloc, 2, 4, &[one])?, None);
-    assert_eq!(rt; floor_with(alloc, 1, 4, &[one, none])?, Some(TOP));
-    // There are more duties than there may be.
-    assert_eq!(rt;
-        floor_with(alloc, 1, 4, &[(false, Side::AtLeast, 2, 0)])?,
-        Some(TOP)
-    );
-    // A class with several legal lists isn't settled by its own number.
-    assert_eq!(rt; floor_with(alloc, 1, 8, &[one])?, None);
-    assert_eq!(rt; floor_with(alloc, 1, 8, &[none])?, Some(8));
+    let lines = [
+        split(alloc, 0, 0)?,
+        Line::Settled { node: 1 },
+        Line::Settled { node: 2 },
+    ];
+    let found = answer(alloc, one_morning(alloc, 1, 4)?, None, &lines)?;
+    assert_eq!(rt; found, accepted(None));
+    Ok(())
+}
+
+// Without the break of the cut a duty earns 8. With it, it earns 6 and the cut's price, which the cut pays.
+#[test]
+fn both_sides_of_a_break(rt: HostRuntime) -> Result<(), Fail> {
+    let alloc = rt.alloc();
+    let lines = [
+        split(alloc, 1, 0)?,
+        priced(alloc, 1, 2, &[5])?,
+        priced(alloc, 2, 2, &[5])?,
+    ];
+    let found = answer(alloc, one_morning(alloc, 1, 8)?, None, &lines)?;
+    assert_eq!(rt; found, accepted(None));
+    Ok(())
+}
+
+// The one duty may have its break at any hour.
+#[test]
+fn a_side_that_is_open(rt: HostRuntime) -> Result<(), Fail> {
+    let alloc = rt.alloc();
+    let lines = [split(alloc, 0, 0)?, Line::Settled { node: 2 }];
+    let found = answer(alloc, one_morning(alloc, 1, 8)?, None, &lines)?;
+    assert_eq!(rt; found, Err(Refused::NotSettled { line: 2 }));
     Ok(())
 }

@@ -16,8 +16,6 @@ mod history;
 pub mod laws;
 mod line_reader;
 mod proof_lines;
-#[cfg(test)]
-mod proof_tests;
 mod proof_words;
 mod proof_writing;
 mod reading;

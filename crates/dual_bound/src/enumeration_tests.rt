@@ -1,17 +1,24 @@
 //! The bounds of small pseudo-random instances, cuts and prices, by a plain reading of what a bound is over every list of
-//! breaks.
+//! at most one break.
 
 ghost use Rattle.std.specs.Prelude.{◌<◌, ◌≤◌, length};
 ghost use Rattle.shift_instance.specs.Problem.{shift_list};
 
 use crate::prove;
-use break_rules::{Break, Breaks, Lunch, Lunches, NoMemory, Rule, Totals, legal};
+use break_rules::{Break, Breaks, NoMemory, Rule, Totals, legal};
 use head_splits::{Class, Cut, CutPrices, Cuts, Prices, Side, SlotPrices};
 use patterns::works;
 use shift_instance::{Instance, Parts, TOP, TypeParts};
 use std::alloc::Global;
 use std::process::Abort;
 use std::test::Fail;
+
+/// A cut with its price.
+#[derive(Drop)]
+struct Priced {
+    cut: Cut,
+    price: u64,
+}
 
 /// A linear congruential generator modulo 2^32.
 #[derive(Drop)]
@@ -32,200 +39,91 @@ impl Draws {
         (self.state / 65_536) as u16 % bound
     }
 
-    /// A number from the second number below the first one to it.
-    fn between(&mut self, most: u16, below: u16) -> i64
-        requires { below < 65535 }
-    {
-        i64::from(most).saturating_sub(i64::from(self.below(below + 1)))
-    }
-
-    /// A lunch, or none.
-    fn lunches(&mut self, alloc: Global) -> Result<Lunches, NoMemory> {
-        let mut lunches = Vec::new(alloc);
-        if self.below(3) == 0 {
-            let first = self.below(4);
-            lunches.push(Lunch {
-                from_len: self.below(8),
-                size: 1,
-                first,
-                last: first.saturating_add(1 + self.below(3)),
-            })?;
-        }
-        Ok(Lunches::new(lunches))
-    }
-
-    /// A small rule.
-    fn rule(&mut self, alloc: Global) -> Result<Rule, NoMemory> {
-        let work_min = 1 + self.below(2);
-        let mut totals = Vec::new(alloc);
-        totals.push((0, self.below(4)))?;
-        Ok(Rule {
-            lead: self.below(2),
-            tail: self.below(2),
-            work_min,
-            work_max: work_min.saturating_add(1 + self.below(5)),
-            long_work: 1 + self.below(4),
-            long_rest: self.below(3),
-            size_min: 1,
-            size_max: 1 + self.below(2),
-            totals: Totals::new(totals),
-            lunches: self.lunches(alloc)?,
-            resettle: self.below(2),
-        })
-    }
-
-    /// A type of shifts of at most 6 slots, with at most two starts and at most two lengths.
-    fn kind(&mut self, alloc: Global, name: &str) -> Result<TypeParts, NoMemory> {
-        let start_min = self.below(30);
-        let len_min = 2 + self.below(4);
+    /// A type of shifts of at most 5 slots, with two starts and at most one break of one slot.
+    fn kind(&mut self, alloc: Global) -> Result<TypeParts, NoMemory> {
+        let mut rule = Rule::plain(alloc)?;
+        rule.work_max = 1 + self.below(5);
+        rule.size_max = 1;
+        rule.totals = Totals::new(Vec::from_slice(alloc, &[(0, self.below(2))])?);
+        rule.resettle = self.below(2);
+        let len = 2 + self.below(4);
         Ok(TypeParts {
-            name: String::from_str(alloc, name)?,
-            start_min,
-            start_max: start_min.saturating_add(self.below(2)),
-            len_min,
-            len_max: len_min.saturating_add(self.below(2)),
-            rule: self.rule(alloc)?,
+            name: String::from_str(alloc, "A")?,
+            start_min: 22,
+            start_max: 23,
+            len_min: len,
+            len_max: len,
+            rule,
         })
     }
 
-    /// The needs of so many slots.
-    fn needs(&mut self, alloc: Global, slots: u16) -> Result<Vec<u32>, NoMemory> {
-        let mut needs = Vec::new(alloc);
-        for _ in 0..slots {
-            needs.push(u32::from(self.below(4)))?;
-        }
-        Ok(needs)
-    }
-
-    /// An instance of one day or two.
+    /// An instance of two days.
     fn parts(&mut self, alloc: Global) -> Result<Parts, NoMemory> {
-        let days = 1 + self.below(2);
         let mut types = Vec::new(alloc);
-        types.push(self.kind(alloc, "A")?)?;
-        if self.below(2) == 0 {
-            types.push(self.kind(alloc, "B")?)?;
+        types.push(self.kind(alloc)?)?;
+        let mut need = Vec::new(alloc);
+        for _ in 0..48 {
+            need.push(u32::from(self.below(4)))?;
         }
         Ok(Parts {
             slot_minutes: 60,
-            days,
-            need: self.needs(alloc, days.saturating_mul(24))?,
+            days: 2,
+            need,
             max_heads: 1 + self.below(3),
-            excess: u32::from(self.below(4)),
-            shortage: u32::from(self.below(5)),
+            excess: 2,
+            shortage: 3,
             shift: u32::from(self.below(12)),
             types,
         })
     }
 
-    /// At most two breaks.
-    fn prefix(&mut self, alloc: Global) -> Result<Breaks, NoMemory> {
-        let mut prefix = Vec::new(alloc);
-        let mut from = 0u16;
-        for _ in 0..self.below(3) {
-            let start = from.saturating_add(1 + self.below(2));
-            let len = 1 + self.below(2);
-            prefix.push(Break { start, len })?;
-            from = start.saturating_add(len);
-        }
-        Ok(Breaks::new(prefix))
-    }
-
-    /// A cut on the duties of one of the first shifts, which needn't be there.
-    fn cut(&mut self, alloc: Global) -> Result<Cut, NoMemory> {
+    /// A cut on the duties of a shift, of all at price 0 or of those with a break at the second slot.
+    fn cut(&mut self, alloc: Global) -> Result<Priced, NoMemory> {
+        let breaks = self.below(2);
         let side = if self.below(2) == 0 {
             Side::AtMost
         } else {
             Side::AtLeast
         };
+        let stop = Break { start: 1, len: 1 };
         let class = Class {
-            shift: self.below(3),
+            shift: self.below(2),
             day: self.below(2) as u8,
-            prefix: self.prefix(alloc)?,
+            prefix: Breaks::new(vec![in alloc; stop; usize::from(breaks)]?),
         };
         let m = self.below(3);
-        Ok(Cut { class, side, m })
+        let price = if breaks == 0 { 0 } else { self.below(9) };
+        Ok(Priced {
+            cut: Cut { class, side, m },
+            price: u64::from(price),
+        })
     }
 
-    /// At most five cuts.
-    fn cuts(&mut self, alloc: Global) -> Result<Vec<Cut>, NoMemory> {
+    /// Four cuts.
+    fn cuts(&mut self, alloc: Global) -> Result<Vec<Priced>, NoMemory> {
         let mut cuts = Vec::new(alloc);
-        for _ in 0..self.below(6) {
+        for _ in 0..4 {
             cuts.push(self.cut(alloc)?)?;
         }
         Ok(cuts)
     }
 
-    /// A price for each cut.
-    fn cut_prices(&mut self, alloc: Global, cuts: &[Cut]) -> Result<Vec<u64>, NoMemory> {
+    /// A price for each slot, within its range at the scale 2.
+    fn slot_prices(&mut self, alloc: Global) -> Result<Vec<i64>, NoMemory> {
         let mut prices = Vec::new(alloc);
-        for cut in cuts {
-            prices.push(if cut.class.prefix.is_empty() {
-                0
-            } else {
-                u64::from(self.below(9))
-            })?;
-        }
-        Ok(prices)
-    }
-
-    /// A price for each slot, within its range at the scale.
-    fn slot_prices(&mut self, alloc: Global, parts: &Parts, q: u16) -> Result<Vec<i64>, NoMemory> {
-        let most = q.saturating_mul(parts.shortage.min(100) as u16);
-        let least = q.saturating_mul(parts.excess.min(100) as u16);
-        let mut prices = Vec::new(alloc);
-        for _ in 0..parts.need.len() {
-            prices.push(self.between(most, most.saturating_add(least).min(60_000)))?;
+        for _ in 0..48 {
+            prices.push(6 - i64::from(self.below(11)))?;
         }
         Ok(prices)
     }
 }
 
-/// Every break in a shift of `len` slots, by start and then by length.
-fn every_break(alloc: Global, len: u16) -> Result<Vec<Break>, NoMemory> {
-    let mut breaks = Vec::new(alloc);
-    for start in 0..len {
-        for size in 0..len - start {
-            breaks.push(Break {
-                start,
-                len: size + 1,
-            })?;
-        }
-    }
-    Ok(breaks)
-}
-
-/// Adds a list with each later break behind it.
-fn add_longer(
-    breaks: &[Break],
-    list: &Vec<Break>,
-    longer: &mut Vec<Vec<Break>>,
-) -> Result<(), NoMemory> {
-    let from = list.last().map_or(0, |b| b.start.saturating_add(b.len));
-    for b in breaks {
-        if from <= b.start {
-            let mut whole = list.clone()?;
-            whole.push(*b)?;
-            longer.push(whole)?;
-        }
-    }
-    Ok(())
-}
-
-/// The legal lists among all lists of breaks in a shift of `len` slots.
-fn legal_lists(alloc: Global, rule: &Rule, len: u16) -> Result<Vec<Vec<Break>>, NoMemory> {
-    let breaks = every_break(alloc, len)?;
+/// The list without a break, and those of one break of one slot.
+fn every_list(alloc: Global, len: u16) -> Result<Vec<Vec<Break>>, NoMemory> {
     let mut lists = Vec::new(alloc);
-    let mut level = Vec::new(alloc);
-    level.push(Vec::new(alloc))?;
-    for _ in 0..=len {
-        let mut longer = Vec::new(alloc);
-        for list in level {
-            add_longer(&breaks, &list, &mut longer)?;
-            if legal(rule, len, &list) {
-                lists.push(list)?;
-            }
-        }
-        level = longer;
+    lists.push(Vec::new(alloc))?;
+    for start in 0..len {
+        lists.push(vec![in alloc; Break { start, len: 1 }; 1]?)?;
     }
     Ok(lists)
 }
@@ -247,9 +145,9 @@ fn earned(instance: &Instance, prices: &[i64], shift: u16, day: u8, list: &[Brea
 }
 
 /// A cut's price with the sign of its side.
-fn signed(cut: &Cut, price: u64) -> i64 {
-    let price = price.min(1_000) as i64;
-    match cut.side {
+fn signed(priced: &Priced) -> i64 {
+    let price = priced.price.min(1_000) as i64;
+    match priced.cut.side {
         Side::AtLeast => price,
         Side::AtMost => -price,
     }
@@ -261,12 +159,12 @@ fn is_on(cut: &Cut, shift: u16, day: u8) -> bool {
 }
 
 /// What the cuts with a prefix add to a duty.
-fn bonuses(cuts: &[Cut], prices: &[u64], shift: u16, day: u8, list: &[Break]) -> i64 {
+fn bonuses(cuts: &[Priced], shift: u16, day: u8, list: &[Break]) -> i64 {
     let mut sum = 0i64;
-    for (cut, price) in cuts.iter().zip(prices.iter()) {
-        let prefix = &cut.class.prefix;
-        if !prefix.is_empty() && is_on(cut, shift, day) && list.starts_with(prefix.as_slice()) {
-            sum = sum.saturating_add(signed(cut, *price));
+    for priced in cuts {
+        let prefix = priced.cut.class.prefix.as_slice();
+        if !prefix.is_empty() && is_on(&priced.cut, shift, day) && list.starts_with(prefix) {
+            sum = sum.saturating_add(signed(priced));
         }
     }
     sum
@@ -276,8 +174,8 @@ fn bonuses(cuts: &[Cut], prices: &[u64], shift: u16, day: u8, list: &[Break]) ->
 fn best_value(
     alloc: Global,
     instance: &Instance,
-    cuts: &[Cut],
-    prices: (&[i64], &[u64]),
+    cuts: &[Priced],
+    slots: &[i64],
     shift: u16,
     day: u8,
 ) -> Result<Option<i64>, NoMemory>
@@ -286,20 +184,22 @@ fn best_value(
     let rule = instance.rule_of(shift);
     let len = instance.shift(shift).len;
     let mut best = None;
-    for list in legal_lists(alloc, rule, len)? {
-        let value = earned(instance, prices.0, shift, day, &list).saturating_add(bonuses(
-            cuts, prices.1, shift, day, &list,
-        ));
-        best = Some(best.map_or(value, |other: i64| other.max(value)));
+    for list in every_list(alloc, len)? {
+        if legal(rule, len, &list) {
+            let earned = earned(instance, slots, shift, day, &list);
+            let value = earned.saturating_add(bonuses(cuts, shift, day, &list));
+            best = Some(value.max(best.unwrap_or(value)));
+        }
     }
     Ok(best)
 }
 
 /// The least and the greatest number of all duties of a shift on a day.
-fn range_of(instance: &Instance, cuts: &[Cut], shift: u16, day: u8) -> (i64, i64) {
+fn range_of(instance: &Instance, cuts: &[Priced], shift: u16, day: u8) -> (i64, i64) {
     let mut lo = 0u16;
     let mut hi = instance.heads();
-    for cut in cuts {
+    for priced in cuts {
+        let cut = &priced.cut;
         if cut.class.prefix.is_empty() && is_on(cut, shift, day) {
             match cut.side {
                 Side::AtLeast => lo = lo.max(cut.m),
@@ -310,28 +210,25 @@ fn range_of(instance: &Instance, cuts: &[Cut], shift: u16, day: u8) -> (i64, i64
     (i64::from(lo), i64::from(hi))
 }
 
-/// Whether some day needs a duty of the shift.
-fn is_forced(instance: &Instance, cuts: &[Cut], shift: u16) -> bool {
-    (0..instance.days()).any(|day| 0 < range_of(instance, cuts, shift, day).0)
-}
-
 /// The term of a shift.
 fn term(
     alloc: Global,
     instance: &Instance,
-    cuts: &[Cut],
-    q: u16,
-    prices: (&[i64], &[u64]),
+    cuts: &[Priced],
+    slots: &[i64],
     shift: u16,
 ) -> Result<i64, NoMemory>
     requires { shift < length (shift_list instance.now) }
 {
-    let forced = is_forced(instance, cuts, shift);
+    let (first, second) = (
+        range_of(instance, cuts, shift, 0),
+        range_of(instance, cuts, shift, 1),
+    );
+    let forced = 0 < first.0 || 0 < second.0;
     let (_, _, weight) = instance.weights();
-    let mut sum = i64::from(q).saturating_mul(i64::from(weight));
-    for day in 0..instance.days() {
-        let (lo, hi) = range_of(instance, cuts, shift, day);
-        let Some(value) = best_value(alloc, instance, cuts, prices, shift, day)? else {
+    let mut sum = i64::from(weight).saturating_mul(2);
+    for (day, (lo, hi)) in [(0, first), (1, second)] {
+        let Some(value) = best_value(alloc, instance, cuts, slots, shift, day)? else {
             return Ok(0);
         };
         let least = if forced { value.saturating_mul(lo) } else { 0 };
@@ -351,57 +248,61 @@ fn needs_worth(instance: &Instance, prices: &[i64]) -> i64 {
 }
 
 /// What the cuts' prices are worth at their numbers.
-fn cuts_worth(cuts: &[Cut], prices: &[u64]) -> i64 {
+fn cuts_worth(cuts: &[Priced]) -> i64 {
     let mut sum = 0i64;
-    for (cut, price) in cuts.iter().zip(prices.iter()) {
-        sum = sum.saturating_add(signed(cut, *price).saturating_mul(i64::from(cut.m)));
+    for priced in cuts {
+        sum = sum.saturating_add(signed(priced).saturating_mul(i64::from(priced.cut.m)));
     }
     sum
 }
 
-/// The least whole number below a million that, times the scale, is no less than a total, and `TOP` where there is none.
-fn least_whole(q: u16, total: i64) -> u64 {
-    for whole in 0..1_000_000u64 {
-        if total <= i64::from(q).saturating_mul(whole.min(1_000_000) as i64) {
-            return whole;
+/// The least whole number below a thousand that, times 2, is no less than a total, and `TOP` where there is none.
+fn least_whole(total: i64) -> u64 {
+    for whole in 0..1_000u16 {
+        if total <= 2 * i64::from(whole) {
+            return u64::from(whole);
         }
     }
     TOP
 }
 
-/// The bound of prices, as it is defined.
+/// The bound of prices at the scale 2, as it is defined.
 fn bound_of(
     alloc: Global,
     instance: &Instance,
-    cuts: &[Cut],
-    q: u16,
-    prices: (&[i64], &[u64]),
+    cuts: &[Priced],
+    slots: &[i64],
 ) -> Result<u64, NoMemory> {
-    let mut total = needs_worth(instance, prices.0).saturating_add(cuts_worth(cuts, prices.1));
+    let mut total = needs_worth(instance, slots).saturating_add(cuts_worth(cuts));
     for shift in 0..instance.shifts().len() {
-        let term = term(alloc, instance, cuts, q, prices, shift as u16)?;
-        total = total.saturating_add(term);
+        total = total.saturating_add(term(alloc, instance, cuts, slots, shift as u16)?);
     }
-    Ok(least_whole(q, total))
+    Ok(least_whole(total))
+}
+
+/// The cuts, and their prices.
+fn parted(alloc: Global, list: &[Priced]) -> Result<(Cuts, CutPrices), NoMemory> {
+    let mut cuts = Vec::new(alloc);
+    let mut prices = Vec::new(alloc);
+    for priced in list {
+        cuts.push(priced.cut.clone()?)?;
+        prices.push(priced.price)?;
+    }
+    Ok((Cuts::new(cuts), CutPrices::new(prices)))
 }
 
 /// Compares the bound of drawn prices with the one as it is defined, and gives it.
 fn try_instance(rt: &impl Abort, alloc: Global, draws: &mut Draws) -> Result<u64, Fail> {
-    let parts = draws.parts(alloc)?;
-    let q = 1 + draws.below(3);
-    let cuts = draws.cuts(alloc)?;
-    let cut_prices = draws.cut_prices(alloc, &cuts)?;
-    let slot_prices = draws.slot_prices(alloc, &parts, q)?;
-    let instance = Instance::new(alloc, parts)?;
-    let wanted = bound_of(alloc, &instance, &cuts, q, (&slot_prices, &cut_prices))?;
-    let cuts = Cuts::new(cuts);
-    if 5 < cuts.len() {
-        return Ok(0);
-    }
+    let instance = Instance::new(alloc, draws.parts(alloc)?)?;
+    let list = draws.cuts(alloc)?;
+    let slots = draws.slot_prices(alloc)?;
+    let wanted = bound_of(alloc, &instance, &list, &slots)?;
+    let (cuts, cut_prices) = parted(alloc, &list)?;
+    assert!(rt; cuts.len() == 4);
     let prices = Prices {
-        q,
-        slots: SlotPrices::new(slot_prices),
-        cuts: CutPrices::new(cut_prices),
+        q: 2,
+        slots: SlotPrices::new(slots),
+        cuts: cut_prices,
     };
     let bound = prove(alloc, &instance, cuts, prices)?.bound();
     assert_eq!(rt; bound, wanted);
@@ -413,11 +314,11 @@ fn small_instances_have_the_bounds_that_every_list_shows(rt: HostRuntime) -> Res
     let alloc = rt.alloc();
     let mut draws = Draws { state: 7 };
     let mut above_none = 0u32;
-    for _ in 0..300 {
+    for _ in 0..40 {
         let bound = try_instance(&rt, alloc, &mut draws)?;
         above_none = above_none.saturating_add(u32::from(0 < bound));
     }
     // Enough of the bounds say something.
-    assert!(rt; 100 <= above_none);
+    assert!(rt; 10 <= above_none);
     Ok(())
 }

@@ -7,8 +7,6 @@ mod faults;
 mod laws;
 mod proving;
 mod settling;
-#[cfg(test)]
-mod settling_tests;
 mod terms;
 #[cfg(test)]
 mod tests;

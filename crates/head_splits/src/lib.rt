@@ -6,8 +6,6 @@ pub mod laws;
 mod meeting;
 mod price_lists;
 mod ranges;
-#[cfg(test)]
-mod settled_tests;
 mod settling;
 mod table;
 #[cfg(test)]

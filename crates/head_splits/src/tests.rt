@@ -1,33 +1,30 @@
-use crate::{Class, Cut, Cuts, Side, meets, range};
-use break_rules::{Break, Breaks, Lunches, NoMemory, Rule, Totals};
+//! Worked examples of ranges, of cuts that are met and of the class to split; and a small enumeration of rotas.
+use crate::{Class, Cut, Cuts, Settle, Side, meets, range, settled};
+use break_rules::{Break, Breaks, NoMemory, Rule, Totals};
 use shift_instance::{Instance, Parts, Row, Rows, TypeParts};
 use std::alloc::Global;
 use std::test::Fail;
 
-/// A type with the shift of the day, 8 hours from 8 o'clock on, with a break of one hour.
-fn day_type(alloc: Global) -> Result<TypeParts, NoMemory> {
+/// One day of hours without need, and one shift of six hours with two breaks of one hour: after 1 and 3 hours, after 1 and
+/// 4, or after 2 and 4. It may have at most two duties.
+fn two_breaks(alloc: Global) -> Result<Parts, NoMemory> {
     let mut rule = Rule::plain(alloc)?;
-    rule.totals = Totals::new(Vec::from_slice(alloc, &[(8, 1)])?);
-    rule.lunches = Lunches::new(Vec::new(alloc));
-    Ok(TypeParts {
-        name: String::from_str(alloc, "D")?,
+    rule.size_max = 1;
+    rule.totals = Totals::new(Vec::from_slice(alloc, &[(6, 2)])?);
+    let mut types = Vec::new(alloc);
+    types.push(TypeParts {
+        name: String::from_str(alloc, "T")?,
         start_min: 8,
         start_max: 8,
-        len_min: 8,
-        len_max: 8,
+        len_min: 6,
+        len_max: 6,
         rule,
-    })
-}
-
-/// Two days of hours without need, and at most five duties of the one shift on a day.
-fn two_days(alloc: Global) -> Result<Parts, NoMemory> {
-    let mut types = Vec::new(alloc);
-    types.push(day_type(alloc)?)?;
+    })?;
     Ok(Parts {
         slot_minutes: 60,
-        days: 2,
-        need: vec![in alloc; 0; 48]?,
-        max_heads: 5,
+        days: 1,
+        need: vec![in alloc; 0; 24]?,
+        max_heads: 2,
         excess: 1,
         shortage: 2,
         shift: 3,
@@ -35,28 +32,44 @@ fn two_days(alloc: Global) -> Result<Parts, NoMemory> {
     })
 }
 
-/// The class of the one shift on a day, of the duties whose break starts at `start`, or of all where there is none.
-fn class_of(alloc: Global, day: u8, start: Option<u16>) -> Result<Class, NoMemory> {
-    let mut prefix = Vec::new(alloc);
-    if let Some(start) = start {
-        prefix.push(Break { start, len: 1 })?;
+/// The starts of the breaks of the six classes of live prefixes, the empty one first and the whole lists last.
+fn starts_of(number: u32) -> &'static [u16] {
+    match number {
+        0 => &[],
+        1 => &[1],
+        2 => &[2],
+        3 => &[1, 3],
+        4 => &[1, 4],
+        _ => &[2, 4],
     }
+}
+
+/// The prefix of a class, by its number.
+fn prefix_of(alloc: Global, number: u32) -> Result<Breaks, NoMemory> {
+    let mut list = Vec::new(alloc);
+    for start in starts_of(number) {
+        let start = *start;
+        list.push(Break { start, len: 1 })?;
+    }
+    Ok(Breaks::new(list))
+}
+
+/// A class of the one day, by its number.
+fn class_of(alloc: Global, number: u32) -> Result<Class, NoMemory> {
     Ok(Class {
         shift: 0,
-        day,
-        prefix: Breaks::new(prefix),
+        day: 0,
+        prefix: prefix_of(alloc, number)?,
     })
 }
 
-/// Cuts, each by the start of the break and its bounds, all on day 0.
-fn cuts_of(alloc: Global, list: &[(Option<u16>, Side, u16)]) -> Result<Cuts, NoMemory> {
+/// Cuts on the one day, each by its class and its bound.
+fn cuts_of(alloc: Global, list: &[(u32, Side, u16)]) -> Result<Cuts, NoMemory> {
     let mut cuts = Vec::new(alloc);
-    for (start, side, m) in list {
-        cuts.push(Cut {
-            class: class_of(alloc, 0, *start)?,
-            side: *side,
-            m: *m,
-        })?;
+    for (number, side, m) in list {
+        let class = class_of(alloc, *number)?;
+        let (side, m) = (*side, *m);
+        cuts.push(Cut { class, side, m })?;
     }
     Ok(Cuts::new(cuts))
 }
@@ -64,78 +77,153 @@ fn cuts_of(alloc: Global, list: &[(Option<u16>, Side, u16)]) -> Result<Cuts, NoM
 #[test]
 fn ranges_are_of_exactly_a_class(rt: HostRuntime) -> Result<(), Fail> {
     let alloc = rt.alloc();
-    let instance = Instance::new(alloc, two_days(alloc)?)?;
+    let instance = Instance::new(alloc, two_breaks(alloc)?)?;
     let cuts = cuts_of(
         alloc,
         &[
-            (None, Side::AtLeast, 1),
-            (Some(3), Side::AtMost, 2),
-            (None, Side::AtLeast, 3),
-            (None, Side::AtLeast, 2),
-            (None, Side::AtMost, 4),
-            (None, Side::AtMost, 9),
-            (Some(4), Side::AtLeast, 7),
+            (1, Side::AtLeast, 1),
+            (3, Side::AtMost, 0),
+            (1, Side::AtMost, 9),
         ],
     )?;
-    for (day, start, low, high) in [
-        (0, None, 3, 4),
-        (0, Some(3), 0, 2),
-        (0, Some(4), 7, 5),
-        (0, Some(5), 0, 5),
-        (1, None, 0, 5),
-    ] {
-        let class = class_of(alloc, day, start)?;
-        assert_eq!(rt; range(&instance, &cuts, &class), (low, high));
-    }
+    assert_eq!(rt; range(&instance, &cuts, &class_of(alloc, 1)?), (1, 2));
+    assert_eq!(rt; range(&instance, &cuts, &class_of(alloc, 3)?), (0, 0));
+    assert_eq!(rt; cuts.clone()?.len(), 3);
     Ok(())
 }
 
-/// A row of day 0.
-fn row_of(alloc: Global, start: u16, count: u16) -> Result<Row, NoMemory> {
-    Ok(Row {
-        shift: 0,
-        day: 0,
-        breaks: class_of(alloc, 0, Some(start))?.prefix,
-        count,
-    })
+/// The length of the prefix of the class to split, the start of its last break and the number by which.
+fn split_by(alloc: Global, list: &[(u32, Side, u16)]) -> Result<Option<(usize, u16, u16)>, Fail> {
+    let instance = Instance::new(alloc, two_breaks(alloc)?)?;
+    match settled(alloc, &instance, &cuts_of(alloc, list)?)? {
+        Settle::Unsettled { class, m } => {
+            let last = class.prefix.as_slice().last().copied();
+            Ok(Some((class.prefix.len(), last.map_or(0, |last| last.start), m)))
+        }
+        Settle::Plan(_) => Ok(None),
+        Settle::Empty => Ok(None),
+    }
 }
 
 #[test]
-fn cuts_are_met_by_numbers_of_duties(rt: HostRuntime) -> Result<(), Fail> {
+fn shortest_open_prefix_is_split(rt: HostRuntime) -> Result<(), Fail> {
     let alloc = rt.alloc();
-    let instance = Instance::new(alloc, two_days(alloc)?)?;
-    // Two duties with the break at 3, and one with it at 4.
+    // The whole class is open, and then it is fixed and the first list's prefixes come next.
+    assert_eq!(rt; split_by(alloc, &[])?, Some((0, 0, 1)));
+    assert_eq!(rt; split_by(alloc, &[(0, Side::AtLeast, 2)])?, Some((1, 1, 1)));
+    // No duty may begin with the first list's first break.
+    let cuts = [(0, Side::AtLeast, 2), (1, Side::AtMost, 0)];
+    assert_eq!(rt; split_by(alloc, &cuts)?, Some((1, 2, 1)));
+    Ok(())
+}
+
+/// The next number of a generator.
+fn next(number: u32) -> u32 {
+    number.wrapping_mul(1_664_525).wrapping_add(1_013_904_223)
+}
+
+/// Up to eleven cuts, drawn from a seed.
+fn draw(alloc: Global, seed: u32) -> Result<Cuts, NoMemory> {
+    let mut number = next(seed);
     let mut list = Vec::new(alloc);
-    list.push(row_of(alloc, 3, 2)?)?;
-    list.push(row_of(alloc, 4, 1)?)?;
-    let rows = Rows::new(list);
-    for (start, side, m, met) in [
-        (None, Side::AtMost, 3, true),
-        (None, Side::AtMost, 2, false),
-        (None, Side::AtLeast, 3, true),
-        (None, Side::AtLeast, 4, false),
-        (Some(3), Side::AtLeast, 2, true),
-        (Some(3), Side::AtMost, 1, false),
-        (Some(4), Side::AtLeast, 2, false),
-        (Some(5), Side::AtMost, 0, true),
-    ] {
-        let cuts = cuts_of(alloc, &[(None, Side::AtMost, 5), (start, side, m)])?;
-        assert_eq!(rt; meets(&instance, &rows, &cuts), met);
+    for _ in 0..seed % 12 {
+        number = next(number);
+        let drawn = number >> 16;
+        let side = if drawn / 6 % 3 == 0 {
+            Side::AtLeast
+        } else {
+            Side::AtMost
+        };
+        list.push((drawn % 6, side, (drawn / 18 % 2) as u16))?;
     }
-    assert!(rt; meets(&instance, &rows, &Cuts::new(Vec::new(alloc))));
-    Ok(())
+    cuts_of(alloc, &list)
+}
+
+/// How often each whole list stands in each rota of at most two duties.
+const ROTAS: [[u16; 3]; 10] = [
+    [0, 0, 0],
+    [1, 0, 0],
+    [0, 1, 0],
+    [0, 0, 1],
+    [2, 0, 0],
+    [0, 2, 0],
+    [0, 0, 2],
+    [1, 1, 0],
+    [1, 0, 1],
+    [0, 1, 1],
+];
+
+/// The rows of a rota.
+fn rows_of(alloc: Global, rota: &[u16]) -> Result<Rows, NoMemory> {
+    let mut rows = Vec::new(alloc);
+    for (number, count) in (3..6).zip(rota) {
+        if *count > 0 {
+            rows.push(Row {
+                shift: 0,
+                day: 0,
+                breaks: prefix_of(alloc, number)?,
+                count: *count,
+            })?;
+        }
+    }
+    Ok(Rows::new(rows))
+}
+
+/// Whether rows are those of a rota.
+fn are_rows_of(rows: &Rows, rota: &Rows) -> bool {
+    rows.len() == rota.len()
+        && rows.iter().zip(rota.as_slice()).all(|(row, other)| row.count == other.count
+            && row.breaks.is_same(&other.breaks))
+}
+
+/// How many rotas meet cuts, and how many of these have such rows.
+fn left(
+    alloc: Global,
+    instance: &Instance,
+    cuts: &Cuts,
+    plan: &Rows,
+) -> Result<(u32, u32), NoMemory> {
+    let mut all = 0u32;
+    let mut same = 0u32;
+    for rota in ROTAS {
+        let rows = rows_of(alloc, &rota)?;
+        if meets(instance, &rows, cuts) {
+            all = all.saturating_add(1);
+            same = same.saturating_add(u32::from(are_rows_of(plan, &rows)));
+        }
+    }
+    Ok((all, same))
+}
+
+/// Whether what a look at the cuts of a seed finds is so by the rotas that meet them: a plan is the one of them, an empty
+/// node has none, and a class to split has an open number. The first number tells which of the three was found.
+fn is_so(alloc: Global, instance: &Instance, seed: u32) -> Result<(usize, bool), Fail> {
+    let cuts = draw(alloc, seed)?;
+    match settled(alloc, instance, &cuts)? {
+        Settle::Plan(rows) => Ok((0, left(alloc, instance, &cuts, &rows)? == (1, 1))),
+        Settle::Empty => {
+            let none = Rows::new(Vec::new(alloc));
+            Ok((1, left(alloc, instance, &cuts, &none)?.0 == 0))
+        }
+        Settle::Unsettled { class, m } => {
+            let (low, high) = range(instance, &cuts, &class);
+            Ok((2, low <= m && m < high))
+        }
+    }
 }
 
 #[test]
-fn lists_are_given_back(rt: HostRuntime) -> Result<(), Fail> {
+fn settled_cuts_leave_one_rota_or_none(rt: HostRuntime) -> Result<(), Fail> {
     let alloc = rt.alloc();
-    let cuts = cuts_of(alloc, &[(Some(3), Side::AtLeast, 2)])?;
-    assert!(rt; !cuts.is_empty());
-    let cut = cuts.clone()?.into_vec().pop().ok_or("no cut")?;
-    assert_eq!(rt;
-        (cut.side, cut.m, cut.class.prefix.len()),
-        (Side::AtLeast, 2, 1)
-    );
-    assert_eq!(rt; cuts.len(), 1);
+    let instance = Instance::new(alloc, two_breaks(alloc)?)?;
+    let mut found = [false; 3];
+    for seed in 0..60 {
+        let (which, so) = is_so(alloc, &instance, seed)?;
+        assert!(rt; so, "of seed {seed}");
+        if let Some(one) = found.get_mut(which) {
+            *one = true;
+        }
+    }
+    assert_eq!(rt; found, [true; 3]);
     Ok(())
 }

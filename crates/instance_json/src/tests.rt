@@ -1,5 +1,5 @@
-//! Texts that are read, texts that are refused, and the text that is written.
-use crate::{INSTANCE_MAX, canonical, read, read_back};
+//! The text that an instance is written as, and one refusal of each kind that names a field or a number.
+use crate::{canonical, read, read_back};
 use std::alloc::{AllocError, Global};
 use std::test::Fail;
 
@@ -13,156 +13,56 @@ const WRITTEN: &str =
 const RULE: &str =
     "{\"lead\":2,\"tail\":2,\"work_min\":2,\"work_max\":5,\"long_work\":5,\"long_rest\":1,\"size_min\":1,\"size_max\":1,\"totals\":[[8,1]],\"lunches\":[[8,1,3,4]],\"resettle\":1}";
 
-const PLAIN_WRITTEN: &str =
-    "{\"lead\":0,\"long_rest\":1,\"long_work\":288,\"lunches\":[],\"resettle\":0,\"size_max\":48,\"size_min\":1,\"tail\":0,\"totals\":[],\"work_max\":288,\"work_min\":1}";
-
+/// The type of the morning with that rule, as it is written.
 const RULE_WRITTEN: &str =
-    "{\"lead\":2,\"long_rest\":1,\"long_work\":5,\"lunches\":[[8,1,3,4]],\"resettle\":1,\"size_max\":1,\"size_min\":1,\"tail\":2,\"totals\":[[8,1]],\"work_max\":5,\"work_min\":2}";
+    "\"breaks\":{\"lead\":2,\"long_rest\":1,\"long_work\":5,\"lunches\":[[8,1,3,4]],\"resettle\":1,\"size_max\":1,\"size_min\":1,\"tail\":2,\"totals\":[[8,1]],\"work_max\":5,\"work_min\":2},\"len_max\"";
 
-/// What becomes of a text: `read`, or its refusal as it is shown.
-fn outcome(alloc: Global, text: &[u8]) -> Result<String, AllocError> {
-    match read(alloc, text) {
+#[test]
+fn writes_what_it_reads(rt: HostRuntime) -> Result<(), Fail> {
+    let instance = read(rt.alloc(), MORNING.as_bytes())?;
+    let again = read_back(rt.alloc(), &instance)?;
+    let text = canonical(rt.alloc(), &again)?;
+    assert_eq!(rt; text.len(), 372);
+    assert!(rt; text.as_slice() == WRITTEN.as_bytes());
+    Ok(())
+}
+
+/// The canonical text of the morning with the break rule.
+fn with_rule(alloc: Global) -> Result<Vec<u8>, Fail> {
+    let text = MORNING.replacen(alloc, "null", RULE, 1)?;
+    let instance = read(alloc, text.as_bytes())?;
+    Ok(canonical(alloc, &instance)?)
+}
+
+#[test]
+fn writes_break_rules(rt: HostRuntime) -> Result<(), Fail> {
+    let text = String::from_utf8(with_rule(rt.alloc())?)
+        .ok()
+        .ok_or("no text")?;
+    assert!(rt; text.contains(RULE_WRITTEN));
+    Ok(())
+}
+
+/// What becomes of the morning where its name is another text: `read`, or the refusal as it is shown.
+fn outcome(alloc: Global, name: &str) -> Result<String, AllocError> {
+    let text = MORNING.replacen(alloc, "\"M\"", name, 1)?;
+    match read(alloc, text.as_bytes()) {
         Ok(_) => String::from_str(alloc, "read"),
         Err(refusal) => refusal.to_string(alloc),
     }
 }
 
 #[test]
-fn writes_what_it_reads(rt: HostRuntime) -> Result<(), Fail> {
-    let instance = read(rt.alloc(), MORNING.as_bytes())?;
-    assert_eq!(rt; instance.weights(), (1, 2, 3));
+fn names_the_type_and_the_field(rt: HostRuntime) -> Result<(), Fail> {
+    assert_eq!(rt; outcome(rt.alloc(), "null")?.as_str(), "5 1 name");
+    assert_eq!(rt; outcome(rt.alloc(), "\"\"")?.as_str(), "6 12 0");
     assert_eq!(rt;
-        (instance.heads(), instance.days(), instance.slots()),
-        (1, 1, 24)
+        outcome(rt.alloc(), "\"M\",\"area\":0")?.as_str(),
+        "4 1 area"
     );
-    assert_eq!(rt; instance.shifts().len(), 1);
-    let text = canonical(rt.alloc(), &instance)?;
-    assert!(rt; text.as_slice() == WRITTEN.as_bytes());
-    assert_eq!(rt; text.len(), 372);
-    assert_eq!(rt; text.get(356).copied(), Some(b'3'));
-    let again = outcome(rt.alloc(), WRITTEN.as_bytes())?;
-    assert_eq!(rt; again.as_str(), "read");
-    Ok(())
-}
-
-#[test]
-fn judges_in_order(rt: HostRuntime) -> Result<(), Fail> {
-    for (from, to, shown) in [
-        ("\"days\":1", "\"days\":-1", "5 0 days"),
-        ("\"days\":1", "\"days\":1.0", "5 0 days"),
-        ("\"days\":1", "\"days\":1e0", "5 0 days"),
-        ("\"days\":1", "\"days\":65537", "6 2"),
-        ("\"days\":1,", "", "3 0 days"),
-        ("\"days\":1", "\"day\":1", "4 0 day"),
-        ("\"days\":1,\"need\":[", "\"need\":[-1,", "3 0 days"),
-        (
-            "\"max_heads\":1",
-            "\"max_heads\":1,\"days\":7,\"days\":1",
-            "read",
-        ),
-        (
-            "\"max_heads\":1",
-            "\"max_heads\":18446744073709551615",
-            "6 6",
-        ),
-        (
-            "\"max_heads\":1",
-            "\"max_heads\":18446744073709551616",
-            "5 0 max_heads",
-        ),
-        ("\"shift\":3", "\"shift\":4294967295", "6 5"),
-        ("\"shift\":3", "\"rest\":3", "4 0 rest"),
-        ("\"shift\":3", "\"shift\":null", "5 0 shift"),
-        ("{\"slot", "{\"zone\":1,\"area\":1,\"slot", "4 0 area"),
-        ("[0,", "[-0,", "5 0 need"),
-        ("[0,", "[", "6 3 23 24"),
-        ("[{", "[{},{", "3 1 name"),
-        ("[{", "[0,{", "5 1 types"),
-        ("}]", "},[]]", "5 2 types"),
-        ("\"M\"", "null", "5 1 name"),
-        ("\"M\"", "\"\"", "6 12 0"),
-        ("null", "0", "5 1 breaks"),
-        ("null", "{}", "3 1 lead"),
-        ("\"name\":\"M\",", "", "3 1 name"),
-        ("\"start_max\":8", "\"start_max\":48", "6 8 0"),
-        ("[0,", "[1.5,", "5 0 need"),
-        (",\"breaks\":null", "", "read"),
-        ("\"days\"", " \"\\u0064ays\"\n", "read"),
-    ] {
-        let text = MORNING.replacen(rt.alloc(), from, to, 1)?;
-        let found = outcome(rt.alloc(), text.as_bytes())?;
-        assert_eq!(rt; found.as_str(), shown, "{to}");
-    }
-    Ok(())
-}
-
-#[test]
-fn writes_break_rules(rt: HostRuntime) -> Result<(), Fail> {
-    let text = MORNING.replacen(rt.alloc(), "null", RULE, 1)?;
-    let instance = read(rt.alloc(), text.as_bytes())?;
-    let text = canonical(rt.alloc(), &instance)?;
-    let wanted = WRITTEN.replacen(rt.alloc(), PLAIN_WRITTEN, RULE_WRITTEN, 1)?;
-    assert!(rt; text.as_slice() == wanted.as_bytes());
-    let again = canonical(rt.alloc(), &read_back(rt.alloc(), &instance)?)?;
-    assert!(rt; again.as_slice() == wanted.as_bytes());
-    Ok(())
-}
-
-#[test]
-fn judges_break_objects(rt: HostRuntime) -> Result<(), Fail> {
-    for (from, to, shown) in [
-        ("\"lead\":2", "\"lead\":2", "read"),
-        ("\"lead\":2", "\"zone\":2,\"area\":2", "4 1 area"),
-        ("\"tail\":2,", "", "3 1 tail"),
-        ("\"totals\":[[8,1]],", "", "3 1 totals"),
-        ("\"lunches\":[[8,1,3,4]],", "", "read"),
-        (",\"resettle\":1", "", "read"),
-        ("\"size_max\":1", "\"size_max\":null", "5 1 size_max"),
-        ("[[8,1]]", "[8,1]", "5 1 totals"),
-        ("[[8,1]]", "[[8,1],[9]]", "5 1 totals"),
-        ("[[8,1]]", "[[8,-1]]", "5 1 totals"),
-        ("[[8,1,3,4]]", "null", "5 1 lunches"),
-        ("[[8,1,3,4]]", "[[8,1,3]]", "5 1 lunches"),
-        ("\"resettle\":1", "\"resettle\":null", "5 1 resettle"),
-        ("\"work_min\":2", "\"work_min\":0", "6 10 0 1"),
-        ("\"lead\":2", "\"lead\":65536", "6 10 0 6"),
-    ] {
-        let rule = RULE.replacen(rt.alloc(), from, to, 1)?;
-        let text = MORNING.replacen(rt.alloc(), "null", rule.as_str(), 1)?;
-        let found = outcome(rt.alloc(), text.as_bytes())?;
-        assert_eq!(rt; found.as_str(), shown, "{to}");
-    }
-    Ok(())
-}
-
-#[test]
-fn shows_the_beginning_of_a_long_name(rt: HostRuntime) -> Result<(), Fail> {
-    let front = "x".repeat(rt.alloc(), 63)?;
-    let text = format!(in rt.alloc(); "{{\"{front}\u{e9}\":0}}")?;
-    let shown = format!(in rt.alloc(); "4 0 {front}")?;
-    let found = outcome(rt.alloc(), text.as_bytes())?;
-    assert_eq!(rt; found.as_str(), shown.as_str());
-    Ok(())
-}
-
-#[test]
-fn refuses_other_texts(rt: HostRuntime) -> Result<(), Fail> {
-    let deep = "[".repeat(rt.alloc(), 200)?;
-    let most = " ".repeat(rt.alloc(), INSTANCE_MAX)?;
-    let more = " ".repeat(rt.alloc(), INSTANCE_MAX + 1)?;
-    for (text, shown) in [
-        ("", "2"),
-        ("{} {}", "2"),
-        ("1e999", "2"),
-        (deep.as_str(), "2"),
-        (most.as_str(), "2"),
-        (more.as_str(), "1"),
-        ("[]", "5 0 document"),
-    ] {
-        let found = outcome(rt.alloc(), text.as_bytes())?;
-        assert_eq!(rt; found.as_str(), shown);
-    }
-    let found = outcome(rt.alloc(), b"\"\xff\"")?;
-    assert_eq!(rt; found.as_str(), "2");
+    assert_eq!(rt;
+        outcome(rt.alloc(), "\"M\"},{\"name\":\"N\"")?.as_str(),
+        "3 1 start_min"
+    );
     Ok(())
 }

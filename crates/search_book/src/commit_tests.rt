@@ -1,238 +1,133 @@
 //! Steps that are committed on a board, on disks in memory.
-ghost use Rattle.std.specs.Prelude.{◌≡◌, ◌<◌, ◌≤◌, ◌^◌, IfOk, length};
+ghost use Rattle.std.specs.Prelude.{◌≡◌, IfOk};
 ghost use Rattle.search_core.specs.Core.{empty_hands};
 ghost use Rattle.search_core.specs.Steps.{Fits};
 
-use crate::Book;
 use crate::test_books::{LIMIT, one_duty, one_shift};
-use break_rules::Breaks;
+use crate::{Book, sent};
 use dual_bound::prove;
-use head_splits::{Class, Cut, CutPrices, Cuts, Prices, Side, SlotPrices};
+use head_splits::{CutPrices, Cuts, Prices, SlotPrices};
 use instance_json::canonical;
 use plan_base::{Disk, MemDisk};
 use rota_cost::cost_rows;
-use search_core::{Close, CommitFault, Kept, StepPosts, Taken};
+use search_core::{Close, Kept, StepPosts, Taken};
 use shift_instance::Instance;
 use std::alloc::Global;
 use std::process::Abort;
 use std::test::Fail;
 
-/// The board of an instance on a new journal of at most so many bytes, on a disk on which these calls fail.
+/// The board of an instance on a new journal of at most `limit` bytes, on a disk on which these calls fail.
 fn board(
     rt: &impl Abort,
     alloc: Global,
     instance: &Instance,
+    fails: Vec<u64>,
     limit: u32,
-    fails: &[u64],
 ) -> Result<Book<MemDisk>, Fail>
-    ensures { IfOk result (λ b. (b.log.instance ≡ instance.now) × (b.hands ≡ empty_hands)) }
+    ensures { IfOk result (λ b. (b.instance ≡ instance.now) × (b.hands ≡ empty_hands)) }
 {
     let head = canonical(alloc, instance)?;
-    assert!(rt; head.len() < 1 << 20);
-    assert!(rt; 13 + head.len() as u32 <= limit);
-    assert!(rt; limit <= 1 << 26);
-    let disk = MemDisk::new(alloc, Vec::new(alloc), Vec::from_slice(alloc, fails)?);
+    assert!(rt; limit <= LIMIT && head.len() < 1 << 20 && head.len() + 13 <= limit as usize);
+    let disk = MemDisk::new(alloc, Vec::new(alloc), fails);
     match Book::open(alloc, instance, disk, 10, limit) {
         Ok(book) => Ok(book),
         Err(_) => Err("it isn't opened")?,
     }
 }
 
-/// A worker whose hand is empty takes a node.
-fn take(rt: &impl Abort, book: &mut Book<MemDisk>, worker: u32) -> Taken
-    requires { worker < 16 }
-    ensures { book.new.log.instance ≡ book.old.log.instance }
-{
-    assert!(rt; book.held(worker).is_none());
-    book.take(worker)
-}
-
-/// Prices of 2 for the hours from 8 to 12, and so many prices of 0 for cuts.
-fn prices(alloc: Global, cuts: u32) -> Result<Prices, Fail> {
+/// Prices of 2 for the hours from 8 to 12.
+fn prices(alloc: Global) -> Result<Prices, Fail> {
     let mut slots = vec![in alloc; 0i64; 24]?;
-    for t in 8..12usize {
-        if let Some(price) = slots.get_mut(t) {
-            *price = 2;
-        }
-    }
-    let mut list = Vec::new(alloc);
-    for _ in 0..cuts {
-        list.push(0u64)?;
-    }
+    slots[8..12].fill(2);
     Ok(Prices {
         q: 1,
         slots: SlotPrices::new(slots),
-        cuts: CutPrices::new(list),
+        cuts: CutPrices::new(Vec::new(alloc)),
     })
 }
 
-/// A step for a node that is closed by its bound, for these cuts, with one duty as its plan or no plan.
-fn step_of(
-    alloc: Global,
-    instance: &Instance,
-    node: u32,
-    cuts: Cuts,
-    plan: bool,
-) -> Result<StepPosts, Fail>
-    requires { length cuts ≤ 2 ^ 24 }
+/// A step for the root that is closed by its bound, with one duty as its plan.
+fn step_of(alloc: Global, instance: &Instance) -> Result<StepPosts, Fail>
     ensures { IfOk result (λ s. Fits instance.now s) }
 {
-    let prices = prices(alloc, cuts.len() as u32)?;
-    let proved = prove(alloc, instance, cuts, prices)
+    let prices = prices(alloc)?;
+    let proved = prove(alloc, instance, Cuts::new(Vec::new(alloc)), prices)
         .ok()
         .ok_or("no prices")?;
-    let plan = if plan {
-        Some(cost_rows(instance, one_duty(alloc)?).ok().ok_or("no plan")?)
-    } else {
-        None
-    };
+    let plan = cost_rows(instance, one_duty(alloc)?).ok().ok_or("no plan")?;
     Ok(StepPosts {
-        node,
-        plan,
+        node: 0,
+        plan: Some(plan),
         proved,
         close: Close::ByPrice,
     })
 }
 
-/// No cuts.
-fn no_cuts(alloc: Global) -> Cuts
-    ensures { length result ≡ 0 }
+/// What the first worker's commit of a step keeps, on the node that it takes; nothing where the commit fails.
+fn commit_root(rt: &impl Abort, book: &mut Book<MemDisk>, step: StepPosts) -> Option<Kept>
+    requires { Fits book.old.instance step }
 {
-    Cuts::new(Vec::new(alloc))
-}
-
-#[test]
-fn a_step_is_committed(rt: HostRuntime) -> Result<(), Fail> {
-    let alloc = rt.alloc();
-    let instance = one_shift(alloc, 3)?;
-    let mut book = board(&rt, alloc, &instance, LIMIT, &[])?;
+    assert!(rt; book.held(0).is_none());
     let first = Taken::Node {
         node: 0,
         floor: 0,
         best: 8,
     };
-    assert_eq!(rt; take(&rt, &mut book, 0), first);
-    let step = step_of(alloc, &instance, 0, no_cuts(alloc), true)?;
+    let is_first = book.take(0) == first;
+    assert!(rt; is_first);
+    book.commit(0, step).ok()
+}
+
+// The two posts have 21 and 209 bytes, and the record of both 7 more.
+#[test]
+fn a_step_is_committed(rt: HostRuntime) -> Result<(), Fail> {
+    let alloc = rt.alloc();
+    let instance = one_shift(alloc, 3)?;
+    let step = step_of(alloc, &instance)?;
+    let mut book = board(&rt, alloc, &instance, Vec::new(alloc), LIMIT)?;
     let kept = Kept {
         plan: true,
         records: 1,
         best: 3,
         floor: 3,
     };
-    assert_eq!(rt; book.commit(0, step).ok(), Some(kept));
-    assert_eq!(rt; (book.batches(), book.posts(), book.held(0)), (1, 2, None));
-    assert_eq!(rt; (book.floor(), book.best_cost(), book.taken()), (3, 3, 1));
-    assert_eq!(rt; take(&rt, &mut book, 0), Taken::Finished);
-    let disk = book.into_disk();
-    assert_eq!(rt; (disk.bytes().len(), disk.calls()), (622, 8));
+    let is_kept = commit_root(&rt, &mut book, step) == Some(kept);
+    assert!(rt; is_kept && book.posts() == 2 && book.finished());
+    let disk = sent(book).into_disk();
+    assert!(rt; disk.bytes().len() == 622 && disk.calls() == 8);
     Ok(())
 }
 
-#[test]
-fn steps_that_do_not_fit_the_hand_are_refused(rt: HostRuntime) -> Result<(), Fail> {
-    let alloc = rt.alloc();
+/// Whether a commit fails where this call does, and leaves a board that gives no more nodes, without a post and without a record.
+fn is_shut_by(rt: &impl Abort, alloc: Global, call: u64) -> Result<bool, Fail> {
     let instance = one_shift(alloc, 3)?;
-    let mut book = board(&rt, alloc, &instance, LIMIT, &[])?;
-    let step = step_of(alloc, &instance, 0, no_cuts(alloc), true)?;
-    let answer = book.commit(0, step);
-    assert!(rt; matches!(answer, Err(CommitFault::NotHeld { held: None })));
-    let _node = take(&rt, &mut book, 1);
-    let step = step_of(alloc, &instance, 1, no_cuts(alloc), true)?;
-    let answer = book.commit(1, step);
-    assert!(rt; matches!(answer, Err(CommitFault::NotHeld { held: Some(0) })));
-    let class = Class {
-        shift: 0,
-        day: 0,
-        prefix: Breaks::new(Vec::new(alloc)),
-    };
-    let cut = Cut {
-        class,
-        side: Side::AtMost,
-        m: 0,
-    };
-    let cuts = Cuts::new(vec![in alloc; cut]?);
-    let step = step_of(alloc, &instance, 0, cuts, true)?;
-    let answer = book.commit(1, step);
-    assert!(rt; matches!(answer, Err(CommitFault::OtherCuts { at: 0 })));
-    assert_eq!(rt;
-        (book.held(1), book.posts(), book.batches()),
-        (Some(0), 0, 0)
-    );
-    assert_eq!(rt; take(&rt, &mut book, 0), Taken::Idle);
-    Ok(())
-}
-
-#[test]
-fn a_step_that_leaves_its_node_open_is_handed_back(rt: HostRuntime) -> Result<(), Fail> {
-    let alloc = rt.alloc();
-    let instance = one_shift(alloc, 3)?;
-    let mut book = board(&rt, alloc, &instance, LIMIT, &[])?;
-    let _node = take(&rt, &mut book, 2);
-    let step = step_of(alloc, &instance, 0, no_cuts(alloc), false)?;
-    match book.commit(2, step) {
-        Err(CommitFault::NotClosing { floor, best, step }) => {
-            assert_eq!(rt; (floor, best, step.node), (3, 8, 0));
-            assert!(rt; step.plan.is_none());
-        }
-        _ => assert!(rt; false),
-    }
-    assert_eq!(rt;
-        (book.held(2), book.posts(), book.batches()),
-        (Some(0), 0, 0)
-    );
-    Ok(())
-}
-
-#[test]
-fn a_full_journal_shuts_the_board(rt: HostRuntime) -> Result<(), Fail> {
-    let alloc = rt.alloc();
-    let instance = one_shift(alloc, 3)?;
-    let mut book = board(&rt, alloc, &instance, 500, &[])?;
-    let _node = take(&rt, &mut book, 0);
-    let step = step_of(alloc, &instance, 0, no_cuts(alloc), true)?;
-    let answer = book.commit(0, step);
-    assert!(rt;
-        matches!(
-            answer,
-            Err(CommitFault::Full {
-                end: 622,
-                limit: 500
-            })
-        )
-    );
-    let step = step_of(alloc, &instance, 0, no_cuts(alloc), true)?;
-    let answer = book.commit(0, step);
-    assert!(rt; matches!(answer, Err(CommitFault::Shut)));
-    assert_eq!(rt; take(&rt, &mut book, 1), Taken::Closed);
-    assert_eq!(rt;
-        (book.held(0), book.posts(), book.batches()),
-        (Some(0), 0, 0)
-    );
-    let disk = book.into_disk();
-    assert_eq!(rt; (disk.bytes().len(), disk.calls()), (385, 4));
-    Ok(())
+    let step = step_of(alloc, &instance)?;
+    let mut book = board(rt, alloc, &instance, vec![in alloc; call; 1]?, LIMIT)?;
+    let is_failed = commit_root(rt, &mut book, step).is_none();
+    assert!(rt; book.held(1).is_none());
+    let is_closed = book.take(1) == Taken::Closed;
+    let is_left = book.posts() == 0 && book.batches() == 0;
+    Ok(is_failed && is_closed && is_left && book.into_disk().calls() == call)
 }
 
 #[test]
 fn a_call_that_fails_shuts_the_board(rt: HostRuntime) -> Result<(), Fail> {
     let alloc = rt.alloc();
+    assert!(rt; is_shut_by(&rt, alloc, 5)?);
+    assert!(rt; is_shut_by(&rt, alloc, 8)?);
+    Ok(())
+}
+
+// With the record of both posts the journal would end at 622 bytes, and with the first post alone at 413.
+#[test]
+fn a_full_journal_shuts_the_board(rt: HostRuntime) -> Result<(), Fail> {
+    let alloc = rt.alloc();
     let instance = one_shift(alloc, 3)?;
-    for call in 5..9u64 {
-        let mut book = board(&rt, alloc, &instance, LIMIT, &[call])?;
-        let _node = take(&rt, &mut book, 0);
-        let step = step_of(alloc, &instance, 0, no_cuts(alloc), true)?;
-        let answer = book.commit(0, step);
-        assert!(rt;
-            matches!(answer, Err(CommitFault::DiskFault)),
-            "call {call}"
-        );
-        assert_eq!(rt;
-            (book.posts(), book.best_cost(), book.held(0)),
-            (0, 8, Some(0))
-        );
-        assert_eq!(rt; book.batches(), 0);
-        assert_eq!(rt; take(&rt, &mut book, 1), Taken::Closed);
-        assert_eq!(rt; book.into_disk().calls(), call);
-    }
+    let step = step_of(alloc, &instance)?;
+    let mut book = board(&rt, alloc, &instance, Vec::new(alloc), 500)?;
+    let is_refused = commit_root(&rt, &mut book, step).is_none();
+    assert!(rt; is_refused && book.held(0) == Some(0) && book.held(1).is_none());
+    let is_closed = book.take(1) == Taken::Closed;
+    assert!(rt; is_closed && book.into_disk().calls() == 4);
     Ok(())
 }

@@ -5,8 +5,6 @@
 mod as_board;
 mod batched;
 mod book;
-#[cfg(test)]
-mod book_open_tests;
 mod book_opening;
 #[cfg(test)]
 mod commit_tests;

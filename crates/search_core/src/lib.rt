@@ -14,12 +14,8 @@ mod outline;
 mod posts;
 mod refolding;
 mod running;
-#[cfg(test)]
-mod running_tests;
 mod state;
 mod step_posts;
-#[cfg(test)]
-mod step_tests;
 mod stepping;
 #[cfg(test)]
 mod tests;

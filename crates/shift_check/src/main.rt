@@ -2,15 +2,9 @@
 //! `shift_check recount INSTANCE REPORT` judges the rows alone and counts their cost again.
 #![tactic(auto)]
 
-#[cfg(test)]
-mod bad_reports_tests;
 mod certifying;
 mod checking;
-#[cfg(test)]
-mod ranges_tests;
 mod recounting;
-#[cfg(test)]
-mod solved_reports_tests;
 mod status;
 #[cfg(test)]
 mod tests;

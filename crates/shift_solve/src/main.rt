@@ -2,8 +2,6 @@
 //! plan over the journal, and prints the report of the search.
 #![tactic(auto)]
 
-#[cfg(test)]
-mod journal_tests;
 mod report;
 mod run;
 #[cfg(test)]

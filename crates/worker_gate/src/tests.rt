@@ -3,7 +3,7 @@ use advisers::{Advice, Ask, Greedy};
 use break_rules::{Breaks, Rule};
 use head_splits::{Class, Cut, CutPrices, Cuts, Prices, Side, SlotPrices};
 use search_core::{Close, StepPosts};
-use shift_instance::{Instance, Parts, Row, Rows, TypeParts};
+use shift_instance::{Instance, Parts, TypeParts};
 use std::alloc::Global;
 use std::test::Fail;
 
@@ -11,11 +11,7 @@ use std::test::Fail;
 /// hours. The costs are 1 of excess, 2 of shortage and 3 of a shift used.
 fn morning(alloc: Global, heads: u16) -> Result<Instance, Fail> {
     let mut need = vec![in alloc; 0u32; 24]?;
-    for t in 8..12 {
-        if let Some(wanted) = need.get_mut(t) {
-            *wanted = 1;
-        }
-    }
+    need[8..12].fill(1);
     let kind = TypeParts {
         name: String::from_str(alloc, "M")?,
         start_min: 8,
@@ -40,18 +36,44 @@ fn morning(alloc: Global, heads: u16) -> Result<Instance, Fail> {
 /// The step that the greedy advice makes for the root, where the empty rota is the best.
 fn greedy_step(alloc: Global, heads: u16) -> Result<StepPosts, Fail> {
     let instance = morning(alloc, heads)?;
-    let mut adviser = Greedy::new(alloc);
     let ask = Ask {
         cuts: Cuts::new(Vec::new(alloc)),
         floor: 0,
         best: 8,
     };
-    let advice = adviser.advise(&instance, &ask)?;
+    let advice = Greedy::new(alloc).advise(&instance, &ask)?;
     Ok(step_of(alloc, &instance, 7, ask, advice)?)
 }
 
-/// The step for the node below at most `most` duties, where the prices are of scale 0 and the plan has two duties too many.
-fn unlawful_step(alloc: Global, most: u16) -> Result<StepPosts, Fail> {
+/// The bound of a step and what its plan costs, or 0.
+fn numbers(step: &StepPosts) -> (u64, u64) {
+    let cost = match &step.plan {
+        Some(plan) => plan.cost(),
+        None => 0,
+    };
+    (step.proved.bound(), cost)
+}
+
+// One duty may come. The bound 8 + (3 - 8) is what the plan costs.
+#[test]
+fn root_is_closed_by_price(rt: HostRuntime) -> Result<(), Fail> {
+    let step = greedy_step(rt.alloc(), 1)?;
+    assert!(rt; step.node == 7 && numbers(&step) == (3, 3));
+    assert!(rt; matches!(step.close, Close::ByPrice));
+    Ok(())
+}
+
+// Two duties may come, and the total is 8 + (3 - 16).
+#[test]
+fn root_is_split(rt: HostRuntime) -> Result<(), Fail> {
+    let step = greedy_step(rt.alloc(), 2)?;
+    assert!(rt; numbers(&step) == (0, 3));
+    assert!(rt; matches!(step.close, Close::Split { m: 1, .. }));
+    Ok(())
+}
+
+/// The step for the node below no duty, where the advised prices are of scale 0 and no plan is advised.
+fn settled_step(alloc: Global) -> Result<StepPosts, Fail> {
     let instance = morning(alloc, 1)?;
     let class = Class {
         shift: 0,
@@ -61,7 +83,7 @@ fn unlawful_step(alloc: Global, most: u16) -> Result<StepPosts, Fail> {
     let cut = Cut {
         class,
         side: Side::AtMost,
-        m: most,
+        m: 0,
     };
     let ask = Ask {
         cuts: Cuts::new(vec![in alloc; cut]?),
@@ -70,70 +92,17 @@ fn unlawful_step(alloc: Global, most: u16) -> Result<StepPosts, Fail> {
     };
     let prices = Prices {
         q: 0,
-        slots: SlotPrices::new(vec![in alloc; 2; 24]?),
-        cuts: CutPrices::new(vec![in alloc; 0; 1]?),
+        slots: SlotPrices::new(vec![in alloc; 2i64; 24]?),
+        cuts: CutPrices::new(vec![in alloc; 0u64; 1]?),
     };
-    let row = Row {
-        shift: 0,
-        day: 0,
-        breaks: Breaks::new(Vec::new(alloc)),
-        count: 3,
-    };
-    let plan = Some(Rows::new(vec![in alloc; row]?));
-    Ok(step_of(alloc, &instance, 7, ask, Advice { prices, plan })?)
-}
-
-/// The node of a step, its bound, the scale and the price at 8 hours, and what its plan costs.
-fn numbers(step: &StepPosts) -> (u32, u64, u16, i64, Option<u64>) {
-    let prices = step.proved.prices();
-    let slots = prices.slots.as_slice();
-    let price = slots.get(8).map_or(0, |price| *price);
-    let cost = step.plan.as_ref().map(|plan| plan.cost());
-    (step.node, step.proved.bound(), prices.q, price, cost)
-}
-
-/// The number by which a step splits its node.
-fn split_number(step: &StepPosts) -> Option<u16> {
-    match &step.close {
-        Close::Split { m, .. } => Some(*m),
-        _ => None,
-    }
-}
-
-/// The floor of the node that a step settles.
-fn settled_floor(step: &StepPosts) -> Option<u64> {
-    match &step.close {
-        Close::Settled(node) => Some(node.floor()),
-        _ => None,
-    }
-}
-
-// One duty may come. The bound 8 + (3 - 8) is what the plan costs.
-#[test]
-fn root_is_closed_by_price(rt: HostRuntime) -> Result<(), Fail> {
-    let step = greedy_step(rt.alloc(), 1)?;
-    assert!(rt; numbers(&step) == (7, 3, 1, 2, Some(3)));
-    assert!(rt; matches!(&step.close, Close::ByPrice));
-    Ok(())
-}
-
-// Two duties may come, and the total is 8 + (3 - 16).
-#[test]
-fn root_is_split(rt: HostRuntime) -> Result<(), Fail> {
-    let step = greedy_step(rt.alloc(), 2)?;
-    assert!(rt; numbers(&step) == (7, 0, 1, 2, Some(3)));
-    assert!(rt; split_number(&step) == Some(1));
-    Ok(())
+    let advice = Advice { prices, plan: None };
+    Ok(step_of(alloc, &instance, 7, ask, advice)?)
 }
 
 #[test]
-fn unlawful_advice_is_left(rt: HostRuntime) -> Result<(), Fail> {
-    let alloc = rt.alloc();
-    let open = unlawful_step(alloc, 1)?;
-    assert!(rt; numbers(&open) == (7, 0, 1, 0, None));
-    assert!(rt; split_number(&open) == Some(0));
-    let settled = unlawful_step(alloc, 0)?;
-    assert!(rt; numbers(&settled) == (7, 0, 1, 0, None));
-    assert!(rt; settled_floor(&settled) == Some(8));
+fn unlawful_prices_are_left(rt: HostRuntime) -> Result<(), Fail> {
+    let step = settled_step(rt.alloc())?;
+    assert!(rt; step.proved.prices().q == 1 && numbers(&step) == (0, 0));
+    assert!(rt; matches!(step.close, Close::Settled(_)));
     Ok(())
 }

@@ -1,4 +1,3 @@
-
 pub returns-in-Ok-clause-begins : goal.returns-in-Ok-clause-begins
 returns-in-Ok-clause-begins g c =
     let view = c.in-Ok.ensures.view in

@@ -1,5 +1,0 @@
-use Rattle.std.proofs.Common.{◌≡◌, length}
-use Rattle.dual_bound.proofs.tests.prove_with.Given as goal
-
-abbrev pub invariant-loop-has_break : goal.invariant-loop-has_break
-invariant-loop-has_break l = length l.list.items ≡ l.has_break-index
