@@ -38,7 +38,7 @@ some_is o x e = subst IsSome (sym e) refl
 
 -- ---- what a log keeps after a commit
 module _ {D : Type 0} (log : LogView D) (s : StateView) (first : List Post) (batches flight : List (List Post)) (unfit : List Post) (shut : Option Shutting) (inside : IsPostLogInside log (view_of log s first batches flight unfit shut)) (opens : shut ≡ None) where
-  none_flies : log.in_flight ≡ []
+  pub none_flies : log.in_flight ≡ []
   none_flies = subst (ShutIn log.limit log.in_flight) opens inside.shut
 
   none_left : flight ≡ []
@@ -140,6 +140,12 @@ module _ {D : Type 0} (log : LogView D) (s : StateView) (first : List Post) (bat
   pub full_inside : (log2 : LogView D) (s2 : StateView) (posts : List Post) (end most : ℕ) → log2 ≡ record log { spare = log2.spare } → s2 ≡ record s { spare = s2.spare } → most ≡ log.limit → most < end → IsPostLogInside log2 (view_of log2 s2 first batches flight posts (Some (Full end most)))
   full_inside log2 s2 posts end most is states same past = moved_inside log2 s2 posts (Some (Full end most)) is states (none_flies, let far : log.limit < end = omega arith in far, same)
 
+-- what is said of posts and batches is said of those that are equal to them
+pub as_told : {D : Type 0} (P : PostLogView D → Type 0) (log : LogView D) (s : StateView) (first first2 : List Post) (batches batches2 flight : List (List Post)) (unfit : List Post) (shut : Option Shutting)
+    → first2 ≡ first → batches2 ≡ batches → P (view_of log s first batches flight unfit shut) → P (view_of log s first2 batches2 flight unfit shut)
+as_told P log s first first2 batches batches2 flight unfit shut same more p =
+    subst (λ (l : List Post). P (view_of log s l batches2 flight unfit shut)) (sym same) (subst (λ (l : List (List Post)). P (view_of log s first l flight unfit shut)) (sym more) p)
+
 -- ---- an opened log
 pub opened_inside : {D : Type 0} (log : LogView D) (s : StateView) (posts : List Post) (batches : List (List Post)) (records : ℕ) (head : List ℕ) (rs : List (List ℕ)) (disk : D) (spare most : ℕ)
     → log ≡ record { disk = disk; head = head; limit = most; records = rs; in_flight = []; opening = records; opened = disk; added = 0; spare = spare }
@@ -164,6 +170,12 @@ opened_inside log s posts batches records head rs disk spare most is told empty 
     })))
 
 -- ---- logs and states, one call after another
+pub log_room : {D : Type 0} (log mid : LogView D) (room : ℕ) → mid ≡ record log { spare = room } → mid ≡ record log { spare = mid.spare }
+log_room {D} log mid room is = is ∙ ap (λ (n : ℕ). record log { spare = n }) (sym (ap (λ (l : LogView D). l.spare) is))
+
+pub state_room : (s mid : StateView) (room : ℕ) → mid ≡ record s { spare = room } → mid ≡ record s { spare = mid.spare }
+state_room s mid room is = is ∙ ap (λ (n : ℕ). record s { spare = n }) (sym (ap (λ (t : StateView). t.spare) is))
+
 pub log_added : {D : Type 0} (log mid log2 : LogView D) (bytes : List ℕ) → mid ≡ record log { spare = mid.spare } → log2 ≡ record mid { disk = log2.disk; records = mid.records ++ bytes ∷ []; added = mid.added + 1 }
     → log2 ≡ record log { disk = log2.disk; records = log.records ++ bytes ∷ []; added = log.added + 1; spare = log2.spare }
 log_added {D} log mid log2 bytes same is =

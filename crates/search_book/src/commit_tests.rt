@@ -24,7 +24,7 @@ fn board(
     fails: Vec<u64>,
     limit: u32,
 ) -> Result<Book<MemDisk>, Fail>
-    ensures { IfOk result (λ b. (b.instance ≡ instance.now) × (b.hands ≡ empty_hands)) }
+    ensures { IfOk result (λ b. (b.log.instance ≡ instance.now) × (b.hands ≡ empty_hands)) }
 {
     let head = canonical(alloc, instance)?;
     assert!(rt; limit <= LIMIT && head.len() < 1 << 20 && head.len() + 13 <= limit as usize);
@@ -65,7 +65,7 @@ fn step_of(alloc: Global, instance: &Instance) -> Result<StepPosts, Fail>
 
 /// What the first worker's commit of a step keeps, on the node that it takes; nothing where the commit fails.
 fn commit_root(rt: &impl Abort, book: &mut Book<MemDisk>, step: StepPosts) -> Option<Kept>
-    requires { Fits book.old.instance step }
+    requires { Fits book.old.log.instance step }
 {
     assert!(rt; book.held(0).is_none());
     let first = Taken::Node {
