@@ -170,12 +170,6 @@ opened_inside log s posts batches records head rs disk spare most is told empty 
     })))
 
 -- ---- logs and states, one call after another
-pub log_room : {D : Type 0} (log mid : LogView D) (room : ℕ) → mid ≡ record log { spare = room } → mid ≡ record log { spare = mid.spare }
-log_room {D} log mid room is = is ∙ ap (λ (n : ℕ). record log { spare = n }) (sym (ap (λ (l : LogView D). l.spare) is))
-
-pub state_room : (s mid : StateView) (room : ℕ) → mid ≡ record s { spare = room } → mid ≡ record s { spare = mid.spare }
-state_room s mid room is = is ∙ ap (λ (n : ℕ). record s { spare = n }) (sym (ap (λ (t : StateView). t.spare) is))
-
 pub log_added : {D : Type 0} (log mid log2 : LogView D) (bytes : List ℕ) → mid ≡ record log { spare = mid.spare } → log2 ≡ record mid { disk = log2.disk; records = mid.records ++ bytes ∷ []; added = mid.added + 1 }
     → log2 ≡ record log { disk = log2.disk; records = log.records ++ bytes ∷ []; added = log.added + 1; spare = log2.spare }
 log_added {D} log mid log2 bytes same is =

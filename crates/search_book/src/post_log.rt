@@ -1,7 +1,8 @@
 //! The posts of a search in the records of a disk's journal, with the book that they make.
-ghost use Rattle.std.specs.Prelude.{◌≡◌, ◌+◌, ◌^◌, ◌<◌, ◌≤◌, [], ◌∷◌, length, None, Some, OnOk, IfErr};
+ghost use Rattle.std.specs.Prelude.{◌≡◌, ◌+◌, ◌^◌, ◌<◌, ◌≤◌, [], ◌∷◌, length, All, None, Some, OnOk, IfErr, IfOk};
 ghost use Rattle.gated_journal.specs.View.{IsSettled};
 ghost use Rattle.instance_json.specs.Canonical.{canonical_text};
+ghost use Rattle.post_codec.specs.Spelling.{CountsFitPost, Spells};
 ghost use Rattle.search_core.specs.Book.{Book};
 ghost use Rattle.search_core.specs.Drafting.{Makes};
 ghost use Rattle.search_book.specs.Keeping.{IsPostLog};
@@ -11,6 +12,7 @@ ghost use Rattle.shift_instance.specs.Valid.{IsValid};
 
 use crate::batched::Batched;
 use crate::record_log::RecordLog;
+use break_rules::NoMemory;
 use gated_journal::{Journal, JournalFault};
 use plan_base::Disk;
 use post_codec::{Post, write};
@@ -44,6 +46,27 @@ impl<D: Disk> Model for PostLog<D> {
     ghost view = { λ p. record { instance = p.state.instance; opening = p.batched.opening; batches = p.batched.batches; history = p.state.history; book = p.state.book; disk = p.log.disk; limit = p.log.limit; opened = p.log.opened; used = bytes_used p.log.head p.log.records; in_flight = batches_told p.in_flight; unfit = posts_told p.unfit; shut = p.shut } };
 
     ghost invariant = { λ p. IsPostLogInside p.log (record { instance = p.state.instance; opening = p.batched.opening; batches = p.batched.batches; history = p.state.history; book = p.state.book; disk = p.log.disk; limit = p.log.limit; opened = p.log.opened; used = bytes_used p.log.head p.log.records; in_flight = batches_told p.in_flight; unfit = posts_told p.unfit; shut = p.shut }) };
+}
+
+/// The record of posts, for which room is made in a log and in a state.
+fn record_of<D: Disk>(
+    alloc: Global,
+    log: &mut RecordLog<D>,
+    state: &mut State,
+    posts: &[Post],
+) -> Result<Vec<u8>, NoMemory>
+    requires few { length posts.now < 2 ^ 16 }
+    requires fit { All CountsFitPost posts.now }
+    ensures spells { IfOk result (λ bytes. Spells bytes.items posts.now) }
+    ensures room { IfOk result (λ bytes. length bytes.items ≤ log.new.spare) }
+    ensures rooms { IfOk result (λ _. length posts.now ≤ state.new.spare) }
+    ensures log { log.new ≡ record log.old { spare = log.new.spare } }
+    ensures state { state.new ≡ record state.old { spare = state.new.spare } }
+{
+    state.reserve(posts.len() as u32)?;
+    let bytes = write(alloc, posts)?;
+    log.reserve(bytes.len())?;
+    Ok(bytes)
 }
 
 impl<D: Disk> PostLog<D> {
@@ -112,9 +135,7 @@ impl<D: Disk> PostLog<D> {
         ensures makes { OnOk result (Makes self.old.instance self.old.book posts.items values.now self.new.book) }
         ensures err { IfErr result (RecordFails D.faults self.old self.new posts.items) }
     {
-        self.state.reserve(posts.len() as u32)?;
-        let bytes = write(self.alloc, &posts)?;
-        self.log.reserve(bytes.len())?;
+        let bytes = record_of(self.alloc, &mut self.log, &mut self.state, &posts)?;
         match self.log.add(&bytes) {
             Ok(()) => {
                 self.batched = Batched::with(&self.batched, &posts);
