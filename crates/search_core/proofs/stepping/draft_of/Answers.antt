@@ -17,8 +17,8 @@ pub returns-in_ok-add_prices-in-ByPrice-clause-drafts : goal.returns-in_ok-add_p
 returns-in_ok-add_prices-in-ByPrice-clause-drafts c = λ i b valid fits after.
     let s = c.args.step in
     let w = c.args.worker in
-    let start : Draft = record { posts = c.new-posts.result; values = c.new-values.result; best = c.args.best; floor = c.args.floor } in
-    let one = c.in_ok-add_plan.ensures.drafts i b s.node s.proved.cuts [] valid fits.plan (draft_start i b s.node s.proved.cuts start c.new-posts.ensures.items c.new-values.ensures.items after) in
+    let start : Draft = record { posts = c.new.result; values = c.new-2.result; best = c.args.best; floor = c.args.floor } in
+    let one = c.in_ok-add_plan.ensures.drafts i b s.node s.proved.cuts [] valid fits.plan (draft_start i b s.node s.proved.cuts start c.new.ensures.items c.new-2.ensures.items after) in
     let two = c.in_ok-add_prices-in-ByPrice.ensures.drafts i b (plan_posts w s.plan b) valid fits.proved one in
     (false, subst (λ (l : List Post). IsDraft i b s.node s.proved.cuts l c.add_prices.new.self false) (posts_by_price i b w s c.in-ByPrice.is) two)
 
@@ -28,9 +28,9 @@ returns-in_ok-add_split-in-Split-clause-drafts c = λ i b valid fits after.
     let w = c.args.worker in
     let class = c.in-Split.class in
     let m = c.in-Split.m in
-    let start : Draft = record { posts = c.new-posts.result; values = c.new-values.result; best = c.args.best; floor = c.args.floor } in
+    let start : Draft = record { posts = c.new.result; values = c.new-2.result; best = c.args.best; floor = c.args.floor } in
     let close = subst (FitsClose i s.proved.cuts) c.in-Split.is fits.close in
-    let one = c.in_ok-add_plan.ensures.drafts i b s.node s.proved.cuts [] valid fits.plan (draft_start i b s.node s.proved.cuts start c.new-posts.ensures.items c.new-values.ensures.items after) in
+    let one = c.in_ok-add_plan.ensures.drafts i b s.node s.proved.cuts [] valid fits.plan (draft_start i b s.node s.proved.cuts start c.new.ensures.items c.new-2.ensures.items after) in
     let two = c.in_ok-add_prices-in-Split.ensures.drafts i b (plan_posts w s.plan b) valid fits.proved one in
     let priced = followed_by i b (plan_posts w s.plan b) (where_open s.node (Priced w s.node s.proved.prices)) in
     let three = c.in_ok-add_split-in-Split.ensures.drafts i b s.proved.cuts priced valid close.0 close.1 close.2 two in
@@ -41,12 +41,12 @@ returns-in_ok-add_settled-in-Settled-clause-drafts c = λ i b valid fits after.
     let s = c.args.step in
     let w = c.args.worker in
     let node = c.in-Settled.settled in
-    let start : Draft = record { posts = c.new-posts.result; values = c.new-values.result; best = c.args.best; floor = c.args.floor } in
+    let start : Draft = record { posts = c.new.result; values = c.new-2.result; best = c.args.best; floor = c.args.floor } in
     let close = subst (FitsClose i s.proved.cuts) c.in-Settled.is fits.close in
     let sealed = c.floor-floor.ensures.settled in
     let plan = c.into_plan.ensures.plan in
     let here : IfSome node.plan (λ (p : Costing). p.instance ≡ i) = plan_instance i node.instance node.cuts node.plan _ sealed.plan close.0 in
-    let one = c.in_ok-add_plan.ensures.drafts i b s.node s.proved.cuts [] valid fits.plan (draft_start i b s.node s.proved.cuts start c.new-posts.ensures.items c.new-values.ensures.items after) in
+    let one = c.in_ok-add_plan.ensures.drafts i b s.node s.proved.cuts [] valid fits.plan (draft_start i b s.node s.proved.cuts start c.new.ensures.items c.new-2.ensures.items after) in
     let first = plan_posts w s.plan b in
     let two = c.in_ok-add_plan-in-Settled.ensures.drafts i b s.node s.proved.cuts first valid (subst (λ (o : Option Costing). IfSome o (λ (p : Costing). p.instance ≡ i)) (sym plan) here) one in
     let both = followed_by i b first (plan_posts w node.plan) in
