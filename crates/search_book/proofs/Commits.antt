@@ -151,10 +151,11 @@ pub opened_inside : {D : Type 0} (log : LogView D) (s : StateView) (posts : List
     → log ≡ record { disk = disk; head = head; limit = most; records = rs; in_flight = []; opening = records; opened = disk; added = 0; spare = spare }
     → posts ≡ s.history → batches ≡ [] → head ≡ canonical_text s.instance → most ≤ 2 ^ 26 → IsValid s.instance → records ≡ length rs → SpellPosts rs s.history → book_of s.instance s.history ≡ Some s.book
     → bytes_used head rs ≤ most → IsPostLogInside log (view_of log s posts batches [] [] None)
-opened_inside log s posts batches records head rs disk spare most is told empty text small valid counted spells folds within =
-    subst (λ (l : LogView _). IsPostLogInside l (view_of l s posts batches [] [] None)) (sym is)
-    (subst (λ (ps : List Post). IsPostLogInside _ (view_of _ s ps batches [] [] None)) (sym told)
-    (subst (λ (bs : List (List Post)). IsPostLogInside _ (view_of _ s s.history bs [] [] None)) (sym empty) (record {
+opened_inside {D} log s posts batches records head rs disk spare most is told empty text small valid counted spells folds within =
+    let fresh : LogView D = record { disk = disk; head = head; limit = most; records = rs; in_flight = []; opening = records; opened = disk; added = 0; spare = spare } in
+    subst (λ (l : LogView D). IsPostLogInside l (view_of l s posts batches [] [] None)) (sym is)
+    (subst (λ (ps : List Post). IsPostLogInside fresh (view_of fresh s ps batches [] [] None)) (sym told)
+    (subst (λ (bs : List (List Post)). IsPostLogInside fresh (view_of fresh s s.history bs [] [] None)) (sym empty) (record {
       head = text;
       small = small;
       valid = valid;

@@ -36,7 +36,7 @@ joined_front k batches = sym (joined_both (take k batches) (drop k batches)) ∙
 
 -- ---- records
 take_past : {X : Type 0} (xs ys : List X) (k : ℕ) → xs ++ take k ys ≡ take (length xs + k) (xs ++ ys)
-take_past [] ys k = refl
+take_past [] ys k = let none : k ≡ 0 + k = omega arith in ap (λ (n : ℕ). take n ys) none
 take_past (x ∷ xs) ys k = let one : suc (length xs) + k ≡ suc (length xs + k) = omega arith in ap (λ l. x ∷ l) (take_past xs ys k) ∙ ap (λ (n : ℕ). take n (x ∷ (xs ++ ys))) (sym one)
 
 module _ (first : ℕ) (opening : List Post) where

@@ -12,7 +12,7 @@ use Rattle.search_core.proofs.Appends.{makes_fit, makes_fold}
 use Rattle.search_book.specs.PostLog.{PostLogView}
 use Rattle.search_book.specs.Posts.{batches_told, bytes_used, posts_told}
 use Rattle.search_book.specs.Recorded.{IsPostLogInside, RecordFails, Records}
-use Rattle.search_book.specs.Records.{LogView}
+use Rattle.search_book.specs.Records.{AddFails, LogView}
 use Rattle.search_book.proofs.Commits.{as_told, ends_at, fault_inside, full_inside, log_added, log_failed, log_same, makes_back, makes_forth, makes_in, none_flies, ok_inside, state_added, view_of}
 use Rattle.search_book.proofs.Outcomes.{filled, recorded, stopped}
 use Rattle.search_book.proofs.post_log.PostLog.commit.Goals as goal
@@ -64,7 +64,7 @@ invariant_of-self-in-Ok g c =
     let folds : book_after b.state.instance b.state.book posts ≡ Some s2.book = makes_fold b.state.instance b.state.book posts values s2.book made in
     let most : mid.limit ≡ b.log.limit = ap (λ (l : LogView g.row.D.Denot). l.limit) same in
     let within : bytes_used b.log.head b.log.records + bytes_of posts ≤ b.log.limit = omega (arith, c.in-Ok.ensures.cause, ends_at b.log mid posts bytes same c.requires.some spells, most) in
-    let more : c.with-self-inside.result.batches ≡ batches ++ posts ∷ [] = c.with-self-inside.ensures.1 ∙ ap (λ (l : List Post). batches ++ l ∷ []) c.deref-2.ensures.value in
+    let more : c.with-self-inside.result.batches ≡ batches ++ posts ∷ [] = c.with-self-inside.ensures.1 ∙ ap (λ (l : List Post). batches ++ l ∷ []) c.deref-in-Ok.ensures.value in
     as_told (IsPostLogInside log2) log2 s2 first c.with-self-inside.result.opening (batches ++ posts ∷ []) c.with-self-inside.result.batches flight unfit b.shut c.with-self-inside.ensures.0 more
     (ok_inside b.log b.state first batches flight unfit b.shut i opens log2 s2 bytes posts is states c.requires.some spells folds within)
 
@@ -88,7 +88,7 @@ returns-in-Ok-clause-ok g c =
     let most : mid.limit ≡ b.log.limit = ap (λ (l : LogView g.row.D.Denot). l.limit) same in
     let within : bytes_used b.log.head b.log.records + bytes_of posts ≤ b.log.limit = omega (arith, c.in-Ok.ensures.cause, ends_at b.log mid posts bytes same c.requires.some spells, most) in
     let four : g.D.Disk.calls log2.disk ≡ g.D.Disk.calls b.log.disk + 4 = omega (arith, c.in-Ok.ensures.four, ap (λ (l : LogView g.row.D.Denot). g.D.Disk.calls l.disk) same) in
-    let more : c.with-self-inside.result.batches ≡ batches ++ posts ∷ [] = c.with-self-inside.ensures.1 ∙ ap (λ (l : List Post). batches ++ l ∷ []) c.deref-2.ensures.value in
+    let more : c.with-self-inside.result.batches ≡ batches ++ posts ∷ [] = c.with-self-inside.ensures.1 ∙ ap (λ (l : List Post). batches ++ l ∷ []) c.deref-in-Ok.ensures.value in
     as_told (λ (v : PostLogView g.row.D.Denot). Records g.D.Disk.calls c.args.self.now v posts s2.book) log2 s2 first c.with-self-inside.result.opening (batches ++ posts ∷ []) c.with-self-inside.result.batches flight unfit b.shut c.with-self-inside.ensures.0 more
     (recorded b.log b.state first batches flight unfit b.shut c.args.self.now c.self.view_is g.D.Disk.calls log2 s2 bytes posts is states c.requires.some spells within four)
 
@@ -117,7 +117,8 @@ invariant_of-self-in-Err-DiskFault g c =
     let opens : b.shut ≡ None = ap (λ (v : PostLogView g.row.D.Denot). v.shut) c.self.view_is ∙ c.requires.open in
     let same = c.record_of.ensures.log in
     let room = c.record_of.ensures.state in
-    let is = log_failed b.log mid log2 bytes same c.in-Err-DiskFault.ensures.cause.0 in
+    let fails = subst (AddFails g.D.Disk.faults mid log2 bytes) c.in-Err-DiskFault.field-0-is c.in-Err-DiskFault.ensures.cause in
+    let is = log_failed b.log mid log2 bytes same fails.0 in
     let spells : Spells bytes posts = subst (Spells bytes) c.deref.ensures.value c.in_ok-bytes.ensures.spells in
     let m = c.requires.makes in
     let makes = makes_in b.log b.state first batches flight unfit b.shut old posts values m.0 c.self.view_is m.1 in
@@ -140,7 +141,7 @@ returns-in-Err-DiskFault-clause-err g c =
     let unfit = posts_told b.unfit in
     let same = c.record_of.ensures.log in
     let room = c.record_of.ensures.state in
-    let fails = c.in-Err-DiskFault.ensures.cause in
+    let fails = subst (AddFails g.D.Disk.faults mid log2 bytes) c.in-Err-DiskFault.field-0-is c.in-Err-DiskFault.ensures.cause in
     let is = log_failed b.log mid log2 bytes same fails.0 in
     let spells : Spells bytes posts = subst (Spells bytes) c.deref.ensures.value c.in_ok-bytes.ensures.spells in
     let most : mid.limit ≡ b.log.limit = ap (λ (l : LogView g.row.D.Denot). l.limit) same in
@@ -165,9 +166,9 @@ invariant_of-self-in-Err-Full g c =
     let opens : b.shut ≡ None = ap (λ (v : PostLogView g.row.D.Denot). v.shut) c.self.view_is ∙ c.requires.open in
     let same = c.record_of.ensures.log in
     let room = c.record_of.ensures.state in
-    let fails = c.in-Err-Full.ensures.cause in
+    let fails = subst (AddFails g.D.Disk.faults mid log2 c.in_ok-bytes.bytes.items) c.in-Err-Full.field-0-is c.in-Err-Full.ensures.cause in
     let most : mid.limit ≡ b.log.limit = ap (λ (l : LogView g.row.D.Denot). l.limit) same in
-    subst (λ (l : List Post). IsPostLogInside log2 (view_of log2 s2 first batches flight l (Some (Full end limit)))) (sym (ap (λ (v : Vec Post Global). v.items) c.of-2.ensures))
+    subst (λ (l : List Post). IsPostLogInside log2 (view_of log2 s2 first batches flight l (Some (Full end limit)))) (sym (ap (λ (v : Vec Post Global). v.items) c.of-in-Err-Full.ensures))
     (full_inside b.log b.state first batches flight (posts_told b.unfit) b.shut c.self.invariant opens log2 s2 posts end limit (log_same b.log mid log2 same fails.0) room (fails.2 ∙ most) fails.3)
 
 pub returns-in-Err-Full-clause-err : goal.returns-in-Err-Full-clause-err
@@ -186,8 +187,8 @@ returns-in-Err-Full-clause-err g c =
     let limit = c.in-Err-Full.limit in
     let same = c.record_of.ensures.log in
     let room = c.record_of.ensures.state in
-    let fails = c.in-Err-Full.ensures.cause in
+    let fails = subst (AddFails g.D.Disk.faults mid log2 c.in_ok-bytes.bytes.items) c.in-Err-Full.field-0-is c.in-Err-Full.ensures.cause in
     let most : mid.limit ≡ b.log.limit = ap (λ (l : LogView g.row.D.Denot). l.limit) same in
     let spells : Spells bytes posts = subst (Spells bytes) c.deref.ensures.value c.in_ok-bytes.ensures.spells in
-    subst (λ (l : List Post). RecordFails faults c.args.self.now (view_of log2 s2 first batches flight l (Some (Full end limit))) posts (IsFull end limit)) (sym (ap (λ (v : Vec Post Global). v.items) c.of-2.ensures))
+    subst (λ (l : List Post). RecordFails faults c.args.self.now (view_of log2 s2 first batches flight l (Some (Full end limit))) posts (IsFull end limit)) (sym (ap (λ (v : Vec Post Global). v.items) c.of-in-Err-Full.ensures))
     (filled b.log b.state first batches flight (posts_told b.unfit) b.shut c.args.self.now c.self.view_is faults log2 s2 posts end limit (log_same b.log mid log2 same fails.0) room (fails.1 ∙ ends_at b.log mid posts bytes same c.requires.some spells) (fails.2 ∙ most) fails.3)
