@@ -12,8 +12,8 @@ cuts_of-requires g c =
     let held : hand c.args.hands.now c.args.worker ≡ Some node = sym c.held-held.ensures.held ∙ c.holds.ensures.0 c.if-not-holds.false in
     subst (λ (x : Book). node < length x.nodes) (sym c.state.ensures.book) (is_there c.args.log.now.book node _ (c.requires.unsplit c.args.worker node held))
 
-pub returns-in-None-clause-ok : goal.returns-in-None-clause-ok
-returns-in-None-clause-ok g c =
+pub returns-clause-ok : goal.returns-clause-ok
+returns-clause-ok g c =
     let step = c.args.step.now in
     let node = step.node in
     let log = c.args.log.now in

@@ -62,8 +62,8 @@ returns-in-Ok-commit-clause-ok g c =
     step_recorded g.D.Disk.calls old new c.args.worker step c.in-Ok.draft drafts _ c.in-Ok-commit.ensures.ok makes (omega (arith, some, c.in-Ok.draft.posts.ok)) refl
     (c.is_cheaper-plan.ensures old.book (ap (λ (x : Book). x.cost) (sym c.state.ensures.book) ∙ sym c.cost.ensures.cost)) refl refl
 
-pub returns-in-Err-clause-err : goal.returns-in-Err-clause-err
-returns-in-Err-clause-err g c =
+pub returns-clause-err : goal.returns-clause-err
+returns-clause-err g c =
     let old = c.args.log.now in
     let new = c.commit.new.self in
     let step = c.args.step in
