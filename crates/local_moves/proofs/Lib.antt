@@ -1,0 +1,11 @@
+pub mod RowOrder
+pub mod RowPlaces
+pub mod OwnRows
+pub mod Taking
+pub mod DraftFacts
+pub mod Balance
+pub mod Undone
+pub mod Applied
+pub mod CountedRows
+pub mod ShiftDuties
+pub mod Exchanges

@@ -1,0 +1,15 @@
+//! Plans that change move by move, with their cost kept.
+#![tactic(auto)]
+
+mod changes;
+mod done;
+mod draft;
+mod keeping;
+mod moves;
+mod order;
+mod places;
+
+pub use changes::Change;
+pub use done::Done;
+pub use draft::Draft;
+pub use moves::{Move, MoveFault};
