@@ -2,7 +2,7 @@
 use Rattle.std.proofs.Common.{◌≡◌, ◌⊎◌, inl, inr, ℕ, ◌+◌, ◌<◌, ◌≤◌, Bool, true, false, cond, not, ◌&&◌, ◌==◌, nat_lt, List, [], ◌∷◌, ◌++◌, Option, Some, None, refl, sym, ap, ◌∙◌, subst, arith, eqb-true, eq-eqb}
 use Rattle.std.specs.List.{count_by}
 use Rattle.std.proofs.lemmas.Bool.{and_parts, and_from, cases_Bool, ltb-true, lt-ltb, ltb-false, false≢true}
-use Rattle.std.proofs.lemmas.List.Sums.{sum_by_push}
+use Rattle.std.proofs.lemmas.List.Sums.{sum_by-cons}
 use Rattle.break_rules.specs.declared.Break.{Break}
 use Rattle.shift_instance.specs.declared.Duty.{Duty}
 use Rattle.shift_instance.specs.Problem.{Problem}
@@ -31,7 +31,7 @@ from_not_true true h = refl
 from_not_true false h = absurd (false≢true (sym h))
 
 one_count : (p : Duty → Bool) (d : Duty) → count_by p (d ∷ []) ≡ cond (p d) 1 0
-one_count p d = sum_by_push (λ x. cond (p x) 1 0) [] d
+one_count p d = let a : count_by p (d ∷ []) ≡ cond (p d) 1 0 + 0 = sum_by-cons (λ x. cond (p x) 1 0) d [] in omega arith
 
 -- one legal duty
 pub one_legal : (i : Problem) (d : Duty) → not (nat_lt d.day i.days) ≡ false → not (is_list_of i d.shift d.breaks) ≡ false → count_by (λ x. not (is_legal_duty i x)) (d ∷ []) ≡ 0

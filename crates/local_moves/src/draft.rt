@@ -151,7 +151,9 @@ impl Draft {
     }
 
     /// The allocator of the draft's memory.
-    pub(crate) fn allocator(&self) -> Global {
+    pub(crate) fn allocator(&self) -> Global
+        ensures legal { IsTrue (are_legal_rows self.now.instance self.now.rows) }
+    {
         self.alloc
     }
 

@@ -8,6 +8,7 @@ mod keeping;
 mod moves;
 mod order;
 mod places;
+mod undoing;
 
 pub use changes::Change;
 pub use done::Done;

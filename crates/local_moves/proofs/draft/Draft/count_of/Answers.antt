@@ -4,5 +4,5 @@ use Rattle.local_moves.specs.Places.{IsBefore}
 use Rattle.local_moves.proofs.DraftFacts.{draft_sorted}
 use Rattle.local_moves.proofs.draft.Draft.count_of.Goals as goal
 
-pub count_in-requires-clause-order : goal.count_in-requires-clause-order
-count_in-requires-clause-order c = subst (λ rows. Sorted IsBefore rows) (sym c.as_slice.ensures) (draft_sorted c.self.inside.cover.instance c.self.inside.cover c.self.inside.heads.items c.self.inside.rows c.self.invariant)
+pub count_in-requires : goal.count_in-requires
+count_in-requires c = record { order = subst (λ rows. Sorted IsBefore rows) (sym c.as_slice.ensures) (draft_sorted c.self.inside.cover.instance c.self.inside.cover c.self.inside.heads.items c.self.inside.rows c.self.invariant) }
