@@ -8,7 +8,6 @@ mod keeping;
 mod moves;
 mod order;
 mod places;
-mod undoing;
 
 pub use changes::Change;
 pub use done::Done;
