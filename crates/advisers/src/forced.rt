@@ -26,12 +26,15 @@ fn forced(alloc: Global, instance: &Instance, cuts: &Cuts, shift: u16, day: u8) 
     low
 }
 
-/// The least legal list of a shift, and `None` where no list is legal.
+/// The least legal list of a shift, along its kept graph where there is one, and `None` where no list is legal.
 fn least_of(alloc: Global, instance: &Instance, shift: u16) -> Result<Option<Breaks>, NoMemory>
     requires { shift < length (shift_list instance.now) }
     ensures { IfOk result (λ found. found ≡ slice_get (lists_of instance.now shift) 0) }
 {
-    least(alloc, instance.rule_of(shift), instance.shift(shift).len)
+    match instance.graph(shift) {
+        Some(kept) => kept.least(alloc),
+        None => least(alloc, instance.rule_of(shift), instance.shift(shift).len),
+    }
 }
 
 /// Adds a duty that often.

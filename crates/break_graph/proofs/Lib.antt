@@ -1,3 +1,4 @@
 pub mod Marks
 pub mod Elements
 pub mod Nodes
+pub mod Leading

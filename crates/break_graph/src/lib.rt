@@ -3,6 +3,7 @@
 #![tactic(auto)]
 
 mod building;
+mod first_list;
 mod places;
 #[cfg(test)]
 mod tests;

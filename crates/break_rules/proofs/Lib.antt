@@ -15,3 +15,4 @@ pub mod Steps
 pub mod Reaching
 pub mod FirstList
 pub mod NextLaws
+pub mod AllLegal

@@ -1,10 +1,7 @@
-pub mod Sizes
 pub mod Stretches
 pub mod Prices
 pub mod Greatest
 pub mod Values
-pub mod Pairs
-pub mod Priced
 pub mod Whole
 pub mod ShiftTerms
 pub mod Passing

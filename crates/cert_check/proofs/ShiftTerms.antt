@@ -1,4 +1,4 @@
--- The value of a duty, and the term of a shift by the values of its days.
+-- The value of a duty.
 use Rattle.std.proofs.Common.{◌≡◌, inl, ℕ, ◌-◌, ◌*◌, ◌^◌, ◌≤◌, ℤ, pos, ◌+ℤ◌, ◌-ℤ◌, ◌*ℤ◌, ◌≤ℤ◌, Bool, true, false, cond, List, [], ◌∷◌, map, refl, sym, ap, ◌∙◌, subst, arith, Option, Some, None}
 use Rattle.std.specs.Prelude.{slice_get, IsSomeAnd, IfOk, Result, Ok, Err}
 use Rattle.std.specs.Int.{int_max, int_min}
@@ -26,7 +26,7 @@ use Rattle.head_splits.specs.Cuts.{low, high, whole_class}
 use Rattle.head_splits.specs.Bound.{is_nil, reduced, is_forced, day_value, free_day_value, term}
 use Rattle.cert_check.specs.Rests.{price_in, earned_from, ArePricesOf, Completes, IsGreatest}
 use Rattle.cert_check.specs.Below.{duty_with, bonuses, whole_worth}
-use Rattle.cert_check.specs.Values.{IsValue}
+use Rattle.bound_sums.specs.Values.{IsValue}
 
 not_nil : {X : Type 0} (xs : List X) (x : X) → Has xs x → is_nil xs ≡ false
 not_nil [] x h = absurd h
@@ -81,33 +81,6 @@ shift_some (Some x) P h = (x, refl, h)
 
 pub shift_at : (o : Option (Shift × Rule)) (x : Shift × Rule) (P : Shift × Rule → Type 0) → o ≡ Some x → IsSomeAnd o P → P x
 shift_at o x P e h = subst (λ (q : Option (Shift × Rule)). IsSomeAnd q P) e h
-
-module _ (i : Problem) (cuts : List Cut) (prices : Prices) (s day : ℕ) (v : ℤ) (lo hi : ℕ) (value : IsValue i cuts prices s day v) (is_low : lo ≡ low cuts (whole_class s day)) (is_high : hi ≡ high i cuts (whole_class s day)) where
-  pub day_worth : int_max (v *ℤ pos lo) (v *ℤ pos hi) ≡ day_value i cuts prices s day
-  day_worth =
-      ap (λ (n : ℕ). int_max (v *ℤ pos n) (v *ℤ pos hi)) is_low
-      ∙ ap (λ (n : ℕ). int_max (v *ℤ pos (low cuts (whole_class s day))) (v *ℤ pos n)) is_high
-      ∙ ap (λ (z : ℤ). int_max (z *ℤ pos (low cuts (whole_class s day))) (z *ℤ pos (high i cuts (whole_class s day)))) value.is
-
-  pub free_worth : int_max (pos 0) (v *ℤ pos hi) ≡ free_day_value i cuts prices s day
-  free_worth =
-      ap (λ (n : ℕ). int_max (pos 0) (v *ℤ pos n)) is_high
-      ∙ ap (λ (z : ℤ). int_max (pos 0) (z *ℤ pos (high i cuts (whole_class s day)))) value.is
-
--- the term by the sums over the days
-pub term_is : (i : Problem) (cuts : List Cut) (prices : Prices) (s : ℕ) (z ranged free : ℤ) (forced : Bool) (paid : ℕ)
-    → is_nil (lists_of i s) ≡ false
-    → z ≡ cond forced (pos paid -ℤ ranged) (int_min (pos 0) (pos paid -ℤ free))
-    → forced ≡ is_forced i cuts s → ranged ≡ int_sum_by (day_value i cuts prices s) (below i.days) → free ≡ int_sum_by (free_day_value i cuts prices s) (below i.days)
-    → paid ≡ prices.q * i.shift → z ≡ term i cuts prices s
-term_is i cuts prices s z ranged free forced paid some is is_forced_ is_ranged is_free is_paid =
-    let rest : ℤ = cond (is_forced i cuts s) (pos (prices.q * i.shift) -ℤ int_sum_by (day_value i cuts prices s) (below i.days)) (int_min (pos 0) (pos (prices.q * i.shift) -ℤ int_sum_by (free_day_value i cuts prices s) (below i.days))) in
-    is
-    ∙ ap (λ (b : Bool). cond b (pos paid -ℤ ranged) (int_min (pos 0) (pos paid -ℤ free))) is_forced_
-    ∙ ap (λ (n : ℕ). cond (is_forced i cuts s) (pos n -ℤ ranged) (int_min (pos 0) (pos n -ℤ free))) is_paid
-    ∙ ap (λ (y : ℤ). cond (is_forced i cuts s) (pos (prices.q * i.shift) -ℤ y) (int_min (pos 0) (pos (prices.q * i.shift) -ℤ free))) is_ranged
-    ∙ ap (λ (y : ℤ). cond (is_forced i cuts s) (pos (prices.q * i.shift) -ℤ int_sum_by (day_value i cuts prices s) (below i.days)) (int_min (pos 0) (pos (prices.q * i.shift) -ℤ y))) is_free
-    ∙ sym (ap (λ (b : Bool). cond b (pos 0) rest) some)
 
 -- what both clauses of an answer give
 pub if_ok_both : {A E : Type 0} (r : Result A E) (P Q R : A → Type 0) → ((a : A) → P a → Q a → R a) → IfOk r P → IfOk r Q → IfOk r R

@@ -15,10 +15,10 @@ use Rattle.head_splits.specs.declared.Cut.{Cut}
 use Rattle.head_splits.specs.Bound.{is_nil, bonus, signed_price}
 use Rattle.cert_check.specs.Rests.{rest_worth, AreSums, Completes, Through, IsGreatest, IsGreatestOf, greater_of}
 use Rattle.cert_check.specs.Below.{duty_with, bonuses, whole_worth, is_further, goes_further}
-use Rattle.cert_check.proofs.Sizes.{abs_add, sum_size}
+use Rattle.bound_sums.proofs.Sizes.{abs_add, sum_size}
 use Rattle.cert_check.proofs.Greatest.{greatest_more}
 use Rattle.cert_check.proofs.Values.{before_of, worth_more, rest_small}
-use Rattle.cert_check.proofs.Priced.{signed_small}
+use Rattle.bound_sums.proofs.Priced.{signed_small}
 
 -- a list and what follows it begin with a prefix alike, unless the prefix is longer and begins with the list
 begins_alike : (list rest prefix : List Break) → (nat_lt (length list) (length prefix) && begins_with prefix list) ≡ false → begins_with (list ++ rest) prefix ≡ begins_with list prefix

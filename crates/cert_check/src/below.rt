@@ -11,9 +11,10 @@ ghost use Rattle.cert_check.specs.Below.{bonuses, duty_with, goes_further, is_fu
 
 use crate::rests::resumption;
 use crate::sums::{number_at, stretch};
+use bound_sums::signed_price;
 use break_graph::Node;
 use break_rules::{Break, NoMemory, Rule};
-use head_splits::{Cut, Side};
+use head_splits::Cut;
 use std::alloc::Global;
 
 /// The cuts of a node with their prices, and the shift and day whose duties are looked at.
@@ -42,18 +43,6 @@ pub struct Rests<'a> {
     pub sums: Vec<i64>,
     /// For each node, the most that a rest earns behind it.
     pub values: Vec<i64>,
-}
-
-/// A cut's price with the sign of its side.
-pub fn signed_price(side: Side, price: u64) -> i64
-    requires { price ≤ 1000000000000 }
-    ensures price { result ≡ signed_price side price }
-    ensures small { unsigned_abs result ≤ 1000000000000 }
-{
-    match side {
-        Side::AtMost => -(price as i64),
-        Side::AtLeast => price as i64,
-    }
 }
 
 /// What a cut with its price adds to a duty.

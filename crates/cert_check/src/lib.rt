@@ -12,7 +12,6 @@ mod sums;
 mod terms;
 #[cfg(test)]
 mod tests;
-mod totals;
 mod tree;
 mod value;
 

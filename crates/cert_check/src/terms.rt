@@ -1,21 +1,20 @@
-//! What a shift adds to the total of a price set.
+//! What the shifts add to the total of a price set, by the walk over their breaks.
 
-ghost use Rattle.std.specs.Prelude.{◌≡◌, ◌≢◌, ◌≤◌, ◌<◌, ◌^◌, ◌||◌, nat_lt, IfOk, IsSomeAnd, IsTrue, [], length, pos, ◌*ℤ◌, ◌-ℤ◌, slice_get, if◌then◌else◌};
-ghost use Rattle.std.specs.Int.{int_max, int_min};
+ghost use Rattle.std.specs.Prelude.{◌≡◌, ◌≢◌, ◌≤◌, ◌<◌, ◌^◌, IfOk, IsSomeAnd, IsTrue, [], length, slice_get};
 ghost use Rattle.std.specs.Int.RustNames.{unsigned_abs};
+ghost use Rattle.break_rules.specs.Sums.{int_sum_by};
 ghost use Rattle.break_graph.specs.Graph.{IsGraph};
-ghost use Rattle.shift_instance.specs.Problem.{shift_list};
-ghost use Rattle.shift_instance.specs.Valid.{IsValid};
-ghost use Rattle.head_splits.specs.Cuts.{low, high, whole_class};
+ghost use Rattle.shift_instance.specs.Problem.{below, shift_list};
 ghost use Rattle.head_splits.specs.Bound.{are_prices, term};
-ghost use Rattle.cert_check.specs.Values.{IsValue};
+ghost use Rattle.bound_sums.specs.Values.{AreValues, IsValue};
 
 use crate::below::{Duties, Rests, best_below};
 use crate::rests::rest_values;
 use crate::sums::price_sums;
+use bound_sums::term;
 use break_graph::{Graph, Node};
-use break_rules::{Breaks, NoMemory};
-use head_splits::{Class, Cuts, Prices, range};
+use break_rules::NoMemory;
+use head_splits::{Cuts, Prices};
 use shift_instance::Instance;
 use std::alloc::Global;
 
@@ -56,97 +55,28 @@ fn best_value(
     best_below(alloc, &duties, &rests, &[], nodes.len() - 1)
 }
 
-/// The range that cuts leave to the number of all duties of a shift on a day.
-fn whole_range(alloc: Global, instance: &Instance, cuts: &Cuts, shift: u16, day: u8) -> (u16, u16)
-    ensures low { result.0 ≡ low cuts.now (whole_class shift day) }
-    ensures high { result.1 ≡ high instance.now cuts.now (whole_class shift day) }
-{
-    let class = Class {
-        shift,
-        day,
-        prefix: Breaks::new(Vec::new(alloc)),
-    };
-    range(instance, cuts, &class)
-}
-
-/// What so many duties of one value are worth.
-fn times(value: i128, count: u16) -> i128
-    requires { unsigned_abs value ≤ 2 ^ 74 }
-    ensures worth { result ≡ value *ℤ pos count }
-    ensures small { unsigned_abs result ≤ 2 ^ 90 }
-{
-    value * i128::from(count)
-}
-
-/// The most that duties of one value are worth, where their number is within a range.
-fn ranged_value(value: i128, low: u16, high: u16) -> i128
-    requires { unsigned_abs value ≤ 2 ^ 74 }
-    ensures value { result ≡ int_max (value *ℤ pos low) (value *ℤ pos high) }
-    ensures small { unsigned_abs result ≤ 2 ^ 90 }
-{
-    times(value, low).max(times(value, high))
-}
-
-/// The most that duties of one value are worth, where there may be none.
-fn free_value(value: i128, high: u16) -> i128
-    requires { unsigned_abs value ≤ 2 ^ 74 }
-    ensures value { result ≡ int_max (pos 0) (value *ℤ pos high) }
-    ensures small { unsigned_abs result ≤ 2 ^ 90 }
-{
-    times(value, high).max(0)
-}
-
-/// Whether some day needs a duty, by the least number of duties of one more day.
-fn needs_duty(is_forced: bool, low: u16) -> bool
-    ensures { result ≡ (is_forced || nat_lt 0 low) }
-{
-    is_forced || 0 < low
-}
-
-/// What a used shift costs at a scale, less what its duties are worth; where the shift may stay unused, no more than 0.
-fn term_of(paid: u64, is_forced: bool, ranged: i128, free: i128) -> i128
-    requires ranged { unsigned_abs ranged ≤ 2 ^ 93 }
-    requires free { unsigned_abs free ≤ 2 ^ 93 }
-    ensures term { result ≡ (if is_forced then pos paid -ℤ ranged else int_min (pos 0) (pos paid -ℤ free)) }
-    ensures small { unsigned_abs result ≤ 2 ^ 94 }
-{
-    if is_forced {
-        i128::from(paid) - ranged
-    } else {
-        (i128::from(paid) - free).min(0)
-    }
-}
-
-/// The term of a shift that has a legal list, by the nodes of the shift's graph.
-fn some_term(
+/// The greatest reduced values of the duties of a shift, day by day, by the nodes of the shift's graph.
+fn day_values(
     alloc: Global,
     instance: &Instance,
     cuts: &Cuts,
     prices: &Prices,
     nodes: &[Node],
     shift: u16,
-) -> Result<i128, NoMemory>
+) -> Result<Vec<i128>, NoMemory>
     requires shift { shift < length (shift_list instance.now) }
     requires few { length cuts.now ≤ 2 ^ 33 }
     requires passes { IsTrue (are_prices instance.now cuts.now prices.now) }
     requires graph { IsSomeAnd (slice_get (shift_list instance.now) shift) (λ x. IsGraph x.1 x.0.len nodes.now) }
     requires some { nodes.now ≢ [] }
-    ensures term { IfOk result (λ z. z ≡ term instance.now cuts.now prices.now shift) }
-    ensures small { IfOk result (λ z. unsigned_abs z ≤ 2 ^ 94) }
+    ensures { IfOk result (λ values. AreValues instance.now cuts.now prices.now shift instance.now.days values.items) }
 {
-    let (_, _, cost) = instance.weights();
-    let mut is_forced = false;
-    let mut ranged = 0;
-    let mut free = 0;
+    let mut values = Vec::new(alloc);
     for day in 0..instance.days() {
         let value = best_value(alloc, instance, cuts, prices, nodes, shift, day)?;
-        let (low, high) = whole_range(alloc, instance, cuts, shift, day);
-        is_forced = needs_duty(is_forced, low);
-        ranged += ranged_value(value, low, high);
-        free += free_value(value, high);
+        values.push(value)?;
     }
-    let paid = u64::from(prices.q) * u64::from(cost);
-    Ok(term_of(paid, is_forced, ranged, free))
+    Ok(values)
 }
 
 /// The term of a shift, by the graph of the shift's break lists.
@@ -169,11 +99,12 @@ fn term_over(
     if nodes.is_empty() {
         return Ok(0);
     }
-    some_term(alloc, instance, cuts, prices, nodes, shift)
+    let values = day_values(alloc, instance, cuts, prices, nodes, shift)?;
+    Ok(term(alloc, instance, cuts, prices, shift, &values))
 }
 
 /// The term of a shift.
-pub fn term(
+fn shift_term(
     alloc: Global,
     instance: &Instance,
     cuts: &Cuts,
@@ -194,4 +125,23 @@ pub fn term(
             term_over(alloc, instance, cuts, prices, &graph, shift)
         }
     }
+}
+
+/// The sum of the terms of all shifts.
+pub fn terms(
+    alloc: Global,
+    instance: &Instance,
+    cuts: &Cuts,
+    prices: &Prices,
+) -> Result<i128, NoMemory>
+    requires few { length cuts.now ≤ 2 ^ 33 }
+    requires passes { IsTrue (are_prices instance.now cuts.now prices.now) }
+    ensures terms { IfOk result (λ z. z ≡ int_sum_by (term instance.now cuts.now prices.now) (below (length (shift_list instance.now)))) }
+    ensures small { IfOk result (λ z. unsigned_abs z ≤ 2 ^ 104) }
+{
+    let mut sum = 0;
+    for shift in 0..instance.shifts().len() as u16 {
+        sum += shift_term(alloc, instance, cuts, prices, shift)?;
+    }
+    Ok(sum)
 }

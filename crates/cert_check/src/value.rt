@@ -1,23 +1,16 @@
 //! Whether prices are a price set for some cuts, and the bound that they give.
 
-ghost use Rattle.std.specs.Prelude.{◌≡◌, ◌≤◌, ◌*◌, ◌&&◌, ◌^◌, length, neg_ℤ, pos, int_le, IfOk, IsTrue};
+ghost use Rattle.std.specs.Prelude.{◌≡◌, ◌≤◌, ◌^◌, length, IfOk, IsTrue};
 ghost use Rattle.std.specs.List.{list_all, zip};
 ghost use Rattle.shift_instance.specs.Valid.{IsValid};
 ghost use Rattle.head_splits.specs.Bound.{are_prices, bound_of, is_cut_price, is_slot_price};
 
-use crate::totals::{bound, total};
+use crate::terms::terms;
+use bound_sums::{bound, is_cut_price, is_slot_price};
 use break_rules::NoMemory;
-use head_splits::{CUT_PRICE_MAX, Cut, Cuts, Prices};
+use head_splits::{Cut, Cuts, Prices};
 use shift_instance::Instance;
 use std::alloc::Global;
-
-/// Whether a slot's price keeps to its range, by a scale and the costs of an employee too many and too few in a slot.
-fn is_slot_price(q: u16, excess: u32, shortage: u32, price: i64) -> bool
-    ensures { result ≡ int_le (neg_ℤ (pos (q * excess))) price && int_le price (pos (q * shortage)) }
-{
-    let q = i64::from(q);
-    -(q * i64::from(excess)) <= price && price <= q * i64::from(shortage)
-}
 
 /// Whether the price of each slot keeps to its range.
 fn are_slot_prices(instance: &Instance, q: u16, prices: &[i64]) -> bool
@@ -27,14 +20,6 @@ fn are_slot_prices(instance: &Instance, q: u16, prices: &[i64]) -> bool
     prices
         .iter()
         .all(|price| is_slot_price(q, excess, shortage, *price))
-}
-
-/// Whether a cut's price keeps to its range.
-fn is_cut_price(cut: &Cut, price: u64) -> bool
-    ensures { result ≡ is_cut_price (cut.now, price) }
-{
-    let class = &cut.class;
-    price <= CUT_PRICE_MAX && (!class.prefix.as_slice().is_empty() || price == 0)
 }
 
 /// Whether the price of each cut keeps to its range.
@@ -80,6 +65,6 @@ pub fn value(
     requires passes { IsTrue (are_prices instance.now cuts.now prices.now) }
     ensures { IfOk result (λ v. v ≡ bound_of instance.now cuts.now prices.now) }
 {
-    let total = total(alloc, instance, cuts, prices)?;
-    Ok(bound(prices.q, total))
+    let terms = terms(alloc, instance, cuts, prices)?;
+    Ok(bound(instance, cuts, prices, terms))
 }

@@ -1,6 +1,5 @@
 pub mod Causes
-pub mod Pairs
-pub mod Priced
-pub mod Sizes
 pub mod Values
 pub mod PlanFloor
+pub mod Splitting
+pub mod Entries

@@ -1,4 +1,4 @@
--- The value of a duty, and the term of a shift by the values of its days.
+-- The value of a duty.
 use Rattle.std.proofs.Common.{◌≡◌, inl, ℕ, zero, suc, ◌+◌, ◌*◌, ◌^◌, ◌≤◌, ℤ, pos, ◌-ℤ◌, ◌*ℤ◌, Bool, true, false, cond, List, [], ◌∷◌, length, refl, sym, ap, ◌∙◌, subst, arith}
 use Rattle.std.specs.Prelude.{Option, Some, None, MatchOption}
 use Rattle.std.specs.Option.{option_map}
@@ -22,9 +22,10 @@ use Rattle.head_splits.specs.Cuts.{low, high, whole_class}
 use Rattle.head_splits.specs.Bound.{is_nil, entries_of, is_forced, day_value, free_day_value, term, are_prices}
 use Rattle.patterns.specs.declared.Pattern.{Pattern}
 use Rattle.head_splits.proofs.Best.{best_is_value}
-use Rattle.dual_bound.specs.Values.{IsValue}
-use Rattle.dual_bound.proofs.Sizes.{abs_add, sum_size}
-use Rattle.dual_bound.proofs.Priced.{priced, slot_small, entry_small, entries_few}
+use Rattle.bound_sums.specs.Values.{IsValue}
+use Rattle.bound_sums.proofs.Sizes.{abs_add, sum_size}
+use Rattle.bound_sums.proofs.Priced.{priced, slot_small}
+use Rattle.dual_bound.proofs.Entries.{entry_small, entries_few}
 
 not_nil : {X : Type 0} (xs : List X) (x : X) → Has xs x → is_nil xs ≡ false
 not_nil [] x h = absurd h
@@ -70,33 +71,6 @@ value_of_best i cuts prices s day list v valid h few best =
       is = best_is_value i cuts prices s day list v best;
       small = subst (λ (z : ℤ). unsigned_abs z ≤ 2 ^ 74) (sym best.is_worth) (worth_small i cuts prices d valid h few);
     }
-
-module _ (i : Problem) (cuts : List Cut) (prices : Prices) (s day : ℕ) (v : ℤ) (lo hi : ℕ) (value : IsValue i cuts prices s day v) (is_low : lo ≡ low cuts (whole_class s day)) (is_high : hi ≡ high i cuts (whole_class s day)) where
-  pub day_worth : int_max (v *ℤ pos lo) (v *ℤ pos hi) ≡ day_value i cuts prices s day
-  day_worth =
-      ap (λ (n : ℕ). int_max (v *ℤ pos n) (v *ℤ pos hi)) is_low
-      ∙ ap (λ (n : ℕ). int_max (v *ℤ pos (low cuts (whole_class s day))) (v *ℤ pos n)) is_high
-      ∙ ap (λ (z : ℤ). int_max (z *ℤ pos (low cuts (whole_class s day))) (z *ℤ pos (high i cuts (whole_class s day)))) value.is
-
-  pub free_worth : int_max (pos 0) (v *ℤ pos hi) ≡ free_day_value i cuts prices s day
-  free_worth =
-      ap (λ (n : ℕ). int_max (pos 0) (v *ℤ pos n)) is_high
-      ∙ ap (λ (z : ℤ). int_max (pos 0) (z *ℤ pos (high i cuts (whole_class s day)))) value.is
-
--- the term by the sums over the days
-pub term_is : (i : Problem) (cuts : List Cut) (prices : Prices) (s : ℕ) (z ranged free : ℤ) (forced : Bool) (paid : ℕ)
-    → is_nil (lists_of i s) ≡ false
-    → z ≡ cond forced (pos paid -ℤ ranged) (int_min (pos 0) (pos paid -ℤ free))
-    → forced ≡ is_forced i cuts s → ranged ≡ int_sum_by (day_value i cuts prices s) (below i.days) → free ≡ int_sum_by (free_day_value i cuts prices s) (below i.days)
-    → paid ≡ prices.q * i.shift → z ≡ term i cuts prices s
-term_is i cuts prices s z ranged free forced paid some is is_forced_ is_ranged is_free is_paid =
-    let rest : ℤ = cond (is_forced i cuts s) (pos (prices.q * i.shift) -ℤ int_sum_by (day_value i cuts prices s) (below i.days)) (int_min (pos 0) (pos (prices.q * i.shift) -ℤ int_sum_by (free_day_value i cuts prices s) (below i.days))) in
-    is
-    ∙ ap (λ (b : Bool). cond b (pos paid -ℤ ranged) (int_min (pos 0) (pos paid -ℤ free))) is_forced_
-    ∙ ap (λ (n : ℕ). cond (is_forced i cuts s) (pos n -ℤ ranged) (int_min (pos 0) (pos n -ℤ free))) is_paid
-    ∙ ap (λ (y : ℤ). cond (is_forced i cuts s) (pos (prices.q * i.shift) -ℤ y) (int_min (pos 0) (pos (prices.q * i.shift) -ℤ free))) is_ranged
-    ∙ ap (λ (y : ℤ). cond (is_forced i cuts s) (pos (prices.q * i.shift) -ℤ int_sum_by (day_value i cuts prices s) (below i.days)) (int_min (pos 0) (pos (prices.q * i.shift) -ℤ y))) is_free
-    ∙ sym (ap (λ (b : Bool). cond b (pos 0) rest) some)
 
 -- what the search finds as a value
 pub found_value : (i : Problem) (cuts : List Cut) (prices : Prices) (s day : ℕ) (slots : List ℤ) (entries : List (List Break × ℤ)) (found : Option (Pattern × ℤ)) (r : Option ℤ)

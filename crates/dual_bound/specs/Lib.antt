@@ -1,5 +1,4 @@
 pub mod Faults
 pub mod Proved
-pub mod Values
 pub mod Settling
 pub mod Fixing

@@ -1,12 +1,12 @@
 //! The faults of a price set, one after another.
-ghost use Rattle.std.specs.Prelude.{◌≡◌, ◌≤◌, ◌*◌, ◌&&◌, ◌^◌, length, neg_ℤ, pos, int_le};
+ghost use Rattle.std.specs.Prelude.{◌≡◌, length};
 ghost use Rattle.break_rules.specs.Causes.{first_cause};
 ghost use Rattle.shift_instance.specs.Valid.{IsValid};
-ghost use Rattle.head_splits.specs.Bound.{is_cut_price};
 ghost use Rattle.dual_bound.specs.Faults.{size_causes, slot_causes, cut_causes, price_causes};
 
 use crate::PriceFault;
-use head_splits::{CUT_PRICE_MAX, Cut, Cuts, Prices};
+use bound_sums::{is_cut_price, is_slot_price};
+use head_splits::{Cut, Cuts, Prices};
 use shift_instance::Instance;
 
 /// The first fault of the scale and of the number of the slots' prices.
@@ -24,14 +24,6 @@ fn judge_sizes(instance: &Instance, prices: &Prices) -> Option<PriceFault>
     None
 }
 
-/// Whether a slot's price keeps to its range, by a scale and the costs of an employee too many and too few in a slot.
-fn is_slot_price(q: u16, excess: u32, shortage: u32, price: i64) -> bool
-    ensures { result ≡ int_le (neg_ℤ (pos (q * excess))) price && int_le price (pos (q * shortage)) }
-{
-    let q = i64::from(q);
-    -(q * i64::from(excess)) <= price && price <= q * i64::from(shortage)
-}
-
 /// The first price outside its slot's range.
 fn judge_slots(instance: &Instance, q: u16, prices: &[i64]) -> Option<PriceFault>
     ensures { result ≡ first_cause (slot_causes instance.now q prices.now) }
@@ -43,13 +35,6 @@ fn judge_slots(instance: &Instance, q: u16, prices: &[i64]) -> Option<PriceFault
         }
     }
     None
-}
-
-/// Whether a cut's price keeps to its range.
-fn is_cut_price(cut: &Cut, price: u64) -> bool
-    ensures { result ≡ is_cut_price (cut.now, price) }
-{
-    price <= CUT_PRICE_MAX && (!cut.class.prefix.as_slice().is_empty() || price == 0)
 }
 
 /// The first price outside its cut's range.

@@ -10,7 +10,6 @@ mod settling;
 mod terms;
 #[cfg(test)]
 mod tests;
-mod totals;
 
 pub use laws::faultless_prices;
 pub use proving::{Proved, prove};

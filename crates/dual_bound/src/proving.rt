@@ -10,7 +10,7 @@ ghost use Rattle.dual_bound.specs.Proved.{IsProved};
 
 use crate::PriceFault;
 use crate::faults::first_fault;
-use crate::totals::{bound, total};
+use crate::terms::bound_by_pricing;
 use head_splits::{Cuts, Prices};
 use shift_instance::Instance;
 use std::alloc::Global;
@@ -54,11 +54,10 @@ pub fn prove(
         Some(fault) => return Err(fault),
         None => {}
     }
-    let total = match total(alloc, instance, &cuts, &prices) {
-        Ok(total) => total,
+    let bound = match bound_by_pricing(alloc, instance, &cuts, &prices) {
+        Ok(bound) => bound,
         Err(_) => return Err(PriceFault::NoMemory),
     };
-    let bound = bound(prices.q, total);
     Ok(Proved {
         cuts,
         prices,

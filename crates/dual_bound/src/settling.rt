@@ -5,7 +5,7 @@ ghost use Rattle.rota_cost.specs.Costed.{IsCosted};
 ghost use Rattle.head_splits.specs.Settled.{is_settled, is_empty, settled_rows};
 ghost use Rattle.head_splits.specs.Nodes.{settled_floor};
 ghost use Rattle.dual_bound.specs.Settling.{IsSettledNode};
-ghost use Rattle.dual_bound.specs.Fixing.{IsFixing};
+ghost use Rattle.dual_bound.specs.Fixing.{IsFixing, SplitsLive};
 
 use break_rules::NoMemory;
 use head_splits::{Class, Cuts, Settle, settled};
@@ -79,7 +79,8 @@ fn seal(instance: &Instance, cuts: Cuts, rows: Rows) -> SettledNode
 
 /// The class to split at a node with these cuts, or the settled node with its plan.
 pub fn settle(alloc: Global, instance: &Instance, cuts: Cuts) -> Result<Fixing, NoMemory>
-    ensures { IfOk result (λ f. IsFixing instance.now cuts f) }
+    ensures exact { IfOk result (λ f. IsFixing instance.now cuts f) }
+    ensures split { IfOk result (λ f. SplitsLive instance.now cuts f) }
 {
     match settled(alloc, instance, &cuts)? {
         Settle::Unsettled { class, m } => Ok(Fixing::Open { class, m }),

@@ -1,33 +1,22 @@
-//! What a shift adds to the total of a price set.
-ghost use Rattle.std.specs.Prelude.{◌≡◌, ℕ, ◌≤◌, ◌<◌, ◌^◌, ◌&&◌, ◌||◌, ◌==◌, not, nat_lt, IfOk, OnOk, List, [], ◌∷◌, ◌++◌, MatchOption, IsTrue, length, pos, ◌*ℤ◌, ◌-ℤ◌, slice_index, if◌then◌else◌};
+//! What the shifts add to the total of a price set, by pricing, and the bound.
+ghost use Rattle.std.specs.Prelude.{◌≡◌, ℕ, ◌≤◌, ◌<◌, ◌^◌, ◌&&◌, ◌==◌, not, IfOk, OnOk, ◌∷◌, [], ◌++◌, MatchOption, IsTrue, length, slice_index};
 ghost use Rattle.std.specs.List.{zip};
 ghost use Rattle.std.specs.Option.{option_map};
-ghost use Rattle.std.specs.Int.{int_max, int_min};
 ghost use Rattle.std.specs.Int.RustNames.{unsigned_abs};
-ghost use Rattle.shift_instance.specs.Problem.{shift_list};
+ghost use Rattle.break_rules.specs.Sums.{int_sum_by};
+ghost use Rattle.shift_instance.specs.Problem.{below, shift_list};
 ghost use Rattle.shift_instance.specs.Rota.{lists_of};
 ghost use Rattle.shift_instance.specs.Valid.{IsValid};
-ghost use Rattle.head_splits.specs.Cuts.{low, high, whole_class};
-ghost use Rattle.head_splits.specs.Bound.{are_prices, entries_of, is_nil, signed_price, term};
-ghost use Rattle.dual_bound.specs.Values.{IsValue};
+ghost use Rattle.head_splits.specs.Bound.{are_prices, bound_of, entries_of, is_nil, term};
+ghost use Rattle.bound_sums.specs.Values.{AreValues, IsValue};
 
+use bound_sums::{bound, signed_price, term};
 use break_rules::{Breaks, NoMemory};
-use head_splits::{Class, Cut, Cuts, Prices, Side, range};
+use head_splits::{Cut, Cuts, Prices};
 use patterns::Pattern;
 use pricing::best_pattern;
 use shift_instance::Instance;
 use std::alloc::Global;
-
-/// A cut's price with the sign of its side.
-pub fn signed_price(side: Side, price: u64) -> i64
-    requires { price ≤ 1000000000000 }
-    ensures { result ≡ signed_price side price }
-{
-    match side {
-        Side::AtMost => -(price as i64),
-        Side::AtLeast => price as i64,
-    }
-}
 
 /// Whether a cut bounds duties of a shift on a day that begin with some break.
 fn is_entry(cut: &Cut, shift: u16, day: u8) -> bool
@@ -103,69 +92,32 @@ fn best_value(
     Ok(value_of(found))
 }
 
-/// The range that cuts leave to the number of all duties of a shift on a day.
-fn whole_range(alloc: Global, instance: &Instance, cuts: &Cuts, shift: u16, day: u8) -> (u16, u16)
-    ensures low { result.0 ≡ low cuts.now (whole_class shift day) }
-    ensures high { result.1 ≡ high instance.now cuts.now (whole_class shift day) }
+/// The greatest reduced values of the duties of a shift, day by day, and `None` where no break list is legal.
+fn day_values(
+    alloc: Global,
+    instance: &Instance,
+    cuts: &Cuts,
+    prices: &Prices,
+    shift: u16,
+) -> Result<Option<Vec<i128>>, NoMemory>
+    requires shift { shift < length (shift_list instance.now) }
+    requires few { length cuts.now ≤ 2 ^ 33 }
+    requires passes { IsTrue (are_prices instance.now cuts.now prices.now) }
+    ensures { IfOk result (λ found. MatchOption found (IsTrue (is_nil (lists_of instance.now shift))) (λ values. AreValues instance.now cuts.now prices.now shift instance.now.days values.items)) }
 {
-    let class = Class {
-        shift,
-        day,
-        prefix: Breaks::new(Vec::new(alloc)),
-    };
-    range(instance, cuts, &class)
-}
-
-/// What so many duties of one value are worth.
-fn times(value: i128, count: u16) -> i128
-    requires { unsigned_abs value ≤ 2 ^ 74 }
-    ensures worth { result ≡ value *ℤ pos count }
-    ensures small { unsigned_abs result ≤ 2 ^ 90 }
-{
-    value * i128::from(count)
-}
-
-/// The most that duties of one value are worth, where their number is within a range.
-fn ranged_value(value: i128, low: u16, high: u16) -> i128
-    requires { unsigned_abs value ≤ 2 ^ 74 }
-    ensures value { result ≡ int_max (value *ℤ pos low) (value *ℤ pos high) }
-    ensures small { unsigned_abs result ≤ 2 ^ 90 }
-{
-    times(value, low).max(times(value, high))
-}
-
-/// The most that duties of one value are worth, where there may be none.
-fn free_value(value: i128, high: u16) -> i128
-    requires { unsigned_abs value ≤ 2 ^ 74 }
-    ensures value { result ≡ int_max (pos 0) (value *ℤ pos high) }
-    ensures small { unsigned_abs result ≤ 2 ^ 90 }
-{
-    times(value, high).max(0)
-}
-
-/// Whether some day needs a duty, by the least number of duties of one more day.
-fn needs_duty(is_forced: bool, low: u16) -> bool
-    ensures { result ≡ (is_forced || nat_lt 0 low) }
-{
-    is_forced || 0 < low
-}
-
-/// What a used shift costs at a scale, less what its duties are worth; where the shift may stay unused, no more than 0.
-fn term_of(paid: u64, is_forced: bool, ranged: i128, free: i128) -> i128
-    requires ranged { unsigned_abs ranged ≤ 2 ^ 93 }
-    requires free { unsigned_abs free ≤ 2 ^ 93 }
-    ensures term { result ≡ (if is_forced then pos paid -ℤ ranged else int_min (pos 0) (pos paid -ℤ free)) }
-    ensures small { unsigned_abs result ≤ 2 ^ 94 }
-{
-    if is_forced {
-        i128::from(paid) - ranged
-    } else {
-        (i128::from(paid) - free).min(0)
+    let mut values = Vec::new(alloc);
+    for day in 0..instance.days() {
+        let value = match best_value(alloc, instance, cuts, prices, shift, day)? {
+            Some(value) => value,
+            None => return Ok(None),
+        };
+        values.push(value)?;
     }
+    Ok(Some(values))
 }
 
 /// The term of a shift.
-pub fn term(
+fn shift_term(
     alloc: Global,
     instance: &Instance,
     cuts: &Cuts,
@@ -178,20 +130,38 @@ pub fn term(
     ensures term { IfOk result (λ z. z ≡ term instance.now cuts.now prices.now shift) }
     ensures small { IfOk result (λ z. unsigned_abs z ≤ 2 ^ 94) }
 {
-    let (_, _, cost) = instance.weights();
-    let mut is_forced = false;
-    let mut ranged = 0;
-    let mut free = 0;
-    for day in 0..instance.days() {
-        let value = match best_value(alloc, instance, cuts, prices, shift, day)? {
-            Some(value) => value,
-            None => return Ok(0),
-        };
-        let (low, high) = whole_range(alloc, instance, cuts, shift, day);
-        is_forced = needs_duty(is_forced, low);
-        ranged += ranged_value(value, low, high);
-        free += free_value(value, high);
+    match day_values(alloc, instance, cuts, prices, shift)? {
+        Some(values) => Ok(term(alloc, instance, cuts, prices, shift, &values)),
+        None => Ok(0),
     }
-    let paid = u64::from(prices.q) * u64::from(cost);
-    Ok(term_of(paid, is_forced, ranged, free))
+}
+
+/// The sum of the terms of all shifts.
+fn terms(alloc: Global, instance: &Instance, cuts: &Cuts, prices: &Prices) -> Result<i128, NoMemory>
+    requires few { length cuts.now ≤ 2 ^ 33 }
+    requires passes { IsTrue (are_prices instance.now cuts.now prices.now) }
+    ensures terms { IfOk result (λ z. z ≡ int_sum_by (term instance.now cuts.now prices.now) (below (length (shift_list instance.now)))) }
+    ensures small { IfOk result (λ z. unsigned_abs z ≤ 2 ^ 104) }
+{
+    let mut sum = 0;
+    for shift in 0..instance.shifts().len() as u16 {
+        sum += shift_term(alloc, instance, cuts, prices, shift)?;
+    }
+    Ok(sum)
+}
+
+/// The bound of a price set.
+pub fn bound_by_pricing(
+    alloc: Global,
+    instance: &Instance,
+    cuts: &Cuts,
+    prices: &Prices,
+) -> Result<u64, NoMemory>
+    requires valid { IsValid instance.now }
+    requires few { length cuts.now ≤ 2 ^ 33 }
+    requires passes { IsTrue (are_prices instance.now cuts.now prices.now) }
+    ensures { IfOk result (λ b. b ≡ bound_of instance.now cuts.now prices.now) }
+{
+    let terms = terms(alloc, instance, cuts, prices)?;
+    Ok(bound(instance, cuts, prices, terms))
 }

@@ -5,9 +5,9 @@ use Rattle.break_rules.specs.Sums.{int_sum_by}
 use Rattle.head_splits.specs.declared.Cut.{Cut}
 use Rattle.head_splits.specs.Bound.{bonus}
 use Rattle.cert_check.specs.Below.{bonuses, duty_with}
-use Rattle.cert_check.proofs.Sizes.{added_fits, added, added_small}
+use Rattle.bound_sums.proofs.Sizes.{added_fits, added, added_small}
 use Rattle.cert_check.proofs.Whole.{bonuses_none}
-use Rattle.cert_check.proofs.Pairs.{pairs_from, sum_next}
+use Rattle.bound_sums.proofs.Pairs.{pairs_from, sum_next}
 use Rattle.cert_check.proofs.below.bonuses.Goals as goal
 
 empty_is : (xs : List Break) → length xs ≡ 0 → xs ≡ []

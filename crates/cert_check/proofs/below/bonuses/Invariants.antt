@@ -3,7 +3,7 @@ use Rattle.std.specs.Int.RustNames.{unsigned_abs}
 use Rattle.cert_check.specs.Below.{bonuses, duty_with}
 use Rattle.break_rules.specs.Sums.{int_sum_by}
 use Rattle.head_splits.specs.Bound.{bonus}
-use Rattle.cert_check.proofs.Pairs.{pairs_from}
+use Rattle.bound_sums.proofs.Pairs.{pairs_from}
 use Rattle.cert_check.proofs.below.bonuses.Given as goal
 
 abbrev pub invariant-loop-k : goal.invariant-loop-k

@@ -9,8 +9,8 @@ use Rattle.shift_instance.proofs.Shifts.{Has_at, shift_short}
 use Rattle.head_splits.specs.declared.Cut.{Cut}
 use Rattle.cert_check.specs.Rests.{AreSmallPrices, ArePricesOf, Completes, IsGreatest}
 use Rattle.cert_check.specs.Below.{whole_worth}
-use Rattle.cert_check.specs.Values.{IsValue}
-use Rattle.cert_check.proofs.Priced.{cut_small, slots_small}
+use Rattle.bound_sums.specs.Values.{IsValue}
+use Rattle.bound_sums.proofs.Priced.{cut_small, slots_small}
 use Rattle.cert_check.proofs.ShiftTerms.{shift_some, shift_at, value_is, if_ok_both}
 use Rattle.cert_check.proofs.terms.best_value.Goals as goal
 

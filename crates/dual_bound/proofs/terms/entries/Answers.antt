@@ -1,4 +1,4 @@
-use Rattle.dual_bound.proofs.Pairs.{entries_next}
+use Rattle.dual_bound.proofs.Entries.{entries_next}
 use Rattle.dual_bound.proofs.terms.entries.Goals as goal
 
 pub loop-k-preserved : goal.loop-k-preserved

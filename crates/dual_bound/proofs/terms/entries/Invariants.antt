@@ -1,7 +1,7 @@
 use Rattle.std.proofs.Common.{◌≡◌, ◌++◌}
 use Rattle.std.specs.List.{zip}
 use Rattle.head_splits.specs.Bound.{entries_of}
-use Rattle.dual_bound.proofs.Pairs.{pairs_from}
+use Rattle.bound_sums.proofs.Pairs.{pairs_from}
 use Rattle.dual_bound.proofs.terms.entries.Given as goal
 
 abbrev pub invariant-loop-k : goal.invariant-loop-k
