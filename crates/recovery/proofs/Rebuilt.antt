@@ -14,7 +14,8 @@ use Rattle.recovery.specs.declared.fault.Why.{Why}
 use Rattle.recovery.specs.declared.fault.Why.TheVariants.{Codec, Step}
 use Rattle.recovery.specs.Records.{MakeBook, SpellPosts}
 use Rattle.recovery.specs.Refusals.{IsCause, IsFirstRejected, Refuses}
-use Rattle.recovery.specs.Folding.{fault_at, RecordStops, Takes, TakesRecord}
+use Rattle.recovery.specs.Folding.{fault_at, RecordStops, TakesRecord}
+use Rattle.search_core.specs.Taking.{Takes}
 use Rattle.recovery.proofs.Batches.{none_spelled, spell_next}
 
 -- ---- lists

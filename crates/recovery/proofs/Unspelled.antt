@@ -15,7 +15,8 @@ use Rattle.recovery.specs.declared.fault.Why.TheVariants.{Codec, Step}
 use Rattle.recovery.specs.declared.fault.RebuildFault.{RebuildFault}
 use Rattle.recovery.specs.declared.fault.RebuildFault.TheVariants.{Rejected, NoMemory}
 use Rattle.recovery.specs.Records.{joined, MakeBook}
-use Rattle.recovery.specs.Refusals.{IsCause, IsRefused, Refuses}
+use Rattle.search_core.specs.Running.{IsRefused}
+use Rattle.recovery.specs.Refusals.{IsCause, Refuses}
 
 -- the book between two lists of posts
 between : (i : Problem) (b c : Book) (xs ys : List Post) → book_after i b (xs ++ ys) ≡ Some c → (d : Book) × (book_after i b xs ≡ Some d) × (book_after i d ys ≡ Some c)

@@ -1,35 +1,25 @@
 -- What records add to a state, one after another. Contracts of private functions speak of it.
-use Rattle.std.specs.Prelude.{◌≡◌, ◌⊎◌, ℕ, List, ◌++◌, Some}
+use Rattle.std.specs.Prelude.{◌≡◌, ◌⊎◌, ℕ, List}
 use Rattle.shift_instance.specs.Problem.{Problem}
 use Rattle.post_codec.specs.declared.post.Post.{Post}
 use Rattle.post_codec.specs.declared.fault.CodecFault.TheVariants.{Departs, NoMemory as NoMemoryForPosts}
 use Rattle.post_codec.specs.Spelling.{Spells}
 use Rattle.post_codec.specs.Fields.{IsFaultOf}
 use Rattle.search_core.specs.declared.fault.StepFault.TheVariants.{NotLegal, WrongCost, NotBetter, NoNode, IsSplit, NotOpen, NotLive, OutOfRange, NotSettled, Price, NoMemory as NoMemoryForPost}
-use Rattle.search_core.specs.Book.{Book, book_after}
+use Rattle.search_core.specs.Book.{Book}
 use Rattle.search_core.specs.State.{StateView}
+use Rattle.search_core.specs.Taking.{Takes}
 use Rattle.recovery.specs.declared.fault.Why.{Why}
 use Rattle.recovery.specs.declared.fault.Why.TheVariants.{Codec, Step}
 use Rattle.recovery.specs.declared.fault.RebuildFault.{RebuildFault}
 use Rattle.recovery.specs.declared.fault.RebuildFault.TheVariants.{Rejected, NoMemory}
-use Rattle.recovery.specs.Refusals.{IsRefused, IsRefusedRecord}
-
--- a state after posts that its book takes
-pub record Takes (old : StateView) (posts : List Post) (new : StateView) : Type 0 where
-  pub same : new.instance ≡ old.instance
-  pub grows : new.history ≡ old.history ++ posts
-  pub makes : book_after old.instance old.book posts ≡ Some new.book
+use Rattle.recovery.specs.Refusals.{IsRefusedRecord}
 
 -- a state after the posts that a record spells
 pub record TakesRecord (old : StateView) (bytes : List ℕ) (new : StateView) : Type 0 where
   pub posts : List Post
   pub spells : Spells bytes posts
   pub takes : Takes old posts new
-
--- why posts aren't all taken: one is the first that is refused, or no memory is left
-abbrev pub PostsStop : Problem → Book → List Post → Why → Type 0
-PostsStop i b posts (Codec fault) = ⊥
-PostsStop i b posts (Step post fault) = (fault ≡ NoMemoryForPost) ⊎ IsRefused i b posts post fault
 
 -- why a record isn't taken: it spells no posts, or one is the first that is refused, or no memory is left
 abbrev pub RecordStops : Problem → Book → List ℕ → Why → Type 0

@@ -1,27 +1,18 @@
 -- Why records make no state.
-use Rattle.std.specs.Prelude.{◌≡◌, ℕ, ⊤, List, Some, None, take, slice_get}
+use Rattle.std.specs.Prelude.{◌≡◌, ℕ, ⊤, List, Some, take, slice_get}
 use Rattle.shift_instance.specs.Problem.{Problem}
 use Rattle.post_codec.specs.declared.post.Post.{Post}
 use Rattle.post_codec.specs.declared.fault.CodecFault.TheVariants.{Departs, NoMemory as NoMemoryForPosts}
 use Rattle.post_codec.specs.Spelling.{Spells}
 use Rattle.post_codec.specs.Fields.{DepartAt}
 use Rattle.search_core.specs.declared.fault.StepFault.{StepFault}
-use Rattle.search_core.specs.Book.{Book, step, book_after}
-use Rattle.search_core.specs.Faults.{step_fault}
+use Rattle.search_core.specs.Book.{Book}
+use Rattle.search_core.specs.Running.{IsRefused}
 use Rattle.recovery.specs.declared.fault.Why.{Why}
 use Rattle.recovery.specs.declared.fault.Why.TheVariants.{Codec, Step}
 use Rattle.recovery.specs.declared.fault.RebuildFault.{RebuildFault}
 use Rattle.recovery.specs.declared.fault.RebuildFault.TheVariants.{Rejected, NoMemory}
 use Rattle.recovery.specs.Records.{MakeBook}
-
--- of these posts a book takes the first ones, so many, and the book that they make doesn't allow the next, for that cause
-pub record IsRefused (i : Problem) (b : Book) (posts : List Post) (count : ℕ) (fault : StepFault) : Type 0 where
-  pub before : Book
-  pub taken : book_after i b (take count posts) ≡ Some before
-  pub post : Post
-  pub next : slice_get posts count ≡ Some post
-  pub refused : step i before post ≡ None
-  pub cause : step_fault i before post ≡ Some fault
 
 -- the bytes spell posts that a book doesn't take, the first of them that is refused by its number, from 0 on
 pub record IsRefusedRecord (i : Problem) (b : Book) (bytes : List ℕ) (post : ℕ) (fault : StepFault) : Type 0 where

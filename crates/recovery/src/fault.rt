@@ -2,7 +2,7 @@
 ghost use Rattle.std.specs.Prelude.{◌≡◌};
 
 use post_codec::CodecFault;
-use search_core::StepFault;
+use search_core::{Refusal, StepFault};
 use std::alloc::AllocError;
 use std::error::Error;
 use std::fmt;
@@ -41,6 +41,20 @@ impl From<CodecFault> for Why {
 
     fn from(fault: CodecFault) -> Why {
         Why::Codec(fault)
+    }
+}
+
+impl From<Refusal> for Why {
+    ghost use Rattle.recovery.specs.declared.fault.Why.TheVariants.{Step};
+
+    ghost from_gives = { λ refusal why. why ≡ Step refusal.at refusal.why };
+
+    fn from(refusal: Refusal) -> Why {
+        let Refusal { at, why } = refusal;
+        Why::Step {
+            post: at,
+            fault: why,
+        }
     }
 }
 

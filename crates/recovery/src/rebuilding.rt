@@ -5,32 +5,13 @@ ghost use Rattle.search_core.specs.Book.{Book};
 ghost use Rattle.recovery.specs.declared.fault.RebuildFault.TheVariants.{NoMemory};
 ghost use Rattle.recovery.specs.Records.{MakeBook};
 ghost use Rattle.recovery.specs.Refusals.{Refuses};
-ghost use Rattle.recovery.specs.Folding.{fault_at, PostsStop, RecordStops, Takes, TakesRecord};
+ghost use Rattle.recovery.specs.Folding.{fault_at, RecordStops, TakesRecord};
 
 use crate::fault::{RebuildFault, Why};
-use post_codec::{CodecFault, Post, read};
-use search_core::{State, StepFault};
+use post_codec::{CodecFault, read};
+use search_core::{State, StepFault, add_posts};
 use shift_instance::Instance;
 use std::alloc::Global;
-
-/// Adds posts to a state, up to the first one that isn't allowed.
-fn add_posts(state: &mut State, instance: &Instance, posts: Vec<Post>) -> Result<(), Why>
-    requires { instance.now ≡ state.old.instance }
-    ensures ok { OnOk result (Takes state.old posts.items state.new) }
-    ensures err { IfErr result (PostsStop instance.now state.old.book posts.items) }
-{
-    let mut number = 0;
-    for post in posts {
-        if let Err(fault) = state.step(instance, post) {
-            return Err(Why::Step {
-                post: number,
-                fault,
-            });
-        }
-        number += 1;
-    }
-    Ok(())
-}
 
 /// Adds the posts of a record to a state, up to the first one that isn't allowed.
 fn add_record(
@@ -44,7 +25,8 @@ fn add_record(
     ensures err { IfErr result (RecordStops instance.now state.old.book bytes.now) }
 {
     let posts = read(alloc, bytes)?;
-    add_posts(state, instance, posts)
+    add_posts(state, instance, posts)?;
+    Ok(())
 }
 
 /// Why the records stop at one, by its number, that isn't taken for a reason.

@@ -25,6 +25,22 @@ zip_take R (suc n) [] (b ∷ bs) z = absurd z
 zip_take R (suc n) (a ∷ xs) [] z = absurd z
 zip_take R (suc n) (a ∷ xs) (b ∷ ys) z = (z.0, zip_take R n xs ys z.1)
 
+pub zip_append : {A B : Type 0} (R : A → B → Type 0) (xs us : List A) (ys vs : List B) → AllZip R xs ys → AllZip R us vs → AllZip R (xs ++ us) (ys ++ vs)
+zip_append R [] us [] vs z w = w
+zip_append R [] us (b ∷ bs) vs z w = absurd z
+zip_append R (a ∷ xs) us [] vs z w = absurd z
+zip_append R (a ∷ xs) us (b ∷ ys) vs z w = (z.0, zip_append R xs us ys vs z.1 w)
+
+pub zip_left : {A B : Type 0} (R : A → B → Type 0) (xs : List A) (ys : List B) → AllZip R xs ys → ys ≡ [] → xs ≡ []
+zip_left R [] ys z e = refl
+zip_left R (a ∷ xs) [] z e = absurd z
+zip_left R (a ∷ xs) (b ∷ ys) z e = absurd (cc)
+
+pub zip_right : {A B : Type 0} (R : A → B → Type 0) (xs : List A) (ys : List B) → AllZip R xs ys → xs ≡ [] → ys ≡ []
+zip_right R xs [] z e = refl
+zip_right R [] (b ∷ ys) z e = absurd z
+zip_right R (a ∷ xs) (b ∷ ys) z e = absurd (cc)
+
 -- ---- records spell one list of batches
 pub batches_once : EachSpellsOnce → (records : List (List ℕ)) (one other : List (List Post)) → AllZip Spells records one → AllZip Spells records other → one ≡ other
 batches_once once [] [] [] a b = refl

@@ -4,6 +4,7 @@ use denote.Param.Send.{recorded_send, sendable, struct_send, view_send, IsSend}
 use denote.Struct.Declared.{shape}
 use Rattle.plan_base.specs.declared.disk.Disk.{Ghosts}
 use Rattle.gated_journal.proofs.journal.Journal.TheSendSync as journal
+use Rattle.search_book.proofs.batched.Batched.TheSendSync as batched
 use Rattle.std.proofs.Crossing.{crosses}
 use Rattle.search_book.specs.contracts.post_log.PostLog.{the_row as posts_row}
 use Rattle.search_book.specs.contracts.book.Book.{the_row as search_row}
@@ -15,7 +16,7 @@ log_send : (T : RattleType) (g : Ghosts T.Denot) → IsSend T → IsSend (log_ro
 log_send T g s = search (journal.the_send, crosses, sendable) depth 60 fits 20000
 
 pub posts_send : (T : RattleType) (g : Ghosts T.Denot) → IsSend T → IsSend (posts_row T g)
-posts_send T g s = search (log_send, crosses, sendable) depth 60 fits 20000
+posts_send T g s = search (log_send, batched.the_send, crosses, sendable) depth 60 fits 20000
 
 -- the book's one field is a session
 field_send : (T : RattleType) (g : Ghosts T.Denot) → IsSend T → IsSend (session_field T g).row

@@ -1,9 +1,9 @@
--- Records of posts, as they are added to a log of posts.
-use Rattle.std.proofs.Common.{◌≡◌, ◌≢◌, ℕ, zero, suc, ◌+◌, ◌-◌, ◌*◌, ◌<◌, ◌≤◌, List, [], ◌∷◌, ◌++◌, length, map, take, drop, refl, sym, ◌∙◌, ap, subst, arith, length-append, Option, None, Some}
-use Rattle.std.specs.Prelude.{IfSome, OnSome, slice_get}
+-- The records of a journal, and the batches of posts that they spell.
+use Rattle.std.proofs.Common.{◌≡◌, ◌≢◌, ℕ, zero, suc, ◌+◌, ◌-◌, ◌*◌, ◌<◌, ◌≤◌, List, [], ◌∷◌, ◌++◌, length, take, drop, refl, sym, ◌∙◌, ap, subst, arith, length-append, Option, None, Some}
+use Rattle.std.specs.Prelude.{IfSome, IsSome, OnSome}
 use Rattle.std.specs.List.{AllZip}
-use Rattle.std.proofs.lemmas.List.{take_all, take-append-le, take-append-drop, append-nil, append_assoc}
-use Rattle.std.proofs.lemmas.List.Sums.{sum_by-cons}
+use Rattle.std.proofs.lemmas.List.{take-append-drop, append-nil, append_assoc}
+use Rattle.std.proofs.lemmas.List.Concat.{flat_map-append}
 use Rattle.plan_base.specs.Causes.{Rose}
 use Rattle.gated_journal.specs.Format.{StandsFor}
 use Rattle.gated_journal.specs.View.{IsStored, JournalView}
@@ -11,145 +11,108 @@ use Rattle.instance_json.specs.Canonical.{canonical_text}
 use Rattle.post_codec.specs.declared.post.Post.{Post}
 use Rattle.post_codec.specs.Spelling.{Spells, spelling}
 use Rattle.shift_instance.specs.Problem.{Problem}
+use Rattle.search_core.specs.Board.{bytes_of}
 use Rattle.search_core.specs.Book.{Book, book_of}
 use Rattle.search_core.specs.declared.board.Shutting.{Shutting}
 use Rattle.search_core.specs.declared.board.Shutting.TheVariants.{DiskFault, Full}
 use Rattle.search_core.proofs.Runs.{front_folds}
-use Rattle.search_book.specs.Entries.{framed_bytes, bytes_of}
-use Rattle.search_book.specs.Keeping.{HoldsFrontOf, IsKeptPosts, ShutOf}
+use Rattle.search_book.specs.Keeping.{HoldsBatches, IsKeptPosts, ShutOf}
 use Rattle.search_book.specs.PostLog.{PostLogView}
-use Rattle.search_book.specs.Posts.{joined, bytes_used}
+use Rattle.search_book.specs.Posts.{joined, bytes_used, SpellPosts}
 use Rattle.search_book.specs.Prefix.{HoldsPrefix}
 use Rattle.search_book.specs.Recorded.{IsRecorded, ShutIn}
-use Rattle.search_book.specs.Written.{IsWritten}
-use Rattle.search_book.proofs.Batches.{zip_length, zip_take}
+use Rattle.search_book.proofs.Batches.{zip_append, zip_length, zip_push, zip_right, zip_take}
 use Rattle.search_book.proofs.Used.{used_more}
-use Rattle.search_book.proofs.Written.{written_flight, written_spells}
 
--- a post as a list of its own
-abbrev pub single : Post → List Post
-single post = post ∷ []
+-- ---- batches, joined
+pub joined_both : (xs ys : List (List Post)) → joined (xs ++ ys) ≡ joined xs ++ joined ys
+joined_both xs ys = flat_map-append (λ (l : List Post). l) xs ys
 
--- ---- fronts of lists
-take_next : {X : Type 0} (xs : List X) (k : ℕ) (x : X) → slice_get xs k ≡ Some x → take (suc k) xs ≡ take k xs ++ x ∷ []
-take_next [] k x at = absurd (cc)
-take_next (y ∷ xs) zero x at = let same : y ≡ x = cc in ap (λ z. z ∷ []) same
-take_next (y ∷ xs) (suc k) x at = ap (λ l. y ∷ l) (take_next xs k x at)
+pub joined_more : (batches : List (List Post)) (posts : List Post) → joined (batches ++ posts ∷ []) ≡ joined batches ++ posts
+joined_more batches posts = joined_both batches (posts ∷ []) ∙ ap (λ (l : List Post). joined batches ++ l) (append-nil posts)
 
-pub place_below : {X : Type 0} (xs : List X) (k : ℕ) (x : X) → slice_get xs k ≡ Some x → k < length xs
-place_below [] k x at = absurd (cc)
-place_below (y ∷ xs) zero x at = omega arith
-place_below (y ∷ xs) (suc k) x at = let less : k < length xs = place_below xs k x at in omega arith
+pub joined_front : (k : ℕ) (batches : List (List Post)) → joined (take k batches) ++ joined (drop k batches) ≡ joined batches
+joined_front k batches = sym (joined_both (take k batches) (drop k batches)) ∙ ap joined (take-append-drop k batches)
 
-take_size : {X : Type 0} (k : ℕ) (xs : List X) → k ≤ length xs → length (take k xs) ≡ k
-take_size zero xs few = refl
-take_size (suc k) [] few = absurd (omega arith)
-take_size (suc k) (x ∷ xs) few = let less : k ≤ length xs = omega arith in ap suc (take_size k xs less)
+-- ---- records
+take_past : {X : Type 0} (xs ys : List X) (k : ℕ) → xs ++ take k ys ≡ take (length xs + k) (xs ++ ys)
+take_past [] ys k = let none : k ≡ 0 + k = omega arith in ap (λ (n : ℕ). take n ys) none
+take_past (x ∷ xs) ys k = let one : suc (length xs) + k ≡ suc (length xs + k) = omega arith in ap (λ l. x ∷ l) (take_past xs ys k) ∙ ap (λ (n : ℕ). take n (x ∷ (xs ++ ys))) (sym one)
 
-take_singles : (k : ℕ) (posts : List Post) → take k (map single posts) ≡ map single (take k posts)
-take_singles zero posts = refl
-take_singles (suc k) [] = refl
-take_singles (suc k) (p ∷ posts) = ap (λ l. single p ∷ l) (take_singles k posts)
+module _ (first : ℕ) (opening : List Post) where
+  -- at the opening
+  pub recorded_first : (records : List (List ℕ)) → length records ≡ first → SpellPosts records opening → IsRecorded records first opening []
+  recorded_first records count s = record { front = records; rest = []; all = append-nil records; count = count; opened = s; since = tt }
 
-pub singles_size : (posts : List Post) → length (map single posts) ≡ length posts
-singles_size [] = refl
-singles_size (p ∷ posts) = ap suc (singles_size posts)
+  -- some records more, each with its batch
+  pub recorded_more : (records more : List (List ℕ)) (batches added : List (List Post)) → IsRecorded records first opening batches → AllZip Spells more added → IsRecorded (records ++ more) first opening (batches ++ added)
+  recorded_more records more batches added r z = record {
+    front = r.front;
+    rest = r.rest ++ more;
+    all = sym (append_assoc r.front r.rest more) ∙ ap (λ (l : List (List ℕ)). l ++ more) r.all;
+    count = r.count;
+    opened = r.opened;
+    since = zip_append Spells r.rest more batches added r.since z;
+  }
 
--- ---- nothing is in flight
-pub recorded_of : (records : List (List ℕ)) (history : List Post) (first opening added : ℕ) → IsWritten records history first opening added → IsRecorded records [] (history ++ []) first opening added
-recorded_of records history first opening added w = record {
-  recorded = history;
-  rest = [];
-  all = refl;
-  written =
-      let count : added ≡ added + length {A = List ℕ} [] = omega arith in
-      subst (λ (n : ℕ). IsWritten (records ++ []) history first opening n) count
-      (subst (λ (l : List (List ℕ)). IsWritten l history first opening added) (sym (append-nil records)) w);
-}
+  -- the first of the records
+  pub recorded_take : (records : List (List ℕ)) (batches : List (List Post)) (k : ℕ) → IsRecorded records first opening batches → IsRecorded (take (first + k) records) first opening (take k batches)
+  recorded_take records batches k r = record {
+    front = r.front;
+    rest = take k r.rest;
+    all = take_past r.front r.rest k ∙ ap (λ (n : ℕ). take (n + k) (r.front ++ r.rest)) r.count ∙ ap (take (first + k)) r.all;
+    count = r.count;
+    opened = r.opened;
+    since = zip_take Spells k r.rest batches r.since;
+  }
 
-written_plain : (records : List (List ℕ)) (history : List Post) (first opening added : ℕ) → length history ≡ opening + added → IsRecorded records [] (history ++ []) first opening added → IsWritten records history first opening added
-written_plain records history first opening added size r =
-    let n : ℕ = length r.recorded in
-    let count : added + length {A = List ℕ} [] ≡ added = omega arith in
-    let many : n ≡ length history = omega (arith, r.written.posts_made, size) in
-    let a : take n (r.recorded ++ r.rest) ≡ r.recorded = take-append-le n r.recorded r.rest (omega arith) ∙ take_all n r.recorded (omega arith) in
-    let b : take n (history ++ []) ≡ history = take-append-le n history [] (omega (arith, many)) ∙ take_all n history (omega (arith, many)) in
-    let same : r.recorded ≡ history = sym a ∙ ap (take n) r.all ∙ b in
-    subst (λ (l : List Post). IsWritten records l first opening added) same
-    (subst (λ (rs : List (List ℕ)). IsWritten rs r.recorded first opening added) (append-nil records)
-    (subst (λ (m : ℕ). IsWritten (records ++ []) r.recorded first opening m) count r.written))
+  pub recorded_count : (records : List (List ℕ)) (batches : List (List Post)) → IsRecorded records first opening batches → length records ≡ first + length batches
+  recorded_count records batches r =
+      let all : length records ≡ length r.front + length r.rest = ap length (sym r.all) ∙ length-append r.front r.rest in
+      omega (arith, r.count, zip_length Spells r.rest batches r.since)
 
-pub written_quiet : (records flight : List (List ℕ)) (history in_flight : List Post) (first opening added : ℕ) → flight ≡ [] → in_flight ≡ [] → length history ≡ opening + added → IsRecorded records flight (history ++ in_flight) first opening added → IsWritten records history first opening added
-written_quiet records [] history [] first opening added f i size r = written_plain records history first opening added size r
-written_quiet records [] history (p ∷ ps) first opening added f i size r = absurd (cc)
-written_quiet records (b ∷ bs) history in_flight first opening added f i size r = absurd (cc)
-
--- ---- posts whose records were made, all or up to one that is in flight
-pub recorded_all : (records rs : List (List ℕ)) (history posts : List Post) (first opening added : ℕ) → AllZip Spells rs (map single posts) → IsWritten records history first opening added → IsWritten (records ++ rs) (history ++ posts) first opening (added + length posts)
-recorded_all records rs history posts first opening added z w = written_flight records history first opening added rs posts z w
-
-pub recorded_stop : (records rs : List (List ℕ)) (history posts : List Post) (first opening added count : ℕ) (bytes : List ℕ) → AllZip Spells rs (map single posts) → slice_get rs count ≡ Some bytes → IsWritten records history first opening added
-    → IsRecorded (records ++ take count rs) (bytes ∷ []) (history ++ posts) first opening (added + count)
-recorded_stop records rs history posts first opening added count bytes z at w =
-    let below : count < length rs = place_below rs count bytes at in
-    let size : length rs ≡ length posts = zip_length Spells rs (map single posts) z ∙ singles_size posts in
-    let made : length (take (suc count) posts) ≡ suc count = take_size (suc count) posts (omega arith) in
-    let zip : AllZip Spells (take (suc count) rs) (map single (take (suc count) posts)) = subst (AllZip Spells (take (suc count) rs)) (take_singles (suc count) posts) (zip_take Spells (suc count) rs (map single posts) z) in
-    let whole = written_flight records history first opening added (take (suc count) rs) (take (suc count) posts) zip w in
-    let last : records ++ take (suc count) rs ≡ (records ++ take count rs) ++ bytes ∷ [] = ap (λ (l : List (List ℕ)). records ++ l) (take_next rs count bytes at) ∙ sym (append_assoc records (take count rs) (bytes ∷ [])) in
-    let number : added + length (take (suc count) posts) ≡ added + count + length (bytes ∷ []) = omega arith in
-    record {
-      recorded = history ++ take (suc count) posts;
-      rest = drop (suc count) posts;
-      all = append_assoc history (take (suc count) posts) (drop (suc count) posts) ∙ ap (λ (l : List Post). history ++ l) (take-append-drop (suc count) posts);
-      written =
-          subst (λ (n : ℕ). IsWritten ((records ++ take count rs) ++ bytes ∷ []) (history ++ take (suc count) posts) first opening n) number
-          (subst (λ (l : List (List ℕ)). IsWritten l (history ++ take (suc count) posts) first opening (added + length (take (suc count) posts))) last whole);
-    }
+  -- they spell all the posts
+  pub recorded_spells : (records : List (List ℕ)) (batches : List (List Post)) → IsRecorded records first opening batches → SpellPosts records (opening ++ joined batches)
+  recorded_spells records batches r = record {
+    batches = r.opened.batches ++ batches;
+    spelled = subst (λ (l : List (List ℕ)). AllZip Spells l (r.opened.batches ++ batches)) r.all (zip_append Spells r.front r.rest r.opened.batches batches r.opened.spelled r.since);
+    all = joined_both r.opened.batches batches ∙ ap (λ (l : List Post). l ++ joined batches) r.opened.all;
+  }
 
 -- ---- bytes
-pub used_all : (head : List ℕ) (records rs : List (List ℕ)) → bytes_used head (records ++ rs) ≡ bytes_used head records + framed_bytes rs
-used_all head records [] = ap (bytes_used head) (append-nil records) ∙ (let none : bytes_used head records ≡ bytes_used head records + framed_bytes [] = omega arith in none)
-used_all head records (r ∷ rs) =
-    let first : bytes_used head (records ++ r ∷ []) ≡ bytes_used head records + 5 + length r = used_more head records r in
-    let later : bytes_used head ((records ++ r ∷ []) ++ rs) ≡ bytes_used head (records ++ r ∷ []) + framed_bytes rs = used_all head (records ++ r ∷ []) rs in
-    let same : bytes_used head ((records ++ r ∷ []) ++ rs) ≡ bytes_used head (records ++ r ∷ rs) = ap (bytes_used head) (append_assoc records (r ∷ []) rs) in
-    omega (arith, sum_by-cons (λ (bytes : List ℕ). 5 + length bytes) r rs)
+pub bytes_are : (posts : List Post) (bytes : List ℕ) → 0 < length posts → Spells bytes posts → 5 + length bytes ≡ bytes_of posts
+bytes_are [] bytes some s = absurd (omega arith)
+bytes_are (p ∷ posts) bytes some s = ap (λ (l : List ℕ). 5 + length l) s.is
 
-pub spelled_bytes : (rs : List (List ℕ)) (posts : List Post) → AllZip Spells rs (map single posts) → framed_bytes rs ≡ bytes_of posts
-spelled_bytes [] [] z = refl
-spelled_bytes [] (p ∷ posts) z = absurd z
-spelled_bytes (r ∷ rs) [] z = absurd z
-spelled_bytes (r ∷ rs) (p ∷ posts) z =
-    let here : length r ≡ length (spelling (p ∷ [])) = ap length z.0.is in
-    let rest : framed_bytes rs ≡ bytes_of posts = spelled_bytes rs posts z.1 in
-    omega (arith, sum_by-cons (λ (bytes : List ℕ). 5 + length bytes) r rs, sum_by-cons (λ (post : Post). 5 + length (spelling (post ∷ []))) p posts)
+pub used_with : (head : List ℕ) (records : List (List ℕ)) (posts : List Post) (bytes : List ℕ) → 0 < length posts → Spells bytes posts → bytes_used head (records ++ bytes ∷ []) ≡ bytes_used head records + bytes_of posts
+used_with head records posts bytes some s =
+    let size : 5 + length bytes ≡ bytes_of posts = bytes_are posts bytes some s in
+    omega (arith, used_more head records bytes)
 
 -- ---- what a crash may leave, in posts
-front_of_run : (limit : ℕ) (i : Problem) (head : List ℕ) (records : List (List ℕ)) (posts rest run : List Post) (first opening made b : ℕ) (file : List ℕ) → head ≡ canonical_text i → IsWritten records posts first opening made → posts ++ rest ≡ run → (c : Book) × (book_of i run ≡ Some c) → HoldsPrefix limit head records (first + b) file → HoldsFrontOf limit i run (opening + b) file
-front_of_run limit i head records posts rest run first opening made b file is w all folds front =
+pub some_of : {X : Type 0} (o : Option X) → IsSome o → (x : X) × (o ≡ Some x)
+some_of None s = absurd (cc (s))
+some_of (Some x) s = (x, refl)
+
+front_of_run : (limit : ℕ) (i : Problem) (head : List ℕ) (run : List (List ℕ)) (opening : List Post) (batches : List (List Post)) (first b : ℕ) (file : List ℕ) → head ≡ canonical_text i → IsRecorded run first opening batches → IsSome (book_of i (opening ++ joined batches)) → HoldsPrefix limit head run (first + b) file → HoldsBatches limit i opening batches b file
+front_of_run limit i head run opening batches first b file is r folds front =
     let k : ℕ = front.count - first in
     let count : front.count ≡ first + k = omega (arith, front.at_least) in
-    let small : k ≤ made = omega (arith, front.at_most, w.records_made) in
-    let size : length run ≡ length posts + length rest = ap length (sym all) ∙ length-append posts rest in
-    let within : opening + k ≤ length posts = omega (arith, w.posts_made) in
-    let same : take (opening + k) posts ≡ take (opening + k) run = sym (take-append-le (opening + k) posts rest within) ∙ ap (take (opening + k)) all in
-    let parts : take (opening + k) run ++ drop (opening + k) run ≡ run = take-append-drop (opening + k) run in
-    let part = front_folds i (take (opening + k) run) (drop (opening + k) run) folds.0 (ap (book_of i) parts ∙ folds.1) in
+    let all = some_of (book_of i (opening ++ joined batches)) folds in
+    let first_posts : List Post = opening ++ joined (take k batches) in
+    let parts : first_posts ++ joined (drop k batches) ≡ opening ++ joined batches = append_assoc opening (joined (take k batches)) (joined (drop k batches)) ∙ ap (λ (l : List Post). opening ++ l) (joined_front k batches) in
+    let part = front_folds i first_posts (joined (drop k batches)) all.0 (ap (book_of i) parts ∙ all.1) in
+    let records : List (List ℕ) = take (first + k) run in
     record {
-      count = opening + k;
+      count = k;
       at_least = omega (arith, front.at_least);
-      at_most = omega arith;
+      at_most = omega (arith, front.at_most, recorded_count first opening run batches r);
       holds = record {
-        used = bytes_used (canonical_text i) (take front.count records);
+        used = bytes_used (canonical_text i) records;
         journal = record {
-          records = take front.count records;
-          spells = record {
-            batches = take front.count w.batches;
-            spelled = zip_take Spells front.count records w.batches w.spelled;
-            all = ap (λ (n : ℕ). joined (take n w.batches)) count ∙ w.fronts k small ∙ same;
-          };
-          stands = subst (λ (h : List ℕ). StandsFor limit h (take front.count records) file) is front.holds;
+          records = records;
+          spells = recorded_spells first opening records (take k batches) (recorded_take first opening run batches k r);
+          stands = subst (λ (h : List ℕ). StandsFor limit h records file) is (subst (λ (n : ℕ). StandsFor limit head (take n run) file) count front.holds);
           ends = refl;
         };
       };
@@ -157,29 +120,29 @@ front_of_run limit i head records posts rest run first opening made b file is w 
       folds = part.1;
     }
 
-pub posts_last : (reads : Option (List ℕ)) (since : ℕ → List ℕ → Type 0) (start limit : ℕ) (i : Problem) (head : List ℕ) (records flight : List (List ℕ)) (run : List Post) (first opening added : ℕ)
-    → head ≡ canonical_text i → IsRecorded records flight run first opening added → (c : Book) × (book_of i run ≡ Some c)
+pub posts_last : (reads : Option (List ℕ)) (since : ℕ → List ℕ → Type 0) (start limit : ℕ) (i : Problem) (head : List ℕ) (records flight : List (List ℕ)) (opening : List Post) (batches in_flight : List (List Post)) (first added : ℕ)
+    → head ≡ canonical_text i → IsRecorded records first opening batches → AllZip Spells flight in_flight → IsSome (book_of i (opening ++ joined (batches ++ in_flight))) → length batches ≡ added
     → OnSome reads ((b : ℕ) (image : List ℕ) → b ≤ added → since (start + 4 * b) image → HoldsPrefix limit head (records ++ flight) (first + b) image)
-    → OnSome reads ((b : ℕ) (image : List ℕ) → b ≤ added → since (start + 4 * b) image → HoldsFrontOf limit i run (opening + b) image)
-posts_last None since start limit i head records flight run first opening added is r folds lasts = tt
-posts_last (Some file) since start limit i head records flight run first opening added is r folds lasts = λ b image le left.
-    front_of_run limit i head (records ++ flight) r.recorded r.rest run first opening (added + length flight) b image is r.written r.all folds (lasts b image le left)
+    → OnSome reads ((b : ℕ) (image : List ℕ) → b ≤ length batches → since (start + 4 * b) image → HoldsBatches limit i opening (batches ++ in_flight) b image)
+posts_last None since start limit i head records flight opening batches in_flight first added is r z folds same lasts = tt
+posts_last (Some file) since start limit i head records flight opening batches in_flight first added is r z folds same lasts = λ b image le left.
+    front_of_run limit i head (records ++ flight) opening (batches ++ in_flight) first b image is (recorded_more first opening records flight batches in_flight r z) folds (lasts b image (omega (arith, le, same)) left)
 
 -- ---- the disk of a running log
-pub kept_posts : {D : Type 0} (images : D → List ℕ → Type 0) (log : PostLogView D) (journal : JournalView) (first : ℕ) (o : Option (List ℕ)) → journal.head ≡ canonical_text log.instance → journal.limit ≡ log.limit → log.used ≡ bytes_used journal.head journal.records → IsWritten journal.records log.history first log.opening log.made → IfSome o (IsStored journal (images log.disk)) → IfSome o (IsKeptPosts images log)
-kept_posts images log journal first None is most used w stored = tt
-kept_posts images log journal first (Some file) is most used w stored = record {
+pub kept_posts : {D : Type 0} (images : D → List ℕ → Type 0) (log : PostLogView D) (journal : JournalView) (o : Option (List ℕ)) → journal.head ≡ canonical_text log.instance → journal.limit ≡ log.limit → log.used ≡ bytes_used journal.head journal.records → SpellPosts journal.records log.history → IfSome o (IsStored journal (images log.disk)) → IfSome o (IsKeptPosts images log)
+kept_posts images log journal None is most used s stored = tt
+kept_posts images log journal (Some file) is most used s stored = record {
   only = stored.only;
   journal = record {
     records = journal.records;
-    spells = written_spells journal.records log.history first log.opening log.made w;
+    spells = s;
     stands = subst (λ (h : List ℕ). StandsFor log.limit h journal.records file) is (subst (λ (l : ℕ). StandsFor l journal.head journal.records file) most stored.stands);
     ends = used ∙ ap (λ (h : List ℕ). bytes_used h journal.records) is;
   };
 }
 
 -- ---- why a log of posts is shut
-pub shut_of : (limit before now : ℕ) (flight : List (List ℕ)) (in_flight : List Post) (shut : Option Shutting) → ShutIn limit flight in_flight shut → (flight ≢ [] → Rose before now) → ShutOf limit before now in_flight shut
-shut_of limit before now flight in_flight None by cause = by
-shut_of limit before now flight in_flight (Some DiskFault) by cause = cause by
-shut_of limit before now flight in_flight (Some (Full end most)) by cause = by
+pub shut_of : (limit before now : ℕ) (flight : List (List ℕ)) (in_flight : List (List Post)) (shut : Option Shutting) → ShutIn limit flight shut → AllZip Spells flight in_flight → (flight ≢ [] → Rose before now) → ShutOf limit before now in_flight shut
+shut_of limit before now flight in_flight None by z cause = zip_right Spells flight in_flight z by
+shut_of limit before now flight in_flight (Some DiskFault) by z cause = cause by
+shut_of limit before now flight in_flight (Some (Full end most)) by z cause = (zip_right Spells flight in_flight z by.0, by.1, by.2)

@@ -8,25 +8,26 @@ use Rattle.shift_instance.specs.Valid.{IsValid}
 use Rattle.search_core.specs.Book.{Book, book_of}
 use Rattle.search_core.specs.declared.board.Shutting.{Shutting}
 use Rattle.search_core.specs.declared.board.Shutting.TheVariants.{DiskFault, Full}
-use Rattle.search_book.specs.Posts.{StandsForPosts, IsJournalOf}
+use Rattle.search_book.specs.Posts.{joined, StandsForPosts, IsJournalOf}
 use Rattle.search_book.specs.PostLog.{PostLogView}
 
--- a file that stands for a front of a run's posts which has at least so many of them, and that front makes a book
-pub record HoldsFrontOf (limit : ℕ) (i : Problem) (run : List Post) (least : ℕ) (file : List ℕ) : Type 0 where
+-- a file that stands for the opening posts of a run and the first of its batches, at least so many, each whole; these posts
+-- make a book
+pub record HoldsBatches (limit : ℕ) (i : Problem) (opening : List Post) (batches : List (List Post)) (least : ℕ) (file : List ℕ) : Type 0 where
   pub count : ℕ
   pub at_least : least ≤ count
-  pub at_most : count ≤ length run
-  pub holds : StandsForPosts limit i (take count run) file
+  pub at_most : count ≤ length batches
+  pub holds : StandsForPosts limit i (opening ++ joined (take count batches)) file
   pub book : Book
-  pub folds : book_of i (take count run) ≡ Some book
+  pub folds : book_of i (opening ++ joined (take count batches)) ≡ Some book
 
--- For every b up to the records made, each image since the b-th of them was acknowledged holds a front of the run's posts
--- with the opening ones and those of the first b records in it. A record is acknowledged with the fourth call on the disk
--- after the one before it. The posts of a commit that ended in a disk fault count as the last of the run.
+-- For every b up to the records made, each image since the b-th of them was acknowledged stands for the opening posts and
+-- those of whole commits, from the first on, the first b among them. A record is acknowledged with the fourth call on the
+-- disk after the one before it. A commit that ended in a disk fault counts as the last.
 abbrev pub PostsLast : {D : Type 0} → (D → Option (List ℕ)) → (D → ℕ → List ℕ → Type 0) → (D → ℕ) → PostLogView D → Type 0
 PostsLast reads images_since calls log =
-    OnSome (reads log.disk) ((b : ℕ) (image : List ℕ) → b ≤ log.made → images_since log.disk (calls log.opened + 4 * b) image
-    → HoldsFrontOf log.limit log.instance (log.history ++ log.in_flight) (log.opening + b) image)
+    OnSome (reads log.disk) ((b : ℕ) (image : List ℕ) → b ≤ length log.batches → images_since log.disk (calls log.opened + 4 * b) image
+    → HoldsBatches log.limit log.instance log.opening (log.batches ++ log.in_flight) b image)
 
 -- the file is the only image, and it is the journal of the posts
 pub record IsKeptPosts {D : Type 0} (images : D → List ℕ → Type 0) (log : PostLogView D) (file : List ℕ) : Type 0 where
@@ -36,12 +37,11 @@ pub record IsKeptPosts {D : Type 0} (images : D → List ℕ → Type 0) (log : 
 -- the disk holds the posts, where it tells its content, and each record took four calls
 pub record IsRunningPosts {D : Type 0} (reads : D → Option (List ℕ)) (images : D → List ℕ → Type 0) (calls : D → ℕ) (log : PostLogView D) : Type 0 where
   pub kept : IfSome (reads log.disk) (IsKeptPosts images log)
-  pub time : calls log.disk ≡ calls log.opened + 4 * log.made
-  pub counted : length log.history ≡ log.opening + log.made
+  pub time : calls log.disk ≡ calls log.opened + 4 * length log.batches
 
--- what shut a log, if anything did: its disk failed between two counts of faults, or records would have ended past its limit; posts are in flight only
--- after a disk fault
-abbrev pub ShutOf : (limit before now : ℕ) → List Post → Option Shutting → Type 0
+-- what shut a log, if anything did: its disk failed between two counts of faults, or a record would have ended past its limit;
+-- posts are in flight only after a disk fault
+abbrev pub ShutOf : (limit before now : ℕ) → List (List Post) → Option Shutting → Type 0
 ShutOf limit before now in_flight None = in_flight ≡ []
 ShutOf limit before now in_flight (Some DiskFault) = Rose before now
 ShutOf limit before now in_flight (Some (Full end most)) = (in_flight ≡ []) × (limit < end) × (most ≡ limit)
@@ -49,16 +49,15 @@ ShutOf limit before now in_flight (Some (Full end most)) = (in_flight ≡ []) ×
 -- what is known of a log of posts at each moment
 pub record IsPostLog {D : Type 0} (reads : D → Option (List ℕ)) (images : D → List ℕ → Type 0) (images_since : D → ℕ → List ℕ → Type 0) (calls faults : D → ℕ) (log : PostLogView D) : Type 0 where
   pub valid : IsValid log.instance
+  pub all : log.history ≡ log.opening ++ joined log.batches
   pub folds : book_of log.instance log.history ≡ Some log.book
   pub running : log.in_flight ≡ [] → IsRunningPosts reads images calls log
-  pub front : log.opening ≤ length log.history
-  -- each post that was committed since the opening has its record, and no more were made than for those in flight
-  pub counted : (length log.history ≤ log.opening + log.made) × (log.opening + log.made ≤ length log.history + length log.in_flight)
+  pub single : length log.in_flight ≤ 1
   pub few : length log.history < 2 ^ 24
   pub nodes : length log.book.nodes ≤ 2 ^ 24
   pub shut : ShutOf log.limit (faults log.opened) (faults log.disk) log.in_flight log.shut
   pub telling : TellsAlike (reads log.opened) (reads log.disk)
   pub later : faults log.opened ≤ faults log.disk
   -- the last of the records was acknowledged by now
-  pub moment : calls log.opened + 4 * log.made ≤ calls log.disk
+  pub moment : calls log.opened + 4 * length log.batches ≤ calls log.disk
   pub lasts : PostsLast reads images_since calls log

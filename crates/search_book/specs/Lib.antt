@@ -3,16 +3,13 @@ pub mod Prefix
 pub mod Records
 pub mod Inside
 pub mod Opening
-pub mod Written
 pub mod PostLog
-pub mod Entries
-pub mod Added
 pub mod Keeping
 pub mod Recorded
-pub mod Drafting
 pub mod Origins
 pub mod Head
 pub mod OpenFaultText
 pub mod Opened
 pub mod Search
 pub mod Committing
+pub mod Boards

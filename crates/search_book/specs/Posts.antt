@@ -1,5 +1,7 @@
 -- A file that stands for an instance and posts.
-use Rattle.std.specs.Prelude.{◌≡◌, ℕ, ◌+◌, List, length}
+use Rattle.std.specs.Prelude.{◌≡◌, ℕ, ◌+◌, List, [], ◌∷◌, length, Option, None, Some, Vec}
+use Rattle.std.specs.declared.snapshot.Snapshot.{Snapshot}
+use Rattle.std.specs.declared.alloc.Global.{Global}
 use Rattle.std.specs.List.{AllZip, flat_map}
 use Rattle.gated_journal.specs.Format.{spelled, StandsFor}
 use Rattle.instance_json.specs.Canonical.{canonical_text}
@@ -16,6 +18,16 @@ pub record SpellPosts (records : List (List ℕ)) (posts : List Post) : Type 0 w
   pub batches : List (List Post)
   pub spelled : AllZip Spells records batches
   pub all : joined batches ≡ posts
+
+-- the posts of a commit that ended in a disk fault, as a batch of their own
+abbrev pub batches_told : Option (Snapshot (Vec Post Global)) → List (List Post)
+batches_told None = []
+batches_told (Some posts) = posts.value.items ∷ []
+
+-- the posts of a commit for which there was no room
+abbrev pub posts_told : Option (Snapshot (Vec Post Global)) → List Post
+posts_told None = []
+posts_told (Some posts) = posts.value.items
 
 -- the bytes of a journal up to its closed gate, that one included
 unfoldable pub bytes_used : List ℕ → List (List ℕ) → ℕ

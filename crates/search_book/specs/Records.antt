@@ -68,11 +68,3 @@ AddFails faults old new bytes (Full end limit) = (new ≡ old) × (end ≡ end_a
 AddFails faults old new bytes NoMemory = ⊥
 AddFails faults old new bytes NotAJournal = ⊥
 AddFails faults old new bytes (Damaged at) = ⊥
-
--- why a record isn't added where room is still to be made, and what the log is then
-abbrev pub AddOneFails : {D : Type 0} → (D → ℕ) → LogView D → LogView D → List ℕ → JournalFault → Type 0
-AddOneFails faults old new bytes DiskFault = AddFails faults (record old { spare = new.spare }) new bytes DiskFault
-AddOneFails faults old new bytes (Full end limit) = AddFails faults (record old { spare = new.spare }) new bytes (Full end limit)
-AddOneFails faults old new bytes NoMemory = new ≡ record old { spare = new.spare }
-AddOneFails faults old new bytes NotAJournal = ⊥
-AddOneFails faults old new bytes (Damaged at) = ⊥

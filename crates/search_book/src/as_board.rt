@@ -6,24 +6,10 @@ use plan_base::Disk;
 use search_core::{Board, CommitFault, Kept, StepPosts, Taken};
 
 impl<D: Disk> Board for Book<D> {
-    ghost use Rattle.std.specs.Prelude.{take};
-    ghost use Rattle.search_book.specs.Origins.{origin_at, sound_of, tells};
+    ghost use Rattle.search_book.specs.Boards.{sound_of};
+    ghost use Rattle.search_book.specs.Search.{board_of};
 
-    ghost history = { λ b. b.history };
-
-    ghost hands = { λ b. b.hands };
-
-    ghost taken = { λ b. b.taken };
-
-    ghost shut = { λ b. b.shut };
-
-    ghost halted = { λ b. b.halted };
-
-    ghost instance = { λ b. b.instance };
-
-    ghost budget = { λ b. b.budget };
-
-    ghost origin = { λ b. origin_at (take b.opening b.history) (D.calls b.opened) (D.faults b.opened) b.limit (tells (D.reads b.opened)) };
+    ghost seen = { λ b. board_of D.reads D.calls D.faults b };
 
     /// A worker whose hand is empty takes a node, if one is to be had.
     fn take(&mut self, worker: u32) -> Taken {
@@ -60,5 +46,5 @@ impl<D: Disk> Board for Book<D> {
         self.posts()
     }
 
-    ghost sound = { λ b. sound_of b.instance b.history b.book b.hands b.taken b.budget b.opening (D.calls b.opened) (D.faults b.opened) b.limit (tells (D.reads b.opened)) b.halted b.shut b.keeps.folds b.keeps.apart b.keeps.unsplit b.keeps.sixteen b.keeps.within b.keeps.fresh b.keeps.past b.keeps.most };
+    ghost sound = { λ b. sound_of D.reads D.calls D.faults b.log b.hands b.taken b.budget b.halted b.keeps };
 }

@@ -1,14 +1,15 @@
 //! The book of a search on a disk, from which workers take nodes.
-ghost use Rattle.std.specs.Prelude.{◌≡◌, ℕ, ◌+◌, ◌*◌, ◌^◌, ◌<◌, ◌≤◌, [], false, true, length, slice_set, IfErr, IfOk, IsSome, None, Some};
+ghost use Rattle.std.specs.Prelude.{◌≡◌, ℕ, ◌+◌, ◌*◌, ◌^◌, ◌<◌, ◌≤◌, [], ◌++◌, false, length, IfErr, IfOk, IsSome, None, Some};
 ghost use Rattle.plan_base.specs.Disk.{TellsAlike};
-ghost use Rattle.search_core.specs.Board.{CommitRefuses, Commits, TakeMakes};
+ghost use Rattle.search_core.specs.Board.{yields, CommitRefuses, Commits, TakeMakes};
 ghost use Rattle.search_core.specs.Book.{book_of, is_finished, floor_of, IsSound};
-ghost use Rattle.search_core.specs.Core.{empty_hands, hand, IsFront};
+ghost use Rattle.search_core.specs.Core.{empty_hands, hand};
 ghost use Rattle.search_core.specs.Kept.{cuts_in};
 ghost use Rattle.search_core.specs.Steps.{Fits};
 ghost use Rattle.search_book.specs.Committing.{LeavesLog, RecordsStep};
 ghost use Rattle.search_book.specs.Keeping.{IsRunningPosts, PostsLast, ShutOf};
-ghost use Rattle.search_book.specs.Search.{board_of, log_of};
+ghost use Rattle.search_book.specs.Posts.{joined};
+ghost use Rattle.search_book.specs.Search.{board_of};
 
 use crate::post_log::PostLog;
 use crate::readers::is_finished;
@@ -19,14 +20,13 @@ use plan_base::Disk;
 use post_codec::Post;
 use search_core::{CommitFault, Kept, StepPosts, Taken};
 use shift_instance::Rows;
-use std::alloc::Global;
 use std::marker::Model;
 
 /// The book of a search for an instance, with the disk that holds its posts. Whoever opens the disk again after a crash
 /// finds a book of the same posts, or of a front of them with all that were acknowledged.
 ///
-/// Contracts see the instance, its posts with the book that they make, its disk, what shut it, the node in the hand of each
-/// worker, the steps taken and those of the budget, and whether a worker let go of its node without a commit.
+/// Contracts see its posts on their disk, the node in the hand of each worker, the steps taken and those of the budget, and
+/// whether a worker let go of its node without a commit.
 #[derive(Drop)]
 pub struct Book<D: Disk> {
     session: Session<D>,
@@ -37,22 +37,22 @@ impl<D: Disk> Model for Book<D> {
 
     ghost Value = { SearchView D };
 
-    ghost view = { λ b. record { instance = b.session.log.instance; history = b.session.log.history; book = b.session.log.book; disk = b.session.log.disk; limit = b.session.log.limit; opening = b.session.log.opening; opened = b.session.log.opened; made = b.session.log.made; used = b.session.log.used; in_flight = b.session.log.in_flight; shut = b.session.log.shut; hands = b.session.hands; taken = b.session.taken; budget = b.session.budget; halted = b.session.halted; keeps = record { folds = b.session.folds; apart = b.session.apart; unsplit = b.session.unsplit; counted = b.session.counted; sixteen = b.session.sixteen; within = b.session.within; front = b.session.front; fresh = b.session.fresh; past = b.session.past; most = b.session.most } } };
+    ghost view = { λ b. record { log = b.session.log; hands = b.session.hands; taken = b.session.taken; budget = b.session.budget; halted = b.session.halted; keeps = record { all = b.session.all; folds = b.session.folds; apart = b.session.apart; unsplit = b.session.unsplit; counted = b.session.counted; sixteen = b.session.sixteen; within = b.session.within; fresh = b.session.fresh; past = b.session.past } } };
 }
 
 impl<D: Disk> Book<D> {
     /// The rows of the best rota, which are legal for the instance.
     pub fn best(&self) -> &Rows
-        ensures best { result.now ≡ self.now.book.best }
-        ensures sound { IsSound self.now.instance self.now.book }
+        ensures best { result.now ≡ self.now.log.book.best }
+        ensures sound { IsSound self.now.log.instance self.now.log.book }
     {
         self.session.log().state().best()
     }
 
     /// What every legal rota is known to cost at least.
     pub fn floor(&self) -> u64
-        ensures floor { result ≡ floor_of self.now.book }
-        ensures sound { IsSound self.now.instance self.now.book }
+        ensures floor { result ≡ floor_of self.now.log.book }
+        ensures sound { IsSound self.now.log.instance self.now.log.book }
     {
         self.session.log().state().floor()
     }
@@ -66,16 +66,16 @@ impl<D: Disk> Book<D> {
 
     /// Whether no node is open. Then the best rota is cheapest.
     pub fn finished(&self) -> bool
-        ensures { result ≡ is_finished self.now.book }
+        ensures { result ≡ is_finished self.now.log.book }
     {
         is_finished(self.session.log().state())
     }
 
     /// The posts, from the first one in the file on.
     pub fn history(&self) -> &[Post]
-        ensures history { result.now ≡ self.now.history }
-        ensures few { length self.now.history < 2 ^ 24 }
-        ensures folds { book_of self.now.instance self.now.history ≡ Some self.now.book }
+        ensures history { result.now ≡ self.now.log.history }
+        ensures few { length self.now.log.history < 2 ^ 24 }
+        ensures folds { book_of self.now.log.instance self.now.log.history ≡ Some self.now.log.book }
     {
         let _made = self.session.log().made();
         self.session.log().state().history()
@@ -83,16 +83,17 @@ impl<D: Disk> Book<D> {
 
     /// How many records were made since the book was opened, with all that a crash at any moment may leave, and why the
     /// book is shut, where it is. The moment at which the last of them was acknowledged isn't after now, even where a disk
-    /// fault shut the book. Each record whose addition ended well counts, also those of a commit that ended in a disk fault.
+    /// fault shut the book.
     pub fn batches(&self) -> u64
-        ensures made { result ≡ self.now.made }
-        ensures lasts { PostsLast D.reads D.images_since D.calls (log_of self.now) }
-        ensures running { self.now.in_flight ≡ [] → IsRunningPosts D.reads D.images D.calls (log_of self.now) }
-        ensures counted { (length self.now.history ≤ self.now.opening + self.now.made) × (self.now.opening + self.now.made ≤ length self.now.history + length self.now.in_flight) }
-        ensures moment { D.calls self.now.opened + 4 * self.now.made ≤ D.calls self.now.disk }
-        ensures telling { TellsAlike (D.reads self.now.opened) (D.reads self.now.disk) }
-        ensures faults { D.faults self.now.opened ≤ D.faults self.now.disk }
-        ensures fault { ShutOf self.now.limit (D.faults self.now.opened) (D.faults self.now.disk) self.now.in_flight self.now.shut }
+        ensures made { result ≡ length self.now.log.batches }
+        ensures all { self.now.log.history ≡ self.now.log.opening ++ joined self.now.log.batches }
+        ensures lasts { PostsLast D.reads D.images_since D.calls self.now.log }
+        ensures running { self.now.log.in_flight ≡ [] → IsRunningPosts D.reads D.images D.calls self.now.log }
+        ensures single { length self.now.log.in_flight ≤ 1 }
+        ensures moment { D.calls self.now.log.opened + 4 * length self.now.log.batches ≤ D.calls self.now.log.disk }
+        ensures telling { TellsAlike (D.reads self.now.log.opened) (D.reads self.now.log.disk) }
+        ensures faults { D.faults self.now.log.opened ≤ D.faults self.now.log.disk }
+        ensures fault { ShutOf self.now.log.limit (D.faults self.now.log.opened) (D.faults self.now.log.disk) self.now.log.in_flight self.now.log.shut }
     {
         self.session.log().made()
     }
@@ -101,9 +102,8 @@ impl<D: Disk> Book<D> {
     pub fn take(&mut self, worker: u32) -> Taken
         requires worker { worker < 16 }
         requires empty { hand self.old.hands worker ≡ None }
-        ensures log { log_of self.new ≡ log_of self.old }
-        ensures budget { self.new.budget ≡ self.old.budget }
-        ensures makes { TakeMakes result worker self.old.instance self.old.budget (board_of self.old) (board_of self.new) }
+        ensures log { self.new.log ≡ self.old.log }
+        ensures makes { TakeMakes result worker (board_of D.reads D.calls D.faults self.old) (board_of D.reads D.calls D.faults self.new) }
     {
         self.session.take(worker)
     }
@@ -112,25 +112,21 @@ impl<D: Disk> Book<D> {
     pub fn cuts(&self, worker: u32) -> Result<Cuts, NoMemory>
         requires worker { worker < 16 }
         requires full { IsSome (hand self.now.hands worker) }
-        ensures cuts { IfOk result (λ cuts. (k : ℕ) → hand self.now.hands worker ≡ Some k → cuts ≡ cuts_in self.now.book.nodes k) }
+        ensures cuts { IfOk result (λ cuts. (k : ℕ) → hand self.now.hands worker ≡ Some k → cuts ≡ cuts_in self.now.log.book.nodes k) }
         ensures few { IfOk result (λ cuts. length cuts ≤ 2 ^ 24) }
     {
         self.session.cuts(worker)
     }
 
-    /// A worker commits a step for the node in its hand, and lets go of it. The step's posts are recorded, each as a record of
-    /// its own; memory is taken before the first call on the disk, and the limit judged over all of them. Where a step has no
-    /// posts, no record is made.
+    /// A worker commits a step for the node in its hand, and lets go of it. All posts of the step are one record; where it has
+    /// none, no record is made. Memory is taken before the first call on the disk.
     pub fn commit(&mut self, worker: u32, step: StepPosts) -> Result<Kept, CommitFault>
         requires worker { worker < 16 }
-        requires fits { Fits self.old.instance step }
-        ensures root { (self.new.instance ≡ self.old.instance) × (self.new.opening ≡ self.old.opening) × (self.new.opened ≡ self.old.opened) × (self.new.limit ≡ self.old.limit) }
-        ensures budget { self.new.budget ≡ self.old.budget }
-        ensures begins { IsFront self.old.history self.new.history }
-        ensures ok { IfOk result (Commits self.old.instance worker step (board_of self.old) (board_of self.new)) }
-        ensures recorded { IfOk result (RecordsStep D.calls worker step (log_of self.old) (log_of self.new)) }
-        ensures err { IfErr result (CommitRefuses self.old.instance self.old.limit worker step (board_of self.old) (board_of self.new)) }
-        ensures left { IfErr result (LeavesLog D.faults worker step (log_of self.old) (log_of self.new)) }
+        requires fits { Fits self.old.log.instance step }
+        ensures ok { IfOk result (Commits worker step (board_of D.reads D.calls D.faults self.old) (board_of D.reads D.calls D.faults self.new)) }
+        ensures recorded { IfOk result (RecordsStep D.calls worker step self.old.log self.new.log) }
+        ensures err { IfErr result (CommitRefuses worker step (board_of D.reads D.calls D.faults self.old) (board_of D.reads D.calls D.faults self.new)) }
+        ensures left { IfErr result (LeavesLog D.faults worker step self.old.log self.new.log) }
     {
         self.session.commit(worker, step)
     }
@@ -138,9 +134,8 @@ impl<D: Disk> Book<D> {
     /// A worker lets go of the node in its hand, if there is one, without a commit. The book gives no more nodes then.
     pub fn yield_node(&mut self, worker: u32)
         requires { worker < 16 }
-        ensures same { (log_of self.new ≡ log_of self.old) × (self.new.taken ≡ self.old.taken) × (self.new.budget ≡ self.old.budget) }
-        ensures emptied { self.new.hands ≡ slice_set self.old.hands worker None }
-        ensures halted { self.new.halted ≡ true }
+        ensures log { self.new.log ≡ self.old.log }
+        ensures yields { board_of D.reads D.calls D.faults self.new ≡ yields worker (board_of D.reads D.calls D.faults self.old) }
     {
         self.session.yield_node(worker);
     }
@@ -155,36 +150,36 @@ impl<D: Disk> Book<D> {
 
     /// What the best rota costs.
     pub fn best_cost(&self) -> u64
-        ensures { result ≡ self.now.book.cost }
+        ensures { result ≡ self.now.log.book.cost }
     {
         self.session.log().state().cost()
     }
 
     /// How many posts there are.
     pub fn posts(&self) -> u64
-        ensures { result ≡ length self.now.history }
+        ensures { result ≡ length self.now.log.history }
     {
         self.session.log().state().history().len() as u64
     }
 
     /// The disk, handed back. It takes no memory.
     pub fn into_disk(self) -> D
-        ensures { result ≡ self.disk }
+        ensures { result ≡ self.log.disk }
     {
         let Book { session } = self;
         session.into_disk()
     }
 
     // The book of a log of posts, before any step.
-    pub(crate) fn over(alloc: Global, log: PostLog<D>, budget: u64) -> Book<D>
+    pub(crate) fn over(log: PostLog<D>, budget: u64) -> Book<D>
         requires open { log.shut ≡ None }
-        requires new { log.opening ≡ length log.history }
-        ensures log { log_of result ≡ log }
+        requires new { log.history ≡ log.opening }
+        ensures log { result.log ≡ log }
         ensures hands { result.hands ≡ empty_hands }
         ensures steps { (result.taken ≡ 0) × (result.budget ≡ budget) × (result.halted ≡ false) }
     {
         Book {
-            session: Session::over(alloc, log, budget),
+            session: Session::over(log, budget),
         }
     }
 }

@@ -1,5 +1,5 @@
 //! The book of a search that a disk's file holds for an instance.
-ghost use Rattle.std.specs.Prelude.{◌≡◌, ◌⊎◌, ◌+◌, ◌^◌, ◌<◌, ◌≤◌, [], false, length, None, Some, IfOk, IfErr, IfSome, OnSome, MatchResult};
+ghost use Rattle.std.specs.Prelude.{◌≡◌, ◌⊎◌, ◌+◌, ◌^◌, ◌<◌, ◌≤◌, [], false, length, Some, IfOk, IfErr, IfSome, OnSome, MatchResult};
 ghost use Rattle.plan_base.specs.Disk.{HoldsThroughout, TellsAlike};
 ghost use Rattle.instance_json.specs.Canonical.{canonical_text};
 ghost use Rattle.search_core.specs.Book.{book_of, IsSound};
@@ -8,8 +8,7 @@ ghost use Rattle.search_book.specs.declared.open_fault.OpenFault.TheVariants.{Di
 ghost use Rattle.search_book.specs.Head.{KeepsHead};
 ghost use Rattle.search_book.specs.Keeping.{IsRunningPosts};
 ghost use Rattle.search_book.specs.Opened.{HoldsBook, OpenCause};
-ghost use Rattle.search_book.specs.Opening.{IsOldOrShort, IsOpenedFrom};
-ghost use Rattle.search_book.specs.Search.{log_of};
+ghost use Rattle.search_book.specs.Opening.{IsBegun, IsOldOrShort, IsOpenedFrom};
 
 use crate::book::Book;
 use crate::log_opening::{Unopened, open_log};
@@ -36,25 +35,25 @@ impl<D: Disk> Book<D> {
         requires count { D.calls disk < 2 ^ 62 }
         requires room { 13 + length (canonical_text instance.now) ≤ limit }
         requires most { limit ≤ 2 ^ 26 }
-        ensures begins { IfOk result (λ book. (book.instance ≡ instance.now) × (book.limit ≡ limit) × (book.opening ≡ length book.history) × (book.opened ≡ book.disk) × (book.made ≡ 0) × (book.in_flight ≡ []) × (book.shut ≡ None)) }
+        ensures begins { IfOk result (λ book. IsBegun instance.now limit book.log) }
         ensures idle { IfOk result (λ book. (book.hands ≡ empty_hands) × (book.taken ≡ 0) × (book.budget ≡ budget) × (book.halted ≡ false)) }
-        ensures folds { IfOk result (λ book. book_of instance.now book.history ≡ Some book.book) }
-        ensures sound { IfOk result (λ book. IsSound instance.now book.book) }
-        ensures found { IfOk result (λ book. IfSome (D.reads disk) (IsOpenedFrom limit instance.now book.history book.used (D.reads book.disk))) }
-        ensures running { IfOk result (λ book. IsRunningPosts D.reads D.images D.calls (log_of book)) }
-        ensures four { IfOk result (λ book. D.reads disk ≡ Some [] → D.calls book.disk ≡ D.calls disk + 4) }
-        ensures any_moment { MatchResult result (λ book. OnSome (D.reads disk) (HoldsThroughout D.calls D.images_since disk book.disk (IsOldOrShort (D.reads disk) (D.images disk) (13 + length (canonical_text instance.now))))) (λ e. OnSome (D.reads disk) (HoldsThroughout D.calls D.images_since disk e.disk (IsOldOrShort (D.reads disk) (D.images disk) (13 + length (canonical_text instance.now))))) }
-        ensures telling { MatchResult result (λ book. TellsAlike (D.reads disk) (D.reads book.disk)) (λ e. TellsAlike (D.reads disk) (D.reads e.disk)) }
+        ensures folds { IfOk result (λ book. book_of instance.now book.log.history ≡ Some book.log.book) }
+        ensures sound { IfOk result (λ book. IsSound instance.now book.log.book) }
+        ensures found { IfOk result (λ book. IfSome (D.reads disk) (IsOpenedFrom limit instance.now book.log.history book.log.used (D.reads book.log.disk))) }
+        ensures running { IfOk result (λ book. IsRunningPosts D.reads D.images D.calls book.log) }
+        ensures four { IfOk result (λ book. D.reads disk ≡ Some [] → D.calls book.log.disk ≡ D.calls disk + 4) }
+        ensures any_moment { MatchResult result (λ book. OnSome (D.reads disk) (HoldsThroughout D.calls D.images_since disk book.log.disk (IsOldOrShort (D.reads disk) (D.images disk) (13 + length (canonical_text instance.now))))) (λ e. OnSome (D.reads disk) (HoldsThroughout D.calls D.images_since disk e.disk (IsOldOrShort (D.reads disk) (D.images disk) (13 + length (canonical_text instance.now))))) }
+        ensures telling { MatchResult result (λ book. TellsAlike (D.reads disk) (D.reads book.log.disk)) (λ e. TellsAlike (D.reads disk) (D.reads e.disk)) }
         ensures content { IfErr result (λ e. KeepsHead (canonical_text instance.now) (D.reads disk) (D.reads e.disk) e.fault) }
         ensures cause { IfErr result (λ e. OpenCause limit instance.now (D.reads disk) (D.faults disk) (D.faults e.disk) e.fault) }
         // A file that holds a book isn't refused.
         ensures only { IfErr result (λ e. IfSome (D.reads disk) (λ file. HoldsBook limit instance.now file → (e.fault ≡ DiskFault) ⊎ (e.fault ≡ NoMemory))) }
-        ensures faults { MatchResult result (λ book. D.faults disk ≤ D.faults book.disk) (λ e. D.faults disk ≤ D.faults e.disk) }
-        ensures least { MatchResult result (λ book. D.calls disk ≤ D.calls book.disk) (λ e. D.calls disk ≤ D.calls e.disk) }
-        ensures most { MatchResult result (λ book. D.calls book.disk ≤ D.calls disk + 2 ^ 33 + 2) (λ e. D.calls e.disk ≤ D.calls disk + 2 ^ 33 + 2) }
+        ensures faults { MatchResult result (λ book. D.faults disk ≤ D.faults book.log.disk) (λ e. D.faults disk ≤ D.faults e.disk) }
+        ensures least { MatchResult result (λ book. D.calls disk ≤ D.calls book.log.disk) (λ e. D.calls disk ≤ D.calls e.disk) }
+        ensures most { MatchResult result (λ book. D.calls book.log.disk ≤ D.calls disk + 2 ^ 33 + 2) (λ e. D.calls e.disk ≤ D.calls disk + 2 ^ 33 + 2) }
     {
         match open_log(alloc, instance, disk, limit) {
-            Ok(log) => Ok(Book::over(alloc, log, budget)),
+            Ok(log) => Ok(Book::over(log, budget)),
             Err(unopened) => Err(unopened),
         }
     }

@@ -1,20 +1,18 @@
 //! How a worker's step is committed: whether it may be, and its posts recorded.
-ghost use Rattle.std.specs.Prelude.{◌≡◌, ◌↔◌, ℕ, ◌<◌, ◌^◌, [], false, true, None, not, Some, IfErr, IfOk, IsTrue, length};
+ghost use Rattle.std.specs.Prelude.{◌≡◌, ◌↔◌, ℕ, ◌<◌, ◌^◌, false, true, None, not, Some, IfErr, IfOk, IsTrue, length};
+ghost use Rattle.search_core.specs.Board.{leaves_open};
 ghost use Rattle.search_core.specs.Book.{is_node_and, Book};
 ghost use Rattle.search_core.specs.Core.{hand};
+ghost use Rattle.search_core.specs.Kept.{cuts_in};
 ghost use Rattle.search_core.specs.Steps.{is_cheaper, Fits};
 ghost use Rattle.search_book.specs.Committing.{commit_fault_of, MayCommit, MayNot, RecordsStep, StepFails};
-ghost use Rattle.search_book.specs.Drafting.{IsAfter};
 
 use crate::differing::first_difference;
 use crate::post_log::PostLog;
-use crate::readers::floor_and_best;
-use crate::stepping::draft_of;
 use gated_journal::JournalFault;
 use plan_base::Disk;
 use rota_cost::Costed;
-use search_core::{CommitFault, Hands, Kept, StepPosts};
-use std::alloc::Global;
+use search_core::{CommitFault, Draft, Hands, Kept, StepPosts};
 
 /// Whether a hand holds that node.
 fn holds(held: Option<u32>, node: u32) -> bool
@@ -23,16 +21,16 @@ fn holds(held: Option<u32>, node: u32) -> bool
     held == Some(node)
 }
 
-/// The floor of the step's node and the best cost, where the worker may commit the step.
+/// Whether a worker may commit a step, or why it may not.
 pub(crate) fn may_commit<D: Disk>(
     log: &PostLog<D>,
     hands: &Hands,
     worker: u32,
     step: &StepPosts,
-) -> Result<(u64, u64), CommitFault>
+) -> Result<(), CommitFault>
     requires worker { worker < 16 }
     requires unsplit { (w x : ℕ) → hand hands.now w ≡ Some x → is_node_and log.now.book x (λ n. not n.split) ≡ true }
-    ensures ok { IfOk result (λ p. MayCommit log.now hands.now worker step.now p.0 p.1) }
+    ensures ok { IfOk result (λ _. MayCommit log.now hands.now worker step.now) }
     ensures err { IfErr result (MayNot log.now hands.now worker step.now) }
 {
     if log.shut().is_some() {
@@ -46,10 +44,10 @@ pub(crate) fn may_commit<D: Disk>(
     let Ok(cuts) = log.state().cuts_of(step.node) else {
         return Err(CommitFault::NoMemory);
     };
-    if let Some(at) = first_difference(step.proved.cuts().as_slice(), cuts.as_slice()) {
-        return Err(CommitFault::OtherCuts { at: at as u64 });
+    match first_difference(step.proved.cuts().as_slice(), cuts.as_slice()) {
+        Some(at) => Err(CommitFault::OtherCuts { at: at as u64 }),
+        None => Ok(()),
     }
-    Ok(floor_and_best(log.state(), step.node))
 }
 
 /// Whether a plan is there and cheaper than the best cost.
@@ -74,39 +72,46 @@ fn commit_fault_of(fault: JournalFault) -> CommitFault
     }
 }
 
-/// Records the posts of a step that a worker may commit, each as a record of its own. Where there are none, no record is
-/// made.
+/// Records the posts of a step that a worker may commit, as one record. Where there are none, no record is made.
 pub(crate) fn record_step<D: Disk>(
-    alloc: Global,
     log: &mut PostLog<D>,
     worker: u16,
-    floor: u64,
-    best: u64,
     step: StepPosts,
 ) -> Result<Kept, CommitFault>
     requires open { log.old.shut ≡ None }
     requires fits { Fits log.old.instance step }
     requires few { length step.proved.cuts < 2 ^ 32 }
-    requires before { IsAfter log.old.instance log.old.book step.node step.proved.cuts [] best floor false }
+    requires cuts { step.proved.cuts ≡ cuts_in log.old.book.nodes step.node }
+    requires unsplit { is_node_and log.old.book step.node (λ n. not n.split) ≡ true }
     ensures ok { IfOk result (RecordsStep D.calls worker step log.old log.new) }
     ensures err { IfErr result (StepFails D.faults worker step log.old log.new) }
 {
     let _made = log.made();
-    let plan = is_cheaper(&step.plan, best);
-    let Ok(draft) = draft_of(alloc, worker, floor, best, step) else {
+    let plan = is_cheaper(&step.plan, log.state().cost());
+    let Ok(draft) = log.state().draft(worker, step) else {
         return Err(CommitFault::NoMemory);
     };
-    let kept = Kept {
-        plan,
-        records: draft.entries.len() as u32,
-        best: draft.best,
-        floor: draft.floor,
-    };
-    if draft.entries.is_empty() {
-        return Ok(kept);
+    let Draft {
+        posts,
+        values,
+        best,
+        floor,
+    } = draft;
+    if posts.is_empty() {
+        return Ok(Kept {
+            plan,
+            records: 0,
+            best,
+            floor,
+        });
     }
-    match log.commit(draft.entries) {
-        Ok(()) => Ok(kept),
+    match log.commit(posts, &values) {
+        Ok(()) => Ok(Kept {
+            plan,
+            records: 1,
+            best,
+            floor,
+        }),
         Err(fault) => Err(commit_fault_of(fault)),
     }
 }

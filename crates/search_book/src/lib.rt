@@ -2,16 +2,14 @@
 //! to a book of the same posts, or of a front of them with all that were acknowledged.
 #![tactic(auto)]
 
-mod adding;
 mod as_board;
+mod batched;
 mod book;
 mod book_opening;
 #[cfg(test)]
 mod commit_tests;
 mod committing;
 mod differing;
-mod drafting;
-mod entry;
 mod head;
 mod laws;
 mod log_opening;
@@ -19,12 +17,10 @@ mod open_fault;
 #[cfg(test)]
 mod open_tests;
 mod post_log;
-mod preparing;
 mod readers;
 mod record_log;
 mod sends;
 mod session;
-mod stepping;
 #[cfg(test)]
 mod test_books;
 

@@ -1,5 +1,5 @@
 //! The log of posts that a disk's file holds for an instance.
-ghost use Rattle.std.specs.Prelude.{◌≡◌, ◌⊎◌, ◌+◌, ◌^◌, ◌<◌, ◌≤◌, [], length, None, Some, IfOk, IfErr, IfSome, OnSome, MatchResult};
+ghost use Rattle.std.specs.Prelude.{◌≡◌, ◌⊎◌, ◌+◌, ◌^◌, ◌<◌, ◌≤◌, [], length, Some, IfOk, IfErr, IfSome, OnSome, MatchResult};
 ghost use Rattle.plan_base.specs.Disk.{HoldsThroughout, TellsAlike};
 ghost use Rattle.gated_journal.specs.View.{IsSettled};
 ghost use Rattle.instance_json.specs.Canonical.{canonical_text};
@@ -8,7 +8,7 @@ ghost use Rattle.search_book.specs.declared.open_fault.OpenFault.TheVariants.{Di
 ghost use Rattle.search_book.specs.Head.{KeepsHead};
 ghost use Rattle.search_book.specs.Keeping.{IsPostLog};
 ghost use Rattle.search_book.specs.Opened.{HoldsBook, OpenCause};
-ghost use Rattle.search_book.specs.Opening.{IsFound, IsOldOrShort, IsOpenedFrom};
+ghost use Rattle.search_book.specs.Opening.{IsBegun, IsFound, IsOldOrShort, IsOpenedFrom};
 ghost use Rattle.search_book.specs.Posts.{SpellPosts};
 ghost use Rattle.shift_instance.specs.Valid.{IsValid};
 
@@ -95,7 +95,7 @@ pub(crate) fn open_log<D: Disk>(
     requires count { D.calls disk < 2 ^ 62 }
     requires room { 13 + length (canonical_text instance.now) ≤ limit }
     requires most { limit ≤ 2 ^ 26 }
-    ensures begins { IfOk result (λ log. (log.instance ≡ instance.now) × (log.limit ≡ limit) × (log.opening ≡ length log.history) × (log.opened ≡ log.disk) × (log.made ≡ 0) × (log.in_flight ≡ []) × (log.shut ≡ None)) }
+    ensures begins { IfOk result (IsBegun instance.now limit) }
     ensures log { IfOk result (λ log. IsPostLog D.reads D.images D.images_since D.calls D.faults log) }
     ensures folds { IfOk result (λ log. book_of instance.now log.history ≡ Some log.book) }
     ensures sound { IfOk result (λ log. IsSound instance.now log.book) }
@@ -118,7 +118,7 @@ pub(crate) fn open_log<D: Disk>(
                 state,
             },
         ) => {
-            let log = PostLog::over(alloc, disk, journal, records, state, limit);
+            let log = PostLog::over(alloc, disk, journal, records, state);
             let _made = log.made();
             Ok(log)
         }

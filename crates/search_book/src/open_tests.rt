@@ -47,9 +47,11 @@ fn tried(
 fn a_call_that_fails_stops_an_opening(rt: HostRuntime) -> Result<(), Fail> {
     let alloc = rt.alloc();
     let instance = one_shift(alloc, 3)?;
-    let fails = vec![in alloc; 2u64; 1]?;
-    let (end, disk) = tried(&rt, alloc, &instance, Vec::new(alloc), fails)?;
-    assert!(rt; end == End::Stopped && disk.calls() == 2 && disk.bytes().is_empty());
+    for call in 1..5u64 {
+        let fails = vec![in alloc; call; 1]?;
+        let (end, disk) = tried(&rt, alloc, &instance, Vec::new(alloc), fails)?;
+        assert!(rt; end == End::Stopped && disk.calls() == call);
+    }
     Ok(())
 }
 

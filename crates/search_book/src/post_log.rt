@@ -1,36 +1,38 @@
 //! The posts of a search in the records of a disk's journal, with the book that they make.
-ghost use Rattle.std.specs.Prelude.{◌≡◌, ◌+◌, ◌^◌, ◌<◌, ◌≤◌, [], ◌∷◌, length, None, Some, OnOk, IfErr};
+ghost use Rattle.std.specs.Prelude.{◌≡◌, ◌+◌, ◌^◌, ◌<◌, ◌≤◌, [], ◌∷◌, length, All, None, Some, OnOk, IfErr, IfOk};
 ghost use Rattle.gated_journal.specs.View.{IsSettled};
 ghost use Rattle.instance_json.specs.Canonical.{canonical_text};
+ghost use Rattle.post_codec.specs.Spelling.{CountsFitPost, Spells};
 ghost use Rattle.search_core.specs.Book.{Book};
-ghost use Rattle.search_book.specs.Entries.{posts_in, Makes};
+ghost use Rattle.search_core.specs.Drafting.{Makes};
 ghost use Rattle.search_book.specs.Keeping.{IsPostLog};
 ghost use Rattle.search_book.specs.Posts.{bytes_used, SpellPosts};
 ghost use Rattle.search_book.specs.Recorded.{RecordFails, Records};
 ghost use Rattle.shift_instance.specs.Valid.{IsValid};
 
-use crate::adding::add_all;
-use crate::entry::{Entry, append_all};
-use crate::preparing::{end_with, prepare};
+use crate::batched::Batched;
 use crate::record_log::RecordLog;
+use break_rules::NoMemory;
 use gated_journal::{Journal, JournalFault};
-use plan_base::{Disk, Failed};
+use plan_base::Disk;
+use post_codec::{Post, write};
 use search_core::{Shutting, State};
 use std::alloc::Global;
 use std::marker::Model;
 use std::snapshot::Snapshot;
 
-/// The posts of a search, each in the records of a journal with its disk, and the book that they make.
+/// The posts of a search, those of each commit in one record of a journal with its disk, and the book that they make.
 #[derive(Drop)]
 pub(crate) struct PostLog<D: Disk> {
     alloc: Global,
     log: RecordLog<D>,
-    limit: u32,
     state: State,
-    opening: u64,
-    // the posts of the commit that ended in a disk fault, for clauses alone
-    in_flight: Option<Snapshot<Vec<Entry>>>,
     shut: Option<Shutting>,
+    // for clauses alone: the posts by records, those of the commit that ended in a disk fault, and those for which there was no
+    // room
+    batched: Batched,
+    in_flight: Option<Snapshot<Vec<Post>>>,
+    unfit: Option<Snapshot<Vec<Post>>>,
 }
 
 impl<D: Disk> Model for PostLog<D> {
@@ -38,13 +40,33 @@ impl<D: Disk> Model for PostLog<D> {
 
     ghost Value = { PostLogView D };
 
-    ghost use Rattle.search_book.specs.Entries.{posts_in_flight};
-    ghost use Rattle.search_book.specs.Posts.{bytes_used};
+    ghost use Rattle.search_book.specs.Posts.{batches_told, bytes_used, posts_told};
     ghost use Rattle.search_book.specs.Recorded.{IsPostLogInside};
 
-    ghost view = { λ p. record { instance = p.state.instance; history = p.state.history; book = p.state.book; disk = p.log.disk; limit = p.log.limit; opening = p.opening; opened = p.log.opened; made = p.log.added; used = bytes_used p.log.head p.log.records; in_flight = posts_in_flight p.in_flight; shut = p.shut } };
+    ghost view = { λ p. record { instance = p.state.instance; opening = p.batched.opening; batches = p.batched.batches; history = p.state.history; book = p.state.book; disk = p.log.disk; limit = p.log.limit; opened = p.log.opened; used = bytes_used p.log.head p.log.records; in_flight = batches_told p.in_flight; unfit = posts_told p.unfit; shut = p.shut } };
 
-    ghost invariant = { λ p. IsPostLogInside p.log p.limit (record { instance = p.state.instance; history = p.state.history; book = p.state.book; disk = p.log.disk; limit = p.log.limit; opening = p.opening; opened = p.log.opened; made = p.log.added; used = bytes_used p.log.head p.log.records; in_flight = posts_in_flight p.in_flight; shut = p.shut }) };
+    ghost invariant = { λ p. IsPostLogInside p.log (record { instance = p.state.instance; opening = p.batched.opening; batches = p.batched.batches; history = p.state.history; book = p.state.book; disk = p.log.disk; limit = p.log.limit; opened = p.log.opened; used = bytes_used p.log.head p.log.records; in_flight = batches_told p.in_flight; unfit = posts_told p.unfit; shut = p.shut }) };
+}
+
+/// The record of posts, for which room is made in a log and in a state.
+fn record_of<D: Disk>(
+    alloc: Global,
+    log: &mut RecordLog<D>,
+    state: &mut State,
+    posts: &[Post],
+) -> Result<Vec<u8>, NoMemory>
+    requires few { length posts.now < 2 ^ 16 }
+    requires fit { All CountsFitPost posts.now }
+    ensures spells { IfOk result (λ bytes. Spells bytes.items posts.now) }
+    ensures room { IfOk result (λ bytes. length bytes.items ≤ log.new.spare) }
+    ensures rooms { IfOk result (λ _. length posts.now ≤ state.new.spare) }
+    ensures log { log.new ≡ record log.old { spare = log.new.spare } }
+    ensures state { state.new ≡ record state.old { spare = state.new.spare } }
+{
+    state.reserve(posts.len() as u32)?;
+    let bytes = write(alloc, posts)?;
+    log.reserve(bytes.len())?;
+    Ok(bytes)
 }
 
 impl<D: Disk> PostLog<D> {
@@ -55,28 +77,27 @@ impl<D: Disk> PostLog<D> {
         journal: Journal,
         records: u64,
         state: State,
-        limit: u32,
     ) -> PostLog<D>
         requires count { D.calls disk < 2 ^ 62 + 2 ^ 34 }
         requires head { journal.head ≡ canonical_text state.instance }
-        requires limits { (limit ≡ journal.limit) × (limit ≤ 2 ^ 26) }
+        requires small { journal.limit ≤ 2 ^ 26 }
         requires records { records ≡ length journal.records }
         requires valid { IsValid state.instance }
         requires spell { SpellPosts journal.records state.history }
         requires settled { IsSettled journal (D.reads disk) (D.images disk) }
-        ensures { result ≡ record { instance = state.instance; history = state.history; book = state.book; disk = disk; limit = limit; opening = length state.history; opened = disk; made = 0; used = bytes_used journal.head journal.records; in_flight = []; shut = None } }
+        ensures { result ≡ record { instance = state.instance; opening = state.history; batches = []; history = state.history; book = state.book; disk = disk; limit = journal.limit; opened = disk; used = bytes_used journal.head journal.records; in_flight = []; unfit = []; shut = None } }
     {
-        let opening = state.history().len() as u64;
+        let batched = Batched::opened(state.history());
         let log = RecordLog::over(disk, journal, records);
         let _ = log.end();
         PostLog {
             alloc,
             log,
-            limit,
             state,
-            opening,
-            in_flight: None,
             shut: None,
+            batched,
+            in_flight: None,
+            unfit: None,
         }
     }
 
@@ -98,39 +119,41 @@ impl<D: Disk> PostLog<D> {
 
     /// How many records were made since the opening, with all that is known of the log.
     pub(crate) fn made(&self) -> u64
-        ensures made { result ≡ self.now.made }
+        ensures made { result ≡ length self.now.batches }
         ensures log { IsPostLog D.reads D.images D.images_since D.calls D.faults self.now }
     {
         self.log.added()
     }
 
-    /// Records posts, each as a record of its own. Memory is taken before the first call on the disk, and the limit judged
-    /// over all of them.
-    pub(crate) fn commit(&mut self, entries: Vec<Entry>) -> Result<(), JournalFault>
+    /// Records posts, with the numbers that go with them, as one record. Memory is taken before the first call on the disk.
+    pub(crate) fn commit(&mut self, posts: Vec<Post>, values: &[u64]) -> Result<(), JournalFault>
         requires open { self.old.shut ≡ None }
-        requires few { length entries.items < 2 ^ 16 }
-        requires makes { (c : Book) × Makes self.old.instance self.old.book entries.items c }
-        ensures ok { OnOk result (Records D.calls self.old self.new (posts_in entries.items) self.new.book) }
-        ensures makes { OnOk result (Makes self.old.instance self.old.book entries.items self.new.book) }
-        ensures err { IfErr result (RecordFails D.faults self.old self.new (posts_in entries.items)) }
+        requires some { 0 < length posts.items }
+        requires few { length posts.items < 2 ^ 16 }
+        requires makes { (c : Book) × Makes self.old.instance self.old.book posts.items values.now c }
+        ensures ok { OnOk result (Records D.calls self.old self.new posts.items self.new.book) }
+        ensures makes { OnOk result (Makes self.old.instance self.old.book posts.items values.now self.new.book) }
+        ensures err { IfErr result (RecordFails D.faults self.old self.new posts.items) }
     {
-        let records = prepare(self.alloc, &mut self.log, &mut self.state, &entries)?;
-        let end = end_with(self.log.end(), &records);
-        let limit = self.limit;
-        if end > u64::from(limit) {
-            self.shut = Some(Shutting::Full { end, limit });
-            return Err(JournalFault::Full { end, limit });
-        }
-        match add_all(&mut self.log, &records) {
+        let bytes = record_of(self.alloc, &mut self.log, &mut self.state, &posts)?;
+        match self.log.add(&bytes) {
             Ok(()) => {
-                append_all(&mut self.state, entries);
+                self.batched = Batched::with(&self.batched, &posts);
+                self.state.append_all(posts, values);
                 Ok(())
             }
-            Err(Failed) => {
-                self.in_flight = Some(Snapshot::of(&entries));
+            Err(JournalFault::DiskFault) => {
+                self.in_flight = Some(Snapshot::of(&posts));
                 self.shut = Some(Shutting::DiskFault);
                 Err(JournalFault::DiskFault)
             }
+            Err(JournalFault::Full { end, limit }) => {
+                self.unfit = Some(Snapshot::of(&posts));
+                self.shut = Some(Shutting::Full { end, limit });
+                Err(JournalFault::Full { end, limit })
+            }
+            // no other fault comes
+            Err(fault) => Err(fault),
         }
     }
 
@@ -141,11 +164,11 @@ impl<D: Disk> PostLog<D> {
         let PostLog {
             alloc: _,
             log,
-            limit: _,
             state: _,
-            opening: _,
-            in_flight: _,
             shut: _,
+            batched: _,
+            in_flight: _,
+            unfit: _,
         } = self;
         log.into_disk()
     }

@@ -1,7 +1,6 @@
 //! What is read of a state.
-ghost use Rattle.std.specs.Prelude.{◌≡◌, ◌<◌, ◌||◌, length, nat_le};
+ghost use Rattle.std.specs.Prelude.{◌≡◌, ◌||◌, nat_le};
 ghost use Rattle.std.specs.List.{list_all};
-ghost use Rattle.search_core.specs.Board.{floor_of_node};
 ghost use Rattle.search_core.specs.Book.{is_finished};
 
 use search_core::{NodeState, State};
@@ -18,14 +17,4 @@ pub(crate) fn is_finished(state: &State) -> bool
     ensures { result ≡ is_finished state.now.book }
 {
     are_closed(state.nodes(), state.cost())
-}
-
-/// The floor of a node that is there, and the cost of the best rota.
-pub(crate) fn floor_and_best(state: &State, node: u32) -> (u64, u64)
-    requires { node < length state.now.book.nodes }
-    ensures floor { result.0 ≡ floor_of_node state.now.book node }
-    ensures best { result.1 ≡ state.now.book.cost }
-{
-    let nodes = state.nodes();
-    (nodes[node as usize].floor, state.cost())
 }

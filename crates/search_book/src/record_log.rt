@@ -3,7 +3,7 @@ ghost use Rattle.std.specs.Prelude.{◌≡◌, ◌+◌, ◌^◌, ◌<◌, ◌≤
 ghost use Rattle.gated_journal.specs.Format.{end_after};
 ghost use Rattle.gated_journal.specs.View.{IsSettled};
 ghost use Rattle.search_book.specs.Posts.{bytes_used};
-ghost use Rattle.search_book.specs.Records.{AddFails, AddOneFails, IsLog};
+ghost use Rattle.search_book.specs.Records.{AddFails, IsLog};
 
 use gated_journal::{Journal, JournalFault};
 use plan_base::Disk;
@@ -101,18 +101,6 @@ impl<D: Disk> RecordLog<D> {
             }
             Err(fault) => Err(fault),
         }
-    }
-
-    /// Makes room for a record and adds it.
-    pub(crate) fn add_one(&mut self, bytes: &Vec<u8>) -> Result<(), JournalFault>
-        requires running { self.old.in_flight ≡ [] }
-        ensures ok { OnOk result (self.new ≡ record self.old { disk = self.new.disk; records = self.old.records ++ bytes.now.items ∷ []; added = self.old.added + 1; spare = self.new.spare }) }
-        ensures cause { MatchResult result (λ _. end_after self.old.head self.old.records (length bytes.now.items) ≤ self.old.limit) (AddOneFails D.faults self.old self.new bytes.now.items) }
-        ensures four { OnOk result (D.calls self.new.disk ≡ D.calls self.old.disk + 4) }
-        ensures faults { D.faults self.old.disk ≤ D.faults self.new.disk }
-    {
-        self.reserve(bytes.len())?;
-        self.add(bytes)
     }
 
     /// The disk, handed back.

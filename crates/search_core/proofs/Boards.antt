@@ -1,4 +1,4 @@
--- A board's takes and commits are events of its core.
+-- A board's takes, commits and yields are events of its core; what else it answers leaves the core.
 use Rattle.std.proofs.Common.{◌≡◌, inl, inr, ℕ, ◌<◌, Bool, true, false, cond, ◌&&◌, ◌==◌, not, List, [], ◌∷◌, ◌++◌, length, set, refl, sym, ap, ◌∙◌, subst, nat_lt, Option, Some, None, eq-eqb}
 use Rattle.std.specs.Prelude.{is_none}
 use Rattle.std.specs.Option.{option_map_or}
@@ -9,15 +9,18 @@ use Rattle.shift_instance.specs.Problem.{Problem}
 use Rattle.rota_cost.specs.Costed.{Costing}
 use Rattle.post_codec.specs.declared.post.Post.{Post}
 use Rattle.post_codec.specs.declared.post.Post.TheVariants.{Plan, Priced, Split, Settled}
-use Rattle.search_core.specs.declared.board.Origin.{Origin}
 use Rattle.search_core.specs.declared.board.Kept.{Kept}
-use Rattle.search_core.specs.declared.board.Taken.TheVariants.{Node}
-use Rattle.search_core.specs.declared.event.Event.TheVariants.{Take, Commit}
+use Rattle.search_core.specs.declared.board.Taken.{Taken}
+use Rattle.search_core.specs.declared.board.Taken.TheVariants.{Closed, Finished, Halted, Spent, Node, Idle}
+use Rattle.search_core.specs.declared.board.CommitFault.{CommitFault}
+use Rattle.search_core.specs.declared.board.CommitFault.TheVariants.{DiskFault, Full, NotHeld, Shut, NotClosing, OtherCuts, NoMemory}
+use Rattle.search_core.specs.declared.event.Event.TheVariants.{Take, Commit, Yield}
 use Rattle.search_core.specs.declared.step_posts.StepPosts.{StepPosts}
 use Rattle.search_core.specs.declared.step_posts.Close.{Close}
 use Rattle.search_core.specs.declared.step_posts.Close.TheVariants.{ByPrice, Split as CloseBySplit, Settled as CloseAsSettled}
-use Rattle.search_core.specs.Board.{BoardView, book_at, core_of, is_free, Commits, IsSoundBoard, TakeMakes}
+use Rattle.search_core.specs.Board.{BoardView, book_at, core_of, is_free, posts_at, yields, Commits, CommitRefuses, IsSoundBoard, TakeMakes}
 use Rattle.search_core.specs.Book.{Book, book_after, book_of, is_node_and, is_open, opening}
+use Rattle.search_core.specs.Calls.{gives_node}
 use Rattle.search_core.specs.Core.{hand, happens, is_node, is_of, may_commit, may_take, HoldsApart}
 use Rattle.search_core.specs.State.{book_or_opening}
 use Rattle.search_core.specs.Steps.{after_step, book_then, close_posts, plan_of, plan_posts, posts_of, where_open}
@@ -63,14 +66,15 @@ step_of_worker i b w step =
 
 -- ---- events
 
-folded : (i : Problem) (v : BoardView) (b : Book) → book_of i v.history ≡ Some b → book_at i v ≡ b
+folded : (v : BoardView) (b : Book) → book_of v.instance v.history ≡ Some b → book_at v ≡ b
 unfolding book_or_opening
-folded i v b e = ap (λ (o : Option Book). option_map_or (λ (b : Book). b) o (opening i)) e
+folded v b e = ap (λ (o : Option Book). option_map_or (λ (b : Book). b) o (opening v.instance)) e
 
-pub take_happens : (i : Problem) (budget : ℕ) (origin : Origin) (old new : BoardView) (acked w k floor best : ℕ) → IsSoundBoard i budget origin old → w < 16 → hand old.hands w ≡ None → TakeMakes (Node k floor best) w i budget old new
-    → happens i (core_of acked old) (Take w k) ≡ Some (core_of (length old.history) new)
-take_happens i budget origin old new acked w k floor best s low empty m =
-    let free : is_free s.book old.hands k ≡ true = subst (λ (b : Book). is_free b old.hands k ≡ true) (folded i old s.book s.folds) m.1.free in
+pub take_happens : (old new : BoardView) (acked w k floor best : ℕ) → IsSoundBoard old → w < 16 → hand old.hands w ≡ None → TakeMakes (Node k floor best) w old new
+    → happens old.instance (core_of acked old) (Take w k) ≡ Some (core_of (length old.history) new)
+take_happens old new acked w k floor best s low empty m =
+    let i = old.instance in
+    let free : is_free s.book old.hands k ≡ true = subst (λ (b : Book). is_free b old.hands k ≡ true) (folded old s.book s.folds) m.1.free in
     let p = and_parts (is_node_and s.book k (is_open s.book)) (not (list_any (is_node k) old.hands)) free in
     let idle : nat_lt w 16 && is_none (hand old.hands w) ≡ true = and_from (nat_lt w 16) (is_none (hand old.hands w)) (lt-ltb w 16 low) (ap is_none empty) in
     let opens : Option Book → Bool = λ o. option_map_or (λ (b : Book). is_node_and b k (is_open b)) o false in
@@ -79,19 +83,50 @@ take_happens i budget origin old new acked w k floor best s low empty m =
     ap (λ (t : Bool). cond t (Some (record { history = old.history; acked = length old.history; hands = set old.hands w (Some k) })) None) may
     ∙ ap (λ (v : BoardView). Some (core_of (length old.history) v)) (sym m.4)
 
-pub commit_happens : (i : Problem) (budget : ℕ) (origin : Origin) (old new : BoardView) (acked w : ℕ) (step : StepPosts) (kept : Kept) → IsSoundBoard i budget origin new → Commits i w step old new kept
-    → happens i (core_of acked old) (Commit w (posts_of i (book_at i old) w step)) ≡ Some (core_of (length old.history) new)
-commit_happens i budget origin old new acked w step kept s m =
-    let posts = posts_of i (book_at i old) w step in
+pub commit_happens : (old new : BoardView) (acked w : ℕ) (step : StepPosts) (kept : Kept) → IsSoundBoard new → Commits w step old new kept
+    → happens old.instance (core_of acked old) (Commit w (posts_at old w step)) ≡ Some (core_of (length old.history) new)
+commit_happens old new acked w step kept s m =
+    let i = old.instance in
+    let posts = posts_at old w step in
+    let same : new.instance ≡ i = ap (λ (v : BoardView). v.instance) m.makes in
     let history : new.history ≡ old.history ++ posts = ap (λ (v : BoardView). v.history) m.makes in
-    let folds : book_of i (old.history ++ posts) ≡ Some s.book = subst (λ (l : List Post). book_of i l ≡ Some s.book) history s.folds in
-    let closed : is_node_and s.book step.node (is_open s.book) ≡ false = subst (λ (b : Book). is_node_and b step.node (is_open b) ≡ false) (folded i new s.book s.folds) m.closed in
+    let folds : book_of i (old.history ++ posts) ≡ Some s.book = subst (λ (l : List Post). book_of i l ≡ Some s.book) history (subst (λ (j : Problem). book_of j new.history ≡ Some s.book) same s.folds) in
+    let closed : is_node_and s.book step.node (is_open s.book) ≡ false = subst (λ (b : Book). is_node_and b step.node (is_open b) ≡ false) (folded new s.book s.folds) m.closed in
     let closes : Option Book → Bool = λ o. option_map_or (λ (b : Book). not (is_node_and b step.node (is_open b))) o false in
     let shut : closes (book_of i (old.history ++ posts)) ≡ true = ap closes folds ∙ ap not closed in
-    let may : may_commit i (core_of acked old) w posts step.node ≡ true = and_from (are_of w step.node posts) (closes (book_of i (old.history ++ posts))) (step_of_worker i (book_at i old) w step) shut in
+    let may : may_commit i (core_of acked old) w posts step.node ≡ true = and_from (are_of w step.node posts) (closes (book_of i (old.history ++ posts))) (step_of_worker i (book_at old) w step) shut in
     let held : option_map_or (may_commit i (core_of acked old) w posts) (hand old.hands w) false ≡ true = ap (λ (h : Option ℕ). option_map_or (may_commit i (core_of acked old) w posts) h false) m.holds.held ∙ may in
     ap (λ (t : Bool). cond t (Some (record { history = old.history ++ posts; acked = length old.history; hands = set old.hands w None })) None) held
     ∙ ap (λ (v : BoardView). Some (core_of (length old.history) v)) (sym m.makes)
+
+pub yield_happens : (old new : BoardView) (acked w : ℕ) → w < 16 → new ≡ yields w old → happens old.instance (core_of acked old) (Yield w) ≡ Some (core_of (length old.history) new)
+yield_happens old new acked w low is =
+    ap (λ (t : Bool). cond t (Some (record { history = old.history; acked = length old.history; hands = set old.hands w None })) None) (lt-ltb w 16 low)
+    ∙ ap (λ (v : BoardView). Some (core_of (length old.history) v)) (sym is)
+
+-- ---- answers that leave posts and hands
+
+pub take_leaves : (old new : BoardView) (acked w : ℕ) (answer : Taken) → gives_node answer ≡ false → TakeMakes answer w old new → core_of acked new ≡ core_of acked old
+take_leaves old new acked w Closed less m = ap (λ (v : BoardView). core_of acked v) m.1
+take_leaves old new acked w Finished less m = ap (λ (v : BoardView). core_of acked v) m.2
+take_leaves old new acked w Halted less m = ap (λ (v : BoardView). core_of acked v) m.3
+take_leaves old new acked w Spent less m = ap (λ (v : BoardView). core_of acked v) m.4
+take_leaves old new acked w (Node k floor best) less m = absurd (cc (less))
+take_leaves old new acked w Idle less m = ap (λ (v : BoardView). core_of acked v) m.2
+
+pub refusal_leaves : (old new : BoardView) (acked w : ℕ) (step : StepPosts) (fault : CommitFault) → CommitRefuses w step old new fault → core_of acked new ≡ core_of acked old
+refusal_leaves old new acked w step DiskFault m = ap (λ (v : BoardView). core_of acked v) m.1
+refusal_leaves old new acked w step (Full end limit) m = ap (λ (v : BoardView). core_of acked v) m.4
+refusal_leaves old new acked w step (NotHeld held) m = ap (λ (v : BoardView). core_of acked v) m.3
+refusal_leaves old new acked w step Shut m = ap (λ (v : BoardView). core_of acked v) m.1
+refusal_leaves old new acked w step (NotClosing floor best back) m = ap (λ (v : BoardView). core_of acked v) m.6
+refusal_leaves old new acked w step (OtherCuts at) m = ap (λ (v : BoardView). core_of acked v) m.3
+refusal_leaves old new acked w step NoMemory m = ap (λ (v : BoardView). core_of acked v) m
+
+-- ---- the posts of a commit
+
+pub commit_of_worker : (old new : BoardView) (w : ℕ) (step : StepPosts) (kept : Kept) → Commits w step old new kept → (posts : List Post) × (new.history ≡ old.history ++ posts) × (list_all (is_of w step.node) posts ≡ true)
+commit_of_worker old new w step kept m = (posts_at old w step, ap (λ (v : BoardView). v.history) m.makes, step_of_worker old.instance (book_at old) w step)
 
 -- ---- what the other hands hold after posts
 

@@ -37,7 +37,7 @@ at_place (y ∷ xs) zero x e = let same : y ≡ x = cc in (omega arith, same)
 at_place (y ∷ xs) (suc k) x e = let r = at_place xs k x e in (omega (arith, r.0), r.1)
 
 -- a sum after a write over n
-sum_set : {X : Type 0} (f : X → ℕ) (xs : List X) (k : ℕ) (n y : X) → slice_get xs k ≡ Some n → sum_by f (set xs k y) + f n ≡ sum_by f xs + f y
+pub sum_set : {X : Type 0} (f : X → ℕ) (xs : List X) (k : ℕ) (n y : X) → slice_get xs k ≡ Some n → sum_by f (set xs k y) + f n ≡ sum_by f xs + f y
 sum_set f xs k n y e =
     let p = at_place xs k n e in
     let s : sum_by f (set xs k y) + f (get_or xs k n) ≡ sum_by f xs + f y = sum_by-set f xs k y n p.0 in

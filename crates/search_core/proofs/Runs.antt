@@ -42,7 +42,7 @@ slice_get_set (z ∷ xs) (suc w) (suc v) y x e =
       | inr p ↦ inr (λ q. p.0 (let r : v ≡ w = omega arith in r), p.1)
     ]
 
-hand_some : (hands : List (Option ℕ)) (w x : ℕ) → hand hands w ≡ Some x → slice_get hands w ≡ Some (Some x)
+pub hand_some : (hands : List (Option ℕ)) (w x : ℕ) → hand hands w ≡ Some x → slice_get hands w ≡ Some (Some x)
 hand_some hands w x e =
     let r = bind_some (λ (h : Option ℕ). h) (slice_get hands w) x e in r.1 ∙ ap (λ (h : Option ℕ). Some h) r.2
 
@@ -243,8 +243,8 @@ pub every_run : (i : Problem) (events : List Event) (c : Core) → run i start e
 every_run i events c e = run_sound i start c events (start_sound i) e
 
 -- a crash leaves a beginning of the posts that has all that were acknowledged
-pub crash_keeps : (i : Problem) (events : List Event) (c d : Core) (keep : ℕ) → run i start events ≡ Some c → happens i c (Crash keep) ≡ Some d → IsFront (take c.acked c.history) d.history × IsFront d.history c.history
-crash_keeps i events c d keep e h =
+pub crash_front : (i : Problem) (c d : Core) (keep : ℕ) → happens i c (Crash keep) ≡ Some d → IsFront (take c.acked c.history) d.history × IsFront d.history c.history
+crash_front i c d keep h =
     let r = cond_some (nat_le c.acked keep && nat_le keep (length c.history)) (record { history = take keep c.history; acked = keep; hands = empty_hands }) d h in
     let p = and_parts (nat_le c.acked keep) (nat_le keep (length c.history)) r.0 in
     let least : c.acked ≤ keep = leb-true _ _ p.0 in
@@ -252,3 +252,6 @@ crash_keeps i events c d keep e h =
       (drop c.acked d.history, subst (λ xs. xs ++ drop c.acked d.history ≡ d.history) (sym (ap (take c.acked) all) ∙ take-take c.acked keep c.history least) (take-append-drop c.acked d.history)),
       (drop keep c.history, ap (λ xs. xs ++ drop keep c.history) (sym all) ∙ take-append-drop keep c.history),
     )
+
+pub crash_keeps : (i : Problem) (events : List Event) (c d : Core) (keep : ℕ) → run i start events ≡ Some c → happens i c (Crash keep) ≡ Some d → IsFront (take c.acked c.history) d.history × IsFront d.history c.history
+crash_keeps i events c d keep e h = crash_front i c d keep h

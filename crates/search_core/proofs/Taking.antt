@@ -38,7 +38,7 @@ told cause (NotSettled class) r = inr r
 told cause (Price why) r = inr r
 told cause NoMemory r = inl refl
 
-stop_at : (i : Problem) (b : Book) (posts : List Post) (at : ℕ) (why : StepFault) → (why ≡ NoMemory) ⊎ IsRefused i b posts at why → PostsStop i b posts (refused_at at why)
+pub stop_at : (i : Problem) (b : Book) (posts : List Post) (at : ℕ) (why : StepFault) → (why ≡ NoMemory) ⊎ IsRefused i b posts at why → PostsStop i b posts (refused_at at why)
 stop_at i b posts at (NotLegal why) h = elim h [ inl e ↦ absurd (cc) | inr r ↦ r ]
 stop_at i b posts at (WrongCost kept found) h = elim h [ inl e ↦ absurd (cc) | inr r ↦ r ]
 stop_at i b posts at (NotBetter best) h = elim h [ inl e ↦ absurd (cc) | inr r ↦ r ]
@@ -89,14 +89,14 @@ at_seam (x ∷ xs) ys y = at_seam xs ys y
 -- where the next post is refused
 pub taking_stops : (i : Problem) (all : List Post) (old : StateView) (passed left next : List Post) (number : ℕ) (mid : StateView) (post : Post) (fault : StepFault)
     → i ≡ old.instance → Taking all old passed left number mid → left ≡ post ∷ next → Refuses (step_fault mid.instance mid.book post) fault
-    → PostsStop i old.book all (refused_at number fault)
+    → (fault ≡ NoMemory) ⊎ IsRefused i old.book all number fault
 taking_stops i all old passed left next number mid post fault j t e r =
     let whole : passed ++ post ∷ next ≡ all = ap (λ (l : List Post). passed ++ l) (sym e) ∙ t.split in
     let front : take number all ≡ passed = ap (λ (n : ℕ). take n all) t.count ∙ ap (λ (l : List Post). take (length passed) l) (sym whole) ∙ take-append_seam passed (post ∷ next) in
     let here : slice_get all number ≡ Some post = ap (λ (n : ℕ). slice_get all n) t.count ∙ ap (λ (l : List Post). slice_get l (length passed)) (sym whole) ∙ at_seam passed next post in
     let instance : mid.instance ≡ i = t.takes.same ∙ sym j in
     let same : step_fault i mid.book post ≡ step_fault mid.instance mid.book post = ap (λ (p : Problem). step_fault p mid.book post) (sym instance) in
-    stop_at i old.book all number fault (elim (told (step_fault mid.instance mid.book post) fault r) [
+    elim (told (step_fault mid.instance mid.book post) fault r) [
       | inl none ↦ inl none
       | inr cause ↦ inr (record {
         before = mid.book;
@@ -106,7 +106,7 @@ taking_stops i all old passed left next number mid post fault j t e r =
         refused = faulty_refused i mid.book post fault (same ∙ cause);
         cause = same ∙ cause;
       })
-    ])
+    ]
 
 -- ---- a state made anew
 

@@ -23,6 +23,10 @@ empty_hands = replicate 16 None
 abbrev pub start : Core
 start = record { history = []; acked = 0; hands = empty_hands }
 
+-- the core of a search that is opened with posts: all are acknowledged, and all hands are empty
+abbrev pub opened : List Post → Core
+opened posts = record { history = posts; acked = length posts; hands = empty_hands }
+
 -- the node in a worker's hand
 abbrev pub hand : List (Option ℕ) → ℕ → Option ℕ
 hand hands w = option_and_then (λ h. h) (slice_get hands w)

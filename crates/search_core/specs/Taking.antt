@@ -1,7 +1,8 @@
--- What posts add to a state, one after another. Contracts of private functions speak of it.
-use Rattle.std.specs.Prelude.{◌≡◌, ⊤, ℕ, List, ◌++◌, Some}
+-- What posts add to a state, one after another.
+use Rattle.std.specs.Prelude.{◌≡◌, ◌⊎◌, ⊤, ℕ, List, ◌++◌, Some}
 use Rattle.shift_instance.specs.Problem.{Problem}
 use Rattle.post_codec.specs.declared.post.Post.{Post}
+use Rattle.search_core.specs.declared.adding.Refusal.{Refusal}
 use Rattle.search_core.specs.declared.event_fault.EventFault.{EventFault}
 use Rattle.search_core.specs.declared.event_fault.EventFault.TheVariants.{NoWorker, HandFull, NotOpen, InHand, HandEmpty, NotOwn, Refused, LeftOpen, NotKept, NoMemory}
 use Rattle.search_core.specs.declared.fault.StepFault.{StepFault}
@@ -22,7 +23,11 @@ pub record IsStateOf (i : Problem) (posts : List Post) (s : StateView) : Type 0 
   pub history : s.history ≡ posts
   pub makes : book_of i posts ≡ Some s.book
 
--- why posts aren't all taken, where that one is refused
+-- why posts aren't all taken: one is the first that is refused, by its place, or no memory is left
+abbrev pub Stops : Problem → Book → List Post → Refusal → Type 0
+Stops i b posts refusal = (refusal.why ≡ NoMemoryForPost) ⊎ IsRefused i b posts refusal.at refusal.why
+
+-- the fault of an event for a post that isn't taken
 abbrev pub refused_at : ℕ → StepFault → EventFault
 refused_at at (NotLegal fault) = Refused at (NotLegal fault)
 refused_at at (WrongCost kept found) = Refused at (WrongCost kept found)
@@ -36,7 +41,7 @@ refused_at at (NotSettled class) = Refused at (NotSettled class)
 refused_at at (Price fault) = Refused at (Price fault)
 refused_at at NoMemoryForPost = NoMemory
 
--- why posts aren't all taken: one is the first that is refused, or no memory is left
+-- the same as the fault of an event
 abbrev pub PostsStop : Problem → Book → List Post → EventFault → Type 0
 PostsStop i b posts (Refused at why) = IsRefused i b posts at why
 PostsStop i b posts NoMemory = ⊤

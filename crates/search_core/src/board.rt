@@ -1,13 +1,8 @@
 //! The board of a search: where workers take nodes from, and commit what they find.
-ghost use Rattle.std.specs.Prelude.{◌≡◌, ℕ, ◌<◌, ◌≤◌, ◌^◌, List, Bool, true, Option, None, Some, IsSome, IfOk, IfErr, length, slice_set};
-ghost use Rattle.shift_instance.specs.Problem.{Problem};
-ghost use Rattle.post_codec.specs.declared.post.Post.{Post};
-ghost use Rattle.search_core.specs.declared.board.Origin.{Origin};
-ghost use Rattle.search_core.specs.declared.board.Shutting.{Shutting};
-ghost use Rattle.search_core.specs.Board.{seen, Commits, CommitRefuses, IsSoundBoard, TakeMakes};
+ghost use Rattle.std.specs.Prelude.{◌≡◌, ℕ, ◌<◌, ◌≤◌, ◌^◌, None, Some, IsSome, IfOk, IfErr, length};
+ghost use Rattle.search_core.specs.Board.{book_at, yields, BoardView, Commits, CommitRefuses, IsSoundBoard, TakeMakes};
 ghost use Rattle.search_core.specs.Core.{hand};
 ghost use Rattle.search_core.specs.Kept.{cuts_in};
-ghost use Rattle.search_core.specs.State.{book_or_opening};
 ghost use Rattle.search_core.specs.Steps.{Fits};
 
 use crate::{Posts, StepPosts};
@@ -44,7 +39,7 @@ pub enum Taken {
 pub struct Kept {
     /// Whether the step had a plan cheaper than the best before it.
     pub plan: bool,
-    /// How many records were made.
+    /// How many records were made: one of all posts of the step, or none where it had none.
     pub records: u32,
     /// What the best rota costs after it.
     pub best: u64,
@@ -59,8 +54,8 @@ pub struct Kept {
 pub enum CommitFault {
     /// A call on the disk failed while the posts were recorded. The board is shut from then on.
     DiskFault,
-    /// With the posts the journal would end at `end`, which is past `limit`. Both are lengths in bytes. The board is shut
-    /// from then on.
+    /// With the record of the posts the journal would end at `end`, which is past `limit`. Both are lengths in bytes. The
+    /// board is shut from then on.
     Full {
         end: u64,
         limit: u32,
@@ -92,7 +87,7 @@ pub enum CommitFault {
 pub enum Shutting {
     /// A call on the disk failed while posts were recorded.
     DiskFault,
-    /// With the posts the journal would have ended at `end`, which is past `limit`. Both are lengths in bytes.
+    /// With the record of the posts the journal would have ended at `end`, which is past `limit`. Both are lengths in bytes.
     Full { end: u64, limit: u32 },
 }
 
@@ -114,79 +109,57 @@ pub struct Origin {
 /// The posts of a search, with the nodes that its workers hold. A worker takes a node, finds prices, plans or a way to
 /// split it, and commits these as one step that closes the node. Workers have the numbers 0 to 15.
 pub trait Board {
-    // the posts, from the first one on
-    ghost history: { Self → List Post };
-
-    // the node in the hand of each worker
-    ghost hands: { Self → List (Option ℕ) };
-
-    // how many steps were taken
-    ghost taken: { Self → ℕ };
-
-    // what shut the board, if anything did
-    ghost shut: { Self → Option Shutting };
-
-    // whether a worker let go of its node without a commit
-    ghost halted: { Self → Bool };
-
-    // what the search is for, how many steps may be taken, and where the board began: no call changes these
-    ghost instance: { Self → Problem };
-
-    ghost budget: { Self → ℕ };
-
-    ghost origin: { Self → Origin };
+    // all that contracts see of it
+    ghost seen: { Self → BoardView };
 
     /// A worker whose hand is empty takes a node, if one is to be had.
     fn take(&mut self, worker: u32) -> Taken
         requires worker { worker < 16 }
-        requires empty { hand (hands self.old) worker ≡ None }
-        ensures root { (instance self.new ≡ instance self.old) × (budget self.new ≡ budget self.old) × (origin self.new ≡ origin self.old) }
-        ensures makes { TakeMakes result worker (instance self.old) (budget self.old) (seen (history self.old) (hands self.old) (taken self.old) (shut self.old) (halted self.old)) (seen (history self.new) (hands self.new) (taken self.new) (shut self.new) (halted self.new)) };
+        requires empty { hand (seen self.old).hands worker ≡ None }
+        ensures { TakeMakes result worker (seen self.old) (seen self.new) };
 
     /// The cuts of the node in a worker's hand.
     fn cuts(&self, worker: u32) -> Result<Cuts, NoMemory>
         requires worker { worker < 16 }
-        requires full { IsSome (hand (hands self.now) worker) }
-        ensures cuts { IfOk result (λ cuts. (k : ℕ) → hand (hands self.now) worker ≡ Some k → cuts ≡ cuts_in (book_or_opening (instance self.now) (history self.now)).nodes k) }
+        requires full { IsSome (hand (seen self.now).hands worker) }
+        ensures cuts { IfOk result (λ cuts. (k : ℕ) → hand (seen self.now).hands worker ≡ Some k → cuts ≡ cuts_in (book_at (seen self.now)).nodes k) }
         ensures few { IfOk result (λ cuts. length cuts ≤ 2 ^ 24) };
 
-    /// A worker commits a step for the node in its hand, and lets go of it.
+    /// A worker commits a step for the node in its hand, and lets go of it. All posts of the step are one record; where it has
+    /// none, no record is made.
     fn commit(&mut self, worker: u32, step: StepPosts) -> Result<Kept, CommitFault>
         requires worker { worker < 16 }
-        requires fits { Fits (instance self.old) step }
-        ensures root { (instance self.new ≡ instance self.old) × (budget self.new ≡ budget self.old) × (origin self.new ≡ origin self.old) }
-        ensures ok { IfOk result (Commits (instance self.old) worker step (seen (history self.old) (hands self.old) (taken self.old) (shut self.old) (halted self.old)) (seen (history self.new) (hands self.new) (taken self.new) (shut self.new) (halted self.new))) }
-        ensures err { IfErr result (CommitRefuses (instance self.old) (origin self.old).limit worker step (seen (history self.old) (hands self.old) (taken self.old) (shut self.old) (halted self.old)) (seen (history self.new) (hands self.new) (taken self.new) (shut self.new) (halted self.new))) };
+        requires fits { Fits (seen self.old).instance step }
+        ensures ok { IfOk result (Commits worker step (seen self.old) (seen self.new)) }
+        ensures err { IfErr result (CommitRefuses worker step (seen self.old) (seen self.new)) };
 
     /// A worker lets go of the node in its hand, if there is one, without a commit. The board gives no more nodes then.
     fn yield_node(&mut self, worker: u32)
         requires { worker < 16 }
-        ensures root { (instance self.new ≡ instance self.old) × (budget self.new ≡ budget self.old) × (origin self.new ≡ origin self.old) }
-        ensures same { (history self.new ≡ history self.old) × (taken self.new ≡ taken self.old) × (shut self.new ≡ shut self.old) }
-        ensures emptied { hands self.new ≡ slice_set (hands self.old) worker None }
-        ensures halted { halted self.new ≡ true };
+        ensures { seen self.new ≡ yields worker (seen self.old) };
 
     /// The node in a worker's hand.
     fn held(&self, worker: u32) -> Option<u32>
         requires { worker < 16 }
-        ensures { result ≡ hand (hands self.now) worker };
+        ensures { result ≡ hand (seen self.now).hands worker };
 
     /// What the best rota costs.
     fn best_cost(&self) -> u64
-        ensures { result ≡ (book_or_opening (instance self.now) (history self.now)).cost };
+        ensures { result ≡ (book_at (seen self.now)).cost };
 
     /// How many posts there are.
     fn posts(&self) -> u64
-        ensures { result ≡ length (history self.now) };
+        ensures { result ≡ length (seen self.now).history };
 
     // what every board keeps
-    ghost sound: { (b : Self) → IsSoundBoard (instance b) (budget b) (origin b) (seen (history b) (hands b) (taken b) (shut b) (halted b)) };
+    ghost sound: { (b : Self) → IsSoundBoard (seen b) };
 }
 
 /// What every board keeps: its posts make a book, its workers hold distinct unsplit nodes of it, no more steps are taken than
-/// the budget has, and its posts begin with those of its origin.
+/// the budget has, and its posts begin with those of its origin. Where its journal's limit shut it, the posts of a step
+/// would have ended past it, at the place that is told.
 pub fn keeps_sound<B: Board>(board: &B)
-    ensures { IsSoundBoard (B.instance board.now) (B.budget board.now) (B.origin board.now) (seen (B.history board.now) (B.hands board.now) (B.taken board.now) (B.shut board.now) (B.halted board.now)) }
+    ensures { IsSoundBoard (B.seen board.now) }
 {
     let _ = board;
 }

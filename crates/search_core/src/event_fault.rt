@@ -2,7 +2,7 @@
 ghost use Rattle.std.specs.Prelude.{◌≡◌};
 ghost use Rattle.search_core.specs.declared.event_fault.EventFault.TheVariants.{NoMemory};
 
-use crate::StepFault;
+use crate::{Refusal, StepFault};
 use std::alloc::AllocError;
 use std::error::Error;
 use std::fmt;
@@ -64,5 +64,19 @@ impl From<AllocError> for EventFault {
 
     fn from(_e: AllocError) -> EventFault {
         EventFault::NoMemory
+    }
+}
+
+impl From<Refusal> for EventFault {
+    ghost use Rattle.search_core.specs.Taking.{refused_at};
+
+    ghost from_gives = { λ refusal e. e ≡ refused_at refusal.at refusal.why };
+
+    fn from(refusal: Refusal) -> EventFault {
+        let Refusal { at, why } = refusal;
+        match why {
+            StepFault::NoMemory => EventFault::NoMemory,
+            _ => EventFault::Refused { at, why },
+        }
     }
 }

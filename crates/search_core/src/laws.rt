@@ -1,5 +1,5 @@
 //! Laws of books and of runs. Each function's contract is the law; the functions do nothing.
-ghost use Rattle.std.specs.Prelude.{◌≡◌, ◌+◌, ◌*◌, ◌^◌, ◌<◌, ◌≤◌, ℕ, Any, IsTrue, IsFalse, List, [], Option, None, Some, length, slice_set, take};
+ghost use Rattle.std.specs.Prelude.{◌≡◌, ◌+◌, ◌*◌, ◌^◌, ◌<◌, ◌≤◌, ◌++◌, ℕ, Any, IsTrue, IsFalse, List, [], Option, None, Some, length, slice_set, take};
 ghost use Rattle.std.specs.List.{list_all};
 ghost use Rattle.shift_instance.specs.declared.Duty.{Duty};
 ghost use Rattle.shift_instance.specs.Problem.{Problem};
@@ -8,15 +8,17 @@ ghost use Rattle.head_splits.specs.Cuts.{meets};
 ghost use Rattle.head_splits.specs.Nodes.{Node};
 ghost use Rattle.head_splits.specs.Settled.{span};
 ghost use Rattle.post_codec.specs.declared.post.Post.{Post};
+ghost use Rattle.search_core.specs.declared.board.CommitFault.{CommitFault};
 ghost use Rattle.search_core.specs.declared.board.Kept.{Kept};
-ghost use Rattle.search_core.specs.declared.board.Origin.{Origin};
+ghost use Rattle.search_core.specs.declared.board.Taken.{Taken};
 ghost use Rattle.search_core.specs.declared.board.Taken.TheVariants.{Node as TakenNode};
 ghost use Rattle.search_core.specs.declared.event.Event.{Event};
-ghost use Rattle.search_core.specs.declared.event.Event.TheVariants.{Commit, Crash, Take};
+ghost use Rattle.search_core.specs.declared.event.Event.TheVariants.{Commit, Crash, Take, Yield};
 ghost use Rattle.search_core.specs.declared.step_posts.StepPosts.{StepPosts};
-ghost use Rattle.search_core.specs.Board.{BoardView, book_at, core_of, Commits, IsSoundBoard, TakeMakes};
+ghost use Rattle.search_core.specs.Board.{BoardView, core_of, posts_at, yields, Commits, CommitRefuses, IsSoundBoard, TakeMakes};
 ghost use Rattle.search_core.specs.Book.{Book, book_after, book_of, floor_of, is_open, is_finished, IsLeastFloor, IsSound};
-ghost use Rattle.search_core.specs.Core.{Core, hand, is_of, start, run, happens, HoldsApart, IsSoundCore, IsFront};
+ghost use Rattle.search_core.specs.Calls.{full_hands, gives_node, steps_enough, AreCalls, IsFresh};
+ghost use Rattle.search_core.specs.Core.{Core, hand, is_of, opened, start, run, happens, HoldsApart, IsSoundCore, IsFront};
 ghost use Rattle.search_core.specs.Steps.{after_step, posts_of};
 
 use crate::State;
@@ -44,6 +46,18 @@ pub fn every_run()
         → IsFront (take c.acked c.history) d.history × IsFront d.history c.history }
 {}
 
+/// A run may begin at any posts that make a book, whatever workers they carry. Each of its cores is sound, and its posts begin
+/// with these. A crash leaves the first of the posts, with all that were acknowledged among them.
+pub fn runs_begin_at_any_posts()
+    ensures sound { (i : Problem) (posts : List Post) (b : Book) (events : List Event) (c : Core)
+        → book_of i posts ≡ Some b → run i (opened posts) events ≡ Some c → IsSoundCore i c }
+    ensures begins { (i : Problem) (posts : List Post) (b : Book) (events : List Event) (c : Core)
+        → book_of i posts ≡ Some b → run i (opened posts) events ≡ Some c → IsFront posts c.history }
+    ensures crash { (i : Problem) (posts : List Post) (b : Book) (events : List Event) (c d : Core) (keep : ℕ)
+        → book_of i posts ≡ Some b → run i (opened posts) events ≡ Some c → happens i c (Crash keep) ≡ Some d
+        → IsFront (take c.acked c.history) d.history × IsFront d.history c.history }
+{}
+
 /// The best rota of a finished book is cheapest, and its cost is the book's floor.
 pub fn finished_is_cheapest()
     ensures cheapest { (i : Problem) (b : Book) (rota : List Duty) → IsSound i b → IsTrue (is_finished b) → IsTrue (is_legal_rota i rota) → b.cost ≤ cost i rota }
@@ -67,14 +81,38 @@ pub fn few_nodes()
 {}
 
 /// Where a worker whose hand is empty takes a node of a board, the core with the board's posts and hands has the same take.
-/// Where it commits a step, the core has the commit of the step's posts. Each acknowledges the posts before it.
+/// Where it commits a step, the core has the commit of the step's posts, and where it lets go of its node, the core has the
+/// yield. Each acknowledges the posts before it. A take that gives no node and a commit that is refused leave posts and hands.
 pub fn boards_are_cores()
-    ensures take { (i : Problem) (budget : ℕ) (origin : Origin) (old new : BoardView) (acked w k floor best : ℕ)
-        → IsSoundBoard i budget origin old → w < 16 → hand old.hands w ≡ None → TakeMakes (TakenNode k floor best) w i budget old new
-        → happens i (core_of acked old) (Take w k) ≡ Some (core_of (length old.history) new) }
-    ensures commit { (i : Problem) (budget : ℕ) (origin : Origin) (old new : BoardView) (acked w : ℕ) (step : StepPosts) (kept : Kept)
-        → IsSoundBoard i budget origin new → Commits i w step old new kept
-        → happens i (core_of acked old) (Commit w (posts_of i (book_at i old) w step)) ≡ Some (core_of (length old.history) new) }
+    ensures take { (old new : BoardView) (acked w k floor best : ℕ)
+        → IsSoundBoard old → w < 16 → hand old.hands w ≡ None → TakeMakes (TakenNode k floor best) w old new
+        → happens old.instance (core_of acked old) (Take w k) ≡ Some (core_of (length old.history) new) }
+    ensures commit { (old new : BoardView) (acked w : ℕ) (step : StepPosts) (kept : Kept)
+        → IsSoundBoard new → Commits w step old new kept
+        → happens old.instance (core_of acked old) (Commit w (posts_at old w step)) ≡ Some (core_of (length old.history) new) }
+    ensures yields { (old new : BoardView) (acked w : ℕ) → w < 16 → new ≡ yields w old
+        → happens old.instance (core_of acked old) (Yield w) ≡ Some (core_of (length old.history) new) }
+    ensures no_node { (old new : BoardView) (acked w : ℕ) (answer : Taken)
+        → IsFalse (gives_node answer) → TakeMakes answer w old new → core_of acked new ≡ core_of acked old }
+    ensures refusal { (old new : BoardView) (acked w : ℕ) (step : StepPosts) (fault : CommitFault)
+        → CommitRefuses w step old new fault → core_of acked new ≡ core_of acked old }
+{}
+
+/// Each post of a worker's step carries that worker, and is a plan or names the step's node. A commit adds such posts alone.
+pub fn posts_are_own()
+    ensures step { (i : Problem) (b : Book) (w : ℕ) (step : StepPosts) → IsTrue (list_all (is_of w step.node) (posts_of i b w step)) }
+    ensures commit { (old new : BoardView) (w : ℕ) (step : StepPosts) (kept : Kept) → Commits w step old new kept
+        → (posts : List Post) × (new.history ≡ old.history ++ posts) × IsTrue (list_all (is_of w step.node) posts) }
+{}
+
+/// Of calls on a board as it is opened, whoever makes them: the commits that answered `Ok` and the hands that hold a node are
+/// together at most the steps taken, and just these while no worker let go of its node. The steps taken are at most those after
+/// which each search of the instance is finished, also where the budget is greater.
+pub fn steps_are_counted()
+    ensures within { (old new : BoardView) (commits : ℕ) → IsFresh old → AreCalls old new commits → commits + full_hands new.hands ≤ new.taken }
+    ensures exact { (old new : BoardView) (commits : ℕ) → IsFresh old → AreCalls old new commits → IsFalse new.halted
+        → commits + full_hands new.hands ≡ new.taken }
+    ensures enough { (old new : BoardView) (commits : ℕ) → IsFresh old → AreCalls old new commits → new.taken ≤ steps_enough old.instance }
 {}
 
 /// Where a worker adds posts that are its own, for the node in its hand, and lets go of the node, the hands hold distinct

@@ -1,8 +1,10 @@
 //! The book of a search, as its posts make it, and what the hands of workers and crashes may do to it.
 #![tactic(auto)]
 
+mod adding;
 mod board;
 mod class_text;
+mod drafting;
 mod event;
 mod event_fault;
 mod fault;
@@ -15,10 +17,13 @@ mod refolding;
 mod running;
 mod state;
 mod step_posts;
+mod stepping;
 #[cfg(test)]
 mod tests;
 
+pub use adding::{Refusal, add_posts};
 pub use board::{Board, CommitFault, Kept, Origin, Shutting, Taken, keeps_sound};
+pub use drafting::Draft;
 pub use event::Event;
 pub use event_fault::EventFault;
 pub use fault::StepFault;

@@ -1,9 +1,9 @@
-//! Posts taken into a state, one after another.
-ghost use Rattle.std.specs.Prelude.{◌≡◌, IfErr, IfOk, IsSome, OnOk};
+//! A state made anew of its posts.
+ghost use Rattle.std.specs.Prelude.{◌≡◌, IfOk, IsSome};
 ghost use Rattle.search_core.specs.Book.{book_of};
-ghost use Rattle.search_core.specs.Taking.{refused_at, IsStateOf, PostsStop, Takes};
+ghost use Rattle.search_core.specs.Taking.{IsStateOf};
 
-use crate::{EventFault, State, StepFault};
+use crate::State;
 use break_rules::NoMemory;
 use post_codec::Post;
 use shift_instance::Instance;
@@ -68,34 +68,4 @@ pub(crate) fn refold(alloc: Global, instance: &Instance, posts: &[Post]) -> Resu
         }
     }
     Ok(state)
-}
-
-/// Why posts aren't all taken, where one is refused.
-fn refused_at(at: u64, why: StepFault) -> EventFault
-    ensures { result ≡ refused_at at why }
-{
-    match why {
-        StepFault::NoMemory => EventFault::NoMemory,
-        _ => EventFault::Refused { at, why },
-    }
-}
-
-/// Adds posts to a state, up to the first one that isn't allowed.
-pub(crate) fn add_posts(
-    state: &mut State,
-    instance: &Instance,
-    posts: Vec<Post>,
-) -> Result<(), EventFault>
-    requires { instance.now ≡ state.old.instance }
-    ensures ok { OnOk result (Takes state.old posts.items state.new) }
-    ensures err { IfErr result (PostsStop instance.now state.old.book posts.items) }
-{
-    let mut at = 0;
-    for post in posts {
-        if let Err(why) = state.step(instance, post) {
-            return Err(refused_at(at, why));
-        }
-        at += 1;
-    }
-    Ok(())
 }

@@ -7,7 +7,8 @@ ghost use Rattle.search_core.specs.Running.{take_fault, Prevents};
 ghost use Rattle.search_core.specs.State.{book_or_opening};
 ghost use Rattle.search_core.specs.Taking.{IsStateOf, PostsStop};
 
-use crate::refolding::{add_posts, refold};
+use crate::adding::add_posts;
+use crate::refolding::refold;
 use crate::{Event, EventFault, Hands, Posts, State, WORKERS_MAX};
 use break_rules::NoMemory;
 use post_codec::Post;

@@ -1,16 +1,23 @@
 //! The state of a search.
-ghost use Rattle.std.specs.Prelude.{◌≡◌, ℕ, ◌+◌, ◌-◌, ◌*◌, ◌^◌, ◌<◌, ◌≤◌, ◌++◌, ◌∷◌, [], ◌==◌, Some, map, max, length, slice_get, IfOk, IfErr, IsSome, IsSomeAnd, MatchOption, OnOk, OnErr};
-ghost use Rattle.search_core.specs.Board.{IsNext, NoneIsFree};
+ghost use Rattle.std.specs.Prelude.{◌≡◌, ℕ, ◌+◌, ◌-◌, ◌*◌, ◌^◌, ◌<◌, ◌≤◌, ◌++◌, ◌∷◌, [], ◌==◌, None, Some, map, max, not, length, slice_get, false, true, IfOk, IfErr, IfSome, IsSome, IsSomeAnd, MatchOption, OnOk, OnErr};
+ghost use Rattle.shift_instance.specs.Valid.{IsValid};
+ghost use Rattle.search_core.specs.Board.{floor_of_node, leaves_open, IsNext, NoneIsFree};
 ghost use Rattle.search_core.specs.Book.{book_of, floor_of, is_node_and, is_open, opening, step, IsSound};
 ghost use Rattle.post_codec.specs.declared.post.Post.TheVariants.{Plan, Priced, Settled, Split};
 ghost use Rattle.search_core.specs.Faults.{open_fault, plan_fault, priced_fault, settled_fault, split_fault, step_fault, unsplit_fault, Refuses, Steps};
+ghost use Rattle.search_core.specs.declared.step_posts.Close.TheVariants.{ByPrice};
+ghost use Rattle.search_core.specs.Book.{Book};
+ghost use Rattle.search_core.specs.Drafting.{Drafts, LeavesOpen, Makes};
 ghost use Rattle.search_core.specs.Kept.{cuts_in, part_of, rows_in};
 ghost use Rattle.search_core.specs.State.{state_of, value_of};
+ghost use Rattle.search_core.specs.Steps.{Fits};
 
-use crate::Hands;
+use crate::drafting::Draft;
 use crate::fault::StepFault;
 use crate::judging::{is_live_class, plan_fault};
 use crate::outline::{NodeState, Outline, least_floor, next_node};
+use crate::stepping::{draft_of, stays_open};
+use crate::{Hands, StepPosts};
 use break_rules::NoMemory;
 use dual_bound::{Fixing, prove, settle};
 use head_splits::{Class, Cut, Cuts, Prices, Side, range};
@@ -127,6 +134,21 @@ impl State {
         self.posts.push_reserved(post);
     }
 
+    /// Appends posts that the book allows one after another, with the numbers that go with them, where there is room. It takes
+    /// no memory.
+    pub fn append_all(&mut self, posts: Vec<Post>, values: &[u64])
+        requires room { length posts.items ≤ self.old.spare }
+        requires makes { (c : Book) × Makes self.old.instance self.old.book posts.items values.now c }
+        ensures makes { Makes self.old.instance self.old.book posts.items values.now self.new.book }
+        ensures rest { self.new ≡ record self.old { history = self.old.history ++ posts.items; book = self.new.book; spare = self.old.spare - length posts.items } }
+    {
+        let mut at = 0;
+        for post in posts {
+            self.append(post, values[at]);
+            at += 1;
+        }
+    }
+
     /// The rows of the best rota.
     pub fn best(&self) -> &Rows
         ensures best { result.now ≡ self.now.book.best }
@@ -214,6 +236,45 @@ impl State {
         }
         list.reverse();
         Ok(Cuts::new(list))
+    }
+
+    /// The posts that a worker's step for an unsplit node makes, with the numbers that go with them, the best cost after them and
+    /// the node's floor. The state stays as it is.
+    pub fn draft(&self, worker: u16, step: StepPosts) -> Result<Draft, NoMemory>
+        requires fits { Fits self.now.instance step }
+        requires few { length step.proved.cuts < 2 ^ 32 }
+        requires cuts { step.proved.cuts ≡ cuts_in self.now.book.nodes step.node }
+        requires unsplit { is_node_and self.now.book step.node (λ n. not n.split) ≡ true }
+        ensures { IfOk result (Drafts self.now.instance self.now.book worker step) }
+    {
+        let (floor, best) = self.floor_and_best(step.node);
+        draft_of(self.alloc, worker, floor, best, step)
+    }
+
+    /// The node's floor and the best cost after a step for an unsplit node, where the node would be open then. Only a step that
+    /// is closed by its bound may leave it open.
+    pub fn stays_open(&self, step: &StepPosts) -> Option<(u64, u64)>
+        requires fits { Fits self.now.instance step.now }
+        requires cuts { step.now.proved.cuts ≡ cuts_in self.now.book.nodes step.now.node }
+        requires unsplit { is_node_and self.now.book step.now.node (λ n. not n.split) ≡ true }
+        ensures open { IfSome result (λ p. (step.now.close ≡ ByPrice) × ((w : ℕ) → LeavesOpen self.now.instance self.now.book w step.now p.0 p.1)) }
+        ensures closed { result ≡ None → (w : ℕ) → leaves_open self.now.instance self.now.book w step.now ≡ false }
+    {
+        let (floor, best) = self.floor_and_best(step.node);
+        stays_open(step, floor, best)
+    }
+
+    /// The floor of a node that is there, and the cost of the best rota.
+    pub fn floor_and_best(&self, node: u32) -> (u64, u64)
+        requires { node < length self.now.book.nodes }
+        ensures floor { result.0 ≡ floor_of_node self.now.book node }
+        ensures best { result.1 ≡ self.now.book.cost }
+        ensures valid { IsValid self.now.instance }
+        ensures sound { IsSound self.now.instance self.now.book }
+    {
+        let _ = &self.alloc;
+        let nodes = self.nodes();
+        (nodes[node as usize].floor, self.cost())
     }
 
     /// The node of which a node is a part, and the cut that it has beside those of that node.

@@ -1,10 +1,11 @@
 -- How a search over a book ends, and a run whose book isn't opened.
 use Rattle.std.proofs.Common.{◌≡◌, ◌≢◌, inl, inr, sym, subst, refl, ℕ, ◌<◌, ◌≤◌, Bool, true, false, List, arith, Option, Some, None}
-use Rattle.std.specs.Prelude.{◌⊎◌, IfSome, IsTrue}
+use Rattle.std.specs.Prelude.{◌⊎◌, IfSome}
 use Rattle.std.proofs.lemmas.Bool.{cases_lt, false≢true}
 use Rattle.gated_journal.specs.declared.TheConstants.{JOURNAL_MAX}
 use Rattle.instance_json.specs.Canonical.{canonical_text}
 use Rattle.shift_instance.specs.Problem.{Problem}
+use Rattle.search_core.specs.Calls.{steps_enough}
 use Rattle.search_book.specs.declared.open_fault.OpenFault.{OpenFault}
 use Rattle.search_book.specs.declared.open_fault.OpenFault.TheVariants.{DiskFault as OpeningsDisk, NotAJournal, OtherInstance, Damaged, Rejected, NoMemory as OpeningsMemory}
 use Rattle.search_book.specs.Head.{KeepsHead}
@@ -12,7 +13,7 @@ use Rattle.search_book.specs.Opened.{HoldsBook, OpenCause}
 use Rattle.search_book.specs.Search.{SearchView, board_of}
 use Rattle.worker_gate.specs.declared.run.RunEnd.{RunEnd}
 use Rattle.worker_gate.specs.declared.run.RunEnd.TheVariants.{Finished, Spent, Full as FullEnd, DiskFault as DiskEnd, NoMemory as MemoryEnd}
-use Rattle.worker_gate.specs.Runs.{is_whole, plans_and_prices_since, steps_enough, RunEnds}
+use Rattle.worker_gate.specs.Runs.{committed, plans_and_prices_since, IsSameSearch, RunEnds}
 use Rattle.shift_solve.specs.Run.{SinkMet, IsLeft, IsRefusal, OverDisk, status_of}
 use Rattle.shift_solve.specs.Search.{is_reported, status_at, Ends, IsLanded, IsReported, SearchEnds, Unwritten}
 use Rattle.shift_solve.specs.Session.{DiskMet}
@@ -23,22 +24,23 @@ use Rattle.shift_solve.specs.declared.status.Status.TheVariants.{Optimal, Budget
 few_steps : (budget enough : ℕ) → (enough ≤ budget → ⊥) → budget < enough
 few_steps budget enough more = elim (cases_lt budget enough) [ inl less ↦ less | inr le ↦ absurd (more le) ]
 
-pub run_ends : {D : Type 0} (old new : SearchView D) (end : RunEnd) → RunEnds old.instance old.budget (board_of new) end
-    → (IsTrue (is_whole end) → new.taken ≤ plans_and_prices_since old.history new.history) → (steps_enough old.instance ≤ old.budget → end ≢ Spent)
-    → Ends old new end
-run_ends old new Finished ends shown enough = record { ends = ends; shown = λ e. absurd (cc); few = λ e. absurd (cc) }
-run_ends old new Spent ends shown enough = record {
-  ends = ends;
-  shown = λ e. let le : new.taken ≤ plans_and_prices_since old.history new.history = shown refl in let all : new.taken ≡ old.budget = ends.2 in omega (arith, le, all);
-  few = λ e. few_steps old.budget (steps_enough old.instance) (λ le. enough le refl);
-}
-run_ends old new (FullEnd end limit) ends shown enough = record { ends = ends; shown = λ e. absurd (cc); few = λ e. absurd (cc) }
-run_ends old new DiskEnd ends shown enough = record { ends = ends; shown = λ e. absurd (cc); few = λ e. absurd (cc) }
-run_ends old new MemoryEnd ends shown enough = record { ends = ends; shown = λ e. absurd (cc); few = λ e. absurd (cc) }
+module _ {D : Type 0} (reads : D → Option (List ℕ)) (calls faults : D → ℕ) where
+  pub run_ends : (old new : SearchView D) (end : RunEnd) → IsSameSearch (board_of reads calls faults old) (board_of reads calls faults new) → RunEnds (board_of reads calls faults new) end
+      → committed end new.taken ≤ plans_and_prices_since old.log.history new.log.history → (steps_enough old.log.instance ≤ old.budget → end ≢ Spent)
+      → Ends reads calls faults old new end
+  run_ends old new Finished same ends shown enough = record { ends = ends; shown = λ e. absurd (cc); few = λ e. absurd (cc) }
+  run_ends old new Spent same ends shown enough = record {
+    ends = ends;
+    shown = λ e. let le : new.taken ≤ plans_and_prices_since old.log.history new.log.history = shown in let all : new.taken ≡ new.budget = ends.2 in let budget : new.budget ≡ old.budget = same.budget in omega (arith, le, all);
+    few = λ e. few_steps old.budget (steps_enough old.log.instance) (λ le. enough le refl);
+  }
+  run_ends old new (FullEnd end limit) same ends shown enough = record { ends = ends; shown = λ e. absurd (cc); few = λ e. absurd (cc) }
+  run_ends old new DiskEnd same ends shown enough = record { ends = ends; shown = λ e. absurd (cc); few = λ e. absurd (cc) }
+  run_ends old new MemoryEnd same ends shown enough = record { ends = ends; shown = λ e. absurd (cc); few = λ e. absurd (cc) }
 
-module _ {D : Type 0} (old new : SearchView D) (table : Bool) (held holds : Option (List ℕ)) (writes : ℕ × ℕ) where
+module _ {D : Type 0} (reads : D → Option (List ℕ)) (calls faults : D → ℕ) (old new : SearchView D) (table : Bool) (held holds : Option (List ℕ)) (writes : ℕ × ℕ) where
   -- a search of which no report is written
-  pub unreported : (end : RunEnd) → Ends old new end → is_reported end ≡ false → SearchEnds old new table held holds writes (status_at end)
+  pub unreported : (end : RunEnd) → Ends reads calls faults old new end → is_reported end ≡ false → SearchEnds reads calls faults old new table held holds writes (status_at end)
   unreported Finished e none = absurd (false≢true (sym none))
   unreported Spent e none = absurd (false≢true (sym none))
   unreported (FullEnd end limit) e none = absurd (false≢true (sym none))
@@ -46,7 +48,7 @@ module _ {D : Type 0} (old new : SearchView D) (table : Bool) (held holds : Opti
   unreported MemoryEnd e none = (MemoryEnd, e, tt)
 
   -- a search whose report was written
-  pub reported : (end : RunEnd) → Ends old new end → is_reported end ≡ true → IsReported new table held holds → SearchEnds old new table held holds writes (status_at end)
+  pub reported : (end : RunEnd) → Ends reads calls faults old new end → is_reported end ≡ true → IsReported new table held holds → SearchEnds reads calls faults old new table held holds writes (status_at end)
   reported Finished e some written = (e, written)
   reported Spent e some written = (e, written)
   reported (FullEnd end limit) e some written = (e, written)
@@ -61,7 +63,7 @@ module _ {D : Type 0} (old new : SearchView D) (table : Bool) (held holds : Opti
   landed MemoryEnd some = tt
 
   -- a search whose report wasn't written, or not whole
-  pub cut_short : (end : RunEnd) (status : Status) → Ends old new end → is_reported end ≡ true → Unwritten new table held holds writes status → SearchEnds old new table held holds writes status
+  pub cut_short : (end : RunEnd) (status : Status) → Ends reads calls faults old new end → is_reported end ≡ true → Unwritten new table held holds writes status → SearchEnds reads calls faults old new table held holds writes status
   cut_short end WriteFault e some part = (end, e, some, part)
   cut_short end NoMemory e some part = (end, e, landed end some)
   cut_short end Optimal e some part = absurd part

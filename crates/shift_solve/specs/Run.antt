@@ -1,5 +1,5 @@
 -- What a run of `solve` answers, and why.
-use Rattle.std.specs.Prelude.{◌≡◌, ◌⊎◌, ⊤, ℕ, ◌+◌, ◌<◌, ◌≤◌, Bool, true, false, IsTrue, IsFalse, List, [], length, count_by, Option, None, Some, IsSome, IfSome, OnSome}
+use Rattle.std.specs.Prelude.{◌≡◌, ◌⊎◌, ⊤, ℕ, ◌+◌, ◌<◌, ◌≤◌, Bool, true, false, IsTrue, IsFalse, List, [], ◌++◌, length, count_by, Option, None, Some, IsSome, IfSome, OnSome}
 use Rattle.std.specs.Io.KnownBytes.{Appends}
 use Rattle.plan_base.specs.Causes.{Rose}
 use Rattle.plan_base.specs.Streams.{AppendsPart}
@@ -13,16 +13,20 @@ use Rattle.instance_input.specs.declared.Unread.TheVariants.{Refused as Document
 use Rattle.instance_input.specs.Unread.{IsReadAs, WhyUnread}
 use Rattle.certificate.specs.Accepted.{is_accepted}
 use Rattle.certificate.specs.Departing.{Spells}
-use Rattle.search_core.specs.Book.{is_finished, IsSound}
+use Rattle.search_core.specs.Book.{book_of, is_finished, IsSound}
+use Rattle.search_core.specs.Board.{bytes_of}
+use Rattle.search_core.specs.Calls.{steps_enough}
+use Rattle.post_codec.specs.declared.post.Post.{Post}
+use Rattle.search_book.specs.Posts.{joined}
 use Rattle.search_book.specs.declared.open_fault.OpenFault.{OpenFault}
 use Rattle.search_book.specs.declared.open_fault.OpenFault.TheVariants.{DiskFault as OpeningsDisk, NotAJournal, OtherInstance, Damaged, Rejected, NoMemory as OpeningsMemory}
 use Rattle.search_book.specs.Opened.{HoldsBook, OpenCause}
 use Rattle.search_book.specs.Opening.{IsOldOrShort}
-use Rattle.worker_gate.specs.Runs.{is_plan_or_prices, steps_enough}
+use Rattle.worker_gate.specs.Runs.{is_plan_or_prices}
 use Rattle.shift_solve.specs.declared.status.Status.{Status}
 use Rattle.shift_solve.specs.declared.status.Status.TheVariants.{Optimal, Budget, Full, Usage, Input, ReadFault, WriteFault, DiskFault, NoMemory, Journal}
 use Rattle.shift_solve.specs.Report.{cert_of, output_of}
-use Rattle.shift_solve.specs.Session.{DiskMet, Session, posts_in}
+use Rattle.shift_solve.specs.Session.{DiskMet, IsUncalled, Session, posts_in}
 use Rattle.shift_solve.specs.Words.{Command, command_of}
 
 -- no legal rota costs less
@@ -47,12 +51,18 @@ pub record IsFinished {disk : DiskMet} {i : Problem} (session : Session disk i) 
 pub record IsSpent (budget : ℕ) {disk : DiskMet} {i : Problem} (session : Session disk i) : Type 0 where
   pub landed : session.in_flight ≡ []
   pub unfinished : IsFalse (is_finished session.last)
-  pub shown : budget ≤ count_by is_plan_or_prices session.added
+  pub shown : budget ≤ count_by is_plan_or_prices (joined session.batches)
   pub few : budget < steps_enough i
 
--- there was no room for the posts of a step: the file would have ended at `end`, which is past its limit
+-- there was no room for the posts of a step, four at most, which the book allows: with their record the file's journal would have
+-- ended there, past its limit
 pub record IsFull (end limit : ℕ) {disk : DiskMet} {i : Problem} (session : Session disk i) : Type 0 where
   pub landed : session.in_flight ≡ []
+  pub posts : List Post
+  pub some : 0 < length posts
+  pub at_most : length posts ≤ 4
+  pub allowed : IsSome (book_of i (posts_in session ++ posts))
+  pub ends : end ≡ session.used_after + bytes_of posts
   pub most : limit ≡ JOURNAL_MAX
   pub over : limit < end
 
@@ -142,7 +152,7 @@ abbrev pub Explains : Met → Status → Type 0
 Explains met Usage = (met.opened ≡ false) × (command_of met.words ≡ None)
 Explains met (Input why) = (met.opened ≡ false) × IsCommand met × WhyUnread met.left met.read_faults.0 met.read_faults.1 (DocumentRefused why)
 Explains met ReadFault = (met.opened ≡ false) × IsCommand met × Rose met.read_faults.0 met.read_faults.1
-Explains met NoMemory = IsCommand met × (((met.opened ≡ false) × (met.disk.file_after ≡ met.disk.file)) ⊎ EndsOver met NoMemory)
+Explains met NoMemory = IsCommand met × (((met.opened ≡ false) × IsUncalled met.disk) ⊎ EndsOver met NoMemory)
 Explains met Optimal = EndsOver met Optimal
 Explains met Budget = EndsOver met Budget
 Explains met (Full end limit) = EndsOver met (Full end limit)

@@ -1,43 +1,37 @@
 -- What a run does to the book that it opened, step by step.
-use Rattle.std.specs.Prelude.{◌≡◌, ⊤, ℕ, ◌<◌, ◌≤◌, Bool, true, false, List, Option, None, take}
+use Rattle.std.specs.Prelude.{◌≡◌, ⊤, ℕ, ◌<◌, ◌≤◌, Bool, true, false, List, Option, None}
 use Rattle.std.specs.Io.KnownBytes.{Appends}
 use Rattle.plan_base.specs.Causes.{Rose}
 use Rattle.plan_base.specs.Streams.{AppendsPart}
 use Rattle.certificate.specs.Departing.{Spells}
-use Rattle.search_core.specs.declared.board.Origin.{Origin}
+use Rattle.search_core.specs.Calls.{steps_enough}
 use Rattle.search_core.specs.Core.{empty_hands, IsFront}
-use Rattle.search_book.specs.Origins.{origin_at, tells}
 use Rattle.search_book.specs.Search.{SearchView, board_of}
 use Rattle.worker_gate.specs.declared.run.RunEnd.{RunEnd}
 use Rattle.worker_gate.specs.declared.run.RunEnd.TheVariants.{Finished, Spent, Full as FullEnd, DiskFault as DiskEnd, NoMemory as MemoryEnd}
-use Rattle.worker_gate.specs.Runs.{plans_and_prices_since, steps_enough, RunEnds}
+use Rattle.worker_gate.specs.Runs.{plans_and_prices_since, IsSameSearch, RunEnds}
 use Rattle.shift_solve.specs.declared.status.Status.{Status}
 use Rattle.shift_solve.specs.declared.status.Status.TheVariants.{Optimal, Budget, Full, Usage, Input, ReadFault, WriteFault, DiskFault, NoMemory, Journal}
 use Rattle.shift_solve.specs.Report.{cert_of, output_of}
 
 -- a book from which no node was taken yet
 pub record IsBegun {D : Type 0} (book : SearchView D) : Type 0 where
-  pub running : book.shut ≡ None
+  pub running : book.log.shut ≡ None
   pub empty : book.hands ≡ empty_hands
   pub fresh : book.taken ≡ 0
   pub going : book.halted ≡ false
 
--- where a book began
-abbrev pub origin_of : {D : Type 0} → (D → Option (List ℕ)) → (D → ℕ) → (D → ℕ) → SearchView D → Origin
-origin_of reads calls faults book = origin_at (take book.opening book.history) (calls book.opened) (faults book.opened) book.limit (tells (reads book.opened))
-
--- a book of the same instance and origin, with the same posts first
+-- a book of the same search, with the same posts first
 pub record GoesOn {D : Type 0} (reads : D → Option (List ℕ)) (calls faults : D → ℕ) (old new : SearchView D) : Type 0 where
-  pub instance : new.instance ≡ old.instance
-  pub origin : origin_of reads calls faults new ≡ origin_of reads calls faults old
-  pub begins : IsFront old.history new.history
+  pub same : IsSameSearch (board_of reads calls faults old) (board_of reads calls faults new)
+  pub begins : IsFront old.log.history new.log.history
 
 -- how a search over a book ended; one that took all its steps had too few of them for each search of the instance, and made no
 -- fewer posts that are plans or prices
-pub record Ends {D : Type 0} (old new : SearchView D) (end : RunEnd) : Type 0 where
-  pub ends : RunEnds old.instance old.budget (board_of new) end
-  pub shown : end ≡ Spent → old.budget ≤ plans_and_prices_since old.history new.history
-  pub few : end ≡ Spent → old.budget < steps_enough old.instance
+pub record Ends {D : Type 0} (reads : D → Option (List ℕ)) (calls faults : D → ℕ) (old new : SearchView D) (end : RunEnd) : Type 0 where
+  pub ends : RunEnds (board_of reads calls faults new) end
+  pub shown : end ≡ Spent → old.budget ≤ plans_and_prices_since old.log.history new.log.history
+  pub few : end ≡ Spent → old.budget < steps_enough old.log.instance
 
 -- whether a search came to an end of which a report is written
 abbrev pub is_reported : RunEnd → Bool
@@ -66,11 +60,11 @@ IsLanded MemoryEnd = ⊤
 -- the report of a book was written, with its table where that is asked for, and it is a text of the book's certificate
 abbrev pub IsReported : {D : Type 0} → SearchView D → Bool → Option (List ℕ) → Option (List ℕ) → Type 0
 IsReported book table held holds =
-    Appends held holds (output_of book.instance table book.history book.book) × Spells (output_of book.instance table book.history book.book) (cert_of book.history book.book)
+    Appends held holds (output_of book.log.instance table book.log.history book.log.book) × Spells (output_of book.log.instance table book.log.history book.log.book) (cert_of book.log.history book.log.book)
 
 -- a beginning of that was written, and the sink had a fault
 abbrev pub IsReportedPart : {D : Type 0} → SearchView D → Bool → Option (List ℕ) → Option (List ℕ) → ℕ × ℕ → Type 0
-IsReportedPart book table held holds faults = AppendsPart held holds (output_of book.instance table book.history book.book) × Rose faults.0 faults.1
+IsReportedPart book table held holds faults = AppendsPart held holds (output_of book.log.instance table book.log.history book.log.book) × Rose faults.0 faults.1
 
 -- why the report of a book wasn't written, or not whole: a fault of the sink, or want of memory
 abbrev pub Unwritten : {D : Type 0} → SearchView D → Bool → Option (List ℕ) → Option (List ℕ) → ℕ × ℕ → Status → Type 0
@@ -86,14 +80,14 @@ Unwritten book table held holds faults DiskFault = ⊥
 Unwritten book table held holds faults (Journal why) = ⊥
 
 -- how a search over a book and its report end
-abbrev pub SearchEnds : {D : Type 0} → SearchView D → SearchView D → Bool → Option (List ℕ) → Option (List ℕ) → ℕ × ℕ → Status → Type 0
-SearchEnds old new table held holds writes Optimal = Ends old new Finished × IsReported new table held holds
-SearchEnds old new table held holds writes Budget = Ends old new Spent × IsReported new table held holds
-SearchEnds old new table held holds writes (Full end limit) = Ends old new (FullEnd end limit) × IsReported new table held holds
-SearchEnds old new table held holds writes WriteFault = (end : RunEnd) × Ends old new end × (is_reported end ≡ true) × IsReportedPart new table held holds writes
-SearchEnds old new table held holds writes DiskFault = Ends old new DiskEnd
-SearchEnds old new table held holds writes NoMemory = (end : RunEnd) × Ends old new end × IsLanded end
-SearchEnds old new table held holds writes Usage = ⊥
-SearchEnds old new table held holds writes (Input why) = ⊥
-SearchEnds old new table held holds writes ReadFault = ⊥
-SearchEnds old new table held holds writes (Journal why) = ⊥
+abbrev pub SearchEnds : {D : Type 0} → (D → Option (List ℕ)) → (D → ℕ) → (D → ℕ) → SearchView D → SearchView D → Bool → Option (List ℕ) → Option (List ℕ) → ℕ × ℕ → Status → Type 0
+SearchEnds reads calls faults old new table held holds writes Optimal = Ends reads calls faults old new Finished × IsReported new table held holds
+SearchEnds reads calls faults old new table held holds writes Budget = Ends reads calls faults old new Spent × IsReported new table held holds
+SearchEnds reads calls faults old new table held holds writes (Full end limit) = Ends reads calls faults old new (FullEnd end limit) × IsReported new table held holds
+SearchEnds reads calls faults old new table held holds writes WriteFault = (end : RunEnd) × Ends reads calls faults old new end × (is_reported end ≡ true) × IsReportedPart new table held holds writes
+SearchEnds reads calls faults old new table held holds writes DiskFault = Ends reads calls faults old new DiskEnd
+SearchEnds reads calls faults old new table held holds writes NoMemory = (end : RunEnd) × Ends reads calls faults old new end × IsLanded end
+SearchEnds reads calls faults old new table held holds writes Usage = ⊥
+SearchEnds reads calls faults old new table held holds writes (Input why) = ⊥
+SearchEnds reads calls faults old new table held holds writes ReadFault = ⊥
+SearchEnds reads calls faults old new table held holds writes (Journal why) = ⊥

@@ -5,9 +5,9 @@ use Rattle.gated_journal.specs.declared.TheConstants.{JOURNAL_MAX}
 use Rattle.post_codec.specs.declared.post.Post.{Post}
 use Rattle.shift_instance.specs.Problem.{Problem}
 use Rattle.search_core.specs.Book.{Book, book_of}
-use Rattle.search_book.specs.Keeping.{HoldsFrontOf}
+use Rattle.search_book.specs.Keeping.{HoldsBatches}
 use Rattle.search_book.specs.Opening.{IsOpenedFrom}
-use Rattle.search_book.specs.Posts.{StandsForPosts}
+use Rattle.search_book.specs.Posts.{joined, IsJournalOf}
 
 -- what shows of a run's disk: its content before and after the run (none where it doesn't tell), what a crash may leave before
 -- and after it and since a moment, and the numbers of its calls and of its faults before and after
@@ -32,13 +32,20 @@ met_of reads images images_since calls faults old new = record {
   faults = (faults old, faults new);
 }
 
--- the disk's content is the only image, and it stands for the posts
-pub record IsOnlyJournal (met : DiskMet) (i : Problem) (posts : List Post) (file : List ℕ) : Type 0 where
-  pub only : IsOnlyImage file met.images_after
-  pub stands : StandsForPosts JOURNAL_MAX i posts file
+-- a disk that wasn't called: its content, its images and the numbers of its calls and of its faults are as before
+pub record IsUncalled (met : DiskMet) : Type 0 where
+  pub file : met.file_after ≡ met.file
+  pub images : (image : List ℕ) → (met.images_after image → met.images image) × (met.images image → met.images_after image)
+  pub calls : met.calls.1 ≡ met.calls.0
+  pub faults : met.faults.1 ≡ met.faults.0
 
--- A run over a book that it opened. The posts of its session are those of the steps that were committed, each a record, and those of
--- a step during which the disk failed.
+-- the disk's content is the only image, and it is the journal of the posts, which uses so many bytes
+pub record IsOnlyJournal (met : DiskMet) (i : Problem) (posts : List Post) (used : ℕ) (file : List ℕ) : Type 0 where
+  pub only : IsOnlyImage file met.images_after
+  pub journal : IsJournalOf JOURNAL_MAX i posts used file
+
+-- A run over a book that it opened. The posts of its session are those of the steps that were committed, each step's a record, and
+-- those of a step during which the disk failed.
 pub record Session (met : DiskMet) (i : Problem) : Type 0 where
   -- the posts of the file before it, the book that they make, and the bytes of its journal; an empty file becomes the new one
   pub opening : List Post
@@ -47,32 +54,31 @@ pub record Session (met : DiskMet) (i : Problem) : Type 0 where
   pub used : ℕ
   pub opened_as : Option (List ℕ)
   pub found : IfSome met.file (IsOpenedFrom JOURNAL_MAX i opening used opened_as)
-  -- the posts of the steps that were committed, those of the step during which the disk failed, and the book of the committed ones
-  pub added : List Post
-  pub in_flight : List Post
+  -- the posts of each step that was committed with some, those of the step during which the disk failed, and the book of the
+  -- committed ones
+  pub batches : List (List Post)
+  pub in_flight : List (List Post)
+  pub single : length in_flight ≤ 1
   pub last : Book
-  pub ends : book_of i (opening ++ added) ≡ Some last
-  -- how many records were acknowledged: those of the committed posts, and the first of those in flight
-  pub made : ℕ
-  pub committed : length added ≤ made
-  pub begun_at_most : made ≤ length added + length in_flight
+  pub ends : book_of i (opening ++ joined batches) ≡ Some last
   -- the moment of the opening, in the run
   pub since : ℕ
   pub begun : met.calls.0 ≤ since
   -- each record is acknowledged with the fourth call after the one before it, the last of them in the run
-  pub moment : since + 4 * made ≤ met.calls.1
+  pub moment : since + 4 * length batches ≤ met.calls.1
   -- a disk that told its content before the run tells it after
   pub tells : OnSome met.file (IsSome met.file_after)
-  -- each image since the b-th record was acknowledged holds a front of all posts with the opening ones and those b in it, and that
-  -- front makes a book
-  pub lasts : OnSome met.file_after ((b : ℕ) (image : List ℕ) → b ≤ made → met.images_since (since + 4 * b) image
-      → HoldsFrontOf JOURNAL_MAX i ((opening ++ added) ++ in_flight) (length opening + b) image)
-  -- each image after the run holds a front of all posts with every acknowledged one in it
-  pub after : OnSome met.file_after ((image : List ℕ) → met.images_after image → HoldsFrontOf JOURNAL_MAX i ((opening ++ added) ++ in_flight) (length opening + made) image)
-  -- where no step ended in a disk fault, the disk holds the committed posts and nothing else, and each of them took four calls
-  pub kept : in_flight ≡ [] → IfSome met.file_after (IsOnlyJournal met i (opening ++ added))
-  pub time : in_flight ≡ [] → met.calls.1 ≡ since + 4 * length added
+  -- each image since the b-th record was acknowledged holds the opening posts and those of whole steps, from the first on, the
+  -- first b among them; these posts make a book
+  pub lasts : OnSome met.file_after ((b : ℕ) (image : List ℕ) → b ≤ length batches → met.images_since (since + 4 * b) image
+      → HoldsBatches JOURNAL_MAX i opening (batches ++ in_flight) b image)
+  -- and so does each image after the run, with every acknowledged step
+  pub after : OnSome met.file_after ((image : List ℕ) → met.images_after image → HoldsBatches JOURNAL_MAX i opening (batches ++ in_flight) (length batches) image)
+  -- where no step ended in a disk fault, the disk holds the committed posts and nothing else, and each record took four calls
+  pub used_after : ℕ
+  pub kept : in_flight ≡ [] → IfSome met.file_after (IsOnlyJournal met i (opening ++ joined batches) used_after)
+  pub time : in_flight ≡ [] → met.calls.1 ≡ since + 4 * length batches
 
 -- all posts that a session's book has
 abbrev pub posts_in : {met : DiskMet} {i : Problem} → Session met i → List Post
-posts_in session = session.opening ++ session.added
+posts_in session = session.opening ++ joined session.batches

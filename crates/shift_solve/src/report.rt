@@ -16,7 +16,7 @@ use std::alloc::Global;
 
 /// What is said of a book.
 fn status_of<D: Disk>(book: &Book<D>) -> CertStatus
-    ensures { result ≡ status_of_book book.now.book }
+    ensures { result ≡ status_of_book book.now.log.book }
 {
     if book.finished() {
         CertStatus::Optimal
@@ -27,8 +27,8 @@ fn status_of<D: Disk>(book: &Book<D>) -> CertStatus
 
 /// The certificate of a book.
 fn cert_of<D: Disk>(alloc: Global, book: &Book<D>) -> Result<Cert, NoMemory>
-    ensures is { IfOk result (λ cert. cert ≡ cert_of book.now.history book.now.book) }
-    ensures agrees { IfOk result (λ cert. IsValid book.now.instance → Agrees cert) }
+    ensures is { IfOk result (λ cert. cert ≡ cert_of book.now.log.history book.now.log.book) }
+    ensures agrees { IfOk result (λ cert. IsValid book.now.log.instance → Agrees cert) }
 {
     let posts = book.history();
     let cert = of_history(
@@ -49,9 +49,9 @@ pub(crate) fn output_of<D: Disk>(
     book: &Book<D>,
     with_table: bool,
 ) -> Result<Vec<u8>, NoMemory>
-    requires same { book.now.instance ≡ instance.now }
-    ensures text { IfOk result (λ bytes. bytes.items ≡ output_of book.now.instance with_table book.now.history book.now.book) }
-    ensures reads { IfOk result (λ bytes. Spells bytes.items (cert_of book.now.history book.now.book)) }
+    requires same { book.now.log.instance ≡ instance.now }
+    ensures text { IfOk result (λ bytes. bytes.items ≡ output_of book.now.log.instance with_table book.now.log.history book.now.log.book) }
+    ensures reads { IfOk result (λ bytes. Spells bytes.items (cert_of book.now.log.history book.now.log.book)) }
 {
     // a legal plan of a valid instance has few rows
     let _heads = instance.heads();

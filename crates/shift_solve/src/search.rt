@@ -14,10 +14,10 @@ use worker_gate::{RunEnd, run_worker};
 
 /// Runs the search over a book from which no node was taken yet.
 fn run_search<D: Disk>(alloc: Global, instance: &Instance, book: &mut Book<D>) -> RunEnd
-    requires same { book.old.instance ≡ instance.now }
+    requires same { book.old.log.instance ≡ instance.now }
     requires begun { IsBegun book.old }
     ensures goes_on { GoesOn D.reads D.calls D.faults book.old book.new }
-    ensures ends { Ends book.old book.new result }
+    ensures ends { Ends D.reads D.calls D.faults book.old book.new result }
 {
     run_worker(alloc, instance, book)
 }
@@ -56,7 +56,7 @@ fn write_report<K: Sink, D: Disk>(
     table: bool,
     out: &mut K,
 ) -> Result<(), Status>
-    requires same { book.now.instance ≡ instance.now }
+    requires same { book.now.log.instance ≡ instance.now }
     ensures ok { OnOk result (IsReported book.now table (K.held out.old) (K.held out.new)) }
     ensures err { IfErr result (Unwritten book.now table (K.held out.old) (K.held out.new) (K.faults out.old, K.faults out.new)) }
     ensures unwritten { IfErr result (λ status. EndsUnwritten status → out.new ≡ out.old) }
@@ -79,10 +79,10 @@ pub(crate) fn search<K: Sink, D: Disk>(
     table: bool,
     out: &mut K,
 ) -> Status
-    requires same { book.old.instance ≡ instance.now }
+    requires same { book.old.log.instance ≡ instance.now }
     requires begun { IsBegun book.old }
     ensures goes_on { GoesOn D.reads D.calls D.faults book.old book.new }
-    ensures status { SearchEnds book.old book.new table (K.held out.old) (K.held out.new) (K.faults out.old, K.faults out.new) result }
+    ensures status { SearchEnds D.reads D.calls D.faults book.old book.new table (K.held out.old) (K.held out.new) (K.faults out.old, K.faults out.new) result }
     ensures unwritten { EndsUnwritten result → out.new ≡ out.old }
 {
     let end = run_search(alloc, instance, book);

@@ -20,9 +20,9 @@ use Rattle.search_core.specs.Board.{floor_of_node, leaves_open}
 use Rattle.search_core.specs.Book.{Book, is_better, is_node_and, is_open, priced, step as step_to, book_after}
 use Rattle.search_core.specs.Kept.{cuts_in}
 use Rattle.search_core.specs.Steps.{after_step, book_then, close_posts, followed_by, plan_of, plan_posts, posts_of, where_open, Fits}
+use Rattle.search_core.proofs.Closed.{at_set, node_not, some_node, then_is}
 use Rattle.search_core.proofs.Runs.{book_after-append}
 use Rattle.worker_gate.specs.Decision.{cost_to_reach}
-use Rattle.worker_gate.proofs.Closed.{at_set, node_not, some_node, then_is}
 
 module _ (i : Problem) (b : Book) (w : ℕ) (step : StepPosts) where
   abbrev priced_at : Book → List Post

@@ -1,5 +1,4 @@
-pub mod Counts
-pub mod Closed
+pub mod Counted
 pub mod Closing
 pub mod Rounds
 pub mod Lawful

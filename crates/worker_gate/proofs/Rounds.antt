@@ -1,47 +1,36 @@
 -- What rounds leave: the posts of the board begin with the old ones, each round has posted a plan or prices, and each has closed a node.
-use Rattle.std.proofs.Common.{◌≡◌, ℕ, zero, suc, ◌+◌, ◌-◌, ◌*◌, ◌^◌, ◌<◌, ◌≤◌, Bool, true, false, ◌&&◌, not, List, [], ◌∷◌, ◌++◌, length, drop, refl, sym, ap, ◌∙◌, subst, arith, Option, Some, inl, inr}
+use Rattle.std.proofs.Common.{◌≡◌, ℕ, suc, ◌+◌, ◌<◌, ◌≤◌, Bool, true, false, ◌&&◌, not, List, [], ◌∷◌, ◌++◌, length, drop, refl, sym, ap, ◌∙◌, subst, arith, Option, Some, inl, inr}
 use Rattle.std.specs.Prelude.{slice_get, count_by}
 use Rattle.std.specs.Option.{option_map_or}
 use Rattle.std.specs.List.{list_all, list_any}
 use Rattle.std.proofs.lemmas.Bool.{and_parts, and_from, cases_Bool, false≢true}
 use Rattle.std.proofs.lemmas.List.{append-nil, append_assoc}
-use Rattle.std.proofs.Math.Nat.{pow-suc}
 use Rattle.shift_instance.specs.Problem.{Problem}
 use Rattle.head_splits.specs.Nodes.{Node}
-use Rattle.head_splits.specs.Settled.{span}
 use Rattle.post_codec.specs.declared.post.Post.{Post}
-use Rattle.search_core.specs.Board.{BoardView, book_at, NoneIsFree}
+use Rattle.search_core.specs.Board.{BoardView, book_at, posts_at, NoneIsFree}
 use Rattle.search_core.specs.Book.{Book, book_after, book_of, is_finished, is_node_and, is_open}
+use Rattle.search_core.specs.Calls.{steps_enough}
 use Rattle.search_core.specs.Core.{empty_hands, is_node, IsFront}
 use Rattle.search_core.specs.Steps.{posts_of}
-use Rattle.search_core.proofs.FewNodes.{few_nodes}
+use Rattle.search_core.proofs.Closed.{is_closed, is_there, node_is, node_not, some_node, step_keeps}
+use Rattle.search_core.proofs.Counted.{nodes_within}
+use Rattle.search_core.proofs.Counts.{passing, passing_less, passing_more, passing_most}
 use Rattle.search_core.proofs.Outlines.{book_is}
 use Rattle.search_core.proofs.Runs.{front_folds}
-use Rattle.worker_gate.specs.Runs.{is_plan_or_prices, plans_and_prices_since, steps_enough, AreRounds, IsRound}
+use Rattle.worker_gate.specs.Runs.{is_plan_or_prices, plans_and_prices_since, AreRounds, IsRound}
 use Rattle.worker_gate.specs.Runs.AreRounds.{none, one_more}
-use Rattle.worker_gate.proofs.Closed.{counted_append, is_closed, is_there, node_is, node_not, some_node, step_counts, step_keeps}
-use Rattle.worker_gate.proofs.Counts.{passing, passing_less, passing_more}
+use Rattle.worker_gate.proofs.Counted.{counted_append, step_counts}
 
 -- what that many rounds have made
 pub record Made (i : Problem) (old new : BoardView) (rounds : ℕ) : Type 0 where
+  root : new.instance ≡ i
   book : Book
   folds : book_of i new.history ≡ Some book
   rest : List Post
   posts : old.history ++ rest ≡ new.history
   counted : rounds ≤ count_by is_plan_or_prices rest
   closed : rounds ≤ passing (is_closed book) (steps_enough i)
-
-there_below : {X : Type 0} (xs : List X) (k : ℕ) (x : X) → slice_get xs k ≡ Some x → k < length xs
-there_below [] k x e = absurd (cc)
-there_below (y ∷ xs) zero x e = omega arith
-there_below (y ∷ xs) (suc k) x e = let r : k < length xs = there_below xs k x e in omega arith
-
-nodes_within : (i : Problem) (posts : List Post) (b : Book) (k : ℕ) (n : Node) → book_of i posts ≡ Some b → slice_get b.nodes k ≡ Some n → k < steps_enough i
-nodes_within i posts b k n folds at =
-    let few : length b.nodes + 1 ≤ 2 * 2 ^ span i [] = few_nodes i posts b folds in
-    let low : k < length b.nodes = there_below b.nodes k n at in
-    let twice : 2 ^ (span i [] + 1) ≡ 2 ^ span i [] * 2 = ap (λ m. 2 ^ m) (let e : span i [] + 1 ≡ suc (span i []) = omega arith in e) ∙ pow-suc 2 (span i []) in
-    let e : k < 2 ^ (span i [] + 1) - 1 = omega arith in e
 
 closed_now : (c : Book) (k : ℕ) → is_node_and c k (is_open c) ≡ false → is_there c k ≡ true → is_closed c k ≡ true
 closed_now c k shut there =
@@ -52,25 +41,29 @@ closed_now c k shut there =
 one_book : {X : Type 0} {x y : X} → Some x ≡ Some y → x ≡ y
 one_book e = cc (e)
 
-round_made : (i : Problem) (budget : ℕ) (old mid new : BoardView) (rounds : ℕ) → Made i old mid rounds → IsRound i budget mid new → Made i old new (rounds + 1)
-round_made i budget old mid new rounds m r =
+round_made : (i : Problem) (old mid new : BoardView) (rounds : ℕ) → Made i old mid rounds → IsRound mid new → Made i old new (rounds + 1)
+round_made i old mid new rounds m r =
     let b : Book = m.book in
-    let at : book_at i mid ≡ b = book_is i mid.history b m.folds in
-    let k : ℕ = r.node in
-    let posts : List Post = posts_of i (book_at i r.held) 0 r.step in
-    let held_history : r.held.history ≡ mid.history = ap (λ (v : BoardView). v.history) r.takes.4 in
-    let held_at : book_at i r.held ≡ b = book_is i r.held.history b (ap (book_of i) held_history ∙ m.folds) in
+    let held_root : r.held.instance ≡ i = ap (λ (v : BoardView). v.instance) r.makes.takes.4 ∙ m.root in
+    let new_root : new.instance ≡ i = ap (λ (v : BoardView). v.instance) r.commits.makes ∙ held_root in
+    let at : book_at mid ≡ b = book_is mid.instance mid.history b (ap (λ (j : Problem). book_of j mid.history) m.root ∙ m.folds) in
+    let k : ℕ = r.makes.node in
+    let posts : List Post = posts_at r.held 0 r.step in
+    let held_history : r.held.history ≡ mid.history = ap (λ (v : BoardView). v.history) r.makes.takes.4 in
+    let held_at : book_at r.held ≡ b = book_is r.held.instance r.held.history b (ap (λ (j : Problem). book_of j r.held.history) held_root ∙ ap (book_of i) held_history ∙ m.folds) in
     let history : new.history ≡ mid.history ++ posts_of i b 0 r.step =
-    ap (λ (v : BoardView). v.history) r.commits.makes ∙ ap (λ (l : List Post). l ++ posts) held_history ∙ ap (λ (c : Book). mid.history ++ posts_of i c 0 r.step) held_at in
-    let front = front_folds i mid.history (posts_of i b 0 r.step) r.book (ap (book_of i) (sym history) ∙ r.folds) in
+    ap (λ (v : BoardView). v.history) r.commits.makes ∙ ap (λ (l : List Post). l ++ posts) held_history
+    ∙ ap (λ (j : Problem). mid.history ++ posts_of j (book_at r.held) 0 r.step) held_root ∙ ap (λ (c : Book). mid.history ++ posts_of i c 0 r.step) held_at in
+    let folds : book_of i new.history ≡ Some r.book = ap (λ (j : Problem). book_of j new.history) (sym new_root) ∙ r.folds in
+    let front = front_folds i mid.history (posts_of i b 0 r.step) r.book (ap (book_of i) (sym history) ∙ folds) in
     let same_book : front.0 ≡ b = one_book (sym front.1 ∙ m.folds) in
     let after : book_after i b (posts_of i b 0 r.step) ≡ Some r.book = subst (λ (c : Book). book_after i c (posts_of i b 0 r.step) ≡ Some r.book) same_book front.2 in
-    let free = (and_parts _ _ r.takes.1.free).0 in
+    let free = (and_parts _ _ r.makes.takes.1.free).0 in
     let opened_k : is_node_and b k (is_open b) ≡ true = subst (λ (c : Book). is_node_and c k (is_open c) ≡ true) at free in
-    let node : r.step.node ≡ k = r.decides.node in
+    let node : r.step.node ≡ k = r.makes.decides.node in
     let opened : is_node_and b r.step.node (is_open b) ≡ true = subst (λ j. is_node_and b j (is_open b) ≡ true) (sym node) opened_k in
     let found = some_node (is_open b) (slice_get b.nodes r.step.node) opened in
-    let new_at : book_at i new ≡ r.book = book_is i new.history r.book r.folds in
+    let new_at : book_at new ≡ r.book = book_is new.instance new.history r.book r.folds in
     let not_open : is_node_and r.book r.step.node (is_open r.book) ≡ false = subst (λ (c : Book). is_node_and c r.step.node (is_open c) ≡ false) new_at r.commits.closed in
     let keeps = step_keeps i b r.book 0 r.step after in
     let there : is_there b r.step.node ≡ true = node_is (λ (n : Node). true) (slice_get b.nodes r.step.node) found.0 found.1 refl in
@@ -78,22 +71,23 @@ round_made i budget old mid new rounds m r =
     let still : is_closed r.book r.step.node ≡ true = closed_now r.book r.step.node not_open ((keeps r.step.node).1 there) in
     let more : passing (is_closed b) (steps_enough i) + 1 ≤ passing (is_closed r.book) (steps_enough i) =
     passing_more (is_closed b) (is_closed r.book) (steps_enough i) r.step.node (λ j. (keeps j).0) (nodes_within i mid.history b r.step.node found.0 m.folds found.1) before still in
-    let one : 1 ≤ count_by is_plan_or_prices (posts_of i b 0 r.step) = step_counts i b r.book 0 r.step opened after in
+    let one : 1 ≤ count_by is_plan_or_prices (posts_of i b 0 r.step) = step_counts i b 0 r.step opened in
     let a = m.counted in
     let c = m.closed in
     let sums : count_by is_plan_or_prices (m.rest ++ posts_of i b 0 r.step) ≡ count_by is_plan_or_prices m.rest + count_by is_plan_or_prices (posts_of i b 0 r.step) = counted_append m.rest (posts_of i b 0 r.step) in
     record {
+      root = new_root;
       book = r.book;
-      folds = r.folds;
+      folds = folds;
       rest = m.rest ++ posts_of i b 0 r.step;
       posts = sym (append_assoc old.history m.rest (posts_of i b 0 r.step)) ∙ ap (λ (l : List Post). l ++ posts_of i b 0 r.step) m.posts ∙ sym history;
       counted = omega arith;
       closed = omega arith;
     }
 
-pub rounds_made : (i : Problem) (budget : ℕ) (old new : BoardView) (rounds : ℕ) (b : Book) → book_of i old.history ≡ Some b → AreRounds i budget old new rounds → Made i old new rounds
-rounds_made i budget old new rounds b folds none = record { book = b; folds = folds; rest = []; posts = append-nil old.history; counted = omega arith; closed = omega arith }
-rounds_made i budget old new rounds b folds (one_more mid next n before r) = round_made i budget old mid new n (rounds_made i budget old mid n b folds before) r
+pub rounds_made : (i : Problem) (old new : BoardView) (rounds : ℕ) (b : Book) → old.instance ≡ i → book_of i old.history ≡ Some b → AreRounds old new rounds → Made i old new rounds
+rounds_made i old new rounds b root folds none = record { root = root; book = b; folds = folds; rest = []; posts = append-nil old.history; counted = omega arith; closed = omega arith }
+rounds_made i old new rounds b root folds (one_more mid next n before r) = round_made i old mid new n (rounds_made i old mid n b root folds before) r
 
 -- ---- what follows
 
@@ -120,24 +114,42 @@ some_open b (n ∷ nodes) h =
           (suc r.0, r.1, r.2, r.3)
     ]
 
--- where no hand holds a node, an open node may be taken
-pub some_free : (i : Problem) (v : BoardView) → is_finished (book_at i v) ≡ false → NoneIsFree (book_at i v) v.hands → v.hands ≡ empty_hands → ⊥
-some_free i v unfinished nothing empty =
-    let b : Book = book_at i v in
+-- an unfinished book has an open node
+open_of : (b : Book) → is_finished b ≡ false → (k : ℕ) × (is_node_and b k (is_open b) ≡ true)
+open_of b unfinished =
     let found = some_open b b.nodes unfinished in
-    let k : ℕ = found.0 in
-    let opened : is_node_and b k (is_open b) ≡ true = node_is (is_open b) (slice_get b.nodes k) found.1 found.2 found.3 in
-    let apart : not (list_any (is_node k) v.hands) ≡ true = ap (λ (l : List (Option ℕ)). not (list_any (is_node k) l)) empty in
-    false≢true (sym (nothing k) ∙ and_from (is_node_and b k (is_open b)) (not (list_any (is_node k) v.hands)) opened apart)
+    (found.0, node_is (is_open b) (slice_get b.nodes found.0) found.1 found.2 found.3)
+
+-- where no hand holds a node, an open node may be taken
+pub some_free : (v : BoardView) → is_finished (book_at v) ≡ false → NoneIsFree (book_at v) v.hands → v.hands ≡ empty_hands → ⊥
+some_free v unfinished nothing empty =
+    let b : Book = book_at v in
+    let found = open_of b unfinished in
+    let apart : not (list_any (is_node found.0) v.hands) ≡ true = ap (λ (l : List (Option ℕ)). not (list_any (is_node found.0) l)) empty in
+    false≢true (sym (nothing found.0) ∙ and_from (is_node_and b found.0 (is_open b)) (not (list_any (is_node found.0) v.hands)) found.1 apart)
+
+-- there are no more rounds than steps that are enough
+pub few_rounds : (i : Problem) (old new : BoardView) (rounds : ℕ) → Made i old new rounds → rounds ≤ steps_enough i
+few_rounds i old new rounds m =
+    let c = m.closed in
+    let most : passing (is_closed m.book) (steps_enough i) ≤ steps_enough i = passing_most (is_closed m.book) (steps_enough i) in
+    omega arith
+
+-- and fewer where a node is open
+pub fewer_rounds : (i : Problem) (old new : BoardView) (rounds k : ℕ) → Made i old new rounds → is_node_and (book_at new) k (is_open (book_at new)) ≡ true → rounds + 1 ≤ steps_enough i
+fewer_rounds i old new rounds k m opened =
+    let b : Book = m.book in
+    let at : book_at new ≡ b = book_is new.instance new.history b (ap (λ (j : Problem). book_of j new.history) m.root ∙ m.folds) in
+    let found = some_node (is_open b) (slice_get b.nodes k) (subst (λ (c : Book). is_node_and c k (is_open c) ≡ true) at opened) in
+    let low : k < steps_enough i = nodes_within i new.history b k found.0 m.folds found.1 in
+    let no : is_closed b k ≡ false = node_not (λ (n : Node). not (is_open b n)) (slice_get b.nodes k) found.0 found.1 (ap not found.2) in
+    let less : passing (is_closed b) (steps_enough i) < steps_enough i = passing_less (is_closed b) (steps_enough i) k low no in
+    let c = m.closed in
+    omega arith
 
 -- with that many steps a board is finished
-pub not_spent : (i : Problem) (old new : BoardView) (rounds budget : ℕ) → Made i old new rounds → is_finished (book_at i new) ≡ false → rounds ≡ budget → steps_enough i ≤ budget → ⊥
+pub not_spent : (i : Problem) (old new : BoardView) (rounds budget : ℕ) → Made i old new rounds → is_finished (book_at new) ≡ false → rounds ≡ budget → steps_enough i ≤ budget → ⊥
 not_spent i old new rounds budget m unfinished all enough =
-    let b : Book = m.book in
-    let at : book_at i new ≡ b = book_is i new.history b m.folds in
-    let found = some_open b b.nodes (sym (ap is_finished at) ∙ unfinished) in
-    let low : found.0 < steps_enough i = nodes_within i new.history b found.0 found.1 m.folds found.2 in
-    let no : is_closed b found.0 ≡ false = node_not (λ (n : Node). not (is_open b n)) (slice_get b.nodes found.0) found.1 found.2 (ap not found.3) in
-    let less : passing (is_closed b) (steps_enough i) < steps_enough i = passing_less (is_closed b) (steps_enough i) found.0 low no in
-    let c = m.closed in
+    let found = open_of (book_at new) unfinished in
+    let fewer : rounds + 1 ≤ steps_enough i = fewer_rounds i old new rounds found.0 m found.1 in
     absurd (omega arith)

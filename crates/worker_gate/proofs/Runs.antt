@@ -1,29 +1,34 @@
 -- How a round follows from its calls, and a run from its rounds.
-use Rattle.std.proofs.Common.{◌≡◌, ℕ, ◌+◌, ◌-◌, ◌<◌, ◌≤◌, true, false, List, set, refl, sym, ap, ◌∙◌, subst, arith, max, Option, Some, None}
-use Rattle.std.specs.Prelude.{IsTrue, MatchOption}
-use Rattle.std.proofs.lemmas.Bool.{and_parts, false≢true}
+use Rattle.std.proofs.Common.{◌≡◌, ℕ, ◌+◌, ◌-◌, ◌<◌, ◌≤◌, Bool, true, false, cond, List, set, refl, sym, ap, ◌∙◌, subst, arith, max, Option, Some, None, inl, inr}
+use Rattle.std.specs.Prelude.{◌⊎◌, MatchOption}
+use Rattle.std.proofs.lemmas.Bool.{and_parts}
 use Rattle.shift_instance.specs.Problem.{Problem}
 use Rattle.post_codec.specs.declared.post.Post.{Post}
 use Rattle.advisers.specs.declared.advice.Advice.{Advice}
 use Rattle.advisers.specs.Advised.{greedy_advice}
 use Rattle.search_core.specs.declared.board.Kept.{Kept}
+use Rattle.search_core.specs.declared.board.Shutting.TheVariants.{Full as ShutByFull}
 use Rattle.search_core.specs.declared.board.Taken.TheVariants.{Node as TakenNode}
 use Rattle.search_core.specs.declared.step_posts.StepPosts.{StepPosts}
 use Rattle.search_core.specs.declared.step_posts.Close.TheVariants.{ByPrice}
-use Rattle.search_core.specs.Board.{BoardView, book_at, floor_of_node, leaves_open, Commits, HoldsStep, TakeMakes}
+use Rattle.search_core.specs.Board.{BoardView, book_at, floor_of_node, leaves_open, yields, Commits, HoldsStep, IsSoundBoard, TakeMakes}
 use Rattle.search_core.specs.Book.{Book, book_of, is_finished, is_node_and, is_open}
+use Rattle.search_core.specs.Calls.{steps_enough}
 use Rattle.search_core.specs.Core.{empty_hands, hand, IsFront}
 use Rattle.search_core.specs.Kept.{cuts_in}
 use Rattle.search_core.specs.Steps.{Fits}
 use Rattle.worker_gate.specs.declared.run.RunEnd.{RunEnd}
 use Rattle.worker_gate.specs.declared.run.RunEnd.TheVariants.{Finished, Spent, Full, DiskFault, NoMemory}
 use Rattle.worker_gate.specs.Decision.{cost_to_reach, IsDecision}
-use Rattle.worker_gate.specs.Runs.{ask_for, is_whole, plans_and_prices_since, steps_enough, AreRounds, IsCutOff, IsEnded, IsIdle, IsRound, IsRun, RunEnds}
+use Rattle.worker_gate.specs.Runs.{ask_for, committed, is_whole, plans_and_prices_since, AreRounds, EndMakes, IsCutOff, IsEnded, IsIdle, IsRound, IsRun, IsSameSearch, MakesStep, RunEnds, RunMakes}
 use Rattle.worker_gate.specs.Runs.AreRounds.{none, one_more}
 use Rattle.worker_gate.proofs.Closing.{closes}
-use Rattle.worker_gate.proofs.Rounds.{begins, counts, not_spent, rounds_made, Made}
+use Rattle.worker_gate.proofs.Rounds.{begins, counts, few_rounds, fewer_rounds, not_spent, rounds_made, Made}
 
-module _ (i : Problem) (budget : ℕ) (old held : BoardView) (k floor best : ℕ) (idle : IsIdle old) (t : TakeMakes (TakenNode k floor best) 0 i budget old held) where
+module _ (old held : BoardView) (k floor best : ℕ) (idle : IsIdle old) (t : TakeMakes (TakenNode k floor best) 0 old held) where
+  held_same : IsSameSearch old held
+  held_same = record { instance = ap (λ (v : BoardView). v.instance) t.4; budget = ap (λ (v : BoardView). v.budget) t.4; origin = ap (λ (v : BoardView). v.origin) t.4 }
+
   held_history : held.history ≡ old.history
   held_history = ap (λ (v : BoardView). v.history) t.4
 
@@ -36,78 +41,106 @@ module _ (i : Problem) (budget : ℕ) (old held : BoardView) (k floor best : ℕ
   held_halted : held.halted ≡ false
   held_halted = ap (λ (v : BoardView). v.halted) t.4 ∙ idle.going
 
-  held_book : book_at i held ≡ book_at i old
-  held_book = ap (λ (l : List Post). book_at i (record old { history = l })) held_history
+  pub held_book : book_at held ≡ book_at old
+  held_book = ap (λ (v : BoardView). book_at v) t.4
 
   pub in_hand : hand held.hands 0 ≡ Some k
   in_hand = ap (λ (l : List (Option ℕ)). hand l 0) held_hands
 
-  pub holds_step : (advice : Advice) (step : StepPosts) → IsDecision i k (ask_for i old k floor best) advice step → HoldsStep i 0 step held
+  pub holds_step : (advice : Advice) (step : StepPosts) → IsDecision old.instance k (ask_for old k floor best) advice step → HoldsStep 0 step held
   holds_step advice step d = record {
     running = held_shut;
     held = in_hand ∙ ap Some (sym d.node);
-    cuts = d.cuts ∙ ap (λ n. cuts_in (book_at i old).nodes n) (sym d.node) ∙ ap (λ (b : Book). cuts_in b.nodes step.node) (sym held_book);
+    cuts = d.cuts ∙ ap (λ n. cuts_in (book_at old).nodes n) (sym d.node) ∙ ap (λ (b : Book). cuts_in b.nodes step.node) (sym held_book);
   }
 
-  pub closes_step : (advice : Advice) (step : StepPosts) → IsDecision i k (ask_for i old k floor best) advice step → Fits i step → step.close ≡ ByPrice → leaves_open i (book_at i held) 0 step ≡ false
+  pub closes_step : (advice : Advice) (step : StepPosts) → IsDecision old.instance k (ask_for old k floor best) advice step → Fits old.instance step → step.close ≡ ByPrice → leaves_open held.instance (book_at held) 0 step ≡ false
   closes_step advice step d fits is =
-      let b : Book = book_at i old in
+      let b : Book = book_at old in
       let opened : is_node_and b k (is_open b) ≡ true = (and_parts _ _ t.1.free).0 in
       let reach : cost_to_reach best step.plan ≤ max floor step.proved.bound = d.by_price.0 is in
       let reach_cost : cost_to_reach b.cost step.plan ≤ max floor step.proved.bound = subst (λ n. cost_to_reach n step.plan ≤ max floor step.proved.bound) t.3 reach in
       let reach_floor : cost_to_reach b.cost step.plan ≤ max (floor_of_node b k) step.proved.bound = subst (λ n. cost_to_reach b.cost step.plan ≤ max n step.proved.bound) t.2 reach_cost in
       let at_node : cost_to_reach b.cost step.plan ≤ max (floor_of_node b step.node) step.proved.bound = subst (λ n. cost_to_reach b.cost step.plan ≤ max (floor_of_node b n) step.proved.bound) (sym d.node) reach_floor in
       let cuts : step.proved.cuts ≡ cuts_in b.nodes step.node = d.cuts ∙ ap (λ n. cuts_in b.nodes n) (sym d.node) in
-      ap (λ (c : Book). leaves_open i c 0 step) held_book
-      ∙ closes i b 0 step is fits d.cost d.bound cuts (subst (λ n. is_node_and b n (is_open b) ≡ true) (sym d.node) opened) at_node
+      ap (λ (j : Problem). leaves_open j (book_at held) 0 step) held_same.instance
+      ∙ ap (λ (c : Book). leaves_open old.instance c 0 step) held_book
+      ∙ closes old.instance b 0 step is fits d.cost d.bound cuts (subst (λ n. is_node_and b n (is_open b) ≡ true) (sym d.node) opened) at_node
 
-  pub cut_off : (new : BoardView) (how : RunEnd) → IsCutOff held new how → IsEnded i budget old new how
-  cut_off new Finished c = absurd c
-  cut_off new Spent c = absurd c
-  cut_off new (Full end limit) c = record { ends = ap (λ (v : BoardView). v.shut) c; posts = ap (λ (v : BoardView). v.history) c ∙ held_history; whole = λ w. absurd (false≢true w) }
-  cut_off new DiskFault c = record { ends = ap (λ (v : BoardView). v.shut) c; posts = ap (λ (v : BoardView). v.history) c ∙ held_history; whole = λ w. absurd (false≢true w) }
-  cut_off new NoMemory c = record {
+  search_after : (new : BoardView) → new.instance ≡ held.instance → new.budget ≡ held.budget → new.origin ≡ held.origin → IsSameSearch old new
+  search_after new i b o = record { instance = i ∙ held_same.instance; budget = b ∙ held_same.budget; origin = o ∙ held_same.origin }
+
+  pub gave_up : (new : BoardView) → new ≡ yields 0 held → IsEnded old new NoMemory
+  gave_up new c = record {
+    same = search_after new (ap (λ (v : BoardView). v.instance) c) (ap (λ (v : BoardView). v.budget) c) (ap (λ (v : BoardView). v.origin) c);
     ends = (
       ap (λ (v : BoardView). v.shut) c ∙ held_shut,
       ap (λ (v : BoardView). v.halted) c,
       ap (λ (v : BoardView). v.hands) c ∙ ap (λ (l : List (Option ℕ)). set l 0 None) held_hands,
     );
-    posts = ap (λ (v : BoardView). v.history) c ∙ held_history;
-    whole = λ w. absurd (false≢true w);
+    makes = (held, k, floor, best, t, c);
   }
 
-  pub round_made : (new : BoardView) (step : StepPosts) (kept : Kept) (b : Book) → IsDecision i k (ask_for i old k floor best) (greedy_advice i (cuts_in (book_at i old).nodes k)) step → Commits i 0 step held new kept → book_of i new.history ≡ Some b → IsRound i budget old new
-  round_made new step kept b d c folds = record { node = k; floor = floor; best = best; held = held; takes = t; step = step; decides = d; kept = kept; commits = c; book = b; folds = folds }
+  module _ (step : StepPosts) (decides : IsDecision old.instance k (ask_for old k floor best) (greedy_advice old.instance (cuts_in (book_at old).nodes k)) step) where
+    step_made : MakesStep old held step
+    step_made = record { node = k; floor = floor; best = best; takes = t; decides = decides }
 
-  pub round_ends : (new : BoardView) (step : StepPosts) (b : Book) (end : Option RunEnd) → IsDecision i k (ask_for i old k floor best) (greedy_advice i (cuts_in (book_at i old).nodes k)) step → book_of i new.history ≡ Some b
-      → MatchOption end ((kept : Kept) × Commits i 0 step held new kept) (IsCutOff held new) → MatchOption end (IsRound i budget old new) (IsEnded i budget old new)
-  round_ends new step b None d folds m = round_made new step m.0 b d m.1 folds
-  round_ends new step b (Some how) d folds m = cut_off new how m
+    cut_off : (new : BoardView) (how : RunEnd) → IsSoundBoard new → IsCutOff step held new how → IsEnded old new how
+    cut_off new Finished sound c = absurd c
+    cut_off new Spent sound c = absurd c
+    cut_off new (Full end limit) sound c =
+        let shut : new.shut ≡ Some (ShutByFull end limit) = ap (λ (v : BoardView). v.shut) c.4 in
+        record {
+          same = search_after new (ap (λ (v : BoardView). v.instance) c.4) (ap (λ (v : BoardView). v.budget) c.4) (ap (λ (v : BoardView). v.origin) c.4);
+          ends = (shut, sound.past end limit shut);
+          makes = (held, step, step_made, c);
+        }
+    cut_off new DiskFault sound c = record {
+      same = search_after new (ap (λ (v : BoardView). v.instance) c.1) (ap (λ (v : BoardView). v.budget) c.1) (ap (λ (v : BoardView). v.origin) c.1);
+      ends = ap (λ (v : BoardView). v.shut) c.1;
+      makes = (held, step, step_made, c);
+    }
+    cut_off new NoMemory sound c = gave_up new c
+
+    pub round_ends : (new : BoardView) (end : Option RunEnd) → IsSoundBoard new → MatchOption end ((kept : Kept) × Commits 0 step held new kept) (IsCutOff step held new) → MatchOption end (IsRound old new) (IsEnded old new)
+    round_ends new None sound m = record { held = held; step = step; makes = step_made; kept = m.0; commits = m.1; book = sound.book; folds = sound.folds }
+    round_ends new (Some how) sound m = cut_off new how sound m
 
 -- a board after a round
-round_idle : (i : Problem) (budget : ℕ) (old new : BoardView) → IsIdle old → IsRound i budget old new → IsIdle new
-round_idle i budget old new idle r = record {
-  running = ap (λ (v : BoardView). v.shut) r.commits.makes ∙ held_shut i budget old r.held r.node r.floor r.best idle r.takes;
-  going = ap (λ (v : BoardView). v.halted) r.commits.makes ∙ held_halted i budget old r.held r.node r.floor r.best idle r.takes;
-  empty = ap (λ (v : BoardView). v.hands) r.commits.makes ∙ ap (λ (l : List (Option ℕ)). set l 0 None) (held_hands i budget old r.held r.node r.floor r.best idle r.takes);
+round_idle : (old new : BoardView) → IsIdle old → IsRound old new → IsIdle new
+round_idle old new idle r = record {
+  running = ap (λ (v : BoardView). v.shut) r.commits.makes ∙ held_shut old r.held r.makes.node r.makes.floor r.makes.best idle r.makes.takes;
+  going = ap (λ (v : BoardView). v.halted) r.commits.makes ∙ held_halted old r.held r.makes.node r.makes.floor r.makes.best idle r.makes.takes;
+  empty = ap (λ (v : BoardView). v.hands) r.commits.makes ∙ ap (λ (l : List (Option ℕ)). set l 0 None) (held_hands old r.held r.makes.node r.makes.floor r.makes.best idle r.makes.takes);
 }
 
-round_taken : (i : Problem) (budget : ℕ) (old new : BoardView) → IsRound i budget old new → new.taken ≡ old.taken + 1
-round_taken i budget old new r = ap (λ (v : BoardView). v.taken) r.commits.makes ∙ ap (λ (v : BoardView). v.taken) r.takes.4
+round_taken : (old new : BoardView) → IsRound old new → new.taken ≡ old.taken + 1
+round_taken old new r = ap (λ (v : BoardView). v.taken) r.commits.makes ∙ ap (λ (v : BoardView). v.taken) r.makes.takes.4
 
-pub start_run : (i : Problem) (budget : ℕ) (v : BoardView) → v.taken ≡ 0 → IsIdle v → IsRun i budget v v None
-start_run i budget v fresh idle = record { last = v; rounds = subst (AreRounds i budget v v) (sym fresh) none; end = (refl, idle) }
+round_same : (old new : BoardView) → IsRound old new → IsSameSearch old new
+round_same old new r = record {
+  instance = ap (λ (v : BoardView). v.instance) r.commits.makes ∙ ap (λ (v : BoardView). v.instance) r.makes.takes.4;
+  budget = ap (λ (v : BoardView). v.budget) r.commits.makes ∙ ap (λ (v : BoardView). v.budget) r.makes.takes.4;
+  origin = ap (λ (v : BoardView). v.origin) r.commits.makes ∙ ap (λ (v : BoardView). v.origin) r.makes.takes.4;
+}
 
-pub next_run : (i : Problem) (budget : ℕ) (old mid new : BoardView) (how : Option RunEnd) → IsRun i budget old mid None → MatchOption how (IsRound i budget mid new) (IsEnded i budget mid new) → IsRun i budget old new how
-next_run i budget old mid new None run r =
-    let rounds : AreRounds i budget old mid mid.taken = subst (λ (v : BoardView). AreRounds i budget old v v.taken) (sym run.end.0) run.rounds in
+same_on : (old mid new : BoardView) → IsSameSearch old mid → IsSameSearch mid new → IsSameSearch old new
+same_on old mid new one two = record { instance = two.instance ∙ one.instance; budget = two.budget ∙ one.budget; origin = two.origin ∙ one.origin }
+
+pub start_run : (v : BoardView) → v.taken ≡ 0 → IsIdle v → IsRun v v None
+start_run v fresh idle = record { same = record { instance = refl; budget = refl; origin = refl }; last = v; rounds = subst (AreRounds v v) (sym fresh) none; end = (refl, idle) }
+
+pub next_run : (old mid new : BoardView) (how : Option RunEnd) → IsRun old mid None → MatchOption how (IsRound mid new) (IsEnded mid new) → IsRun old new how
+next_run old mid new None run r =
+    let rounds : AreRounds old mid mid.taken = subst (λ (v : BoardView). AreRounds old v v.taken) (sym run.end.0) run.rounds in
     record {
+      same = same_on old mid new run.same (round_same mid new r);
       last = new;
-      rounds = subst (AreRounds i budget old new) (sym (round_taken i budget mid new r)) (one_more mid new mid.taken rounds r);
-      end = (refl, round_idle i budget mid new run.end.1 r);
+      rounds = subst (AreRounds old new) (sym (round_taken mid new r)) (one_more mid new mid.taken rounds r);
+      end = (refl, round_idle mid new run.end.1 r);
     }
-next_run i budget old mid new (Some how) run e =
-    record { last = mid; rounds = subst (λ (v : BoardView). AreRounds i budget old v v.taken) (sym run.end.0) run.rounds; end = e }
+next_run old mid new (Some how) run e =
+    record { same = same_on old mid new run.same e.same; last = mid; rounds = subst (λ (v : BoardView). AreRounds old v v.taken) (sym run.end.0) run.rounds; end = e }
 
 -- ---- the measure
 
@@ -115,46 +148,96 @@ abbrev pub steps_left : ℕ → ℕ → Option RunEnd → ℕ
 steps_left budget taken None = 1 + budget - taken
 steps_left budget taken (Some how) = 0
 
-rounds_within : (i : Problem) (budget : ℕ) (old new : BoardView) (rounds : ℕ) → old.taken ≤ budget → AreRounds i budget old new rounds → new.taken ≤ budget
-rounds_within i budget old new rounds low none = low
-rounds_within i budget old new rounds low (one_more mid next n before r) =
-    let less : mid.taken < budget = r.takes.0.step_left in
-    let more : new.taken ≡ mid.taken + 1 = round_taken i budget mid new r in
+rounds_within : (old new : BoardView) (rounds : ℕ) → old.taken ≤ old.budget → AreRounds old new rounds → new.taken ≤ new.budget
+rounds_within old new rounds low none = low
+rounds_within old new rounds low (one_more mid next n before r) =
+    let less : mid.taken < mid.budget = r.makes.takes.0.step_left in
+    let more : new.taken ≡ mid.taken + 1 = round_taken mid new r in
+    let same : new.budget ≡ mid.budget = (round_same mid new r).budget in
     omega arith
 
-pub fewer_left : (i : Problem) (budget : ℕ) (old mid new : BoardView) (how : Option RunEnd) → old.taken ≡ 0 → IsRun i budget old mid None → MatchOption how (IsRound i budget mid new) (IsEnded i budget mid new)
-    → steps_left budget new.taken how < steps_left budget mid.taken None
-fewer_left i budget old mid new None fresh run r =
-    let less : mid.taken < budget = r.takes.0.step_left in
-    let more : new.taken ≡ mid.taken + 1 = round_taken i budget mid new r in
-    let e : 1 + budget - new.taken < 1 + budget - mid.taken = omega arith in e
-fewer_left i budget old mid new (Some how) fresh run e =
-    let low : old.taken ≤ budget = omega arith in
-    let last : run.last.taken ≤ budget = rounds_within i budget old run.last run.last.taken low run.rounds in
-    let same : mid.taken ≡ run.last.taken = ap (λ (v : BoardView). v.taken) run.end.0 in
-    let e : 0 < 1 + budget - mid.taken = omega arith in e
+pub fewer_left : (old mid new : BoardView) (how : Option RunEnd) → old.taken ≡ 0 → IsRun old mid None → MatchOption how (IsRound mid new) (IsEnded mid new)
+    → steps_left old.budget new.taken how < steps_left old.budget mid.taken None
+fewer_left old mid new None fresh run r =
+    let less : mid.taken < mid.budget = r.makes.takes.0.step_left in
+    let same : mid.budget ≡ old.budget = run.same.budget in
+    let more : new.taken ≡ mid.taken + 1 = round_taken mid new r in
+    let e : 1 + old.budget - new.taken < 1 + old.budget - mid.taken = omega arith in e
+fewer_left old mid new (Some how) fresh run e =
+    let low : old.taken ≤ old.budget = omega arith in
+    let last : run.last.taken ≤ run.last.budget = rounds_within old run.last run.last.taken low run.rounds in
+    let here : mid.taken ≡ run.last.taken = ap (λ (v : BoardView). v.taken) run.end.0 in
+    let there : mid.budget ≡ run.last.budget = ap (λ (v : BoardView). v.budget) run.end.0 in
+    let same : mid.budget ≡ old.budget = run.same.budget in
+    let e : 0 < 1 + old.budget - mid.taken = omega arith in e
+
+-- ---- what the end of a run leaves
+
+end_history : (old new : BoardView) (how : RunEnd) → EndMakes old new how → new.history ≡ old.history
+end_history old new Finished e = ap (λ (v : BoardView). v.history) e
+end_history old new Spent e = ap (λ (v : BoardView). v.history) e
+end_history old new (Full end limit) e = let c = e.3 in ap (λ (v : BoardView). v.history) c.4 ∙ ap (λ (v : BoardView). v.history) e.2.takes.4
+end_history old new DiskFault e = let c = e.3 in ap (λ (v : BoardView). v.history) c.1 ∙ ap (λ (v : BoardView). v.history) e.2.takes.4
+end_history old new NoMemory e = let t = e.4 in ap (λ (v : BoardView). v.history) e.5 ∙ ap (λ (v : BoardView). v.history) t.4
+
+-- a run that was cut off has taken a step more than it committed, for a node that was open
+record IsCut (old new : BoardView) : Type 0 where
+  more : new.taken ≡ old.taken + 1
+  node : ℕ
+  opened : is_node_and (book_at old) node (is_open (book_at old)) ≡ true
+
+cut_of : (old held new : BoardView) (k floor best : ℕ) → TakeMakes (TakenNode k floor best) 0 old held → new.taken ≡ held.taken → IsCut old new
+cut_of old held new k floor best t same = record { more = same ∙ ap (λ (v : BoardView). v.taken) t.4; node = k; opened = (and_parts _ _ t.1.free).0 }
+
+end_cut : (old new : BoardView) (how : RunEnd) → EndMakes old new how → (new ≡ old) × (is_whole how ≡ true) ⊎ IsCut old new × (is_whole how ≡ false)
+end_cut old new Finished e = inl (e, refl)
+end_cut old new Spent e = inl (e, refl)
+end_cut old new (Full end limit) e = let m = e.2 in let c = e.3 in inr (cut_of old e.0 new m.node m.floor m.best m.takes (ap (λ (v : BoardView). v.taken) c.4), refl)
+end_cut old new DiskFault e = let m = e.2 in let c = e.3 in inr (cut_of old e.0 new m.node m.floor m.best m.takes (ap (λ (v : BoardView). v.taken) c.1), refl)
+end_cut old new NoMemory e = inr (cut_of old e.0 new e.1 e.2 e.3 e.4 (ap (λ (v : BoardView). v.taken) e.5), refl)
 
 -- ---- what a run that ended has made
 
-module _ (i : Problem) (budget : ℕ) (old new : BoardView) (how : RunEnd) (b : Book) (folds : book_of i old.history ≡ Some b) (run : IsRun i budget old new (Some how)) where
-  last_made : Made i old run.last run.last.taken
-  last_made = rounds_made i budget old run.last run.last.taken b folds run.rounds
+module _ (old new : BoardView) (how : RunEnd) (b : Book) (folds : book_of old.instance old.history ≡ Some b) (run : IsRun old new (Some how)) where
+  last_made : Made old.instance old run.last run.last.taken
+  last_made = rounds_made old.instance old run.last run.last.taken b refl folds run.rounds
+
+  last_history : new.history ≡ run.last.history
+  last_history = end_history run.last new how run.end.makes
 
   pub run_begins : IsFront old.history new.history
-  run_begins = begins i old run.last run.last.taken new.history last_made run.end.posts
+  run_begins = begins old.instance old run.last run.last.taken new.history last_made last_history
 
-  pub run_rounds : IsTrue (is_whole how) → AreRounds i budget old new new.taken
-  run_rounds whole = subst (λ (v : BoardView). AreRounds i budget old v v.taken) (sym (run.end.whole whole)) run.rounds
+  pub run_makes : RunMakes old new how
+  run_makes = record { last = run.last; rounds = run.rounds; end = run.end.makes }
 
-  pub run_posts : IsTrue (is_whole how) → new.taken ≤ plans_and_prices_since old.history new.history
-  run_posts whole =
-      subst (λ (v : BoardView). v.taken ≤ plans_and_prices_since old.history v.history) (sym (run.end.whole whole)) (counts i old run.last run.last.taken last_made)
+  committed_before : committed how new.taken ≡ run.last.taken
+  committed_before =
+      elim (end_cut run.last new how run.end.makes) [
+        | inl e ↦ ap (λ (t : Bool). cond t new.taken (new.taken - 1)) e.1 ∙ ap (λ (v : BoardView). v.taken) e.0
+        | inr e ↦
+            let more : new.taken ≡ run.last.taken + 1 = e.0.more in
+            let less : new.taken - 1 ≡ run.last.taken = omega arith in
+            ap (λ (t : Bool). cond t new.taken (new.taken - 1)) e.1 ∙ less
+      ]
 
-  pub run_enough : steps_enough i ≤ budget → how ≡ Spent → ⊥
+  pub run_posts : committed how new.taken ≤ plans_and_prices_since old.history new.history
+  run_posts =
+      subst (λ n. n ≤ plans_and_prices_since old.history new.history) (sym committed_before)
+      (subst (λ (l : List Post). run.last.taken ≤ plans_and_prices_since old.history l) (sym last_history) (counts old.instance old run.last run.last.taken last_made))
+
+  pub run_few : new.taken ≤ steps_enough old.instance
+  run_few =
+      elim (end_cut run.last new how run.end.makes) [
+        | inl e ↦ subst (λ (v : BoardView). v.taken ≤ steps_enough old.instance) (sym e.0) (few_rounds old.instance old run.last run.last.taken last_made)
+        | inr e ↦ subst (λ n. n ≤ steps_enough old.instance) (sym e.0.more) (fewer_rounds old.instance old run.last run.last.taken e.0.node last_made e.0.opened)
+      ]
+
+  pub run_enough : steps_enough old.instance ≤ old.budget → how ≡ Spent → ⊥
   run_enough enough spent =
-      let ends : RunEnds i budget new Spent = subst (RunEnds i budget new) spent run.end.ends in
-      let same : new ≡ run.last = run.end.whole (ap is_whole spent) in
-      not_spent i old run.last run.last.taken budget last_made
-      (sym (ap (λ (v : BoardView). is_finished (book_at i v)) same) ∙ ends.1)
-      (sym (ap (λ (v : BoardView). v.taken) same) ∙ ends.2)
+      let ends : RunEnds new Spent = subst (RunEnds new) spent run.end.ends in
+      let same : new ≡ run.last = subst (EndMakes run.last new) spent run.end.makes in
+      not_spent old.instance old run.last run.last.taken old.budget last_made
+      (sym (ap (λ (v : BoardView). is_finished (book_at v)) same) ∙ ends.1)
+      (sym (ap (λ (v : BoardView). v.taken) same) ∙ ends.2 ∙ run.same.budget)
       enough

@@ -42,6 +42,9 @@ IsGivenClose i cuts (CloseAsSettled node) = IsFixing i cuts (Done node)
 -- the step that a worker makes of an advice for a node
 pub record IsDecision (i : Problem) (number : ℕ) (ask : Ask) (advice : Advice) (step : StepPosts) : Type 0 where
   pub node : step.node ≡ number
+  -- its prices and its plan are for the instance
+  pub priced_for : step.proved.instance ≡ i
+  pub planned_for : IfSome step.plan (λ p. p.instance ≡ i)
   -- the bound of the advised prices where they are lawful, and else of price 0 everywhere
   pub cuts : step.proved.cuts ≡ ask.cuts
   pub prices : step.proved.prices ≡ lawful_prices i ask.cuts advice.prices

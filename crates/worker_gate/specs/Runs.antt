@@ -1,16 +1,15 @@
 -- The run of one worker over a board. Source: this project's profile.
-use Rattle.std.specs.Prelude.{◌≡◌, ℕ, ◌+◌, ◌-◌, ◌^◌, Bool, true, false, IsTrue, IsFalse, List, [], Option, Some, None, length, drop, count_by, slice_set, MatchOption}
-use Rattle.shift_instance.specs.Problem.{Problem}
-use Rattle.head_splits.specs.Settled.{span}
+use Rattle.std.specs.Prelude.{◌≡◌, ℕ, ◌+◌, ◌-◌, Bool, true, false, IsTrue, IsFalse, List, Option, Some, None, length, drop, count_by, MatchOption, if◌then◌else◌}
 use Rattle.post_codec.specs.declared.post.Post.{Post}
 use Rattle.post_codec.specs.declared.post.Post.TheVariants.{Plan, Priced, Split, Settled}
 use Rattle.advisers.specs.declared.advice.Ask.{Ask}
 use Rattle.advisers.specs.Advised.{greedy_advice}
+use Rattle.search_core.specs.declared.board.CommitFault.TheVariants.{DiskFault as CommitsDisk, Full as CommitsFull}
 use Rattle.search_core.specs.declared.board.Kept.{Kept}
 use Rattle.search_core.specs.declared.board.Shutting.TheVariants.{DiskFault as ShutByDiskFault, Full as ShutByFull}
 use Rattle.search_core.specs.declared.board.Taken.TheVariants.{Node as TakenNode}
 use Rattle.search_core.specs.declared.step_posts.StepPosts.{StepPosts}
-use Rattle.search_core.specs.Board.{BoardView, book_at, Commits, TakeMakes}
+use Rattle.search_core.specs.Board.{BoardView, book_at, yields, Commits, CommitRefuses, IsPast, TakeMakes}
 use Rattle.search_core.specs.Book.{Book, book_of, is_finished}
 use Rattle.search_core.specs.Core.{empty_hands}
 use Rattle.search_core.specs.Kept.{cuts_in}
@@ -18,33 +17,33 @@ use Rattle.worker_gate.specs.declared.run.RunEnd.{RunEnd}
 use Rattle.worker_gate.specs.declared.run.RunEnd.TheVariants.{Finished, Spent, Full, DiskFault, NoMemory}
 use Rattle.worker_gate.specs.Decision.{IsDecision}
 
--- the steps after which each search of an instance is finished
-abbrev pub steps_enough : Problem → ℕ
-steps_enough i = 2 ^ (span i [] + 1) - 1
-
 -- what a worker asks for a node that it has taken
-abbrev pub ask_for : Problem → BoardView → ℕ → ℕ → ℕ → Ask
-ask_for i v node floor best = record { cuts = cuts_in (book_at i v).nodes node; floor = floor; best = best }
+abbrev pub ask_for : BoardView → ℕ → ℕ → ℕ → Ask
+ask_for v node floor best = record { cuts = cuts_in (book_at v).nodes node; floor = floor; best = best }
 
--- one round of worker 0: it takes a node, and commits the step that it makes of the greedy advice for it
-pub record IsRound (i : Problem) (budget : ℕ) (old new : BoardView) : Type 0 where
+-- what worker 0 does in a round up to its commit: it takes a node, and makes the step of the greedy advice for it
+pub record MakesStep (old held : BoardView) (step : StepPosts) : Type 0 where
   pub node : ℕ
   pub floor : ℕ
   pub best : ℕ
+  pub takes : TakeMakes (TakenNode node floor best) 0 old held
+  pub decides : IsDecision old.instance node (ask_for old node floor best) (greedy_advice old.instance (cuts_in (book_at old).nodes node)) step
+
+-- one round of worker 0: it commits the step that it makes for a node
+pub record IsRound (old new : BoardView) : Type 0 where
   pub held : BoardView
-  pub takes : TakeMakes (TakenNode node floor best) 0 i budget old held
   pub step : StepPosts
-  pub decides : IsDecision i node (ask_for i old node floor best) (greedy_advice i (cuts_in (book_at i old).nodes node)) step
+  pub makes : MakesStep old held step
   pub kept : Kept
-  pub commits : Commits i 0 step held new kept
+  pub commits : Commits 0 step held new kept
   -- the posts make a book
   pub book : Book
-  pub folds : book_of i new.history ≡ Some book
+  pub folds : book_of new.instance new.history ≡ Some book
 
 -- that many rounds, one after another
-pub data AreRounds (i : Problem) (budget : ℕ) (old : BoardView) : BoardView → ℕ → Type 0 where
-  none : AreRounds i budget old old 0
-  one_more : (mid new : BoardView) (rounds : ℕ) → AreRounds i budget old mid rounds → IsRound i budget mid new → AreRounds i budget old new (rounds + 1)
+pub data AreRounds (old : BoardView) : BoardView → ℕ → Type 0 where
+  none : AreRounds old old 0
+  one_more : (mid new : BoardView) (rounds : ℕ) → AreRounds old mid rounds → IsRound mid new → AreRounds old new (rounds + 1)
 
 -- a board that still runs: nothing shut it, no worker gave up, and each hand is empty
 pub record IsIdle (v : BoardView) : Type 0 where
@@ -52,14 +51,21 @@ pub record IsIdle (v : BoardView) : Type 0 where
   pub going : v.halted ≡ false
   pub empty : v.hands ≡ empty_hands
 
--- how a run ends, and how it leaves the board: without an open node, or without a step left; shut by the journal's limit or by
--- the disk; or, for want of memory, halted with empty hands
-abbrev pub RunEnds : Problem → ℕ → BoardView → RunEnd → Type 0
-RunEnds i budget v Finished = IsIdle v × IsTrue (is_finished (book_at i v))
-RunEnds i budget v Spent = IsIdle v × IsFalse (is_finished (book_at i v)) × (v.taken ≡ budget)
-RunEnds i budget v (Full end limit) = v.shut ≡ Some (ShutByFull end limit)
-RunEnds i budget v DiskFault = v.shut ≡ Some ShutByDiskFault
-RunEnds i budget v NoMemory = (v.shut ≡ None) × (v.halted ≡ true) × (v.hands ≡ empty_hands)
+-- a board of the same search
+pub record IsSameSearch (old new : BoardView) : Type 0 where
+  pub instance : new.instance ≡ old.instance
+  pub budget : new.budget ≡ old.budget
+  pub origin : new.origin ≡ old.origin
+
+-- how a run ends, and how it leaves the board: without an open node, or without a step left; shut by the journal's limit, past
+-- which the posts of a step that its book allows would have ended there; shut by the disk; or, for want of memory, halted with
+-- empty hands
+abbrev pub RunEnds : BoardView → RunEnd → Type 0
+RunEnds v Finished = IsIdle v × IsTrue (is_finished (book_at v))
+RunEnds v Spent = IsIdle v × IsFalse (is_finished (book_at v)) × (v.taken ≡ v.budget)
+RunEnds v (Full end limit) = (v.shut ≡ Some (ShutByFull end limit)) × IsPast v end limit
+RunEnds v DiskFault = v.shut ≡ Some ShutByDiskFault
+RunEnds v NoMemory = (v.shut ≡ None) × (v.halted ≡ true) × (v.hands ≡ empty_hands)
 
 -- whether a run came to its end by itself
 abbrev pub is_whole : RunEnd → Bool
@@ -68,6 +74,10 @@ is_whole Spent = true
 is_whole (Full end limit) = false
 is_whole DiskFault = false
 is_whole NoMemory = false
+
+-- how many of the steps that a run took were committed: all, and all but the last where it was cut off
+abbrev pub committed : RunEnd → ℕ → ℕ
+committed end taken = if is_whole end then taken else taken - 1
 
 -- whether a post is a plan or prices
 abbrev pub is_plan_or_prices : Post → Bool
@@ -80,22 +90,38 @@ is_plan_or_prices (Settled worker k) = false
 abbrev pub plans_and_prices_since : List Post → List Post → ℕ
 plans_and_prices_since first all = count_by is_plan_or_prices (drop (length first) all)
 
--- a commit that ends a run leaves the posts: the board is shut by it or, for want of memory, halted with an empty hand
-abbrev pub IsCutOff : BoardView → BoardView → RunEnd → Type 0
-IsCutOff old new DiskFault = new ≡ record old { shut = Some ShutByDiskFault }
-IsCutOff old new (Full end limit) = new ≡ record old { shut = Some (ShutByFull end limit) }
-IsCutOff old new NoMemory = new ≡ record old { hands = slice_set old.hands 0 None; halted = true }
-IsCutOff old new Finished = ⊥
-IsCutOff old new Spent = ⊥
+-- how a run is cut off at the commit of a step: the commit is refused or, for want of memory, the worker lets go of its node
+abbrev pub IsCutOff : StepPosts → BoardView → BoardView → RunEnd → Type 0
+IsCutOff step held new DiskFault = CommitRefuses 0 step held new CommitsDisk
+IsCutOff step held new (Full end limit) = CommitRefuses 0 step held new (CommitsFull end limit)
+IsCutOff step held new NoMemory = new ≡ yields 0 held
+IsCutOff step held new Finished = ⊥
+IsCutOff step held new Spent = ⊥
 
--- a board on which a run ended, with the posts of the board before
-pub record IsEnded (i : Problem) (budget : ℕ) (old new : BoardView) (how : RunEnd) : Type 0 where
-  pub ends : RunEnds i budget new how
-  pub posts : new.history ≡ old.history
-  pub whole : IsTrue (is_whole how) → new ≡ old
+-- what the end of a run makes of the board after its rounds: nothing, where it came to its end by itself; else a last step is
+-- taken, and its commit is refused; or, for want of memory, a last node is taken and let go of
+abbrev pub EndMakes : BoardView → BoardView → RunEnd → Type 0
+EndMakes old new Finished = new ≡ old
+EndMakes old new Spent = new ≡ old
+EndMakes old new (Full end limit) = (held : BoardView) × (step : StepPosts) × MakesStep old held step × IsCutOff step held new (Full end limit)
+EndMakes old new DiskFault = (held : BoardView) × (step : StepPosts) × MakesStep old held step × IsCutOff step held new DiskFault
+EndMakes old new NoMemory = (held : BoardView) × (node : ℕ) × (floor : ℕ) × (best : ℕ) × TakeMakes (TakenNode node floor best) 0 old held × (new ≡ yields 0 held)
+
+-- what a run makes of a board from which no node was taken: a round for each step, up to the last board, and its end
+pub record RunMakes (old new : BoardView) (how : RunEnd) : Type 0 where
+  pub last : BoardView
+  pub rounds : AreRounds old last last.taken
+  pub end : EndMakes last new how
+
+-- a board on which a run ended
+pub record IsEnded (old new : BoardView) (how : RunEnd) : Type 0 where
+  pub same : IsSameSearch old new
+  pub ends : RunEnds new how
+  pub makes : EndMakes old new how
 
 -- a run so far: rounds, and, if it has come to its end, how
-pub record IsRun (i : Problem) (budget : ℕ) (old new : BoardView) (how : Option RunEnd) : Type 0 where
+pub record IsRun (old new : BoardView) (how : Option RunEnd) : Type 0 where
+  pub same : IsSameSearch old new
   pub last : BoardView
-  pub rounds : AreRounds i budget old last last.taken
-  pub end : MatchOption how ((new ≡ last) × IsIdle new) (IsEnded i budget last new)
+  pub rounds : AreRounds old last last.taken
+  pub end : MatchOption how ((new ≡ last) × IsIdle new) (IsEnded last new)

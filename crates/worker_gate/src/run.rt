@@ -1,17 +1,17 @@
 //! The run of one worker over a board.
-ghost use Rattle.std.specs.Prelude.{◌≡◌, ◌≢◌, ◌≤◌, ℕ, false, IsTrue, IfOk, IfErr, MatchOption, None, Some, IsFalse};
+ghost use Rattle.std.specs.Prelude.{◌≡◌, ◌≢◌, ◌≤◌, ℕ, false, IfOk, IfErr, MatchOption, None, Some, IsFalse};
 ghost use Rattle.shift_instance.specs.Problem.{Problem};
 ghost use Rattle.advisers.specs.Advised.{greedy_advice};
-ghost use Rattle.search_core.specs.Board.{seen, book_at, leaves_open, BoardView, Commits, HoldsStep, TakeMakes};
+ghost use Rattle.search_core.specs.Board.{book_at, leaves_open, yields, BoardView, Commits, HoldsStep, TakeMakes};
+ghost use Rattle.search_core.specs.Calls.{steps_enough};
 ghost use Rattle.search_core.specs.Core.{empty_hands, hand, IsFront};
 ghost use Rattle.search_core.specs.Kept.{cuts_in};
-ghost use Rattle.search_core.specs.State.{book_or_opening};
 ghost use Rattle.search_core.specs.Steps.{Fits};
 ghost use Rattle.search_core.specs.declared.board.Kept.{Kept};
 ghost use Rattle.search_core.specs.declared.board.Taken.TheVariants.{Node as TakenAnswer};
 ghost use Rattle.worker_gate.specs.Decision.{IsDecision};
 ghost use Rattle.worker_gate.specs.declared.run.RunEnd.{RunEnd};
-ghost use Rattle.worker_gate.specs.Runs.{ask_for, is_whole, plans_and_prices_since, steps_enough, AreRounds, IsCutOff, IsEnded, IsIdle, IsRound, RunEnds};
+ghost use Rattle.worker_gate.specs.Runs.{ask_for, committed, plans_and_prices_since, IsCutOff, IsEnded, IsIdle, IsRound, IsSameSearch, RunEnds, RunMakes};
 
 use crate::step_of;
 use advisers::{Ask, Greedy};
@@ -27,7 +27,7 @@ pub enum RunEnd {
     Finished,
     /// All steps of the budget are taken, and a node is open.
     Spent,
-    /// With the posts of a commit the journal would have ended at `end`, which is past `limit`. Both are lengths in bytes.
+    /// With the record of a step the journal would have ended at `end`, which is past `limit`. Both are lengths in bytes.
     Full { end: u64, limit: u32 },
     /// A call on the disk failed while the posts of a commit were recorded.
     DiskFault,
@@ -48,14 +48,9 @@ struct TakenNode {
 
 /// Takes a node, or says how the run ends.
 fn take_node<B: Board>(board: &mut B) -> Result<TakenNode, RunEnd>
-    requires idle { IsIdle (seen (B.history board.old) (B.hands board.old) (B.taken board.old) (B.shut board.old) (B.halted board.old)) }
-    ensures root { (B.instance board.new ≡ B.instance board.old) × (B.budget board.new ≡ B.budget board.old) × (B.origin board.new ≡ B.origin board.old) }
-    ensures takes { IfOk result (λ t. TakeMakes (TakenAnswer t.node t.floor t.best) 0 (B.instance board.old) (B.budget board.old)
-        (seen (B.history board.old) (B.hands board.old) (B.taken board.old) (B.shut board.old) (B.halted board.old))
-        (seen (B.history board.new) (B.hands board.new) (B.taken board.new) (B.shut board.new) (B.halted board.new))) }
-    ensures ends { IfErr result (IsEnded (B.instance board.old) (B.budget board.old)
-        (seen (B.history board.old) (B.hands board.old) (B.taken board.old) (B.shut board.old) (B.halted board.old))
-        (seen (B.history board.new) (B.hands board.new) (B.taken board.new) (B.shut board.new) (B.halted board.new))) }
+    requires idle { IsIdle (B.seen board.old) }
+    ensures takes { IfOk result (λ t. TakeMakes (TakenAnswer t.node t.floor t.best) 0 (B.seen board.old) (B.seen board.new)) }
+    ensures ends { IfErr result (IsEnded (B.seen board.old) (B.seen board.new)) }
 {
     match board.take(WORKER) {
         Taken::Node { node, floor, best } => Ok(TakenNode { node, floor, best }),
@@ -78,9 +73,9 @@ fn decide<B: Board>(
     board: &B,
     taken: TakenNode,
 ) -> Result<StepPosts, NoMemory>
-    requires held { hand (B.hands board.now) 0 ≡ Some taken.node }
-    ensures decision { IfOk result (λ step. (i : Problem) (v : BoardView) → i ≡ instance.now → B.instance board.now ≡ i → v.history ≡ B.history board.now
-        → IsDecision i taken.node (ask_for i v taken.node taken.floor taken.best) (greedy_advice i (cuts_in (book_at i v).nodes taken.node)) step) }
+    requires held { hand (B.seen board.now).hands 0 ≡ Some taken.node }
+    ensures decision { IfOk result (λ step. (i : Problem) (v : BoardView) → i ≡ instance.now → v.instance ≡ i → book_at v ≡ book_at (B.seen board.now)
+        → IsDecision i taken.node (ask_for v taken.node taken.floor taken.best) (greedy_advice i (cuts_in (book_at v).nodes taken.node)) step) }
     ensures fits { IfOk result (λ step. Fits instance.now step) }
 {
     let TakenNode { node, floor, best } = taken;
@@ -92,11 +87,8 @@ fn decide<B: Board>(
 
 /// Lets go of the worker's node for want of memory.
 fn give_up<B: Board>(board: &mut B) -> RunEnd
-    ensures root { (B.instance board.new ≡ B.instance board.old) × (B.budget board.new ≡ B.budget board.old) × (B.origin board.new ≡ B.origin board.old) }
-    ensures cut_off { IsCutOff
-        (seen (B.history board.old) (B.hands board.old) (B.taken board.old) (B.shut board.old) (B.halted board.old))
-        (seen (B.history board.new) (B.hands board.new) (B.taken board.new) (B.shut board.new) (B.halted board.new))
-        result }
+    ensures board { B.seen board.new ≡ yields 0 (B.seen board.old) }
+    ensures end { result ≡ RunEnd.NoMemory }
 {
     board.yield_node(WORKER);
     RunEnd::NoMemory
@@ -104,18 +96,10 @@ fn give_up<B: Board>(board: &mut B) -> RunEnd
 
 /// Commits a step for the worker's node, or says how the run ends.
 fn commit_step<B: Board>(board: &mut B, step: StepPosts) -> Option<RunEnd>
-    requires fits { Fits (B.instance board.old) step }
-    requires holds { HoldsStep (B.instance board.old) 0 step (seen (B.history board.old) (B.hands board.old) (B.taken board.old) (B.shut board.old) (B.halted board.old)) }
-    requires closes { step.close ≡ Close.ByPrice → IsFalse (leaves_open (B.instance board.old) (book_or_opening (B.instance board.old) (B.history board.old)) 0 step) }
-    ensures root { (B.instance board.new ≡ B.instance board.old) × (B.budget board.new ≡ B.budget board.old) × (B.origin board.new ≡ B.origin board.old) }
-    ensures commits { MatchOption result
-        ((kept : Kept) × Commits (B.instance board.old) 0 step
-        (seen (B.history board.old) (B.hands board.old) (B.taken board.old) (B.shut board.old) (B.halted board.old))
-        (seen (B.history board.new) (B.hands board.new) (B.taken board.new) (B.shut board.new) (B.halted board.new))
-        kept)
-        (IsCutOff
-        (seen (B.history board.old) (B.hands board.old) (B.taken board.old) (B.shut board.old) (B.halted board.old))
-        (seen (B.history board.new) (B.hands board.new) (B.taken board.new) (B.shut board.new) (B.halted board.new))) }
+    requires fits { Fits (B.seen board.old).instance step }
+    requires holds { HoldsStep 0 step (B.seen board.old) }
+    requires closes { step.close ≡ Close.ByPrice → IsFalse (leaves_open (B.seen board.old).instance (book_at (B.seen board.old)) 0 step) }
+    ensures { MatchOption result ((kept : Kept) × Commits 0 step (B.seen board.old) (B.seen board.new) kept) (IsCutOff step (B.seen board.old) (B.seen board.new)) }
 {
     match board.commit(WORKER, step) {
         Ok(_) => None,
@@ -140,16 +124,9 @@ fn round<B: Board>(
     adviser: &mut Greedy,
     board: &mut B,
 ) -> Option<RunEnd>
-    requires instance { B.instance board.old ≡ instance.now }
-    requires idle { IsIdle (seen (B.history board.old) (B.hands board.old) (B.taken board.old) (B.shut board.old) (B.halted board.old)) }
-    ensures root { (B.instance board.new ≡ B.instance board.old) × (B.budget board.new ≡ B.budget board.old) × (B.origin board.new ≡ B.origin board.old) }
-    ensures round { MatchOption result
-        (IsRound (B.instance board.old) (B.budget board.old)
-        (seen (B.history board.old) (B.hands board.old) (B.taken board.old) (B.shut board.old) (B.halted board.old))
-        (seen (B.history board.new) (B.hands board.new) (B.taken board.new) (B.shut board.new) (B.halted board.new)))
-        (IsEnded (B.instance board.old) (B.budget board.old)
-        (seen (B.history board.old) (B.hands board.old) (B.taken board.old) (B.shut board.old) (B.halted board.old))
-        (seen (B.history board.new) (B.hands board.new) (B.taken board.new) (B.shut board.new) (B.halted board.new))) }
+    requires instance { (B.seen board.old).instance ≡ instance.now }
+    requires idle { IsIdle (B.seen board.old) }
+    ensures { MatchOption result (IsRound (B.seen board.old) (B.seen board.new)) (IsEnded (B.seen board.old) (B.seen board.new)) }
 {
     let taken = match take_node(board) {
         Ok(taken) => taken,
@@ -166,20 +143,18 @@ fn round<B: Board>(
 /// Runs worker 0 over a board, with the greedy adviser. Round by round it takes a node, and commits the step that it makes of
 /// the advice for it, until no node is open, no step of the budget is left, a commit fails, or no memory is left.
 pub fn run_worker<B: Board>(alloc: Global, instance: &Instance, board: &mut B) -> RunEnd
-    requires instance { B.instance board.old ≡ instance.now }
-    requires fresh { B.taken board.old ≡ 0 }
-    requires running { B.shut board.old ≡ None }
-    requires going { B.halted board.old ≡ false }
-    requires empty { B.hands board.old ≡ empty_hands }
-    ensures root { (B.instance board.new ≡ B.instance board.old) × (B.budget board.new ≡ B.budget board.old) × (B.origin board.new ≡ B.origin board.old) }
-    ensures begins { IsFront (B.history board.old) (B.history board.new) }
-    ensures end { RunEnds (B.instance board.old) (B.budget board.old) (seen (B.history board.new) (B.hands board.new) (B.taken board.new) (B.shut board.new) (B.halted board.new)) result }
-    ensures rounds { IsTrue (is_whole result) → AreRounds (B.instance board.old) (B.budget board.old)
-        (seen (B.history board.old) (B.hands board.old) (B.taken board.old) (B.shut board.old) (B.halted board.old))
-        (seen (B.history board.new) (B.hands board.new) (B.taken board.new) (B.shut board.new) (B.halted board.new))
-        (B.taken board.new) }
-    ensures posts { IsTrue (is_whole result) → B.taken board.new ≤ plans_and_prices_since (B.history board.old) (B.history board.new) }
-    ensures enough { steps_enough (B.instance board.old) ≤ B.budget board.old → result ≢ RunEnd.Spent }
+    requires instance { (B.seen board.old).instance ≡ instance.now }
+    requires fresh { (B.seen board.old).taken ≡ 0 }
+    requires running { (B.seen board.old).shut ≡ None }
+    requires going { (B.seen board.old).halted ≡ false }
+    requires empty { (B.seen board.old).hands ≡ empty_hands }
+    ensures same { IsSameSearch (B.seen board.old) (B.seen board.new) }
+    ensures begins { IsFront (B.seen board.old).history (B.seen board.new).history }
+    ensures end { RunEnds (B.seen board.new) result }
+    ensures makes { RunMakes (B.seen board.old) (B.seen board.new) result }
+    ensures posts { committed result (B.seen board.new).taken ≤ plans_and_prices_since (B.seen board.old).history (B.seen board.new).history }
+    ensures few { (B.seen board.new).taken ≤ steps_enough (B.seen board.old).instance }
+    ensures enough { steps_enough (B.seen board.old).instance ≤ (B.seen board.old).budget → result ≢ RunEnd.Spent }
 {
     keeps_sound(&*board);
     let mut adviser = Greedy::new(alloc);

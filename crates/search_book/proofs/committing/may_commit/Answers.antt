@@ -1,9 +1,8 @@
 use Rattle.std.proofs.Common.{◌≡◌, ◌<◌, ◌^◌, length, Some, ap, sym, ◌∙◌, subst, arith}
-use Rattle.search_core.specs.Board.{floor_of_node}
 use Rattle.search_core.specs.Book.{Book}
 use Rattle.search_core.specs.Core.{hand}
 use Rattle.search_core.specs.Kept.{cuts_in}
-use Rattle.search_book.proofs.Committed.{before_of, none_told}
+use Rattle.search_book.proofs.Committed.{none_told}
 use Rattle.search_book.proofs.Handing.{cuts_are, is_there}
 use Rattle.search_book.proofs.committing.may_commit.Goals as goal
 
@@ -13,12 +12,6 @@ cuts_of-requires g c =
     let held : hand c.args.hands.now c.args.worker ≡ Some node = sym c.held-held.ensures.held ∙ c.holds.ensures.0 c.if-not-holds.false in
     subst (λ (x : Book). node < length x.nodes) (sym c.state.ensures.book) (is_there c.args.log.now.book node _ (c.requires.unsplit c.args.worker node held))
 
-pub floor_and_best-requires : goal.floor_and_best-requires
-floor_and_best-requires g c =
-    let node = c.args.step.now.node in
-    let held : hand c.args.hands.now c.args.worker ≡ Some node = sym c.held-held.ensures.held ∙ c.holds.ensures.0 c.if-not-holds.false in
-    subst (λ (x : Book). node < length x.nodes) (sym c.state-2.ensures.book) (is_there c.args.log.now.book node _ (c.requires.unsplit c.args.worker node held))
-
 pub returns-clause-ok : goal.returns-clause-ok
 returns-clause-ok g c =
     let step = c.args.step.now in
@@ -27,7 +20,7 @@ returns-clause-ok g c =
     let held : hand c.args.hands.now c.args.worker ≡ Some node = sym c.held-held.ensures.held ∙ c.holds.ensures.0 c.if-not-holds.false in
     let unsplit = c.requires.unsplit c.args.worker node held in
     let there : node < length log.book.nodes = is_there log.book node _ unsplit in
-    let own : step.proved.cuts ≡ c.in-Ok.cuts = sym c.cuts.ensures.cuts ∙ sym c.as_slice.ensures ∙ c.in_default-first_difference.ensures ∙ c.as_slice-2.ensures in
+    let own : step.proved.cuts ≡ c.in-Ok.cuts = sym c.cuts.ensures.cuts ∙ sym c.as_slice.ensures ∙ c.in-None.ensures ∙ c.as_slice-2.ensures in
     let cuts : step.proved.cuts ≡ cuts_in log.book.nodes node = own ∙ cuts_are _ c.in-Ok.cuts c.in-Ok.ensures.cuts ∙ ap (λ (x : Book). cuts_in x.nodes node) c.state.ensures.book in
     let number : length step.proved.cuts ≡ length c.in-Ok.cuts = ap length own in
     record {
@@ -35,7 +28,5 @@ returns-clause-ok g c =
       held = held;
       cuts = cuts;
       few = omega (arith, number, c.in-Ok.ensures.few, there, c.made-made.ensures.log.nodes);
-      before = before_of log.instance log.book node step.proved.cuts c.floor_and_best.result.1 c.floor_and_best.result.0 unsplit cuts
-          (c.floor_and_best.ensures.best ∙ ap (λ (x : Book). x.cost) c.state-2.ensures.book)
-          (c.floor_and_best.ensures.floor ∙ ap (λ (x : Book). floor_of_node x node) c.state-2.ensures.book);
+      unsplit = unsplit;
     }

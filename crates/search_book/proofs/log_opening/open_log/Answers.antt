@@ -1,11 +1,24 @@
-use Rattle.std.proofs.Common.{List, ℕ, ap, sym, subst}
+use Rattle.std.proofs.Common.{List, ℕ, ap, refl, sym, subst}
 use Rattle.std.specs.Prelude.{IfSome}
 use Rattle.post_codec.proofs.Formats.{one_list}
-use Rattle.search_book.specs.Opening.{IsOpenedFrom}
+use Rattle.search_book.specs.Opening.{IsBegun, IsOpenedFrom}
 use Rattle.search_book.specs.PostLog.{PostLogView}
 use Rattle.search_book.specs.Posts.{bytes_used}
 use Rattle.search_book.proofs.Opens.{opened_from}
 use Rattle.search_book.proofs.log_opening.open_log.Goals as goal
+
+pub returns-in-Ok-clause-begins : goal.returns-in-Ok-clause-begins
+returns-in-Ok-clause-begins g c =
+    let view = c.in-Ok.ensures.view in
+    subst (λ (v : PostLogView g.row.D.Denot). IsBegun c.args.instance.now c.args.limit v) (sym c.over-log.ensures) (record {
+      instance = view.0;
+      limit_is = view.2;
+      history = refl;
+      batches = refl;
+      opened = refl;
+      in_flight = refl;
+      shut = refl;
+    })
 
 pub returns-in-Ok-clause-found : goal.returns-in-Ok-clause-found
 returns-in-Ok-clause-found g c =

@@ -5,7 +5,7 @@ use Rattle.certificate.specs.declared.CertStatus.{CertStatus}
 use Rattle.certificate.specs.declared.proof_lines.Line.{Line}
 use Rattle.certificate.specs.History.{lines_of}
 use Rattle.certificate.specs.Text.{Agrees}
-use Rattle.search_book.proofs.Fits.{rows_fit}
+use Rattle.search_core.proofs.Fits.{rows_fit}
 use Rattle.shift_solve.specs.Report.{cert_of, status_of_book}
 use Rattle.shift_solve.proofs.Accepting.{has_text}
 use Rattle.shift_solve.proofs.report.cert_of.Goals as goal
@@ -19,7 +19,7 @@ cert_is c s p n ls status plan bound lines =
 
 pub returns-clause-agrees : goal.returns-clause-agrees
 returns-clause-agrees g c = λ valid.
-    let v = c.args.book.now in
+    let v = c.args.book.now.log in
     let e = c.in_ok-cert.ensures in
     let is : c.in_ok-cert.cert ≡ cert_of v.history v.book =
     cert_is c.in_ok-cert.cert (status_of_book v.book) (Some (v.book.cost, v.book.best)) _ (lines_of v.history)

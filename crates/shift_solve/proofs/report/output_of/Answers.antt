@@ -14,7 +14,7 @@ returns-clause-text g c = search rules
 
 pub returns-clause-reads : goal.returns-clause-reads
 returns-clause-reads g c =
-    let book = c.args.book.now in
+    let book = c.args.book.now.log in
     let valid : IsValid book.instance = subst IsValid (sym c.requires.same) c.heads-heads.ensures.valid in
     let has : HasText (cert_of book.history book.book) = subst HasText c.in_ok-cert.ensures.is c.in_ok-bytes.ensures.has in
     subst (λ (bytes : List ℕ). Spells bytes (cert_of book.history book.book)) (sym {A = List ℕ} (returns-clause-text g c))

@@ -1,5 +1,5 @@
 use Rattle.std.proofs.Common.{ℕ, subst, sym, true, false}
-use Rattle.search_book.proofs.Fits.{class_few}
+use Rattle.search_core.proofs.Fits.{class_few}
 use Rattle.shift_solve.specs.Run.{OverDisk, SinkMet}
 use Rattle.shift_solve.specs.Session.{met_of}
 use Rattle.shift_solve.proofs.Ending.{not_opened}
@@ -26,10 +26,7 @@ returns-in-Ok-clause-status g c =
     let b = c.batches-made.ensures in
     let sink : SinkMet = record { held = g.K.Sink.held c.args.out.now; held_after = g.K.Sink.held c.search-status.new.out; faults = (g.K.Sink.faults c.args.out.now, g.K.Sink.faults c.search-status.new.out) } in
     let known : Known K.reads K.images K.images_since K.calls K.faults c.args.disk i old new = record {
-      instance = e.begins.0;
-      limit = e.begins.1;
-      opening = e.begins.2;
-      opened = e.begins.3;
+      begins = e.begins;
       opens = e.folds;
       found = e.found;
       begun = e.least;
@@ -37,7 +34,8 @@ returns-in-Ok-clause-status g c =
       on = c.search-status.ensures.goes_on;
       lasts = b.lasts;
       running = b.running;
-      counted = b.counted;
+      all = b.all;
+      single = b.single;
       moment = b.moment;
       telling = b.telling;
       fault = b.fault;
@@ -46,5 +44,5 @@ returns-in-Ok-clause-status g c =
       few = λ class live. class_few i class c.heads-heads.ensures.valid live;
     } in
     subst (λ disk. OverDisk (met_of K.reads K.images K.images_since K.calls K.faults c.args.disk disk) sink i c.args.table c.args.steps true c.search-status.result) (sym c.into_disk.ensures)
-    (subst (λ (n : ℕ). OverDisk (met_of K.reads K.images K.images_since K.calls K.faults c.args.disk new.disk) sink i c.args.table n true c.search-status.result) e.idle.2
+    (subst (λ (n : ℕ). OverDisk (met_of K.reads K.images K.images_since K.calls K.faults c.args.disk new.log.disk) sink i c.args.table n true c.search-status.result) e.idle.2
     (over_disk K.reads K.images K.images_since K.calls K.faults c.args.disk i old new sink c.args.table known c.search-status.result c.search-status.ensures.status))

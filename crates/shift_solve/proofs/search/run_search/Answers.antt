@@ -2,7 +2,10 @@ use Rattle.shift_solve.proofs.Ending.{run_ends}
 use Rattle.shift_solve.proofs.search.run_search.Goals as goal
 
 pub returns-clause-goes_on : goal.returns-clause-goes_on
-returns-clause-goes_on g c = let r = c.run_worker.ensures in record { instance = r.root.0; origin = r.root.2; begins = r.begins }
+returns-clause-goes_on g c = let r = c.run_worker.ensures in record { same = r.same; begins = r.begins }
 
 pub returns-clause-ends : goal.returns-clause-ends
-returns-clause-ends g c = let r = c.run_worker.ensures in run_ends c.args.book.now c.run_worker.new.board c.run_worker.result r.end r.posts r.enough
+returns-clause-ends g c =
+    let K = g.D.Disk in
+    let r = c.run_worker.ensures in
+    run_ends K.reads K.calls K.faults c.args.book.now c.run_worker.new.board c.run_worker.result r.same r.end r.posts r.enough

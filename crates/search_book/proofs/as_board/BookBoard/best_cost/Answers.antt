@@ -6,4 +6,4 @@ use Rattle.search_book.proofs.as_board.BookBoard.best_cost.Goals as goal
 pub returns : goal.returns
 returns g c =
     let b = c.args.self.now in
-    c.best_cost.ensures ∙ ap (λ (x : Book). x.cost) (sym (book_is b.instance b.history b.book b.keeps.folds))
+    c.best_cost.ensures ∙ ap (λ (x : Book). x.cost) (sym (book_is b.log.instance b.log.history b.log.book b.keeps.folds))

@@ -2,12 +2,13 @@ use Rattle.std.proofs.Common.{◌≡◌, ◌+◌, ◌<◌, ℕ, Bool, true, fals
 use Rattle.std.specs.Prelude.{is_some}
 use Rattle.shift_instance.specs.Problem.{Problem}
 use Rattle.post_codec.specs.declared.post.Post.{Post}
-use Rattle.search_core.specs.Board.{floor_of_node, is_free, seen, IsNext, NoneIsFree}
+use Rattle.search_core.specs.Board.{floor_of_node, is_free, IsNext, NoneIsFree}
 use Rattle.search_core.specs.Book.{Book, book_of, is_finished}
 use Rattle.search_core.specs.Core.{AreApart}
 use Rattle.search_core.specs.State.{book_or_opening}
 use Rattle.search_core.proofs.Outlines.{book_is}
 use Rattle.search_core.proofs.Runs.{taken_apart}
+use Rattle.search_book.specs.Search.{board_at}
 use Rattle.search_book.proofs.Handing.{free_alone, free_there, taken_unsplit, AreUnsplit}
 use Rattle.search_book.proofs.session.Session.take.Goals as goal
 
@@ -59,16 +60,15 @@ invariant_of-self-2 g c =
     let b = c.args.self.now in
     let free : is_free b.log.book b.hands c.in-Some.node ≡ true = subst (λ (x : Book). is_free x b.hands c.in-Some.node ≡ true) c.state-2.ensures.book c.in-Some.ensures.free in
     record {
+      all = b.all;
       folds = b.folds;
       apart = subst AreApart (sym c.take.ensures) (taken_apart b.hands c.args.worker c.in-Some.node b.apart (free_alone b.log.book b.hands c.in-Some.node free));
       unsplit = subst (AreUnsplit b.log.book) (sym c.take.ensures) (taken_unsplit b.log.book b.hands c.args.worker c.in-Some.node b.unsplit free);
       counted = λ w x held. omega arith;
       sixteen = ap length c.take.ensures ∙ length-set b.hands c.args.worker (Some c.in-Some.node) ∙ b.sixteen;
       within = omega (arith, b.within, c.if-self-2.false);
-      front = b.front;
       fresh = λ none. absurd (omega arith);
       past = b.past;
-      most = b.most;
     }
 
 pub returns-clause-makes : goal.returns-clause-makes
@@ -84,5 +84,5 @@ returns-clause-makes g c =
       subst (λ (x : Book). IsNext x b.hands c.in-Some.node) (c.state-2.ensures.book ∙ sym here) c.in-Some.ensures,
       c.floor_and_best-floor.ensures.floor ∙ ap (λ (x : Book). floor_of_node x c.in-Some.node) (c.state-3.ensures.book ∙ sym here),
       c.floor_and_best-floor.ensures.best ∙ ap (λ (x : Book). x.cost) (c.state-3.ensures.book ∙ sym here),
-      ap (λ (h : List (Option ℕ)). seen b.log.history h (b.taken + 1) b.log.shut b.halted) c.take.ensures,
+      ap (λ (h : List (Option ℕ)). board_at g.D.Disk.reads g.D.Disk.calls g.D.Disk.faults b.log h (b.taken + 1) b.budget b.halted) c.take.ensures,
     )

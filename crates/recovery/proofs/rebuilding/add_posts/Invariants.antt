@@ -1,5 +1,0 @@
-use Rattle.recovery.proofs.Taking.{Taking}
-use Rattle.recovery.proofs.rebuilding.add_posts.Given as goal
-
-abbrev pub invariant-loop-post : goal.invariant-loop-post
-invariant-loop-post l = Taking l.fn.posts.items l.initial.state l.yielded l.post-iterator.rest.items l.number l.state

@@ -1,0 +1,7 @@
+use Rattle.std.proofs.Common.{subst}
+use Rattle.shift_instance.specs.Valid.{IsValid}
+use Rattle.search_core.specs.State.{StateView}
+use Rattle.search_core.proofs.state.State.floor_and_best.Goals as goal
+
+pub returns-clause-valid : goal.returns-clause-valid
+returns-clause-valid c = subst (λ (v : StateView). IsValid v.instance) c.self.view_is c.self.invariant.0.valid

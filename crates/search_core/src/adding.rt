@@ -1,0 +1,34 @@
+//! Posts added to a state, one after another.
+ghost use Rattle.std.specs.Prelude.{◌≡◌, OnOk, IfErr};
+ghost use Rattle.search_core.specs.Taking.{Stops, Takes};
+
+use crate::{State, StepFault};
+use post_codec::Post;
+use shift_instance::Instance;
+
+/// A post that isn't taken, by its place from 0 on, and why.
+#[derive(Debug, Drop)]
+pub struct Refusal {
+    pub at: u64,
+    pub why: StepFault,
+}
+
+/// Adds posts to a state, up to the first one that isn't allowed.
+pub fn add_posts(
+    state: &mut State,
+    instance: &Instance,
+    posts: Vec<Post>,
+) -> Result<(), Refusal>
+    requires { instance.now ≡ state.old.instance }
+    ensures ok { OnOk result (Takes state.old posts.items state.new) }
+    ensures err { IfErr result (Stops instance.now state.old.book posts.items) }
+{
+    let mut at = 0;
+    for post in posts {
+        if let Err(why) = state.step(instance, post) {
+            return Err(Refusal { at, why });
+        }
+        at += 1;
+    }
+    Ok(())
+}
