@@ -6,3 +6,5 @@ pub mod Sizes
 pub mod Restated
 pub mod ReadBack
 pub mod Restored
+pub mod Generation
+mod Examples

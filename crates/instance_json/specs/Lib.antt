@@ -4,3 +4,4 @@ pub mod Departures
 pub mod Reading
 pub mod Canonical
 pub mod RefusalText
+pub mod Generated

@@ -1,9 +1,13 @@
-//! The JSON document of an instance: what is read as an instance, and the one text that an instance is written as.
+//! The JSON document of an instance: what is read as an instance, and the one text that an instance is written as; and
+//! instances that are made from a number.
 #![tactic(auto)]
 
 mod departures;
 mod document;
 mod fields;
+mod generating;
+#[cfg(test)]
+mod generating_tests;
 pub mod laws;
 mod name;
 mod reading;
@@ -12,6 +16,7 @@ mod round_trip;
 mod tests;
 mod text;
 
+pub use generating::generate;
 pub use name::FieldName;
 pub use reading::read;
 pub use round_trip::read_back;
