@@ -29,7 +29,7 @@ def command(journal, document):
 
 
 def held(path):
-    """What a journal's file holds: a word, or the cost of its last plan."""
+    """What a journal's file holds: a word, or the cost of the plan that the last record with a plan begins with (a settled plan behind it in the same record is cheaper still)."""
     if not os.path.exists(path):
         return "no file"
     with open(path, "rb") as file:
@@ -41,14 +41,14 @@ def held(path):
     at = 12 + struct.unpack_from("<I", content, 8)[0]
     if len(content) <= at:
         return "a torn first write"
-    cost, posts = None, 0
+    cost, records = None, 0
     while content[at] == 1:
         size = struct.unpack_from("<I", content, at + 1)[0]
-        posts += 1
+        records += 1
         if content[at + 7] == 1:  # a plan: behind the length and the number of posts
             cost = struct.unpack_from("<Q", content, at + 10)[0]  # behind the tag and the worker
         at += 5 + size
-    if posts == 0:
+    if records == 0:
         return "a journal without posts"
     return "posts without a plan" if cost is None else "posts with a plan of cost %d" % cost
 
