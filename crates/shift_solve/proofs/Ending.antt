@@ -13,7 +13,7 @@ use Rattle.search_book.specs.Opened.{HoldsBook, OpenCause}
 use Rattle.search_book.specs.Search.{SearchView, board_of}
 use Rattle.worker_gate.specs.declared.run.RunEnd.{RunEnd}
 use Rattle.worker_gate.specs.declared.run.RunEnd.TheVariants.{Finished, Spent, Full as FullEnd, DiskFault as DiskEnd, NoMemory as MemoryEnd}
-use Rattle.worker_gate.specs.Runs.{committed, plans_and_prices_since, IsSameSearch, RunEnds}
+use Rattle.worker_gate.specs.Runs.{committed, plans_and_prices_since, IsSameSearch, RunEnds, RunMakes}
 use Rattle.shift_solve.specs.Run.{SinkMet, IsLeft, IsRefusal, OverDisk, status_of}
 use Rattle.shift_solve.specs.Search.{is_reported, status_at, Ends, IsLanded, IsReported, SearchEnds, Unwritten}
 use Rattle.shift_solve.specs.Session.{DiskMet}
@@ -26,17 +26,19 @@ few_steps budget enough more = elim (cases_lt budget enough) [ inl less ↦ less
 
 module _ {D : Type 0} (reads : D → Option (List ℕ)) (calls faults : D → ℕ) where
   pub run_ends : (old new : SearchView D) (end : RunEnd) → IsSameSearch (board_of reads calls faults old) (board_of reads calls faults new) → RunEnds (board_of reads calls faults new) end
+      → RunMakes (board_of reads calls faults old) (board_of reads calls faults new) end
       → committed end new.taken ≤ plans_and_prices_since old.log.history new.log.history → (steps_enough old.log.instance ≤ old.budget → end ≢ Spent)
       → Ends reads calls faults old new end
-  run_ends old new Finished same ends shown enough = record { ends = ends; shown = λ e. absurd (cc); few = λ e. absurd (cc) }
-  run_ends old new Spent same ends shown enough = record {
+  run_ends old new Finished same ends makes shown enough = record { ends = ends; makes = makes; shown = λ e. absurd (cc); few = λ e. absurd (cc) }
+  run_ends old new Spent same ends makes shown enough = record {
     ends = ends;
+    makes = makes;
     shown = λ e. let le : new.taken ≤ plans_and_prices_since old.log.history new.log.history = shown in let all : new.taken ≡ new.budget = ends.2 in let budget : new.budget ≡ old.budget = same.budget in omega (arith, le, all);
     few = λ e. few_steps old.budget (steps_enough old.log.instance) (λ le. enough le refl);
   }
-  run_ends old new (FullEnd end limit) same ends shown enough = record { ends = ends; shown = λ e. absurd (cc); few = λ e. absurd (cc) }
-  run_ends old new DiskEnd same ends shown enough = record { ends = ends; shown = λ e. absurd (cc); few = λ e. absurd (cc) }
-  run_ends old new MemoryEnd same ends shown enough = record { ends = ends; shown = λ e. absurd (cc); few = λ e. absurd (cc) }
+  run_ends old new (FullEnd end limit) same ends makes shown enough = record { ends = ends; makes = makes; shown = λ e. absurd (cc); few = λ e. absurd (cc) }
+  run_ends old new DiskEnd same ends makes shown enough = record { ends = ends; makes = makes; shown = λ e. absurd (cc); few = λ e. absurd (cc) }
+  run_ends old new MemoryEnd same ends makes shown enough = record { ends = ends; makes = makes; shown = λ e. absurd (cc); few = λ e. absurd (cc) }
 
 module _ {D : Type 0} (reads : D → Option (List ℕ)) (calls faults : D → ℕ) (old new : SearchView D) (table : Bool) (held holds : Option (List ℕ)) (writes : ℕ × ℕ) where
   -- a search of which no report is written

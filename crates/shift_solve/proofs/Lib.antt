@@ -3,3 +3,4 @@ pub mod Digits
 pub mod Sessions
 pub mod Ending
 pub mod Reading
+pub mod Walked

@@ -15,6 +15,8 @@ use Rattle.search_core.specs.declared.board.Origin.{Origin}
 use Rattle.search_core.specs.Board.{book_at}
 use Rattle.search_core.specs.Book.{Book, book_of, is_finished}
 use Rattle.search_core.specs.Calls.{steps_enough}
+use Rattle.search_core.specs.Core.{empty_hands}
+use Rattle.search_core.specs.Steps.{posts_of}
 use Rattle.std.proofs.Math.Seq.{drop-append_seam}
 use Rattle.search_core.proofs.Floors.{finished_best}
 use Rattle.search_core.proofs.Outlines.{book_is}
@@ -31,9 +33,11 @@ use Rattle.shift_solve.specs.Report.{cert_of, output_of}
 use Rattle.shift_solve.specs.Run.{SinkMet, OverDisk, IsFinished, IsSpent, IsFull, IsUnbeaten, Reports, ReportsPart}
 use Rattle.shift_solve.specs.Search.{is_reported, Ends, GoesOn, IsLanded, IsReported, IsReportedPart, SearchEnds}
 use Rattle.shift_solve.specs.Session.{met_of, Session, IsOnlyJournal}
+use Rattle.shift_solve.specs.Steps.{AreSteps, IsNextStep}
 use Rattle.shift_solve.specs.declared.status.Status.{Status}
 use Rattle.shift_solve.specs.declared.status.Status.TheVariants.{Optimal, Budget, Full, Usage, Input, ReadFault, WriteFault, DiskFault, NoMemory, Journal}
 use Rattle.shift_solve.proofs.Accepting.{accepted, FewBreaks}
+use Rattle.shift_solve.proofs.Walked.{stopped}
 
 -- a fact of what there is implies another
 map_some : {A : Type 0} {P Q : A → Type 0} (o : Option A) → ((a : A) → P a → Q a) → IfSome o P → IfSome o Q
@@ -72,6 +76,7 @@ module _ {D : Type 0} (reads : D → Option (List ℕ)) (images : D → List ℕ
   pub record Known : Type 0 where
     pub begins : IsBegun i JOURNAL_MAX old.log
     pub opens : book_of i old.log.history ≡ Some old.log.book
+    pub empty : old.hands ≡ empty_hands
     pub found : IfSome (reads entry) (IsOpenedFrom JOURNAL_MAX i old.log.history old.log.used (reads old.log.disk))
     pub begun : calls entry ≤ calls old.log.disk
     pub later : faults entry ≤ faults old.log.disk
@@ -187,16 +192,34 @@ module _ {D : Type 0} (reads : D → Option (List ℕ)) (images : D → List ℕ
     few = subst (λ (j : Problem). old.budget < steps_enough j) k.begins.instance (e.few refl);
   }
 
-  full_of : (k : Known) (end limit : ℕ) → Ends reads calls faults old new (FullEnd end limit) → IsFull end limit (session_of k)
+  -- the book of the board before is its own
+  first_same : Known → book_at (board_of reads calls faults old) ≡ old.log.book
+  first_same k = book_is old.log.instance old.log.history old.log.book old.keeps.folds
+
+  full_of : (k : Known) (end limit : ℕ) → Ends reads calls faults old new (FullEnd end limit) → IsFull old.budget end limit (session_of k)
   unfolding session_of
   full_of k end limit e =
       let past = e.ends.1 in
+      let s = stopped i (board_of reads calls faults old) (board_of reads calls faults new) end limit k.begins.instance k.empty e.makes in
+      let budget : new.budget ≡ old.budget = k.on.same.budget in
+      let left = s.left in
       record {
         landed = landed_of k (FullEnd end limit) e tt;
+        unfinished = subst (λ (b : Book). is_finished b ≡ false) (book_same k) s.unfinished;
+        steps = s.steps;
+        made =
+            subst (λ (b : Book). AreSteps i b s.steps new.log.book) (first_same k)
+            (subst (λ (b : Book). AreSteps i (book_at (board_of reads calls faults old)) s.steps b) (book_same k) s.made);
+        all = sym (drop-append_seam old.log.history (joined s.steps)) ∙ sym (ap (drop (length old.log.history)) s.all) ∙ added_of k;
+        left = omega (arith, left, budget);
+        step = s.step;
+        next = subst (λ (b : Book). IsNextStep i b s.step) (book_same k) s.next;
         posts = new.log.unfit;
+        posts_are = s.unfit ∙ ap (λ (b : Book). posts_of i b 0 s.step) (book_same k);
         some = past.some;
         at_most = past.few;
         allowed = subst (λ (h : List Post). IsSome (book_of i (h ++ new.log.unfit))) k.all (subst (λ (j : Problem). IsSome (book_of j (new.log.history ++ new.log.unfit))) (is_of k) past.allowed);
+        used = s.used;
         ends = past.ends;
         most = past.limit ∙ limit_of k;
         over = past.past;
@@ -229,7 +252,7 @@ module _ {D : Type 0} (reads : D → Option (List ℕ)) (images : D → List ℕ
     unbeaten_of : (k : Known) → Ends reads calls faults old new Finished → IsUnbeaten i new.log.book.cost
     unbeaten_of k e = λ rota legal. finished_best i new.log.book rota (fold_sound i (new.log.opening ++ joined new.log.batches) new.log.book (ends_of k)) (subst (λ (b : Book). is_finished b ≡ true) (book_same k) e.ends.1) legal
 
-    ended_of : (k : Known) (end : RunEnd) → Ends reads calls faults old new end → is_reported end ≡ true → IsFinished (session_of k) ⊎ (IsSpent old.budget (session_of k) ⊎ ((n : ℕ) × (limit : ℕ) × IsFull n limit (session_of k)))
+    ended_of : (k : Known) (end : RunEnd) → Ends reads calls faults old new end → is_reported end ≡ true → IsFinished (session_of k) ⊎ (IsSpent old.budget (session_of k) ⊎ ((n : ℕ) × (limit : ℕ) × IsFull old.budget n limit (session_of k)))
     ended_of k Finished e reported = inl (finished_of k e)
     ended_of k Spent e reported = inr (inl (spent_of k e))
     ended_of k (FullEnd n limit) e reported = inr (inr (n, limit, full_of k n limit e))

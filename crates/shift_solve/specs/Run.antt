@@ -16,6 +16,8 @@ use Rattle.certificate.specs.Departing.{Spells}
 use Rattle.search_core.specs.Book.{book_of, is_finished, IsSound}
 use Rattle.search_core.specs.Board.{bytes_of}
 use Rattle.search_core.specs.Calls.{steps_enough}
+use Rattle.search_core.specs.Steps.{posts_of}
+use Rattle.search_core.specs.declared.step_posts.StepPosts.{StepPosts}
 use Rattle.post_codec.specs.declared.post.Post.{Post}
 use Rattle.search_book.specs.Posts.{joined}
 use Rattle.search_book.specs.declared.open_fault.OpenFault.{OpenFault}
@@ -27,6 +29,7 @@ use Rattle.shift_solve.specs.declared.status.Status.{Status}
 use Rattle.shift_solve.specs.declared.status.Status.TheVariants.{Optimal, Budget, Full, Usage, Input, ReadFault, WriteFault, DiskFault, NoMemory, Journal}
 use Rattle.shift_solve.specs.Report.{cert_of, output_of}
 use Rattle.shift_solve.specs.Session.{DiskMet, IsUncalled, Session, posts_in}
+use Rattle.shift_solve.specs.Steps.{bytes_in, AreSteps, IsNextStep}
 use Rattle.shift_solve.specs.Words.{Command, command_of}
 
 -- no legal rota costs less
@@ -54,14 +57,26 @@ pub record IsSpent (budget : ℕ) {disk : DiskMet} {i : Problem} (session : Sess
   pub shown : budget ≤ count_by is_plan_or_prices (joined session.batches)
   pub few : budget < steps_enough i
 
--- there was no room for the posts of a step, four at most, which the book allows: with their record the file's journal would have
--- ended there, past its limit
-pub record IsFull (end limit : ℕ) {disk : DiskMet} {i : Problem} (session : Session disk i) : Type 0 where
+-- A node is open, and there was no room for the posts of the step that comes next, four at most, which the book allows: with
+-- their record the file's journal would have ended there, past its limit.
+pub record IsFull (budget end limit : ℕ) {disk : DiskMet} {i : Problem} (session : Session disk i) : Type 0 where
   pub landed : session.in_flight ≡ []
+  pub unfinished : IsFalse (is_finished session.last)
+  -- the posts of each step that was committed: they are those of the session, and the steps are fewer than the budget has
+  pub steps : List (List Post)
+  pub made : AreSteps i session.first steps session.last
+  pub all : joined steps ≡ joined session.batches
+  pub left : length steps < budget
+  -- the step that comes next, and its posts
+  pub step : StepPosts
+  pub next : IsNextStep i session.last step
   pub posts : List Post
+  pub posts_are : posts ≡ posts_of i session.last 0 step
   pub some : 0 < length posts
   pub at_most : length posts ≤ 4
   pub allowed : IsSome (book_of i (posts_in session ++ posts))
+  -- the bytes of the journal: those at the opening, and those of the record of each committed step
+  pub used : session.used_after ≡ session.used + bytes_in steps
   pub ends : end ≡ session.used_after + bytes_of posts
   pub most : limit ≡ JOURNAL_MAX
   pub over : limit < end
@@ -111,9 +126,9 @@ pub record IsRefused (disk : DiskMet) (i : Problem) (why : OpenFault) : Type 0 w
 abbrev pub OverDisk : DiskMet → SinkMet → Problem → Bool → ℕ → Bool → Status → Type 0
 OverDisk disk sink i table budget opened Optimal = (opened ≡ true) × (s : Session disk i) × IsFinished s × Reports sink table s × IsUnbeaten i s.last.cost
 OverDisk disk sink i table budget opened Budget = (opened ≡ true) × (s : Session disk i) × IsSpent budget s × Reports sink table s
-OverDisk disk sink i table budget opened (Full end limit) = (opened ≡ true) × (s : Session disk i) × IsFull end limit s × Reports sink table s
+OverDisk disk sink i table budget opened (Full end limit) = (opened ≡ true) × (s : Session disk i) × IsFull budget end limit s × Reports sink table s
 OverDisk disk sink i table budget opened WriteFault = (opened ≡ true) × (s : Session disk i)
-    × (IsFinished s ⊎ (IsSpent budget s ⊎ ((end : ℕ) × (limit : ℕ) × IsFull end limit s))) × ReportsPart sink table s
+    × (IsFinished s ⊎ (IsSpent budget s ⊎ ((end : ℕ) × (limit : ℕ) × IsFull budget end limit s))) × ReportsPart sink table s
 OverDisk disk sink i table budget opened DiskFault = Rose disk.faults.0 disk.faults.1
     × (((opened ≡ false) × IsLeft disk i) ⊎ ((opened ≡ true) × Session disk i))
 OverDisk disk sink i table budget opened NoMemory =

@@ -9,7 +9,7 @@ use Rattle.search_core.specs.Core.{empty_hands, IsFront}
 use Rattle.search_book.specs.Search.{SearchView, board_of}
 use Rattle.worker_gate.specs.declared.run.RunEnd.{RunEnd}
 use Rattle.worker_gate.specs.declared.run.RunEnd.TheVariants.{Finished, Spent, Full as FullEnd, DiskFault as DiskEnd, NoMemory as MemoryEnd}
-use Rattle.worker_gate.specs.Runs.{plans_and_prices_since, IsSameSearch, RunEnds}
+use Rattle.worker_gate.specs.Runs.{plans_and_prices_since, IsSameSearch, RunEnds, RunMakes}
 use Rattle.shift_solve.specs.declared.status.Status.{Status}
 use Rattle.shift_solve.specs.declared.status.Status.TheVariants.{Optimal, Budget, Full, Usage, Input, ReadFault, WriteFault, DiskFault, NoMemory, Journal}
 use Rattle.shift_solve.specs.Report.{cert_of, output_of}
@@ -26,10 +26,11 @@ pub record GoesOn {D : Type 0} (reads : D → Option (List ℕ)) (calls faults :
   pub same : IsSameSearch (board_of reads calls faults old) (board_of reads calls faults new)
   pub begins : IsFront old.log.history new.log.history
 
--- how a search over a book ended; one that took all its steps had too few of them for each search of the instance, and made no
--- fewer posts that are plans or prices
+-- how a search over a book ended, and what it made of it round by round; one that took all its steps had too few of them for
+-- each search of the instance, and made no fewer posts that are plans or prices
 pub record Ends {D : Type 0} (reads : D → Option (List ℕ)) (calls faults : D → ℕ) (old new : SearchView D) (end : RunEnd) : Type 0 where
   pub ends : RunEnds (board_of reads calls faults new) end
+  pub makes : RunMakes (board_of reads calls faults old) (board_of reads calls faults new) end
   pub shown : end ≡ Spent → old.budget ≤ plans_and_prices_since old.log.history new.log.history
   pub few : end ≡ Spent → old.budget < steps_enough old.log.instance
 

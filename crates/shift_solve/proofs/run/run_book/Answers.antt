@@ -28,6 +28,7 @@ returns-in-Ok-clause-status g c =
     let known : Known K.reads K.images K.images_since K.calls K.faults c.args.disk i old new = record {
       begins = e.begins;
       opens = e.folds;
+      empty = e.idle.0;
       found = e.found;
       begun = e.least;
       later = e.faults;

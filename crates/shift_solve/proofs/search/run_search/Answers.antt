@@ -8,4 +8,4 @@ pub returns-clause-ends : goal.returns-clause-ends
 returns-clause-ends g c =
     let K = g.D.Disk in
     let r = c.run_worker.ensures in
-    run_ends K.reads K.calls K.faults c.args.book.now c.run_worker.new.board c.run_worker.result r.same r.end r.posts r.enough
+    run_ends K.reads K.calls K.faults c.args.book.now c.run_worker.new.board c.run_worker.result r.same r.end r.makes r.posts r.enough
