@@ -5,8 +5,6 @@ mod advice;
 mod forced;
 mod greedy_adviser;
 mod kept;
-#[cfg(test)]
-mod tests;
 
 pub use advice::{Advice, Ask};
 pub use greedy_adviser::Greedy;

@@ -5,8 +5,6 @@
 mod building;
 mod first_list;
 mod places;
-#[cfg(test)]
-mod tests;
 
 ghost use Rattle.std.specs.Prelude.{◌≡◌, ◌-◌, ◌^◌, min, sum_by, length};
 

@@ -3,14 +3,10 @@
 //! All times are whole numbers of slots, counted from the start of the shift.
 #![tactic(auto)]
 
-#[cfg(test)]
-mod enumeration_tests;
 mod judging;
 pub mod laws;
 mod legality;
 mod living;
-#[cfg(test)]
-mod tests;
 mod walking;
 
 ghost use Rattle.std.specs.Prelude.{◌≡◌, ℕ, ◌≤◌, [], ◌∷◌, length, OnOk, IfOk, IsOk, IsTrue, ◌↔◌, MatchResult, Some, None};

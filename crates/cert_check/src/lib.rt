@@ -10,8 +10,6 @@ mod rests;
 mod settled;
 mod sums;
 mod terms;
-#[cfg(test)]
-mod tests;
 mod tree;
 mod value;
 

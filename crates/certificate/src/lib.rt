@@ -19,8 +19,6 @@ mod proof_lines;
 mod proof_words;
 mod proof_writing;
 mod reading;
-#[cfg(test)]
-mod tests;
 mod words;
 mod writing;
 

@@ -1,15 +1,11 @@
 //! The bound that a price set gives on the cost of the legal rotas below some cuts.
 #![tactic(auto)]
 
-#[cfg(test)]
-mod enumeration_tests;
 mod faults;
 mod laws;
 mod proving;
 mod settling;
 mod terms;
-#[cfg(test)]
-mod tests;
 
 pub use laws::faultless_prices;
 pub use proving::{Proved, prove};

@@ -9,8 +9,6 @@ mod parse;
 mod reads;
 mod settling;
 mod stored;
-#[cfg(test)]
-mod tests;
 mod told;
 
 pub use fault::JournalFault;

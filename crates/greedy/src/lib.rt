@@ -7,8 +7,6 @@ mod laws;
 mod plan;
 mod prices;
 mod rows;
-#[cfg(test)]
-mod tests;
 
 pub use laws::{gain_is_the_fall_of_cost, greedy_plan_is_ready};
 pub use plan::greedy_plan;

@@ -8,8 +8,6 @@ mod price_lists;
 mod ranges;
 mod settling;
 mod table;
-#[cfg(test)]
-mod tests;
 
 use break_rules::Breaks;
 pub use cuts::Cuts;

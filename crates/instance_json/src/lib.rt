@@ -6,14 +6,10 @@ mod departures;
 mod document;
 mod fields;
 mod generating;
-#[cfg(test)]
-mod generating_tests;
 pub mod laws;
 mod name;
 mod reading;
 mod round_trip;
-#[cfg(test)]
-mod tests;
 mod text;
 
 pub use generating::generate;

@@ -1,8 +1,6 @@
 //! Break patterns: in which of its slots a duty works.
 #![tactic(auto)]
 
-#[cfg(test)]
-mod tests;
 mod trie;
 
 ghost use Rattle.std.specs.Prelude.{◌≡◌, ◌+◌, ◌^◌, ◌<◌};

@@ -4,16 +4,12 @@
 mod copying;
 mod disk;
 mod disk_event;
-#[cfg(test)]
-mod disk_tests;
 mod faults;
 mod file_disk;
 mod mem_disk;
 mod mem_streams;
 mod reading;
 mod real_streams;
-#[cfg(test)]
-mod stream_tests;
 mod streams;
 mod writing;
 

@@ -18,8 +18,6 @@
 mod fault;
 mod post;
 mod reading;
-#[cfg(test)]
-mod tests;
 mod writing;
 
 ghost use Rattle.post_codec.specs.Fields.{FieldsSpell};

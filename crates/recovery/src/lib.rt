@@ -3,8 +3,6 @@
 
 mod fault;
 mod rebuilding;
-#[cfg(test)]
-mod tests;
 
 pub use fault::{RebuildFault, Why};
 pub use rebuilding::rebuild;

@@ -7,8 +7,6 @@ mod covered;
 mod judging;
 mod laws;
 mod recounting;
-#[cfg(test)]
-mod tests;
 
 pub use costed::{Costed, cost_rows};
 pub use cover::Cover;

@@ -4,8 +4,6 @@
 pub mod laws;
 mod reports;
 mod table_lines;
-#[cfg(test)]
-mod tests;
 
 pub use reports::report;
 pub use table_lines::table;

@@ -6,23 +6,17 @@ mod as_board;
 mod batched;
 mod book;
 mod book_opening;
-#[cfg(test)]
-mod commit_tests;
 mod committing;
 mod differing;
 mod head;
 mod laws;
 mod log_opening;
 mod open_fault;
-#[cfg(test)]
-mod open_tests;
 mod post_log;
 mod readers;
 mod record_log;
 mod sends;
 mod session;
-#[cfg(test)]
-mod test_books;
 
 pub use book::Book;
 pub use laws::one_history;

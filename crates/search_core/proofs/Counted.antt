@@ -1,7 +1,7 @@
 -- How many steps the calls on a board take: each closes a node of its own, or has one in a hand.
-use Rattle.std.proofs.Common.{◌≡◌, ◌⊎◌, inl, inr, ℕ, zero, suc, ◌+◌, ◌-◌, ◌*◌, ◌^◌, ◌<◌, ◌≤◌, Bool, true, false, cond, ◌&&◌, ◌||◌, not, List, [], ◌∷◌, ◌++◌, length, get_or, set, refl, sym, ap, ◌∙◌, subst, arith, Option, Some, None, eq-eqb}
+use Rattle.std.proofs.Common.{◌≡◌, ◌⊎◌, inl, inr, ℕ, zero, suc, ◌+◌, ◌-◌, ◌*◌, ◌^◌, ◌<◌, ◌≤◌, Bool, true, false, cond, ◌||◌, not, List, [], ◌∷◌, ◌++◌, length, get_or, set, refl, sym, ap, ◌∙◌, subst, arith, Option, Some, None, eq-eqb}
 use Rattle.std.specs.Prelude.{slice_get}
-use Rattle.std.specs.Option.{is_some, option_and_then, option_map_or}
+use Rattle.std.specs.Option.{is_some, option_and_then}
 use Rattle.std.specs.List.{list_any}
 use Rattle.std.proofs.lemmas.Bool.{and_parts, eqb-true, false≢true, not-true, or_cases, or_from, or_left, or_right}
 use Rattle.std.proofs.lemmas.Option.{slice_get-get_or, slice_get_within}
@@ -23,7 +23,6 @@ use Rattle.search_core.specs.Calls.{full_hands, steps_enough, AreCalls, IsCall, 
 use Rattle.search_core.specs.Calls.AreCalls.{none, one_more}
 use Rattle.search_core.specs.Calls.IsCall.{a_commit, a_refusal, a_take, a_yield}
 use Rattle.search_core.specs.Core.{hand, is_node}
-use Rattle.search_core.specs.State.{book_or_opening}
 use Rattle.search_core.proofs.Closed.{closed_now, is_closed, is_there, node_is, node_not, some_node, step_keeps}
 use Rattle.search_core.proofs.Counts.{passing, passing_grows, passing_more, passing_most}
 use Rattle.search_core.proofs.FewNodes.{few_nodes, sum_set}

@@ -14,11 +14,7 @@ pub struct Refusal {
 }
 
 /// Adds posts to a state, up to the first one that isn't allowed.
-pub fn add_posts(
-    state: &mut State,
-    instance: &Instance,
-    posts: Vec<Post>,
-) -> Result<(), Refusal>
+pub fn add_posts(state: &mut State, instance: &Instance, posts: Vec<Post>) -> Result<(), Refusal>
     requires { instance.now ≡ state.old.instance }
     ensures ok { OnOk result (Takes state.old posts.items state.new) }
     ensures err { IfErr result (Stops instance.now state.old.book posts.items) }

@@ -18,8 +18,6 @@ mod running;
 mod state;
 mod step_posts;
 mod stepping;
-#[cfg(test)]
-mod tests;
 
 pub use adding::{Refusal, add_posts};
 pub use board::{Board, CommitFault, Kept, Origin, Shutting, Taken, keeps_sound};

@@ -5,8 +5,6 @@ mod graphs;
 mod judging;
 mod listing;
 mod rows;
-#[cfg(test)]
-mod tests;
 
 ghost use Rattle.std.specs.Prelude.{◌≡◌, ◌<◌, ◌≤◌, length, map, slice_get, IsSomeAnd, IfOk, MatchOption, MatchResult, None};
 ghost use Rattle.break_rules.specs.Causes.{first_cause};

@@ -3,8 +3,6 @@
 
 mod decision;
 mod run;
-#[cfg(test)]
-mod tests;
 
 pub use decision::step_of;
 pub use run::{RunEnd, run_worker};

@@ -1,6 +1,5 @@
-use Rattle.std.proofs.Common.{refl, arith}
+use Rattle.std.proofs.Common.{arith}
 use Rattle.std.proofs.lemmas.Bool.{lt-ltb}
-use Rattle.search_core.specs.declared.drafting.Draft.{Draft}
 use Rattle.search_core.proofs.Drafted.{drafts_split}
 use Rattle.search_core.proofs.drafting.Draft.add_split.Goals as goal
 

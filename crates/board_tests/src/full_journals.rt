@@ -1,0 +1,35 @@
+//! A step for whose record a journal has no room.
+use crate::fixtures::morning;
+use plan_base::MemDisk;
+use search_book::Book;
+use std::alloc::Global;
+use std::process::Abort;
+use std::test::Fail;
+use worker_gate::{RunEnd, run_worker};
+
+/// How a run of one step ends on a new journal of at most `limit` bytes, and how many bytes there are then.
+fn ended(rt: &impl Abort, alloc: Global, limit: u32) -> Result<(RunEnd, usize), Fail> {
+    let instance = morning(rt, alloc, "2")?;
+    assert!(rt; 385 <= limit && limit < 1000);
+    let disk = MemDisk::new(alloc, Vec::new(alloc), Vec::new(alloc));
+    match Book::open(alloc, &instance, disk, 1, limit) {
+        Ok(mut book) => {
+            let end = run_worker(alloc, &instance, &mut book);
+            Ok((end, book.into_disk().bytes().len()))
+        }
+        Err(_) => Err("it isn't opened")?,
+    }
+}
+
+// The step has a plan, prices and a split, of 21, 209 and 13 bytes, and their record has 7 more: with the first post alone the
+// journal would end at 413 bytes, with two at 622, and with all at 635.
+#[test]
+fn a_record_is_there_whole_or_not_at_all(rt: HostRuntime) -> Result<(), Fail> {
+    let alloc = rt.alloc();
+    for limit in [412u32, 621, 634] {
+        let full = RunEnd::Full { end: 635, limit };
+        assert!(rt; ended(&rt, alloc, limit)? == (full, 385));
+    }
+    assert!(rt; ended(&rt, alloc, 635)? == (RunEnd::Spent, 635));
+    Ok(())
+}

@@ -1,0 +1,207 @@
+//! The best lists of small pseudo-random rules, by a plain search among every list of breaks.
+use crate::days::day;
+use crate::draws::Draws;
+use break_rules::{Break, Breaks, Lunches, NoMemory, Rule, Totals, legal};
+use patterns::works;
+use pricing::best_pattern;
+use shift_instance::Instance;
+use std::alloc::Global;
+use std::process::Abort;
+use std::test::Fail;
+
+impl Draws {
+    /// A number from -3 to 3.
+    fn small(&mut self) -> i64 {
+        i64::from(self.below(7)).saturating_sub(3)
+    }
+
+    /// A rule with at most two slots of breaks.
+    fn short_rule(&mut self, alloc: Global, len: u16) -> Result<Rule, NoMemory> {
+        let total = self.below(3);
+        Ok(Rule {
+            lead: self.below(2),
+            tail: self.below(2),
+            work_min: 1,
+            work_max: 2 + self.below(5),
+            long_work: self.below(6),
+            long_rest: self.below(2),
+            size_min: 1,
+            size_max: 2,
+            totals: Totals::new(Vec::from_slice(alloc, &[(len, total)])?),
+            lunches: Lunches::new(Vec::new(alloc)),
+            resettle: self.below(2),
+        })
+    }
+
+    /// A day of hours with one shift of that length, and `None` where the rule isn't well formed.
+    fn instance(&mut self, alloc: Global, len: u16) -> Result<Option<Instance>, NoMemory> {
+        let start = self.below(24);
+        let rule = self.short_rule(alloc, len)?;
+        let parts = day(alloc, 1, start, len, rule)?;
+        Ok(Instance::new(alloc, parts).ok())
+    }
+
+    /// A price for each hour of a day.
+    fn prices(&mut self) -> [i64; 24] {
+        let mut prices = [0; 24];
+        for hour in 0..24 {
+            prices[hour] = self.small();
+        }
+        prices
+    }
+
+    /// A bonus on each of some of these lists.
+    fn bonus(
+        &mut self,
+        alloc: Global,
+        lists: &[Vec<Break>],
+    ) -> Result<Vec<(Breaks, i64)>, NoMemory> {
+        let mut bonus = Vec::new(alloc);
+        for list in lists {
+            if self.below(4) == 0 {
+                bonus.push((Breaks::new(list.clone()?), self.small()))?;
+            }
+        }
+        Ok(bonus)
+    }
+}
+
+/// Every break of at most two slots in a shift of `len` slots.
+fn every_break(alloc: Global, len: u16) -> Result<Vec<Break>, NoMemory> {
+    let mut breaks = Vec::new(alloc);
+    for start in 0..len {
+        breaks.push(Break { start, len: 1 })?;
+        breaks.push(Break { start, len: 2 })?;
+    }
+    Ok(breaks)
+}
+
+/// Adds a list that is legal.
+fn add_legal(
+    rule: &Rule,
+    len: u16,
+    list: Vec<Break>,
+    lists: &mut Vec<Vec<Break>>,
+) -> Result<(), NoMemory> {
+    if legal(rule, len, &list) {
+        lists.push(list)?;
+    }
+    Ok(())
+}
+
+/// The legal lists of at most two breaks, which are all where at most two slots are breaks.
+fn legal_lists(alloc: Global, rule: &Rule, len: u16) -> Result<Vec<Vec<Break>>, NoMemory> {
+    let breaks = every_break(alloc, len)?;
+    let mut lists = Vec::new(alloc);
+    add_legal(rule, len, Vec::new(alloc), &mut lists)?;
+    for first in &breaks {
+        add_legal(rule, len, Vec::from_slice(alloc, &[*first])?, &mut lists)?;
+        for second in &breaks {
+            let two = Vec::from_slice(alloc, &[*first, *second])?;
+            add_legal(rule, len, two, &mut lists)?;
+        }
+    }
+    Ok(lists)
+}
+
+/// The prices of the hours in which a duty with a list works.
+fn earned(rule: &Rule, start: u16, len: u16, list: &[Break], prices: &[i64]) -> i64 {
+    let mut sum = 0i64;
+    for offset in 0..len {
+        if works(rule, len, list, offset) {
+            let hour = usize::from(start.saturating_add(offset)) % 24;
+            sum = sum.saturating_add(prices.get(hour).copied().unwrap_or(0));
+        }
+    }
+    sum
+}
+
+/// The bonuses that a list gets.
+fn gets(list: &[Break], bonus: &[(Breaks, i64)]) -> i64 {
+    let mut sum = 0i64;
+    for (prefix, x) in bonus {
+        if list.starts_with(prefix.as_slice()) {
+            sum = sum.saturating_add(*x);
+        }
+    }
+    sum
+}
+
+/// Whether a list and its value are the best of the legal lists.
+fn is_best_among(
+    found: &[Vec<Break>],
+    rule: &Rule,
+    shift: (u16, u16),
+    prices: &[i64],
+    bonus: &[(Breaks, i64)],
+    best: (&[Break], i128),
+) -> bool {
+    let mut is_there = false;
+    for list in found {
+        let value = i128::from(earned(rule, shift.0, shift.1, list, prices).saturating_add(gets(
+            list, bonus,
+        )));
+        let is_this = list.as_slice() == best.0;
+        if best.1 < value
+            || best.1 == value && list.as_slice() < best.0
+            || is_this && value != best.1
+        {
+            return false;
+        }
+        is_there = is_there || is_this;
+    }
+    is_there
+}
+
+/// Compares the best list of the shift of a day with the best of every list, and says whether there is one.
+fn try_day(
+    rt: &impl Abort,
+    alloc: Global,
+    instance: &Instance,
+    draws: &mut Draws,
+) -> Result<bool, NoMemory> {
+    assert_eq!(rt; instance.shifts().len(), 1);
+    let shift = instance.shift(0);
+    let rule = instance.rule_of(0);
+    let lists = legal_lists(alloc, rule, shift.len)?;
+    let prices = draws.prices();
+    let bonus = draws.bonus(alloc, &lists)?;
+    assert_eq!(rt; prices.len(), instance.slots());
+    assert!(rt; prices.iter().all(|p| p.unsigned_abs() <= 10_000_000_000));
+    assert!(rt; bonus.len() <= 1_000);
+    assert!(rt;
+        bonus
+            .iter()
+            .all(|e| e.1.unsigned_abs() <= 1_000_000_000_000)
+    );
+    match best_pattern(alloc, instance, 0, 0, &prices, &bonus)? {
+        Some((pattern, value)) => {
+            let best = (pattern.list.as_slice(), value);
+            let hours = (shift.start, shift.len);
+            assert!(rt; is_best_among(&lists, rule, hours, &prices, &bonus, best));
+            Ok(true)
+        }
+        None => {
+            assert!(rt; lists.is_empty());
+            Ok(false)
+        }
+    }
+}
+
+#[test]
+fn small_rules_have_the_best_lists_that_every_list_tried_shows(
+    rt: HostRuntime,
+) -> Result<(), Fail> {
+    let alloc = rt.alloc();
+    let mut draws = Draws { state: 1 };
+    let mut with_lists = 0u32;
+    for case in 0..48u16 {
+        if let Some(instance) = draws.instance(alloc, 3 + case % 4)? {
+            let has_list = try_day(&rt, alloc, &instance, &mut draws)?;
+            with_lists = with_lists.saturating_add(u32::from(has_list));
+        }
+    }
+    // Enough of the rules have a legal list.
+    assert!(rt; 20 <= with_lists);
+    Ok(())
+}

@@ -1,0 +1,27 @@
+//! A day with one shift.
+use break_rules::{NoMemory, Rule};
+use shift_instance::{Parts, TypeParts};
+use std::alloc::Global;
+
+/// A day of hours with one shift of a start, a length and a rule, which at most so many employees work.
+pub fn day(alloc: Global, heads: u16, start: u16, len: u16, rule: Rule) -> Result<Parts, NoMemory> {
+    let kind = TypeParts {
+        name: String::from_str(alloc, "D")?,
+        start_min: start,
+        start_max: start,
+        len_min: len,
+        len_max: len,
+        rule,
+    };
+    let types = vec![in alloc; kind]?;
+    Ok(Parts {
+        slot_minutes: 60,
+        days: 1,
+        need: vec![in alloc; 1; 24]?,
+        max_heads: heads,
+        excess: 1,
+        shortage: 2,
+        shift: 3,
+        types,
+    })
+}

@@ -1,0 +1,102 @@
+//! Sources and sinks, and what is read from them and written to them.
+use plan_base::{
+    FileSource, MemSink, MemSource, ReadEnd, Sink, Source, StdSink, StdSource, read_all, write_all,
+};
+use std::fmt::Display;
+use std::io;
+use std::test::Fail;
+
+#[test]
+fn a_source_is_read_to_its_end_within_the_limit(rt: HostRuntime) -> Result<(), Fail> {
+    let alloc = rt.alloc();
+    let bytes = vec![in alloc; 7u8; 40000]?;
+    let mut source = MemSource::new(alloc, bytes, Vec::new(alloc), 7000);
+    let read = read_all(alloc, &mut source, 40000)?;
+    assert_eq!(rt; read.len(), 40000);
+    Ok(())
+}
+
+#[test]
+fn a_source_beyond_the_limit_is_too_long(rt: HostRuntime) -> Result<(), Fail> {
+    let alloc = rt.alloc();
+    let bytes = vec![in alloc; 7u8; 6]?;
+    let mut source = MemSource::new(alloc, bytes, Vec::new(alloc), 4);
+    let end = read_all(alloc, &mut source, 5).err();
+    assert_eq!(rt; end, Some(ReadEnd::TooLong));
+    Ok(())
+}
+
+#[test]
+fn a_failing_read_is_told(rt: HostRuntime) -> Result<(), Fail> {
+    let alloc = rt.alloc();
+    let bytes = vec![in alloc; 7u8; 5]?;
+    let fails = vec![in alloc; 2u64; 1]?;
+    let mut source = MemSource::new(alloc, bytes, fails, 4);
+    let end = read_all(alloc, &mut source, 5).err();
+    assert_eq!(rt; end, Some(ReadEnd::ReadFault));
+    Ok(())
+}
+
+#[test]
+fn a_sink_that_fails_has_taken_the_first_bytes(rt: HostRuntime) -> Result<(), Fail> {
+    let alloc = rt.alloc();
+    let fails = vec![in alloc; 3u64; 1]?;
+    let mut sink = MemSink::new(alloc, fails, 2);
+    assert!(rt; write_all(&mut sink, &[1, 2, 3, 4, 5]).is_err());
+    assert_eq!(rt; sink.bytes(), [1, 2, 3, 4].as_slice());
+    Ok(())
+}
+
+#[test]
+fn the_standard_input_is_read_to_its_end(rt: HostRuntime) -> Result<(), Fail> {
+    // a test's input is empty
+    let mut source = StdSource::new(&rt);
+    assert_eq!(rt; read_all(rt.alloc(), &mut source, 10)?.len(), 0);
+    Ok(())
+}
+
+#[test]
+fn the_standard_output_takes_bytes(rt: HostRuntime) -> Result<(), Fail> {
+    let mut sink = StdSink::new(&rt);
+    write_all(&mut sink, "written by a test\n".as_bytes())?;
+    Ok(())
+}
+
+// An output that answers an error.
+#[derive(Drop)]
+struct Broken {}
+
+impl Print for Broken {
+    fn print<D: Display + Drop>(&self, _value: D) -> io::Result<()> {
+        Ok(())
+    }
+
+    fn println<D: Display + Drop>(&self, _value: D) -> io::Result<()> {
+        Ok(())
+    }
+
+    fn write_all(&self, _bytes: &[u8]) -> io::Result<()> {
+        Ok(())
+    }
+
+    fn write_some(&self, _bytes: &[u8]) -> io::Result<usize> {
+        Err(io::ErrorKind::BrokenPipe.into())
+    }
+}
+
+#[test]
+fn an_output_that_is_broken_has_failed(rt: HostRuntime) -> Result<(), Fail> {
+    let broken = Broken {};
+    let mut sink = StdSink::new(&broken);
+    assert!(rt; sink.write(&[1]).is_err());
+    Ok(())
+}
+
+#[test]
+fn a_file_that_is_missing_fails(rt: HostRuntime) -> Result<(), Fail> {
+    let path = String::from_str(rt.alloc(), "no_such_file.tmp")?;
+    let mut source = FileSource::new(&rt, path);
+    let mut buffer = [0u8; 4];
+    assert!(rt; source.read(&mut buffer).is_err());
+    Ok(())
+}

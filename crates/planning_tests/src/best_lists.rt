@@ -1,0 +1,41 @@
+//! A best list that was worked out by hand.
+use crate::fixtures::{breaks, day, rests};
+use break_rules::{Break, NoMemory};
+use pricing::best_pattern;
+use shift_instance::{Instance, Parts};
+use std::alloc::Global;
+use std::test::Fail;
+
+/// A shift from 8 to 16 that has a break of one hour after at least two hours of work.
+fn long_day(alloc: Global) -> Result<Parts, NoMemory> {
+    let mut rule = rests(alloc, 8, 1)?;
+    (rule.lead, rule.tail, rule.work_min) = (2, 2, 2);
+    day(alloc, 1, 8, rule)
+}
+
+#[test]
+fn the_best_break_is_taken(rt: HostRuntime) -> Result<(), Fail> {
+    let alloc = rt.alloc();
+    let instance = Instance::new(alloc, long_day(alloc)?)?;
+    // Each hour of the shift but that from 12 on is worth 2. A break from 10 on gets 3 more than one from 12 on.
+    let mut prices = [2i64; 24];
+    prices[12] = 0;
+    let bonus = vec![in alloc; (breaks(alloc, &[2])?, 3i64)]?;
+    assert_eq!(rt; instance.shifts().len(), 1);
+    assert_eq!(rt; prices.len(), instance.slots());
+    assert!(rt; prices.iter().all(|p| p.unsigned_abs() <= 10_000_000_000));
+    assert!(rt; bonus.len() <= 2);
+    assert!(rt;
+        bonus
+            .iter()
+            .all(|e| e.1.unsigned_abs() <= 1_000_000_000_000)
+    );
+    let found = best_pattern(alloc, &instance, 0, 0, &prices, &bonus)?;
+    let (pattern, value) = found.ok_or("no list")?;
+    assert_eq!(rt; (pattern.len, value), (8, 6 * 2 + 3));
+    assert_eq!(rt;
+        pattern.list.as_slice(),
+        [Break { start: 2, len: 1 }].as_slice()
+    );
+    Ok(())
+}
