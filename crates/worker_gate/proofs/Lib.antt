@@ -1,3 +1,5 @@
+pub mod Leaving
+pub mod Moved
 pub mod Counted
 pub mod Closing
 pub mod Rounds
