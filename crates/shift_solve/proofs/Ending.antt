@@ -14,14 +14,15 @@ use Rattle.search_book.specs.Search.{SearchView, board_of}
 use Rattle.worker_gate.specs.declared.run.RunEnd.{RunEnd}
 use Rattle.worker_gate.specs.declared.run.RunEnd.TheVariants.{Finished, Spent, Full as FullEnd, DiskFault as DiskEnd, NoMemory as MemoryEnd}
 use Rattle.worker_gate.specs.Runs.{committed, plans_and_prices_since, IsSameSearch, RunEnds}
-use Rattle.shift_solve.specs.Run.{SinkMet, IsLeft, IsRefusal, OverDisk, status_of}
+use Rattle.shift_solve.specs.Run.{IsLeft, IsRefusal, OverDisk, status_of}
 use Rattle.shift_solve.specs.Search.{is_reported, status_at, Ends, IsLanded, IsReported, SearchEnds, Unwritten}
 use Rattle.shift_solve.specs.Session.{DiskMet}
+use Rattle.shift_solve.specs.Streams.{SinkMet}
 use Rattle.shift_solve.specs.declared.status.Status.{Status}
-use Rattle.shift_solve.specs.declared.status.Status.TheVariants.{Optimal, Budget, Full, Usage, Input, ReadFault, WriteFault, DiskFault, NoMemory, Journal}
+use Rattle.shift_solve.specs.declared.status.Status.TheVariants.{Optimal, Budget, Full, Usage, Input, Workers, ReadFault, WriteFault, DiskFault, NoMemory, Journal}
 
 -- ---- how a search ends
-few_steps : (budget enough : ℕ) → (enough ≤ budget → ⊥) → budget < enough
+pub few_steps : (budget enough : ℕ) → (enough ≤ budget → ⊥) → budget < enough
 few_steps budget enough more = elim (cases_lt budget enough) [ inl less ↦ less | inr le ↦ absurd (more le) ]
 
 module _ {D : Type 0} (reads : D → Option (List ℕ)) (calls faults : D → ℕ) where
@@ -71,6 +72,7 @@ module _ {D : Type 0} (reads : D → Option (List ℕ)) (calls faults : D → �
   cut_short end (Full n limit) e some part = absurd part
   cut_short end Usage e some part = absurd part
   cut_short end (Input why) e some part = absurd part
+  cut_short end (Workers asked have) e some part = absurd part
   cut_short end ReadFault e some part = absurd part
   cut_short end DiskFault e some part = absurd part
   cut_short end (Journal why) e some part = absurd part

@@ -1,5 +1,5 @@
 pub mod Accepting
-pub mod Digits
 pub mod Sessions
 pub mod Ending
 pub mod Reading
+pub mod Demos

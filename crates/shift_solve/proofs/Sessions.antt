@@ -27,12 +27,13 @@ use Rattle.search_book.specs.Posts.{joined, IsJournalOf}
 use Rattle.worker_gate.specs.declared.run.RunEnd.{RunEnd}
 use Rattle.worker_gate.specs.declared.run.RunEnd.TheVariants.{Finished, Spent, Full as FullEnd, DiskFault as DiskEnd, NoMemory as MemoryEnd}
 use Rattle.worker_gate.specs.Runs.{is_plan_or_prices}
-use Rattle.shift_solve.specs.Report.{cert_of, output_of}
-use Rattle.shift_solve.specs.Run.{SinkMet, OverDisk, IsFinished, IsSpent, IsFull, IsUnbeaten, Reports, ReportsPart}
+use Rattle.shift_solve.specs.Report.{cert_of, output_of, IsUnbeaten}
+use Rattle.shift_solve.specs.Run.{OverDisk, IsFinished, IsSpent, IsFull, Reports, ReportsPart}
 use Rattle.shift_solve.specs.Search.{is_reported, Ends, GoesOn, IsLanded, IsReported, IsReportedPart, SearchEnds}
 use Rattle.shift_solve.specs.Session.{met_of, Session, IsOnlyJournal}
+use Rattle.shift_solve.specs.Streams.{SinkMet}
 use Rattle.shift_solve.specs.declared.status.Status.{Status}
-use Rattle.shift_solve.specs.declared.status.Status.TheVariants.{Optimal, Budget, Full, Usage, Input, ReadFault, WriteFault, DiskFault, NoMemory, Journal}
+use Rattle.shift_solve.specs.declared.status.Status.TheVariants.{Optimal, Budget, Full, Usage, Input, Workers, ReadFault, WriteFault, DiskFault, NoMemory, Journal}
 use Rattle.shift_solve.proofs.Accepting.{accepted, FewBreaks}
 
 -- a fact of what there is implies another
@@ -248,5 +249,6 @@ module _ {D : Type 0} (reads : D → Option (List ℕ)) (images : D → List ℕ
     over_disk k NoMemory e = inr (refl, session_of k, landed_of k e.0 e.1 e.2)
     over_disk k Usage e = absurd e
     over_disk k (Input why) e = absurd e
+    over_disk k (Workers asked have) e = absurd e
     over_disk k ReadFault e = absurd e
     over_disk k (Journal why) e = absurd e

@@ -11,7 +11,7 @@ use Rattle.worker_gate.specs.declared.run.RunEnd.{RunEnd}
 use Rattle.worker_gate.specs.declared.run.RunEnd.TheVariants.{Finished, Spent, Full as FullEnd, DiskFault as DiskEnd, NoMemory as MemoryEnd}
 use Rattle.worker_gate.specs.Runs.{plans_and_prices_since, IsSameSearch, RunEnds}
 use Rattle.shift_solve.specs.declared.status.Status.{Status}
-use Rattle.shift_solve.specs.declared.status.Status.TheVariants.{Optimal, Budget, Full, Usage, Input, ReadFault, WriteFault, DiskFault, NoMemory, Journal}
+use Rattle.shift_solve.specs.declared.status.Status.TheVariants.{Optimal, Budget, Full, Usage, Input, Workers, ReadFault, WriteFault, DiskFault, NoMemory, Journal}
 use Rattle.shift_solve.specs.Report.{cert_of, output_of}
 
 -- a book from which no node was taken yet
@@ -75,6 +75,7 @@ Unwritten book table held holds faults Budget = ⊥
 Unwritten book table held holds faults (Full end limit) = ⊥
 Unwritten book table held holds faults Usage = ⊥
 Unwritten book table held holds faults (Input why) = ⊥
+Unwritten book table held holds faults (Workers asked have) = ⊥
 Unwritten book table held holds faults ReadFault = ⊥
 Unwritten book table held holds faults DiskFault = ⊥
 Unwritten book table held holds faults (Journal why) = ⊥
@@ -89,5 +90,6 @@ SearchEnds reads calls faults old new table held holds writes DiskFault = Ends r
 SearchEnds reads calls faults old new table held holds writes NoMemory = (end : RunEnd) × Ends reads calls faults old new end × IsLanded end
 SearchEnds reads calls faults old new table held holds writes Usage = ⊥
 SearchEnds reads calls faults old new table held holds writes (Input why) = ⊥
+SearchEnds reads calls faults old new table held holds writes (Workers asked have) = ⊥
 SearchEnds reads calls faults old new table held holds writes ReadFault = ⊥
 SearchEnds reads calls faults old new table held holds writes (Journal why) = ⊥

@@ -21,9 +21,10 @@ pub enum Status {
     /// The report was written, and the journal had no room for the posts of a step: with them the file would have ended at
     /// `end`, which is past `limit`. Both are lengths in bytes.
     Full { end: u64, limit: u32 },
-    /// The words aren't `solve JOURNAL` with `--steps B` and `--table`, each or none, in this order behind it, with a JOURNAL
-    /// that isn't empty and doesn't begin with `-`, and a B of 1 to 10 digits which is at most 4,000,000,000.
+    /// The words are no command (`solve_words::command_of`).
     Usage,
+    /// More workers were asked for than there are.
+    Workers { asked: u16, have: u16 },
     /// The document that was read is refused. Never holds `NoMemory`.
     Input(ReadRefusal),
     /// A read of the document failed.
@@ -50,6 +51,7 @@ impl Status {
             Status::Full { end: _, limit: _ } => 11,
             Status::Usage => 2,
             Status::Input(_) => 3,
+            Status::Workers { asked: _, have: _ } => 4,
             Status::ReadFault => 5,
             Status::WriteFault => 6,
             Status::DiskFault => 7,
@@ -70,6 +72,9 @@ pub fn status_line(alloc: Global, status: &Status) -> Result<String, AllocError>
             format!(in alloc; "stopped: journal full, {end} of {limit} bytes")
         }
         Status::Usage => String::from_str(alloc, USAGE),
+        Status::Workers { asked, have } => {
+            format!(in alloc; "workers asked {asked}, advisers {have}")
+        }
         Status::Input(why) => format!(in alloc; "instance refused: {why}"),
         Status::ReadFault => String::from_str(alloc, "read fault"),
         Status::WriteFault => String::from_str(alloc, "write fault"),

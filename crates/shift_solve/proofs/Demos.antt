@@ -1,0 +1,113 @@
+-- From a search over a new journal in memory to what is said of a demonstration.
+use Rattle.std.proofs.Common.{◌≡◌, ◌∙◌, sym, ap, subst, refl, ℕ, ◌≤◌, ◌<◌, Bool, true, false, List, [], Option, None, Some}
+use Rattle.std.specs.Prelude.{◌≢◌, IfSome, IsTrue}
+use Rattle.std.specs.Io.KnownBytes.{Appends}
+use Rattle.std.proofs.lemmas.Bool.{false≢true}
+use Rattle.plan_base.specs.Causes.{Rose}
+use Rattle.plan_base.specs.Streams.{AppendsPart}
+use Rattle.gated_journal.specs.declared.TheConstants.{JOURNAL_MAX}
+use Rattle.shift_instance.specs.Problem.{Problem}
+use Rattle.instance_json.specs.Generated.{generated}
+use Rattle.search_core.specs.declared.board.Origin.{Origin}
+use Rattle.search_core.specs.Board.{book_at, BoardView}
+use Rattle.search_core.specs.Book.{book_of, is_finished, Book, IsSound}
+use Rattle.search_core.specs.Calls.{steps_enough}
+use Rattle.search_core.specs.Core.{empty_hands}
+use Rattle.search_core.proofs.Floors.{finished_best}
+use Rattle.search_core.proofs.Outlines.{book_is}
+use Rattle.search_core.proofs.Sound.{fold_sound}
+use Rattle.search_book.specs.Keeping.{IsKeptPosts, IsRunningPosts, ShutOf}
+use Rattle.search_book.specs.Opening.{IsBegun, IsOpenedFrom}
+use Rattle.search_book.specs.Posts.{IsJournalOf}
+use Rattle.search_book.specs.Search.{board_of, SearchView}
+use Rattle.worker_gate.specs.declared.run.RunEnd.{RunEnd}
+use Rattle.worker_gate.specs.declared.run.RunEnd.TheVariants.{Finished, Spent, Full as FullEnd, DiskFault as DiskEnd, NoMemory as MemoryEnd}
+use Rattle.worker_gate.specs.Runs.{committed, plans_and_prices_since, IsSameSearch, RunEnds, RunMakes}
+use Rattle.shift_solve.specs.Demo.{line_of, Demonstration, DemoMet, IsCutShort, IsNew, IsShown, OverMemory, Searches}
+use Rattle.shift_solve.specs.Report.{IsUnbeaten}
+use Rattle.shift_solve.specs.Search.{is_reported, status_at}
+use Rattle.shift_solve.specs.Streams.{SinkMet}
+use Rattle.shift_solve.specs.declared.status.Status.TheVariants.{WriteFault}
+use Rattle.shift_solve.proofs.Ending.{few_steps}
+
+-- a run over a board, as a search
+pub searches_of : (first last : BoardView) (end : RunEnd) → IsSameSearch first last → RunMakes first last end → RunEnds last end
+    → committed end last.taken ≤ plans_and_prices_since first.history last.history → (steps_enough first.instance ≤ first.budget → end ≢ Spent) → Searches first last end
+searches_of first last end same makes ends shown enough =
+    record { same = same; makes = makes; ends = ends; shown = shown; few = λ spent. few_steps first.budget (steps_enough first.instance) (λ le. enough le spent) }
+
+module _ {D : Type 0} (reads : D → Option (List ℕ)) (calls faults : D → ℕ) where
+  -- a book that was opened over an empty file
+  pub new_of : (i : Problem) (budget : ℕ) (book : SearchView D) → IsBegun i JOURNAL_MAX book.log → IsOpenedFrom JOURNAL_MAX i book.log.history book.log.used (reads book.log.disk) []
+      → book.hands ≡ empty_hands → book.taken ≡ 0 → book.budget ≡ budget → book.halted ≡ false → IsNew i budget (board_of reads calls faults book)
+  new_of i budget book begun found hands taken most going =
+      let new = found.new refl in
+      record {
+        instance = begun.instance;
+        budget_is = most;
+        limit = begun.limit_is;
+        history = new.0;
+        used = new.1;
+        idle = record { running = begun.shut; going = going; empty = hands };
+        taken = taken;
+      }
+
+  -- the line of a book says what its board says
+  pub same_book : (book : SearchView D) → book_at (board_of reads calls faults book) ≡ book.log.book
+  same_book book = book_is book.log.instance book.log.history book.log.book book.keeps.folds
+
+module _ {D : Type 0} (reads : D → Option (List ℕ)) (images : D → List ℕ → Type 0) (calls faults : D → ℕ) (number budget : ℕ) (old new : SearchView D) (end : RunEnd) where
+  -- what is known of a demonstration's book after its search
+  pub record Known : Type 0 where
+    pub reported : is_reported end ≡ true
+    pub fresh : IsNew (generated number) budget (board_of reads calls faults old)
+    pub searches : Searches (board_of reads calls faults old) (board_of reads calls faults new) end
+    pub running : new.log.in_flight ≡ [] → IsRunningPosts reads images calls new.log
+    pub fault : ShutOf new.log.limit (faults new.log.opened) (faults new.log.disk) new.log.in_flight new.log.shut
+
+  instance_of : Known → new.log.instance ≡ generated number
+  instance_of k = k.searches.same.instance ∙ k.fresh.instance
+
+  limit_of : Known → new.log.limit ≡ JOURNAL_MAX
+  limit_of k = ap (λ (o : Origin). o.limit) k.searches.same.origin ∙ k.fresh.limit
+
+  -- no posts are in flight after a search that came to such an end
+  landed : (how : RunEnd) → is_reported how ≡ true → RunEnds (board_of reads calls faults new) how → ShutOf new.log.limit (faults new.log.opened) (faults new.log.disk) new.log.in_flight new.log.shut
+      → new.log.in_flight ≡ []
+  landed Finished some ends fault = subst (ShutOf new.log.limit (faults new.log.opened) (faults new.log.disk) new.log.in_flight) ends.0.running fault
+  landed Spent some ends fault = subst (ShutOf new.log.limit (faults new.log.opened) (faults new.log.disk) new.log.in_flight) ends.0.running fault
+  landed (FullEnd most limit) some ends fault = (subst (ShutOf new.log.limit (faults new.log.opened) (faults new.log.disk) new.log.in_flight) ends.0 fault).0
+  landed DiskEnd some ends fault = absurd (false≢true some)
+  landed MemoryEnd some ends fault = absurd (false≢true some)
+
+  sound_of : Known → IsSound (generated number) (book_at (board_of reads calls faults new))
+  sound_of k =
+      subst (λ (b : Book). IsSound (generated number) b) (sym (same_book reads calls faults new))
+      (subst (λ (j : Problem). IsSound j new.log.book) (instance_of k) (fold_sound new.log.instance new.log.history new.log.book new.keeps.folds))
+
+  pub demo_of : Known → (file : List ℕ) → reads new.log.disk ≡ Some file → Demonstration (generated number) budget end file
+  demo_of k file told =
+      let none = landed end k.reported k.searches.ends k.fault in
+      let kept : IsKeptPosts images new.log file = subst (λ (o : Option (List ℕ)). IfSome o (IsKeptPosts images new.log)) told (k.running none).kept in
+      record {
+        first = board_of reads calls faults old;
+        last = board_of reads calls faults new;
+        new = k.fresh;
+        searches = k.searches;
+        sound = sound_of k;
+        journal =
+            subst (λ (j : Problem). IsJournalOf JOURNAL_MAX j new.log.history new.log.used file) (instance_of k)
+            (subst (λ (n : ℕ). IsJournalOf n new.log.instance new.log.history new.log.used file) (limit_of k) kept.journal);
+      }
+
+-- a finished search leaves no cheaper rota
+unbeaten : {i : Problem} {budget : ℕ} {file : List ℕ} (d : Demonstration i budget Finished file) → IsUnbeaten i (book_at d.last).cost
+unbeaten {i} d = λ rota legal. finished_best i (book_at d.last) rota d.sound d.searches.ends.1 legal
+
+-- the line was written
+pub shown_ends : (met : DemoMet) (end : RunEnd) → is_reported end ≡ true → IsShown met end → OverMemory met (status_at end)
+shown_ends met Finished some shown = (shown, unbeaten shown.demo)
+shown_ends met Spent some shown = shown
+shown_ends met (FullEnd most limit) some shown = shown
+shown_ends met DiskEnd some shown = absurd (false≢true some)
+shown_ends met MemoryEnd some shown = absurd (false≢true some)
