@@ -1,6 +1,6 @@
 ghost use Rattle.std.specs.Prelude.{◌≡◌, IfOk, length};
 
-use crate::{Ask, Greedy};
+use crate::{Adviser, Ask, Fixed, Greedy, Told};
 use break_rules::{Breaks, Rule};
 use head_splits::{Class, Cut, Cuts, Side};
 use shift_instance::{Instance, Parts, TypeParts};
@@ -78,5 +78,32 @@ fn each_instance_has_its_plan(rt: HostRuntime) -> Result<(), Fail> {
     assert!(rt; adviser.advise(&cheap, &asked)?.plan.is_some());
     assert!(rt; adviser.advise(&cheap, &asked)?.plan.is_some());
     assert!(rt; adviser.advise(&dear, &asked)?.plan.is_none());
+    Ok(())
+}
+
+/// The scale that an adviser advises through a box, after it was told something.
+fn boxed_scale(
+    alloc: Global,
+    instance: &Instance,
+    mut adviser: Box<dyn Adviser + Send>,
+) -> Result<u16, Fail> {
+    adviser.learn(&Told {
+        node: 0,
+        floor: 0,
+        best: 8,
+    });
+    let advice = adviser.advise(instance, &ask(alloc, 0)?)?;
+    Ok(advice.prices.q)
+}
+
+// Each adviser is asked and told through a box.
+#[test]
+fn boxed_advisers_advise(rt: HostRuntime) -> Result<(), Fail> {
+    let alloc = rt.alloc();
+    let instance = Instance::new(alloc, morning(alloc, 3)?)?;
+    let greedy = Box::new(alloc, Greedy::new(alloc))?;
+    assert_eq!(rt; boxed_scale(alloc, &instance, greedy)?, 1);
+    let fixed = Box::new(alloc, Fixed::new(alloc, 7, Vec::new(alloc)))?;
+    assert_eq!(rt; boxed_scale(alloc, &instance, fixed)?, 7);
     Ok(())
 }
