@@ -3,11 +3,16 @@
 
 mod advice;
 mod adviser;
+mod bonuses;
+mod choosing;
 mod fixed;
 mod forced;
 mod greedy_adviser;
 mod heard;
 mod kept;
+mod rounds;
+mod stepping;
+mod subgradient;
 #[cfg(test)]
 mod tests;
 
@@ -15,3 +20,4 @@ pub use advice::{Advice, Ask};
 pub use adviser::{Adviser, Told};
 pub use fixed::Fixed;
 pub use greedy_adviser::Greedy;
+pub use subgradient::Subgradient;
