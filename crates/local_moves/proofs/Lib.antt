@@ -1,0 +1,13 @@
+pub mod RowOrder
+pub mod RowPlaces
+pub mod OwnRows
+pub mod Taking
+pub mod DraftFacts
+pub mod DraftCosts
+pub mod Balance
+pub mod Undone
+pub mod Applied
+pub mod CountedRows
+pub mod ShiftDuties
+pub mod Exchanges
+pub mod Reshifts

@@ -1,0 +1,6 @@
+use Rattle.std.proofs.Common.{◌≡◌, ◌==◌, filter, take}
+use Rattle.shift_instance.specs.Rota.{rota_of}
+use Rattle.local_moves.proofs.reshifting.duties_with.Given as goal
+
+abbrev pub invariant-loop-row : goal.invariant-loop-row
+invariant-loop-row l = l.duties.items ≡ filter (λ d. d.shift == l.shift) (rota_of (take l.row-index l.rows))

@@ -1,0 +1,6 @@
+use Rattle.std.proofs.Common.{◌≡◌, map, take}
+use Rattle.local_moves.specs.Moves.{reshifted}
+use Rattle.local_moves.proofs.reshifting.gone_over.Given as goal
+
+abbrev pub invariant-loop-duty : goal.invariant-loop-duty
+invariant-loop-duty l = l.made.items ≡ map (reshifted l.instance l.from l.to) (take l.duty-index l.duties)

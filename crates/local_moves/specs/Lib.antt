@@ -1,0 +1,5 @@
+pub mod Places
+pub mod Drafting
+pub mod Moves
+pub mod FaultText
+pub mod Changes

@@ -1,0 +1,283 @@
+//! Moves on plans that were worked out by hand, and many moves against the recount.
+ghost use Rattle.std.specs.Prelude.{◌≡◌, IfOk, OnOk};
+
+use crate::{Draft, Move, MoveFault};
+use break_rules::{Break, Breaks, NoMemory, Rule, Totals};
+use rota_cost::{cost_rows, recount};
+use shift_instance::{Instance, Parts, Row, Rows, TypeParts};
+use std::alloc::{AllocError, Global};
+use std::test::Fail;
+
+/// A type with shifts of 8 hours and more from 8 o'clock on, with one break of an hour after 2 to 5 hours.
+fn kind(alloc: Global, name: &str, start_max: u16, len_max: u16) -> Result<TypeParts, Fail> {
+    let mut rule = Rule::plain(alloc)?;
+    rule.lead = 2;
+    rule.tail = 2;
+    rule.work_min = 2;
+    rule.work_max = 5;
+    rule.long_work = 5;
+    rule.size_max = 1;
+    rule.totals = Totals::new(Vec::from_slice(alloc, &[(8, 1)])?);
+    Ok(TypeParts {
+        name: String::from_str(alloc, name)?,
+        start_min: 8,
+        start_max,
+        len_min: 8,
+        len_max,
+        rule,
+    })
+}
+
+/// One day of hours with shifts of these types. Two employees are needed from 8 to 16 o'clock, but one from 11 to 13.
+/// A shift has at most two duties on a day. Excess costs 1, shortage 2 and a shift 3.
+fn day(alloc: Global, types: Vec<TypeParts>) -> Result<Instance, Fail> {
+    let mut need = vec![in alloc; 0u32; 24]?;
+    for t in 8..16usize {
+        if let Some(wanted) = need.get_mut(t) {
+            *wanted = if t == 11 || t == 12 { 1 } else { 2 };
+        }
+    }
+    let parts = Parts {
+        slot_minutes: 60,
+        days: 1,
+        need,
+        max_heads: 2,
+        excess: 1,
+        shortage: 2,
+        shift: 3,
+        types,
+    };
+    Ok(Instance::new(alloc, parts)?)
+}
+
+/// A break of one hour.
+fn pause(alloc: Global, start: u16) -> Result<Breaks, Fail> {
+    Ok(Breaks::new(vec![in alloc; Break { start, len: 1 }]?))
+}
+
+/// One duty of the first shift for each start of a break, in rising order.
+fn draft_of(alloc: Global, instance: &Instance, starts: &[u16]) -> Result<Draft, Fail>
+    ensures { IfOk result (λ d. d.instance ≡ instance.now) }
+{
+    let mut rows = Vec::new(alloc);
+    for start in starts {
+        rows.push(Row {
+            shift: 0,
+            day: 0,
+            breaks: pause(alloc, *start)?,
+            count: 1,
+        })?;
+    }
+    let costed = cost_rows(instance, Rows::new(rows)).ok().ok_or("refused")?;
+    Ok(Draft::new(alloc, instance, costed.into_rows())?)
+}
+
+/// What a plan costs with a move and, once that is undone, without it; the refusal where there is one.
+fn there_and_back(
+    instance: &Instance,
+    draft: &mut Draft,
+    step: &Move,
+) -> Result<(u64, u64), MoveFault>
+    requires { draft.old.instance ≡ instance.now }
+    ensures { draft.new.instance ≡ draft.old.instance }
+{
+    let _before = draft.cost();
+    let done = draft.apply(instance, step)?;
+    let there = draft.cost();
+    match draft.undo(instance, done) {
+        Ok(()) => Ok((there, draft.cost())),
+        Err(_) => Err(MoveFault::NoMemory),
+    }
+}
+
+/// Other breaks for a duty of the first shift.
+fn rebreak(alloc: Global, from: u16, to: u16) -> Result<Move, Fail> {
+    Ok(Move::Rebreak {
+        shift: 0,
+        day: 0,
+        from: pause(alloc, from)?,
+        to: pause(alloc, to)?,
+    })
+}
+
+// With breaks at the third and the fourth hour one employee too few works in the third and one too many in the fifth.
+#[test]
+fn other_breaks_lower_the_cost(rt: HostRuntime) -> Result<(), Fail> {
+    let alloc = rt.alloc();
+    let instance = day(alloc, vec![in alloc; kind(alloc, "M", 8, 8)?]?)?;
+    let mut draft = draft_of(alloc, &instance, &[2, 3])?;
+    assert_eq!(rt; draft.cost(), 6);
+    let step = rebreak(alloc, 2, 4)?;
+    assert_eq!(rt; there_and_back(&instance, &mut draft, &step), Ok((3, 6)));
+    let absent = rebreak(alloc, 5, 4)?;
+    assert_eq!(rt;
+        there_and_back(&instance, &mut draft, &absent),
+        Err(MoveFault::Absent)
+    );
+    let third = Move::Add {
+        shift: 0,
+        day: 0,
+        breaks: pause(alloc, 4)?,
+    };
+    let heads = MoveFault::HeadsOver { heads: 3 };
+    assert_eq!(rt; there_and_back(&instance, &mut draft, &third), Err(heads));
+    assert_eq!(rt; format!(in alloc; "{heads}")?.as_str(), "5 3");
+    Ok(())
+}
+
+/// A shift with a type of its own, and two starts and two lengths of one type: the shifts 0 to 3 by start and then by
+/// length, and shift 4.
+fn five_shifts(alloc: Global) -> Result<Instance, Fail> {
+    let mut types = vec![in alloc; kind(alloc, "M", 9, 9)?]?;
+    types.push(kind(alloc, "N", 8, 8)?)?;
+    day(alloc, types)
+}
+
+/// Breaks that aren't legal for a duty that isn't there.
+fn bad(alloc: Global, shift: u16, day: u8) -> Result<Move, Fail> {
+    Ok(Move::Rebreak {
+        shift,
+        day,
+        from: pause(alloc, 5)?,
+        to: pause(alloc, 1)?,
+    })
+}
+
+// Each refusal where a later one would be due, too, as far as there is such a move.
+#[test]
+fn the_first_cause_is_answered(rt: HostRuntime) -> Result<(), Fail> {
+    let alloc = rt.alloc();
+    let instance = five_shifts(alloc)?;
+    let mut draft = draft_of(alloc, &instance, &[2, 3])?;
+    let gone = Move::Drop {
+        shift: 0,
+        day: 0,
+        breaks: pause(alloc, 5)?,
+    };
+    let wanted = [
+        (bad(alloc, 5, 1)?, MoveFault::UnknownShift),
+        (bad(alloc, 0, 1)?, MoveFault::Day),
+        (bad(alloc, 0, 0)?, MoveFault::Breaks),
+        (gone, MoveFault::Absent),
+        (Move::Reshift { from: 4, to: 5 }, MoveFault::UnknownShift),
+        (Move::Reshift { from: 4, to: 0 }, MoveFault::OtherKind),
+        (Move::Reshift { from: 1, to: 2 }, MoveFault::NotNear),
+        (Move::Reshift { from: 1, to: 1 }, MoveFault::NotNear),
+        (Move::Reshift { from: 1, to: 0 }, MoveFault::Absent),
+    ];
+    for (step, fault) in &wanted {
+        assert_eq!(rt; there_and_back(&instance, &mut draft, step), Err(*fault));
+    }
+    // The breaks stay where the lengths are equal; they are the least where not.
+    let later = Move::Reshift { from: 0, to: 2 };
+    assert_eq!(rt; there_and_back(&instance, &mut draft, &later), Ok((9, 6)));
+    let longer = Move::Reshift { from: 0, to: 1 };
+    assert_eq!(rt; there_and_back(&instance, &mut draft, &longer), Ok((8, 6)));
+    Ok(())
+}
+
+// A shift of 8 hours has no legal break list where there are 4 hours before and after a break.
+#[test]
+fn a_shift_without_breaks_takes_no_duties(rt: HostRuntime) -> Result<(), Fail> {
+    let alloc = rt.alloc();
+    let mut late = kind(alloc, "M", 8, 9)?;
+    late.rule.lead = 4;
+    late.rule.tail = 4;
+    let instance = day(alloc, vec![in alloc; late]?)?;
+    let rows = Rows::new(Vec::new(alloc));
+    let costed = cost_rows(&instance, rows).ok().ok_or("refused")?;
+    let mut draft = Draft::new(alloc, &instance, costed.into_rows())?;
+    let step = Move::Add {
+        shift: 1,
+        day: 0,
+        breaks: pause(alloc, 4)?,
+    };
+    let _done = draft.apply(&instance, &step)?;
+    let shorter = Move::Reshift { from: 1, to: 0 };
+    assert_eq!(rt;
+        there_and_back(&instance, &mut draft, &shorter),
+        Err(MoveFault::Breaks)
+    );
+    Ok(())
+}
+
+/// The next number of a simple generator.
+fn drawn(seed: u32) -> u32 {
+    seed.wrapping_mul(1664525).wrapping_add(1013904223)
+}
+
+/// A move on the shifts 0 to 4, which may well be refused.
+fn some_move(alloc: Global, draw: u32) -> Result<Move, Fail> {
+    let shift = (draw >> 16) as u16 % 5;
+    let other = (draw >> 24) as u16 % 5;
+    let breaks = pause(alloc, 2 + (draw >> 20) as u16 % 4)?;
+    match draw >> 30 {
+        0 => Ok(Move::Drop {
+            shift,
+            day: 0,
+            breaks,
+        }),
+        1 => Ok(Move::Rebreak {
+            shift,
+            day: 0,
+            from: breaks,
+            to: pause(alloc, 2 + (draw >> 26) as u16 % 4)?,
+        }),
+        2 => Ok(Move::Reshift {
+            from: shift,
+            to: other,
+        }),
+        _ => Ok(Move::Add {
+            shift,
+            day: 0,
+            breaks,
+        }),
+    }
+}
+
+/// Applies a move, and undoes it where `keep` is false. Gives whether the cost is the recount each time, or `None` where the
+/// move is refused.
+fn is_recounted(
+    instance: &Instance,
+    draft: &mut Draft,
+    step: &Move,
+    keep: bool,
+) -> Result<Option<bool>, NoMemory>
+    requires { draft.old.instance ≡ instance.now }
+    ensures { draft.new.instance ≡ draft.old.instance }
+{
+    let _before = draft.cost();
+    let done = match draft.apply(instance, step) {
+        Ok(done) => done,
+        Err(_) => return Ok(None),
+    };
+    let there = draft.cost() == recount(instance, draft.rows());
+    if keep {
+        return Ok(Some(there));
+    }
+    match draft.undo(instance, done) {
+        Ok(()) => Ok(Some(there && draft.cost() == recount(instance, draft.rows()))),
+        Err(_) => Err(AllocError),
+    }
+}
+
+// Of ten thousand moves those that aren't refused leave the cost at the recount, and those that are undone do so, too.
+#[test]
+fn many_moves_cost_the_recount(rt: HostRuntime) -> Result<(), Fail> {
+    let alloc = rt.alloc();
+    let instance = five_shifts(alloc)?;
+    let mut draft = draft_of(alloc, &instance, &[2, 3])?;
+    let mut seed = 1;
+    let mut made = 0u32;
+    for round in 0..10000u32 {
+        seed = drawn(seed);
+        let step = some_move(alloc, seed)?;
+        let answer = is_recounted(&instance, &mut draft, &step, round % 3 != 0)?;
+        assert!(rt; answer != Some(false), "at {round}");
+        if answer.is_some() {
+            made += 1;
+        }
+    }
+    assert!(rt; 1000 < made);
+    Ok(())
+}
