@@ -1,7 +1,7 @@
 //! Moves on plans that were worked out by hand, and many moves against the recount.
 ghost use Rattle.std.specs.Prelude.{◌≡◌, IfOk, OnOk};
 
-use crate::{Draft, Move, MoveFault};
+use crate::{Draft, Move, MoveFault, best_duty, descended};
 use break_rules::{Break, Breaks, NoMemory, Rule, Totals};
 use rota_cost::{cost_rows, recount};
 use shift_instance::{Instance, Parts, Row, Rows, TypeParts};
@@ -198,6 +198,40 @@ fn a_shift_without_breaks_takes_no_duties(rt: HostRuntime) -> Result<(), Fail> {
         there_and_back(&instance, &mut draft, &shorter),
         Err(MoveFault::Breaks)
     );
+    assert!(rt; instance.shifts().len() == 2 && instance.days() == 1);
+    assert!(rt; best_duty(&instance, &draft, 0, 0)?.is_none());
+    Ok(())
+}
+
+// The best break of a third duty lies in one of the two hours that need one employee.
+#[test]
+fn the_best_duty_costs_least(rt: HostRuntime) -> Result<(), Fail> {
+    let alloc = rt.alloc();
+    let instance = five_shifts(alloc)?;
+    let draft = draft_of(alloc, &instance, &[2])?;
+    assert!(rt; instance.shifts().len() == 5 && instance.days() == 1);
+    assert_eq!(rt; draft.cost(), 2 * 7 + 3);
+    let (list, cost) = best_duty(&instance, &draft, 0, 0)?.ok_or("no list")?;
+    assert!(rt; list.as_slice() == [Break { start: 3, len: 1 }].as_slice());
+    assert_eq!(rt; cost, 6);
+    assert_eq!(rt; draft.duties_of(&instance, 0), 1);
+    assert_eq!(rt; draft.heads_on(&instance, 0, 0), 1);
+    assert_eq!(rt; draft.working(11), 1);
+    Ok(())
+}
+
+// One move leads from both breaks in the first hours to the plan in which each lies where one employee is enough.
+#[test]
+fn descent_ends_where_no_move_is_left(rt: HostRuntime) -> Result<(), Fail> {
+    let alloc = rt.alloc();
+    let instance = day(alloc, vec![in alloc; kind(alloc, "M", 8, 8)?]?)?;
+    let draft = draft_of(alloc, &instance, &[2, 3])?;
+    let costed = cost_rows(&instance, draft.into_rows())
+        .ok()
+        .ok_or("refused")?;
+    let rows = descended(alloc, &instance, costed.into_rows(), 5)?;
+    let costed = cost_rows(&instance, rows).ok().ok_or("refused")?;
+    assert_eq!(rt; costed.cost(), 3);
     Ok(())
 }
 
