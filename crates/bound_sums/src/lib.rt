@@ -2,10 +2,10 @@
 //! values of the shifts' duties, which whoever bounds finds in a way of its own.
 #![tactic(auto)]
 
+mod bounds;
 mod prices;
 mod terms;
 mod totals;
 
+pub use bounds::{DayValues, bound_by};
 pub use prices::{is_cut_price, is_slot_price, signed_price};
-pub use terms::term;
-pub use totals::bound;

@@ -74,7 +74,7 @@ fn term_of(paid: u64, is_forced: bool, ranged: i128, free: i128) -> i128
 }
 
 /// The term of a shift with a legal list, by the values of its days: the greatest reduced values of its duties on each.
-pub fn term(
+pub(crate) fn term(
     alloc: Global,
     instance: &Instance,
     cuts: &Cuts,

@@ -99,7 +99,7 @@ fn rounded(q: u16, total: i128) -> u64
 }
 
 /// The bound of a price set, by the sum of the terms of all shifts.
-pub fn bound(instance: &Instance, cuts: &Cuts, prices: &Prices, terms: i128) -> u64
+pub(crate) fn bound_of(instance: &Instance, cuts: &Cuts, prices: &Prices, terms: i128) -> u64
     requires valid { IsValid instance.now }
     requires few { length cuts.now ≤ 2 ^ 33 }
     requires passes { IsTrue (are_prices instance.now cuts.now prices.now) }

@@ -8,9 +8,9 @@ ghost use Rattle.break_rules.specs.Live.{place_of};
 ghost use Rattle.break_graph.specs.Graph.{IsGraph};
 ghost use Rattle.break_graph.specs.Building.{AreMarked, number_at, AreBelow, LeadBelow, edge_to, edges_by, IsNodeOf};
 
-use crate::places::{is_marked, marked_places, place, spot_at};
+use crate::places::{is_marked, marked_places};
 use crate::{Edge, Edges, Graph, Node};
-use break_rules::{Break, NoMemory, Rule, Spot, after, ends, nexts};
+use break_rules::{Break, NoMemory, Rule, Spot, after, ends, nexts, place, spot_at};
 use std::alloc::Global;
 
 /// The number of the node of a place, if it has one.

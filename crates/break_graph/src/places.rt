@@ -7,29 +7,8 @@ ghost use Rattle.break_rules.specs.Walk.{spot_of, is_walk};
 ghost use Rattle.break_rules.specs.Live.{place_of};
 ghost use Rattle.break_graph.specs.Building.{IsMarked, AreMarked};
 
-use break_rules::{NoMemory, Rule, Spot, after, nexts};
+use break_rules::{NoMemory, Rule, Spot, after, nexts, place, spot_at};
 use std::alloc::Global;
-
-/// The place of a spot in a table: those of later offsets first, 256 to an offset.
-pub fn place(len: u16, spot: Spot) -> usize
-    ensures { result ≡ place_of len spot }
-{
-    let slots_left = usize::from(len.saturating_sub(spot.offset));
-    slots_left * 256 + usize::from(spot.used) * 4 + usize::from(spot.lunches)
-}
-
-/// The spot that has a place in a table.
-pub fn spot_at(len: u16, place: usize) -> Spot
-    requires { place < 256 * (len + 1) }
-    ensures place { place_of len result ≡ place }
-    ensures spot { (spot : Spot) → spot.offset ≤ len → spot.used < 64 → spot.lunches < 4 → place_of len spot ≡ place → result ≡ spot }
-{
-    Spot {
-        offset: len - (place / 256) as u16,
-        used: (place / 4 % 64) as u16,
-        lunches: (place % 4) as u8,
-    }
-}
 
 /// Whether a place is marked.
 pub fn is_marked(table: &[bool], place: usize) -> bool

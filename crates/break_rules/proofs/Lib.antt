@@ -6,6 +6,7 @@ pub mod Lists
 pub mod Once
 pub mod Ordered
 pub mod Sums
+pub mod Sizes
 pub mod Plain
 pub mod Ranges
 pub mod Walk
@@ -16,3 +17,4 @@ pub mod Reaching
 pub mod FirstList
 pub mod NextLaws
 pub mod AllLegal
+pub mod Lesser

@@ -1,5 +1,6 @@
 pub mod Breaks
 pub mod Sums
+pub mod Bonuses
 pub mod Causes
 pub mod RuleFaults
 pub mod Plain

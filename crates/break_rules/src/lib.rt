@@ -7,6 +7,8 @@ mod judging;
 pub mod laws;
 mod legality;
 mod living;
+mod order;
+mod places;
 mod walking;
 
 ghost use Rattle.std.specs.Prelude.{◌≡◌, ℕ, ◌≤◌, [], ◌∷◌, length, OnOk, IfOk, IsOk, IsTrue, ◌↔◌, MatchResult, Some, None};
@@ -19,6 +21,8 @@ ghost use Rattle.break_rules.specs.Walk.{spot_of};
 
 pub use legality::legal;
 pub use living::{LiveSpots, least, live};
+pub use order::is_less_list;
+pub use places::{place, spot_at};
 use std::alloc::{AllocError, Global};
 use std::error::Error;
 use std::fmt;

@@ -8,6 +8,7 @@ ghost use Rattle.break_rules.specs.Walk.{nexts_of, spot_of, is_walk};
 ghost use Rattle.break_rules.specs.Live.{place_of, AreKnown, AreLive, IsLeastLegal};
 
 use crate::legality::{follows, total};
+use crate::places::{place, spot_at};
 use crate::walking::{after, ends, nexts};
 use crate::{Break, Breaks, NoMemory, Rule, Spot};
 use std::alloc::Global;
@@ -32,27 +33,6 @@ impl Model for LiveSpots {
     ghost view = { λ s. record { rule = s.rule.value; len = s.len } };
 
     ghost invariant = { λ s. IsRule s.rule.value × AreLive s.rule.value s.len s.table.items };
-}
-
-/// The place of a spot in the table.
-fn place(len: u16, spot: Spot) -> usize
-    ensures { result ≡ place_of len spot }
-{
-    let slots_left = usize::from(len.saturating_sub(spot.offset));
-    slots_left * 256 + usize::from(spot.used) * 4 + usize::from(spot.lunches)
-}
-
-/// The spot that has a place in the table.
-fn spot_at(len: u16, place: usize) -> Spot
-    requires { place < 256 * (len + 1) }
-    ensures place { place_of len result ≡ place }
-    ensures spot { (spot : Spot) → spot.offset ≤ len → spot.used < 64 → spot.lunches < 4 → place_of len spot ≡ place → result ≡ spot }
-{
-    Spot {
-        offset: len - (place / 256) as u16,
-        used: (place / 4 % 64) as u16,
-        lunches: (place % 4) as u8,
-    }
 }
 
 /// What a table says of a spot.

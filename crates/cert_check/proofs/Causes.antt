@@ -8,7 +8,7 @@ use Rattle.shift_instance.specs.Problem.{Problem}
 use Rattle.shift_instance.specs.Rota.{cost, rota_of, are_legal_rows}
 use Rattle.shift_instance.proofs.Shifts.{is_some_and_at}
 use Rattle.rota_cost.specs.declared.RowFault.{RowFault}
-use Rattle.rota_cost.specs.RowFaults.{row_fault}
+use Rattle.rota_cost.specs.RowFaults.{row_fault, row_of}
 use Rattle.rota_cost.proofs.RowLaw.{legal_from_none, none_from_legal}
 use Rattle.head_splits.specs.declared.Class.{Class}
 use Rattle.head_splits.specs.declared.Cut.{Cut}
@@ -22,7 +22,7 @@ use Rattle.certificate.specs.declared.proof_lines.Line.TheVariants.{Split, Price
 use Rattle.certificate.specs.Accepted.{is_split, node_line, node_of, nodes_after, nodes_of, least_floor, is_plan, is_accepted}
 use Rattle.cert_check.specs.declared.judged.Refused.{Refused}
 use Rattle.cert_check.specs.declared.judged.Refused.TheVariants.{BadSplit, BadPrice, NotSettled, BoundTooHigh, BadPlan, WrongCost, NoMemory}
-use Rattle.cert_check.specs.Judged.{bad_line, line_cause, row_of, bound_cause, cost_cause, plan_cause, cause_of, IsRefused, IsFirstBad}
+use Rattle.cert_check.specs.Judged.{bad_line, line_cause, bound_cause, cost_cause, plan_cause, cause_of, IsRefused, IsFirstBad}
 
 -- ---- one line
 

@@ -10,7 +10,8 @@ use Rattle.break_rules.proofs.Lists.{Has-append_cases, Has-append_left, Has-appe
 use Rattle.break_rules.proofs.LegalLists.{live_rest, no_longer_list}
 use Rattle.break_rules.proofs.Reaching.{rest_first}
 use Rattle.break_graph.specs.Graph.{live_nexts}
-use Rattle.cert_check.specs.Rests.{Completes, Through, IsGreatest, IsGreatestOf, greater_of}
+use Rattle.price_sums.specs.Along.{Completes}
+use Rattle.cert_check.specs.Rests.{Through, IsGreatest, IsGreatestOf, greater_of}
 
 max_cases : (x y : ℤ) → ((int_max x y ≡ x) × (y ≤ℤ x)) ⊎ ((int_max x y ≡ y) × (x ≤ℤ y))
 max_cases x y = grind (arith, ints, clamps)

@@ -1,5 +1,3 @@
-pub mod Stretches
-pub mod Prices
 pub mod Greatest
 pub mod Values
 pub mod Whole

@@ -13,7 +13,8 @@ use Rattle.shift_instance.specs.Rota.{cost, rota_of, is_legal_rota, are_legal_ro
 use Rattle.head_splits.specs.declared.Cut.{Cut}
 use Rattle.break_rules.specs.declared.Break.{Break}
 use Rattle.head_splits.specs.Cuts.{low, high, meets}
-use Rattle.head_splits.specs.Settled.{settled_rows, settled_plan, is_settled, all_duties, class_of, row_of}
+use Rattle.head_splits.specs.Settled.{settled_rows, settled_plan, is_settled, class_of}
+use Rattle.shift_instance.specs.AllDuties.{all_duties, row_of}
 use Rattle.head_splits.specs.Nodes.{settled_floor}
 use Rattle.head_splits.specs.Below.{IsWalked, IsClear, duties_below, is_open}
 use Rattle.head_splits.proofs.Walked.{more_walked, stop_walked, whole_walked, duty}

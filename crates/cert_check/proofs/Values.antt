@@ -17,8 +17,10 @@ use Rattle.break_rules.proofs.Steps.{bounds, from_next}
 use Rattle.break_graph.specs.declared.Edge.{Edge}
 use Rattle.break_graph.specs.declared.Node.{Node}
 use Rattle.break_graph.specs.Graph.{StandsAt, IsGraph, node_at, live_nexts}
-use Rattle.cert_check.specs.Rests.{sum_at, price_in, AreSums, resumes, earned_from, rest_worth, Completes, Through, IsGreatest, IsGreatestOf, greater_of}
-use Rattle.cert_check.proofs.Stretches.{earned_more, earned_end, earned_small, spaced_rest, resumes_behind, abs_sub}
+use Rattle.price_sums.specs.Along.{sum_at, price_in, AreSums, resumes, earned_from, Completes}
+use Rattle.cert_check.specs.Rests.{rest_worth, Through, IsGreatest, IsGreatestOf, greater_of}
+use Rattle.price_sums.proofs.Stretches.{earned_more, earned_end, earned_small, spaced_rest, resumes_behind}
+use Rattle.break_rules.proofs.Sizes.{abs_sub}
 use Rattle.cert_check.proofs.Greatest.{longer, greatest_more}
 
 -- what a rest earns is small

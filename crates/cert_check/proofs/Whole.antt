@@ -13,9 +13,11 @@ use Rattle.break_rules.proofs.Sums.{int_sum_by-same, int_sum_by_zero}
 use Rattle.break_rules.proofs.LegalLists.{same_break_decides, no_longer_list}
 use Rattle.head_splits.specs.declared.Cut.{Cut}
 use Rattle.head_splits.specs.Bound.{is_nil, bonus, signed_price}
-use Rattle.cert_check.specs.Rests.{rest_worth, AreSums, Completes, Through, IsGreatest, IsGreatestOf, greater_of}
+use Rattle.price_sums.specs.Along.{AreSums, Completes}
+use Rattle.cert_check.specs.Rests.{rest_worth, Through, IsGreatest, IsGreatestOf, greater_of}
 use Rattle.cert_check.specs.Below.{duty_with, bonuses, whole_worth, is_further, goes_further}
-use Rattle.bound_sums.proofs.Sizes.{abs_add, sum_size}
+use Rattle.break_rules.proofs.Sizes.{abs_add}
+use Rattle.bound_sums.proofs.Sizes.{sum_size}
 use Rattle.cert_check.proofs.Greatest.{greatest_more}
 use Rattle.cert_check.proofs.Values.{before_of, worth_more, rest_small}
 use Rattle.bound_sums.proofs.Priced.{signed_small}

@@ -4,9 +4,7 @@ use Rattle.std.specs.Option.{option_map, option_map_or, option_and_then, option_
 use Rattle.shift_instance.specs.declared.Row.{Row}
 use Rattle.shift_instance.specs.Problem.{Problem}
 use Rattle.shift_instance.specs.Rota.{cost, rota_of}
-use Rattle.rota_cost.specs.declared.RowFault.{RowFault}
-use Rattle.rota_cost.specs.declared.RowFault.TheVariants.{UnknownShift, Day, Breaks, ZeroCount, HeadsOver, NotSorted}
-use Rattle.rota_cost.specs.RowFaults.{row_fault}
+use Rattle.rota_cost.specs.RowFaults.{row_fault, row_of}
 use Rattle.head_splits.specs.Nodes.{Node, new_node}
 use Rattle.certificate.specs.declared.Cert.{Cert}
 use Rattle.certificate.specs.declared.proof_lines.Line.{Line}
@@ -31,15 +29,6 @@ line_cause i nodes number (line ∷ lines) =
 abbrev pub bound_cause : Problem → List Line → ℕ → Option Refused
 bound_cause i lines bound =
     option_and_then (λ nodes. if nat_le bound (least_floor nodes) then None else Some (BoundTooHigh bound (least_floor nodes))) (nodes_of i lines)
-
--- the row of a fault
-abbrev pub row_of : RowFault → ℕ
-row_of (UnknownShift row) = row
-row_of (Day row) = row
-row_of (Breaks row) = row
-row_of (ZeroCount row) = row
-row_of (HeadsOver row) = row
-row_of (NotSorted row) = row
 
 -- another cost than the one that is claimed
 abbrev pub cost_cause : ℕ → ℕ → Option Refused

@@ -6,15 +6,15 @@ ghost use Rattle.break_rules.specs.declared.Break.{Break};
 ghost use Rattle.break_rules.specs.Ranges.{IsRule};
 ghost use Rattle.break_graph.specs.Graph.{IsGraph, StandsAt};
 ghost use Rattle.head_splits.specs.Bound.{bonus, signed_price};
-ghost use Rattle.cert_check.specs.Rests.{AreSums, AreValues, Completes, IsGreatest, greater_of};
+ghost use Rattle.price_sums.specs.Along.{AreSums, Completes};
+ghost use Rattle.cert_check.specs.Rests.{AreValues, IsGreatest, greater_of};
 ghost use Rattle.cert_check.specs.Below.{bonuses, duty_with, goes_further, is_further, whole_worth};
 
-use crate::rests::resumption;
-use crate::sums::{number_at, stretch};
 use bound_sums::signed_price;
 use break_graph::Node;
 use break_rules::{Break, NoMemory, Rule};
 use head_splits::Cut;
+use price_sums::{resumption, stretch, sum_before};
 use std::alloc::Global;
 
 /// The cuts of a node with their prices, and the shift and day whose duties are looked at.
@@ -150,7 +150,7 @@ pub fn best_below(
     ensures greatest { IfOk result (λ v. IsGreatest (Completes rests.now.rule.now rests.now.len list.now) (whole_worth duties.now.cuts.now duties.now.prices.now duties.now.shift duties.now.day rests.now.sums.items rests.now.rule.now rests.now.len list.now) v) }
     ensures size { IfOk result (λ v. unsigned_abs v ≤ 2 ^ 74) }
 {
-    let alone = earned_and(number_at(&rests.values, k), bonuses(duties, list));
+    let alone = earned_and(sum_before(&rests.values, k), bonuses(duties, list));
     if !goes_further(duties, list) {
         return Ok(alone);
     }

@@ -6,28 +6,14 @@ ghost use Rattle.shift_instance.specs.declared.Duty.{Duty};
 ghost use Rattle.shift_instance.specs.declared.Row.{Row};
 ghost use Rattle.shift_instance.specs.Rota.{are_legal_rows, cost, is_legal_rota, rota_of};
 ghost use Rattle.certificate.specs.Accepted.{is_accepted};
-ghost use Rattle.cert_check.specs.Judged.{cause_of, plan_cause, row_of, IsRefused};
+ghost use Rattle.cert_check.specs.Judged.{cause_of, plan_cause, IsRefused};
 
 use crate::judged::{Accepted, Refused};
 use crate::judging::judge_lines;
 use certificate::Cert;
-use rota_cost::{RowFault, legal_rows, recount};
+use rota_cost::{legal_rows, recount};
 use shift_instance::{Instance, Rows};
 use std::alloc::Global;
-
-/// The row of a fault.
-fn row_of(fault: RowFault) -> u64
-    ensures { result ≡ row_of fault }
-{
-    match fault {
-        RowFault::UnknownShift { row } => row,
-        RowFault::Day { row } => row,
-        RowFault::Breaks { row } => row,
-        RowFault::ZeroCount { row } => row,
-        RowFault::HeadsOver { row } => row,
-        RowFault::NotSorted { row } => row,
-    }
-}
 
 /// The cost of a plan whose rows are legal and cost what is claimed, by the claimed cost and the rows.
 fn judge_rows(instance: &Instance, plan: &(u64, Rows)) -> Result<u64, Refused>
@@ -36,7 +22,7 @@ fn judge_rows(instance: &Instance, plan: &(u64, Rows)) -> Result<u64, Refused>
     let claimed = plan.0;
     let rows = &plan.1;
     if let Err(fault) = legal_rows(instance, rows) {
-        let row = row_of(fault);
+        let row = fault.row();
         return Err(Refused::BadPlan { row });
     }
     let found = recount(instance, rows);

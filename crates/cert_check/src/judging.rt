@@ -8,9 +8,11 @@ ghost use Rattle.certificate.specs.Accepted.{is_split, nodes_after, nodes_of};
 ghost use Rattle.cert_check.specs.Judged.{bad_line, line_cause, IsFirstBad};
 
 use crate::judged::Refused;
+use crate::prices::are_prices;
 use crate::settled::settled_floor;
+use crate::terms::ByWalk;
 use crate::tree::Tree;
-use crate::value::{are_prices, value};
+use bound_sums::bound_by;
 use break_rules::NoMemory;
 use certificate::{Line, Lines};
 use head_splits::{Class, Prices};
@@ -65,7 +67,7 @@ fn price_node(
     if !are_prices(instance, &cuts, prices) {
         return Ok(false);
     }
-    let bound = value(alloc, instance, &cuts, prices)?;
+    let bound = bound_by(alloc, &ByWalk, instance, &cuts, prices)?;
     tree.raise_floor(node, bound);
     Ok(true)
 }

@@ -6,12 +6,11 @@ mod below;
 mod checking;
 mod judged;
 mod judging;
+mod prices;
 mod rests;
 mod settled;
-mod sums;
 mod terms;
 mod tree;
-mod value;
 
 pub use checking::check;
 pub use judged::{Accepted, Refused};

@@ -5,23 +5,13 @@ ghost use Rattle.std.specs.Int.{w64};
 ghost use Rattle.break_rules.specs.declared.Break.{Break};
 ghost use Rattle.break_rules.specs.Ranges.{IsRule};
 ghost use Rattle.break_graph.specs.Graph.{IsGraph, StandsAt};
-ghost use Rattle.cert_check.specs.Rests.{sum_at, resumes, rest_worth, greater_of, AreSums, AreValues, Completes, IsGreatest};
+ghost use Rattle.price_sums.specs.Along.{sum_at, resumes, AreSums, Completes};
+ghost use Rattle.cert_check.specs.Rests.{rest_worth, greater_of, AreValues, IsGreatest};
 
-use crate::sums::{number_at, stretch};
 use break_graph::Node;
-use break_rules::{NoMemory, Rule, Spot};
+use break_rules::{NoMemory, Rule};
+use price_sums::{resumption, stretch, sum_before};
 use std::alloc::Global;
-
-/// The first offset that counts as work behind a spot.
-pub fn resumption(rule: &Rule, spot: Spot) -> usize
-    ensures { result ≡ resumes rule.now spot.offset }
-{
-    if spot.offset == 0 {
-        0
-    } else {
-        usize::from(spot.offset) + usize::from(rule.resettle)
-    }
-}
 
 /// What a rest earns that begins with a break: the stretch of work before the break, and what is earned behind it.
 fn earned_via(sums: &[i64], from: usize, start: usize, behind: i64) -> i64
@@ -55,7 +45,7 @@ fn rest_value(rule: &Rule, len: u16, sums: &[i64], nodes: &[Node], k: usize, val
     let edges = edges.as_slice();
     let mut best = None;
     for edge in edges {
-        let behind = number_at(values, edge.next as usize);
+        let behind = sum_before(values, edge.next as usize);
         let value = earned_via(sums, from, usize::from(edge.stop.start), behind);
         best = Some(greater(best, value));
     }

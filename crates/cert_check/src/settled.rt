@@ -4,7 +4,8 @@ ghost use Rattle.std.specs.Prelude.{◌≡◌, ◌<◌, ◌++◌, ◌∷◌, [],
 ghost use Rattle.shift_instance.specs.Problem.{shift_list};
 ghost use Rattle.head_splits.specs.Below.{IsClear, IsGraphOf, StandsOn, duties_below, shift_duties};
 ghost use Rattle.head_splits.specs.Nodes.{settled_floor};
-ghost use Rattle.head_splits.specs.Settled.{all_duties, class_of, is_settled, settled_rows};
+ghost use Rattle.head_splits.specs.Settled.{class_of, is_settled, settled_rows};
+ghost use Rattle.shift_instance.specs.AllDuties.{all_duties};
 ghost use Rattle.cert_check.specs.Passed.{IsPassed};
 
 use crate::below::longer;

@@ -8,7 +8,8 @@ use Rattle.std.proofs.lemmas.List.{append-nil}
 use Rattle.std.proofs.lemmas.List.Elements.{All-nil, All-cons, All-append, All-weaker}
 use Rattle.certificate.specs.LineText.{Line, line_text, lines_text}
 use Rattle.certificate.specs.Departing.{IsLine}
-use Rattle.certificate.specs.Words.{Words, Reader, later, or_fault, on_line, line_at, next, made, times, cut_at}
+use Rattle.certificate.specs.Words.{Words, later, or_fault, on_line, line_at, next, made, times, cut_at}
+use Rattle.post_codec.specs.Reading.{Reader}
 use Rattle.certificate.proofs.Spelling.{Exact, Lacks, cut_again, cut_takes}
 
 -- ---- results

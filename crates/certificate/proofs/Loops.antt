@@ -6,12 +6,13 @@ use Rattle.std.proofs.lemmas.List.{append-nil}
 use Rattle.std.proofs.lemmas.List.Elements.{All-nil, All-push, All-tail}
 use Rattle.std.proofs.lemmas.Bool.{eqb-true, eqb-false}
 use Rattle.std.proofs.lemmas.List.Splits.{slice_split_at, slice_split_none}
-use Rattle.certificate.specs.declared.fault.Stop.{Stop}
-use Rattle.certificate.specs.declared.fault.Stop.TheVariants.{Memory, Left}
+use Rattle.post_codec.specs.declared.fault.Stop.{Stop}
+use Rattle.post_codec.specs.declared.fault.Stop.TheVariants.{Memory, Left}
 use Rattle.certificate.specs.LineText.{Line, lines_text}
 use Rattle.certificate.specs.Departing.{IsLine, IsNote}
 use Rattle.certificate.specs.Reading.{begins_note, AreNotes, LeaveNotes, AnswersNotes}
-use Rattle.certificate.specs.Words.{Words, Reader, given, later, times, cut_at, each_in, Stops, Misses}
+use Rattle.certificate.specs.Words.{Words, given, later, times, cut_at, each_in, Misses}
+use Rattle.post_codec.specs.Reading.{Reader, Stops}
 use Rattle.certificate.proofs.Spelling.{cut_takes, cut_again, uncut, some_of, same_some}
 use Rattle.certificate.proofs.LineReading.{line_before, text_append, line_lacks, lacks_line}
 

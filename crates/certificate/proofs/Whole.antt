@@ -8,8 +8,8 @@ use Rattle.std.proofs.lemmas.List.Elements.{All-nil, All-cons, All-head, All-tai
 use Rattle.std.proofs.lemmas.List.Sums.{sum_by-append}
 use Rattle.certificate.specs.declared.Cert.{Cert}
 use Rattle.certificate.specs.declared.fault.CertText.TheVariants.{Departs}
-use Rattle.certificate.specs.declared.fault.Stop.{Stop}
-use Rattle.certificate.specs.declared.fault.Stop.TheVariants.{Memory, Left}
+use Rattle.post_codec.specs.declared.fault.Stop.{Stop}
+use Rattle.post_codec.specs.declared.fault.Stop.TheVariants.{Memory, Left}
 use Rattle.certificate.specs.Text.{cert_lines, HasText}
 use Rattle.certificate.specs.LineText.{Line, lines_text}
 use Rattle.certificate.specs.Departing.{IsLine, IsNote, Spells, Begins, IsFaultOf}

@@ -5,11 +5,12 @@ use Rattle.certificate.specs.declared.Cert.{Cert}
 use Rattle.certificate.specs.declared.CertStatus.{CertStatus}
 use Rattle.certificate.specs.declared.CertStatus.TheVariants.{Optimal, Stopped, Bound}
 use Rattle.certificate.specs.declared.proof_lines.Line.{Line as ProofLine}
-use Rattle.certificate.specs.declared.fault.Stop.{Stop}
-use Rattle.certificate.specs.declared.fault.Stop.TheVariants.{Memory, Left}
+use Rattle.post_codec.specs.declared.fault.Stop.{Stop}
+use Rattle.post_codec.specs.declared.fault.Stop.TheVariants.{Memory, Left}
 use Rattle.certificate.specs.LineText.{Line, lines_text}
 use Rattle.certificate.specs.Departing.{IsLine, IsNote}
-use Rattle.certificate.specs.Words.{Words, kept, number_in, word_in, led_by, row_in, line_at, next, made, times, proof_line_in, proof_count_in, Reader}
+use Rattle.certificate.specs.Words.{Words, kept, number_in, word_in, led_by, row_in, line_at, next, made, times, proof_line_in, proof_count_in}
+use Rattle.post_codec.specs.Reading.{Reader}
 
 -- the word of a status
 abbrev pub status_word_in : Words CertStatus

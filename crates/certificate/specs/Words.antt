@@ -8,8 +8,9 @@ use Rattle.break_rules.specs.declared.Break.{Break}
 use Rattle.shift_instance.specs.declared.Row.{Row}
 use Rattle.certificate.specs.declared.proof_lines.Line.{Line as ProofLine}
 use Rattle.certificate.specs.declared.proof_lines.Line.TheVariants.{Split, Priced, Settled}
-use Rattle.certificate.specs.declared.fault.Stop.{Stop}
-use Rattle.certificate.specs.declared.fault.Stop.TheVariants.{Memory, Left}
+use Rattle.post_codec.specs.Reading.{Reader}
+use Rattle.post_codec.specs.declared.fault.Stop.{Stop}
+use Rattle.post_codec.specs.declared.fault.Stop.TheVariants.{Memory, Left}
 
 -- ---- a whole text as a value
 
@@ -166,10 +167,6 @@ proof_count_in line = led_by (codes "proof ") (number_in 4294967295) line
 
 -- ---- lines
 
--- the value at the front and the bytes after it, or the number of bytes from the faulty line to the end
-abbrev pub Reader : Type 0 → Type 0
-Reader A = List ℕ → Result (A × List ℕ) ℕ
-
 -- the next step, where this one met no fault
 abbrev pub later : {A B : Type 0} → Result A ℕ → (A → Result B ℕ) → Result B ℕ
 later (Ok x) f = f x
@@ -218,13 +215,3 @@ Misses left (Left n) read = (n ≡ left) × (read ≡ None)
 abbrev pub Finds : {X Y : Type 0} → (X → Y) → ℕ → Result X Stop → Option Y → Type 0
 Finds view left (Ok x) read = read ≡ Some (view x)
 Finds view left (Err e) read = Misses left e read
-
--- a reason to stop is the fault that was met, or want of memory
-abbrev pub Stops : {Y : Type 0} → Stop → Result Y ℕ → Type 0
-Stops Memory read = Unit {0}
-Stops (Left n) read = read ≡ Err n
-
--- what a function returned, seen by view, is what was to be read, unless memory ran out
-abbrev pub Gives : {X Y : Type 0} → (X → Y) → Result X Stop → Result Y ℕ → Type 0
-Gives view (Ok x) read = read ≡ Ok (view x)
-Gives view (Err e) read = Stops e read

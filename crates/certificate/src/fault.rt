@@ -1,8 +1,4 @@
 //! Why bytes aren't read as a certificate.
-ghost use Rattle.std.specs.Prelude.{◌≡◌};
-ghost use Rattle.certificate.specs.declared.fault.Stop.TheVariants.{Memory};
-
-use std::alloc::{AllocError, AllocFailed};
 use std::error::Error;
 use std::fmt;
 
@@ -32,28 +28,3 @@ impl fmt::Display for CertText {
 }
 
 impl Error for CertText {}
-
-/// Why a line isn't read.
-#[derive(Debug, Drop)]
-pub(crate) enum Stop {
-    /// No memory was left.
-    Memory,
-    /// The fault is in the line that begins where that many bytes are left.
-    Left(usize),
-}
-
-impl From<AllocError> for Stop {
-    ghost from_gives = { λ _ e. e ≡ Memory };
-
-    fn from(_e: AllocError) -> Stop {
-        Stop::Memory
-    }
-}
-
-impl<T: Drop> From<AllocFailed<T>> for Stop {
-    ghost from_gives = { λ _ e. e ≡ Memory };
-
-    fn from(_e: AllocFailed<T>) -> Stop {
-        Stop::Memory
-    }
-}

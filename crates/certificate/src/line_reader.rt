@@ -1,13 +1,14 @@
 //! Proof lines, read one after another from their text.
 ghost use Rattle.std.specs.Prelude.{◌≡◌, length, IfOk, OnErr};
 ghost use Rattle.certificate.specs.KeptLines.{lines_in, AreLines, Reads};
-ghost use Rattle.certificate.specs.Words.{any_line_in, line_at, Gives};
+ghost use Rattle.certificate.specs.Words.{any_line_in, line_at};
+ghost use Rattle.post_codec.specs.Reading.{Gives};
 
-use crate::fault::Stop;
 use crate::proof_lines::Line;
 use crate::proof_words::any_line_of;
 use crate::words::sides;
 use break_rules::NoMemory;
+use post_codec::Stop;
 use std::alloc::{AllocError, Global};
 use std::marker::Model;
 

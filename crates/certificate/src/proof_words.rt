@@ -2,10 +2,10 @@
 ghost use Rattle.std.specs.Prelude.{◌≡◌, ◌<◌, ◌≤◌, ◌-◌, ◌^◌, pos, nat_lt, codes, option_map};
 ghost use Rattle.certificate.specs.Words.{Finds, kept, led_by, led_or, parts_in, number_in, minus, slot_price_in, slots_in, cuts_in, split_in, priced_in, settled_in, any_line_in, has_slot, proof_line_in, proof_count_in};
 
-use crate::fault::Stop;
 use crate::proof_lines::Line;
 use crate::words::{breaks_of, cut, number, rest_behind, sides, text_behind};
 use head_splits::{Class, CutPrices, Prices, SlotPrices};
+use post_codec::Stop;
 use std::alloc::Global;
 
 /// The number below 0 of a size.

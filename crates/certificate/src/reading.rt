@@ -3,13 +3,15 @@ ghost use Rattle.std.specs.Prelude.{◌≡◌, ◌+◌, ◌-◌, ◌==◌, lengt
 ghost use Rattle.certificate.specs.declared.Cert.{Cert as ACert};
 ghost use Rattle.certificate.specs.Departing.{Spells, GivesCert, IsFaultOf};
 ghost use Rattle.certificate.specs.Reading.{begins_note, AnswersNotes, AnswersWhole, status_in, cost_in, bound_in, count_in, opening_at, limits_at, or_zero, rows_at, proof_at, closing_at, plan_of, cert_at};
-ghost use Rattle.certificate.specs.Words.{Gives, line_at, word_in, row_in, times, rest_of, proof_count_in, proof_line_in};
+ghost use Rattle.certificate.specs.Words.{line_at, word_in, row_in, times, rest_of, proof_count_in, proof_line_in};
+ghost use Rattle.post_codec.specs.Reading.{Gives};
 
-use crate::fault::{CertText, Stop};
+use crate::fault::CertText;
 use crate::proof_lines::{Line, Lines};
 use crate::proof_words::{proof_count_of, proof_line_of};
 use crate::words::{bound_of, cost_of, count_of, row_of, sides, status_of};
 use crate::{Cert, CertStatus};
+use post_codec::Stop;
 use shift_instance::{Row, Rows};
 use std::alloc::Global;
 

@@ -6,8 +6,8 @@ ghost use Rattle.certificate.specs.Words.{Finds, cut_at, begins_number, plain_nu
 ghost use Rattle.std.specs.List.{position};
 
 use crate::CertStatus;
-use crate::fault::Stop;
 use break_rules::{Break, Breaks};
+use post_codec::Stop;
 use shift_instance::Row;
 use std::alloc::Global;
 use std::str;

@@ -13,7 +13,8 @@ use Rattle.break_rules.proofs.Lists.{Has}
 use Rattle.shift_instance.specs.declared.Duty.{Duty}
 use Rattle.shift_instance.specs.Problem.{Problem, slots, below}
 use Rattle.shift_instance.specs.Rota.{lists_of, is_list_of, works}
-use Rattle.shift_instance.specs.Worth.{price_of, earned, bonus_of, worth, IsBest}
+use Rattle.shift_instance.specs.Worth.{price_of, earned, worth, IsBest}
+use Rattle.break_rules.specs.Bonuses.{bonus_of}
 use Rattle.shift_instance.specs.Valid.{IsValid}
 use Rattle.shift_instance.proofs.Rotas.{Has-lists_of, from_lists_of}
 use Rattle.head_splits.specs.declared.Cut.{Cut}
@@ -23,8 +24,10 @@ use Rattle.head_splits.specs.Bound.{is_nil, entries_of, is_forced, day_value, fr
 use Rattle.patterns.specs.declared.Pattern.{Pattern}
 use Rattle.head_splits.proofs.Best.{best_is_value}
 use Rattle.bound_sums.specs.Values.{IsValue}
-use Rattle.bound_sums.proofs.Sizes.{abs_add, sum_size}
-use Rattle.bound_sums.proofs.Priced.{priced, slot_small}
+use Rattle.break_rules.proofs.Sizes.{abs_add}
+use Rattle.bound_sums.proofs.Sizes.{sum_size}
+use Rattle.head_splits.proofs.Priced.{priced}
+use Rattle.bound_sums.proofs.Priced.{slot_small}
 use Rattle.dual_bound.proofs.Entries.{entry_small, entries_few}
 
 not_nil : {X : Type 0} (xs : List X) (x : X) → Has xs x → is_nil xs ≡ false

@@ -1,16 +1,14 @@
-//! What the shifts add to the total of a price set, by pricing, and the bound.
+//! The values of the duties of shifts, by pricing.
 ghost use Rattle.std.specs.Prelude.{◌≡◌, ℕ, ◌≤◌, ◌<◌, ◌^◌, ◌&&◌, ◌==◌, not, IfOk, OnOk, ◌∷◌, [], ◌++◌, MatchOption, IsTrue, length, slice_index};
 ghost use Rattle.std.specs.List.{zip};
 ghost use Rattle.std.specs.Option.{option_map};
-ghost use Rattle.std.specs.Int.RustNames.{unsigned_abs};
-ghost use Rattle.break_rules.specs.Sums.{int_sum_by};
-ghost use Rattle.shift_instance.specs.Problem.{below, shift_list};
+ghost use Rattle.shift_instance.specs.Problem.{shift_list};
 ghost use Rattle.shift_instance.specs.Rota.{lists_of};
 ghost use Rattle.shift_instance.specs.Valid.{IsValid};
-ghost use Rattle.head_splits.specs.Bound.{are_prices, bound_of, entries_of, is_nil, term};
+ghost use Rattle.head_splits.specs.Bound.{are_prices, entries_of, is_nil};
 ghost use Rattle.bound_sums.specs.Values.{AreValues, IsValue};
 
-use bound_sums::{bound, signed_price, term};
+use bound_sums::{DayValues, signed_price};
 use break_rules::{Breaks, NoMemory};
 use head_splits::{Cut, Cuts, Prices};
 use patterns::Pattern;
@@ -92,76 +90,27 @@ fn best_value(
     Ok(value_of(found))
 }
 
-/// The greatest reduced values of the duties of a shift, day by day, and `None` where no break list is legal.
-fn day_values(
-    alloc: Global,
-    instance: &Instance,
-    cuts: &Cuts,
-    prices: &Prices,
-    shift: u16,
-) -> Result<Option<Vec<i128>>, NoMemory>
-    requires shift { shift < length (shift_list instance.now) }
-    requires few { length cuts.now ≤ 2 ^ 33 }
-    requires passes { IsTrue (are_prices instance.now cuts.now prices.now) }
-    ensures { IfOk result (λ found. MatchOption found (IsTrue (is_nil (lists_of instance.now shift))) (λ values. AreValues instance.now cuts.now prices.now shift instance.now.days values.items)) }
-{
-    let mut values = Vec::new(alloc);
-    for day in 0..instance.days() {
-        let value = match best_value(alloc, instance, cuts, prices, shift, day)? {
-            Some(value) => value,
-            None => return Ok(None),
-        };
-        values.push(value)?;
-    }
-    Ok(Some(values))
-}
+/// The values of duties by the best break lists of pricing.
+#[derive(Clone, Copy, Debug, PartialEq, Eq, Drop)]
+pub(crate) struct ByPricing;
 
-/// The term of a shift.
-fn shift_term(
-    alloc: Global,
-    instance: &Instance,
-    cuts: &Cuts,
-    prices: &Prices,
-    shift: u16,
-) -> Result<i128, NoMemory>
-    requires shift { shift < length (shift_list instance.now) }
-    requires few { length cuts.now ≤ 2 ^ 33 }
-    requires passes { IsTrue (are_prices instance.now cuts.now prices.now) }
-    ensures term { IfOk result (λ z. z ≡ term instance.now cuts.now prices.now shift) }
-    ensures small { IfOk result (λ z. unsigned_abs z ≤ 2 ^ 94) }
-{
-    match day_values(alloc, instance, cuts, prices, shift)? {
-        Some(values) => Ok(term(alloc, instance, cuts, prices, shift, &values)),
-        None => Ok(0),
+impl DayValues for ByPricing {
+    fn of_shift(
+        &self,
+        alloc: Global,
+        instance: &Instance,
+        cuts: &Cuts,
+        prices: &Prices,
+        shift: u16,
+    ) -> Result<Option<Vec<i128>>, NoMemory> {
+        let mut values = Vec::new(alloc);
+        for day in 0..instance.days() {
+            let value = match best_value(alloc, instance, cuts, prices, shift, day)? {
+                Some(value) => value,
+                None => return Ok(None),
+            };
+            values.push(value)?;
+        }
+        Ok(Some(values))
     }
-}
-
-/// The sum of the terms of all shifts.
-fn terms(alloc: Global, instance: &Instance, cuts: &Cuts, prices: &Prices) -> Result<i128, NoMemory>
-    requires few { length cuts.now ≤ 2 ^ 33 }
-    requires passes { IsTrue (are_prices instance.now cuts.now prices.now) }
-    ensures terms { IfOk result (λ z. z ≡ int_sum_by (term instance.now cuts.now prices.now) (below (length (shift_list instance.now)))) }
-    ensures small { IfOk result (λ z. unsigned_abs z ≤ 2 ^ 104) }
-{
-    let mut sum = 0;
-    for shift in 0..instance.shifts().len() as u16 {
-        sum += shift_term(alloc, instance, cuts, prices, shift)?;
-    }
-    Ok(sum)
-}
-
-/// The bound of a price set.
-pub fn bound_by_pricing(
-    alloc: Global,
-    instance: &Instance,
-    cuts: &Cuts,
-    prices: &Prices,
-) -> Result<u64, NoMemory>
-    requires valid { IsValid instance.now }
-    requires few { length cuts.now ≤ 2 ^ 33 }
-    requires passes { IsTrue (are_prices instance.now cuts.now prices.now) }
-    ensures { IfOk result (λ b. b ≡ bound_of instance.now cuts.now prices.now) }
-{
-    let terms = terms(alloc, instance, cuts, prices)?;
-    Ok(bound(instance, cuts, prices, terms))
 }

@@ -19,9 +19,9 @@ use Rattle.greedy.specs.declared.bests.Best.{Best}
 use Rattle.greedy.specs.Bests.{earning, best_of}
 use Rattle.greedy.specs.Greedy.{duty, earned_with, is_greatest, best_list, day_value}
 use Rattle.greedy.specs.Sizes.{IsWithin, ArePrices}
-use Rattle.greedy.proofs.Duties.{Sorted-lists_of}
+use Rattle.shift_instance.proofs.AllDuties.{Sorted-lists_of}
 use Rattle.greedy.proofs.Leading.{find_none}
-use Rattle.greedy.proofs.Ranges.{int_sum_more}
+use Rattle.shift_instance.proofs.Ranges.{int_sum_below_more}
 use Rattle.greedy.proofs.Rounds.{lt_true, lt_false}
 
 -- in a list that is in order, an element that passes is found where none before it passes
@@ -110,7 +110,7 @@ sum_within f b (suc n) h =
     let high : int_sum_by f (below n) ≤ℤ pos (n * b) = r.below in
     let one : neg_ℤ (pos b) ≤ℤ f n = (h n).above in
     let two : f n ≤ℤ pos b = (h n).below in
-    let m : int_sum_by f (below (n + 1)) ≡ int_sum_by f (below n) +ℤ f n = int_sum_more f n in
+    let m : int_sum_by f (below (n + 1)) ≡ int_sum_by f (below n) +ℤ f n = int_sum_below_more f n in
     let e : int_sum_by f (below (suc n)) ≡ int_sum_by f (below (n + 1)) = ap (λ k. int_sum_by f (below k)) (let s : suc n ≡ n + 1 = omega arith in s) in
     let p : suc n * b ≡ n * b + b = omega arith in
     record { above = omega (arith, ints); below = omega (arith, ints) }

@@ -20,8 +20,9 @@ use Rattle.shift_instance.proofs.Rotas.{from_lists_of, heads_within, legal_dutie
 use Rattle.shift_instance.proofs.Alike.{same_duty_decides}
 use Rattle.rota_cost.specs.Cover.{Covering}
 use Rattle.greedy.specs.Drafts.{IsDraft, heads_at, with_one_more}
-use Rattle.greedy.specs.Greedy.{duty, all_duties, row_of, rows_of, best_list}
-use Rattle.greedy.proofs.Lengths.{legal_length}
+use Rattle.greedy.specs.Greedy.{duty, rows_of, best_list}
+use Rattle.shift_instance.specs.AllDuties.{all_duties, row_of}
+use Rattle.rota_cost.proofs.Lengths.{legal_length}
 use Rattle.greedy.proofs.Rounds.{listed}
 use Rattle.greedy.proofs.RowSteps.{rows_more, rows_none}
 

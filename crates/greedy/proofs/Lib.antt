@@ -1,9 +1,7 @@
 pub mod BestLists
-pub mod Duties
 pub mod Falls
 pub mod Growing
 pub mod Leading
-pub mod Lengths
 pub mod Places
 pub mod PlainLists
 pub mod PlanRows

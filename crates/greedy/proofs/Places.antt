@@ -7,7 +7,8 @@ use Rattle.shift_instance.specs.Problem.{Problem, slots, below}
 use Rattle.shift_instance.specs.Rota.{same_duty, duty_of, is_before, cover}
 use Rattle.shift_instance.proofs.Shifts.{some_at, get_or_some}
 use Rattle.greedy.specs.Drafts.{with_one_more}
-use Rattle.greedy.specs.Greedy.{row_of, marginal_price, marginal_prices}
+use Rattle.greedy.specs.Greedy.{marginal_price, marginal_prices}
+use Rattle.shift_instance.specs.AllDuties.{row_of}
 use Rattle.greedy.proofs.Ranges.{map_more}
 
 -- ---- rows

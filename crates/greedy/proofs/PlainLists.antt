@@ -29,7 +29,7 @@ use Rattle.greedy.specs.declared.bests.Best.{Best}
 use Rattle.greedy.specs.Bests.{best_of, best_at, best_lists}
 use Rattle.greedy.specs.Greedy.{duty, earned_with, best_list}
 use Rattle.greedy.proofs.BestLists.{worth_none, best_with}
-use Rattle.greedy.proofs.Ranges.{int_sum_more}
+use Rattle.shift_instance.proofs.Ranges.{int_sum_below_more}
 
 pub plain_best : (i : Problem) (prices : List ℤ) (s day : ℕ) (rule : Rule) (value : ℤ) → IsValid i → s < length (shift_list i) → IsSomeAnd (slice_get (shift_list i) s) (λ x. rule ≡ x.1) → rule ≡ plain_rule → value ≡ earned i prices (duty s day []) → IsBest i s day prices [] [] value
 plain_best i prices s day rule value valid hs of plain e =
@@ -60,7 +60,7 @@ pub whole_more : (i : Problem) (prices : List ℤ) (s day o slot : ℕ) (x : Shi
 whole_more i prices s day o slot x sum next e at h step =
     let here : slot ≡ slot_of i x.0 day o = is_some_and_at _ (λ x. slot ≡ slot_of i x.0 day o) x e at in
     let f : ℕ → ℤ = λ o. price_of prices (slot_of i x.0 day o) in
-    step ∙ ap (λ z. z +ℤ price_of prices slot) h ∙ ap (λ k. int_sum_by f (below o) +ℤ price_of prices k) here ∙ sym (int_sum_more f o)
+    step ∙ ap (λ z. z +ℤ price_of prices slot) h ∙ ap (λ k. int_sum_by f (below o) +ℤ price_of prices k) here ∙ sym (int_sum_below_more f o)
 
 -- all of them are what a duty without breaks earns
 pub whole_all : (i : Problem) (prices : List ℤ) (s day n : ℕ) (y : Shift) (sum : ℤ) → IsValid i → s < length (shift_list i) → IsSomeAnd (slice_get (shift_list i) s) (λ x. y ≡ x.0) → n ≡ y.len

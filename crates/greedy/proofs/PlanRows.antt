@@ -11,14 +11,9 @@ use Rattle.shift_instance.specs.declared.Row.{Row}
 use Rattle.shift_instance.specs.Problem.{Problem}
 use Rattle.shift_instance.specs.Rota.{same_duty, count_of, heads_on, is_legal_duty, is_legal_rota, is_before, rota_of, are_legal_rows, cost}
 use Rattle.shift_instance.proofs.Alike.{same_duty_decides, AreAlike, alike_from_counts, alike_cost, alike_legal}
-use Rattle.greedy.specs.Greedy.{all_duties, row_of, rows_of}
-use Rattle.greedy.proofs.Duties.{IsBefore, Sorted-all_duties, once_in_duties, from_all_duties}
-
--- elements that are in order are each in order with the next
-adjacent : {X : Type 0} (R : X → X → Bool) (xs : List X) → Sorted (λ x y. R x y ≡ true) xs → list_all (λ p. R p.0 p.1) (zip xs (drop 1 xs)) ≡ true
-adjacent R [] s = refl
-adjacent R (x ∷ []) s = refl
-adjacent R (x ∷ y ∷ xs) s = and_from (R x y) (list_all (λ p. R p.0 p.1) (zip (y ∷ xs) xs)) (s.0 y (inl refl)) (adjacent R (y ∷ xs) s.1)
+use Rattle.greedy.specs.Greedy.{rows_of}
+use Rattle.shift_instance.specs.AllDuties.{all_duties, row_of}
+use Rattle.shift_instance.proofs.AllDuties.{adjacent, from_all_duties, no_count, once_in_duties, rows_of_counts, IsBefore, Sorted-all_duties}
 
 rows_ordered : (i : Problem) (rota : List Duty) → list_all (λ p. is_before p.0 p.1) (zip (rows_of i rota) (drop 1 (rows_of i rota))) ≡ true
 rows_ordered i rota =
@@ -33,21 +28,6 @@ rows_some i rota =
     all_from (λ r. nat_lt 0 r.count) (rows_of i rota) (λ r m.
     let d = from_map (λ d. row_of d (count_of rota d)) (filter (λ d. nat_lt 0 (count_of rota d)) (all_duties i)) r m in
     subst (λ (r : Row). nat_lt 0 r.count ≡ true) d.2 (from_filter (λ d. nat_lt 0 (count_of rota d)) (all_duties i) d.0 d.1).1)
-
-rows_of_counts : (f : Duty → ℕ) (ds : List Duty) → rota_of (map (λ d. row_of d (f d)) (filter (λ d. nat_lt 0 (f d)) ds)) ≡ flat_map (λ d. replicate (f d) d) ds
-rows_of_counts f [] = refl
-rows_of_counts f (d ∷ ds) =
-    cond_both (nat_lt 0 (f d)) (d ∷ filter (λ d. nat_lt 0 (f d)) ds) (filter (λ d. nat_lt 0 (f d)) ds) (λ es. rota_of (map (λ d. row_of d (f d)) es) ≡ flat_map (λ d. replicate (f d) d) (d ∷ ds))
-    (λ e. ap (λ zs. replicate (f d) d ++ zs) (rows_of_counts f ds))
-    (λ e. rows_of_counts f ds ∙ ap (λ n. replicate n d ++ flat_map (λ d. replicate (f d) d) ds) (let z : zero ≡ f d = omega (arith, ltb-false 0 (f d) e) in z))
-
-no_count : (i : Problem) (rota : List Duty) (d : Duty) → ((x : Duty) → Has rota x → is_legal_duty i x ≡ true) → is_legal_duty i d ≡ false → count_of rota d ≡ 0
-no_count i rota d legal h =
-    count_by_none (same_duty d) rota (λ x m.
-    elim (cases_Bool (same_duty d x)) [
-      | inl t ↦ absurd (false≢true (sym h ∙ ap (is_legal_duty i) ((same_duty_decides d x).0 t) ∙ legal x m))
-      | inr f ↦ f
-    ])
 
 -- each legal duty stands as often in the rota of the rows as in the plan
 rows_count : (i : Problem) (rota : List Duty) (d : Duty) → is_legal_duty i d ≡ true → count_of (flat_map (λ e. replicate (count_of rota e) e) (all_duties i)) d ≡ count_of rota d

@@ -24,7 +24,8 @@ use Rattle.greedy.proofs.Falls.{greedy_cheaper}
 use Rattle.greedy.proofs.Growing.{heads_before}
 use Rattle.greedy.proofs.Leading.{leads_all}
 use Rattle.greedy.proofs.PlanRows.{rows_legal, rota_costs}
-use Rattle.greedy.proofs.Ranges.{int_sum_more, map_more, map_push, filter_more}
+use Rattle.shift_instance.proofs.Ranges.{int_sum_below_more}
+use Rattle.greedy.proofs.Ranges.{map_more, map_push, filter_more}
 use Rattle.greedy.proofs.Rounds.{used_is, find_some, round_some, round_none, greedy_legal}
 
 -- ---- prices and entries
@@ -85,7 +86,7 @@ pub gain_more : (i : Problem) (rota : List Duty) (prices : List ℤ) (s day : �
 gain_more i rota prices s day gain v w b h eb ev ep ew =
     let f : ℕ → ℤ = λ day. cond (counts i rota s day) (value_on i rota s day) (pos 0) in
     ew ∙ ap (λ z. z +ℤ cond b v (pos 0)) h ∙ ap (λ z. int_sum_by f (below day) +ℤ cond b z (pos 0)) (ev ∙ ap (λ p. day_value i p s day) ep)
-    ∙ ap (λ c. int_sum_by f (below day) +ℤ cond c (value_on i rota s day) (pos 0)) (sym eb) ∙ sym (int_sum_more f day)
+    ∙ ap (λ c. int_sum_by f (below day) +ℤ cond c (value_on i rota s day) (pos 0)) (sym eb) ∙ sym (int_sum_below_more f day)
 
 pub within_more : (day b : ℕ) (gain v : ℤ) → IsWithin (day * b) gain → IsWithin b v → IsWithin ((day + 1) * b) (gain +ℤ v)
 within_more day b gain v g w =

@@ -18,7 +18,7 @@ use Rattle.shift_instance.specs.Rota.{lists_of, is_list_of, is_legal_duty, is_on
 use Rattle.shift_instance.specs.Worth.{earned}
 use Rattle.shift_instance.proofs.Rotas.{from_lists_of, heads_within}
 use Rattle.greedy.specs.Greedy.{best_duty, earned_with, is_greatest, marginal_prices, day_value, best_list, used_list, value_on, counts, gain, next_shift, new_duties, greedy_after, greedy_rota}
-use Rattle.greedy.proofs.Lengths.{legal_length}
+use Rattle.rota_cost.proofs.Lengths.{legal_length}
 
 pub lt_true : (a b : ℤ) → int_lt a b ≡ true → a <ℤ b
 lt_true a b h = grind (arith, ints)

@@ -14,8 +14,9 @@ use Rattle.shift_instance.specs.Problem.{Problem}
 use Rattle.shift_instance.specs.Rota.{same_duty, count_of, is_legal_duty, is_before, duty_of}
 use Rattle.shift_instance.proofs.Alike.{same_duty_decides}
 use Rattle.greedy.specs.Drafts.{with_one_more}
-use Rattle.greedy.specs.Greedy.{all_duties, row_of, rows_of}
-use Rattle.greedy.proofs.Duties.{IsBefore, Sorted-all_duties, once_in_duties}
+use Rattle.greedy.specs.Greedy.{rows_of}
+use Rattle.shift_instance.specs.AllDuties.{all_duties, row_of}
+use Rattle.shift_instance.proofs.AllDuties.{IsBefore, Sorted-all_duties, once_in_duties}
 
 before_parts : (a b : Row) → is_before a b ≡ true → (a.shift < b.shift) ⊎ ((a.shift ≡ b.shift) × ((a.day < b.day) ⊎ ((a.day ≡ b.day) × (is_less_list a.breaks b.breaks ≡ true))))
 before_parts a b h =

@@ -6,7 +6,8 @@ use Rattle.shift_instance.specs.Problem.{Problem, shift_list}
 use Rattle.shift_instance.specs.Rota.{same_duty, heads_on, is_legal_rota, duty_of, is_before}
 use Rattle.shift_instance.specs.Valid.{IsValid}
 use Rattle.rota_cost.specs.Cover.{Covering}
-use Rattle.greedy.specs.Greedy.{row_of, rows_of, greedy_after, greedy_rota}
+use Rattle.greedy.specs.Greedy.{rows_of, greedy_after, greedy_rota}
+use Rattle.shift_instance.specs.AllDuties.{row_of}
 
 -- the duties of a shift on a day, of numbers kept shift by shift with one for each day
 abbrev pub heads_at : Problem → List ℕ → ℕ → ℕ → ℕ

@@ -7,6 +7,7 @@ use Rattle.break_rules.specs.Sums.{int_sum_by}
 use Rattle.shift_instance.specs.declared.Duty.{Duty}
 use Rattle.shift_instance.specs.declared.Row.{Row}
 use Rattle.shift_instance.specs.Problem.{Problem, slots, need_at, shift_list, below}
+use Rattle.shift_instance.specs.AllDuties.{all_duties, row_of}
 use Rattle.shift_instance.specs.Rota.{lists_of, heads_on, count_of, cover, is_used}
 use Rattle.shift_instance.specs.Worth.{earned}
 
@@ -84,16 +85,6 @@ greedy_after i (suc rounds) rota = option_map_or (λ s. greedy_after i rounds (r
 -- the greedy plan: from no duties, as many rounds as a legal plan can have duties
 unfoldable pub greedy_rota : Problem → List Duty
 greedy_rota i = greedy_after i (length (shift_list i) * i.days * i.heads) []
-
--- every legal duty once, in the order of rows
-abbrev pub all_duties : Problem → List Duty
-all_duties i =
-    flat_map (λ s. flat_map (λ day. map (duty s day) (lists_of i s)) (below i.days))
-    (below (length (shift_list i)))
-
--- the row of a number of duties that are alike
-abbrev pub row_of : Duty → ℕ → Row
-row_of d n = record { shift = d.shift; day = d.day; breaks = d.breaks; count = n }
 
 -- the rows of a legal plan: one for each legal duty that it has, with its count
 abbrev pub rows_of : Problem → List Duty → List Row

@@ -3,7 +3,8 @@ ghost use Rattle.std.specs.Prelude.{◌≡◌, ◌<◌, ◌++◌, ◌∷◌, [],
 ghost use Rattle.shift_instance.specs.Problem.{shift_list};
 ghost use Rattle.shift_instance.specs.Rota.{heads_on, is_legal_duty, is_used};
 ghost use Rattle.greedy.specs.Drafts.{IsDraft};
-ghost use Rattle.greedy.specs.Greedy.{duty, row_of};
+ghost use Rattle.greedy.specs.Greedy.{duty};
+ghost use Rattle.shift_instance.specs.AllDuties.{row_of};
 
 use crate::rows::add_one;
 use break_rules::{Breaks, NoMemory};

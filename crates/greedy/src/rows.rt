@@ -3,7 +3,7 @@ ghost use Rattle.std.specs.Prelude.{◌≡◌, ◌≤◌, ◌<◌, ◌++◌, Lis
 ghost use Rattle.shift_instance.specs.declared.Row.{Row};
 ghost use Rattle.shift_instance.specs.Rota.{is_before, same_duty, duty_of};
 ghost use Rattle.greedy.specs.Drafts.{with_one_more};
-ghost use Rattle.greedy.specs.Greedy.{row_of};
+ghost use Rattle.shift_instance.specs.AllDuties.{row_of};
 
 use break_rules::NoMemory;
 use rota_cost::is_before;

@@ -9,8 +9,6 @@ use Rattle.std.proofs.lemmas.List.Sums.{AllPass-from_list_all}
 use Rattle.std.proofs.Math.Nat.{mul-le-mul_left, mul-le-mul_right, mul_assoc, mul_comm}
 use Rattle.break_rules.specs.declared.Break.{Break}
 use Rattle.break_rules.specs.Breaks.{begins_with, same_list}
-use Rattle.std.specs.Int.Signed.{le_z_yes}
-use Rattle.std.proofs.lemmas.Float.{T_from_true}
 use Rattle.std.proofs.Math.Bool.{and-true}
 use Rattle.break_rules.proofs.Lists.{Has, Has-map, all_at, any_some, any_none, from_below}
 use Rattle.break_rules.proofs.LegalLists.{same_list_decides}
@@ -27,6 +25,7 @@ use Rattle.head_splits.specs.declared.Side.TheVariants.{AtMost, AtLeast}
 use Rattle.head_splits.specs.declared.Cut.{Cut}
 use Rattle.head_splits.specs.declared.Prices.{Prices}
 use Rattle.head_splits.specs.Cuts.{holds, class_count, same_class, keeps_to, meets_cut, meets, raised, lowered, low, high, whole_class}
+use Rattle.head_splits.proofs.Priced.{le_from_test, priced as price_parts}
 use Rattle.break_rules.specs.Sums.{int_sum_by, rounded_up}
 use Rattle.head_splits.specs.Bound.{is_nil, signed_price, bonus, reduced, best_value, is_forced, day_value, free_day_value, term, slot_worth, cut_worth, total, bound_of, is_slot_price, is_cut_price, are_prices}
 use Rattle.break_rules.proofs.Sums.{int_sum_by-le, int_sum_by-same, int_sum_by-add, int_sum_by_zero, int_sum_by_swap, int_sum_by_if, int_sum_by_pick_below, int_sum_by_pos, within_range, within_free_range, greatest_bounds, rounded_up_least}
@@ -63,9 +62,6 @@ slot_law q a b need c (negsuc k) lower upper =
 
 or_second : (x y : Bool) → x ≡ true → (not x || y) ≡ true → y ≡ true
 or_second x y e h = subst (λ b. (not b || y) ≡ true) e h
-
-le_from_test : (x y : ℤ) → int_le x y ≡ true → x ≤ℤ y
-le_from_test x y e = le_z_yes (T_from_true (int_le x y) e)
 
 -- ---- a cut: a rota that meets it is worth no less than its number
 
@@ -354,25 +350,15 @@ module _ (i : Problem) (cuts : List Cut) (prices : Prices) (rota : List Duty) (p
 
 premises : (i : Problem) (cuts : List Cut) (prices : Prices) (rota : List Duty) → are_prices i cuts prices ≡ true → is_legal_rota i rota ≡ true → meets rota cuts ≡ true → Premises i cuts prices rota
 premises i cuts prices rota h legal meeting =
-    let a = nat_le 1 prices.q in
-    let b = nat_le prices.q 10000 in
-    let c = length prices.slots == slots i in
-    let d = list_all (is_slot_price i prices.q) prices.slots in
-    let e = length prices.cuts == length cuts in
-    let f = list_all is_cut_price (zip cuts prices.cuts) in
-    let p5 = and_parts (a && b && c && d && e) f h in
-    let p4 = and_parts (a && b && c && d) e p5.0 in
-    let p3 = and_parts (a && b && c) d p4.0 in
-    let p2 = and_parts (a && b) c p3.0 in
-    let p1 = and_parts a b p2.0 in
+    let p = price_parts i cuts prices h in
     record {
-      scale = leb-true 1 prices.q p1.0;
+      scale = p.scale;
       slot_price = λ t small.
-          let len : length prices.slots ≡ slots i = eqb-true _ _ p2.1 in
-          let one : is_slot_price i prices.q (price_of prices.slots t) ≡ true = AllPass-from_list_all (is_slot_price i prices.q) prices.slots p3.1 t (pos 0) (omega arith) in
+          let len : length prices.slots ≡ slots i = p.slot_count in
+          let one : is_slot_price i prices.q (price_of prices.slots t) ≡ true = AllPass-from_list_all (is_slot_price i prices.q) prices.slots p.slot_prices t (pos 0) (omega arith) in
           let both = and_parts (int_le (neg_ℤ (pos (prices.q * i.excess))) (price_of prices.slots t)) (int_le (price_of prices.slots t) (pos (prices.q * i.shortage))) one in
           (le_from_test _ _ both.0, le_from_test _ _ both.1);
-      cut_price = p5.1;
+      cut_price = p.cut_prices;
       legal = legal;
       meeting = meeting;
     }

@@ -16,12 +16,14 @@ use Rattle.shift_instance.specs.declared.Shift.{Shift}
 use Rattle.shift_instance.specs.declared.Duty.{Duty}
 use Rattle.shift_instance.specs.Problem.{Problem, shift_list, below}
 use Rattle.shift_instance.specs.Rota.{same_duty, count_of, lists_of, is_list_of, is_legal_duty, is_legal_rota, is_on, cost}
-use Rattle.shift_instance.proofs.Rotas.{legal_duty_parts, legal_duties, from_lists_of}
+use Rattle.shift_instance.proofs.AllDuties.{Has-all_duties, from_all_duties, no_count, once_in_duties}
+use Rattle.shift_instance.proofs.Rotas.{legal_duty_parts, legal_duties}
 use Rattle.shift_instance.proofs.Alike.{same_duty_decides, AreAlike, alike_from_counts, alike_cost, alike_legal}
 use Rattle.break_rules.proofs.Lists.{same_tests}
 use Rattle.head_splits.specs.declared.Cut.{Cut}
 use Rattle.head_splits.specs.Cuts.{holds, class_count, meets, meets_cut, keeps_to, low, high}
-use Rattle.head_splits.specs.Settled.{prefixes, class_of, is_closed, is_fixed, all_duties, is_settled, fixed_count, settled_plan, is_empty}
+use Rattle.head_splits.specs.Settled.{prefixes, class_of, is_closed, is_fixed, is_settled, fixed_count, settled_plan, is_empty}
+use Rattle.shift_instance.specs.AllDuties.{all_duties}
 use Rattle.head_splits.proofs.Duality.{low_at_most, high_at_least}
 
 -- ---- legal lists of one shift
@@ -29,10 +31,6 @@ use Rattle.head_splits.proofs.Duality.{low_at_most, high_at_least}
 pub no_longer_of : (o : Option (Shift × Rule)) (list rest : List Break) → option_map_or (λ x. is_legal x.1 x.0.len list) o false ≡ true → option_map_or (λ x. is_legal x.1 x.0.len (list ++ rest)) o false ≡ true → rest ≡ []
 no_longer_of None list rest h g = absurd (false≢true h)
 no_longer_of (Some x) list rest h g = no_longer_list x.1 x.0.len list rest h g
-
-once_of : (o : Option (Shift × Rule)) (list : List Break) → option_map_or (λ x. is_legal x.1 x.0.len list) o false ≡ true → count_by (same_list list) (option_map_or (λ x. legal_lists x.1 x.0.len) o []) ≡ 1
-once_of None list h = absurd (false≢true h)
-once_of (Some x) list h = once_legal x.1 x.0.len list h
 
 -- a legal list that begins with another one of the same shift is that list
 same_from_begins : (i : Problem) (s : ℕ) (list prefix : List Break) → is_list_of i s prefix ≡ true → is_list_of i s list ≡ true → begins_with list prefix ≡ true → list ≡ prefix
@@ -75,42 +73,6 @@ prefix_count rota d n =
     (and_from (d.shift == d.shift) (d.day == d.day) (eq-eqb d.shift d.shift refl) (eq-eqb d.day d.day refl))
     (begins_from d.breaks (take n d.breaks) (drop n d.breaks) (sym (take-append-drop n d.breaks)))))
 
--- ---- every legal duty stands once in the enumeration
-
-pub Has-all_duties : (i : Problem) (d : Duty) → is_legal_duty i d ≡ true → Has (all_duties i) d
-Has-all_duties i d h =
-    let l = legal_duty_parts i d h in
-    Has-flat_map _ (below (length (shift_list i))) d.shift d (Has-below (length (shift_list i)) d.shift l.shift)
-    (Has-flat_map (λ day. map (λ list. record { shift = d.shift; day = day; breaks = list }) (lists_of i d.shift)) (below i.days) d.day d (Has-below i.days d.day l.day)
-    (Has-map (λ list. record { shift = d.shift; day = d.day; breaks = list }) (lists_of i d.shift) d.breaks l.listed))
-
-pub from_all_duties : (i : Problem) (d : Duty) → Has (all_duties i) d → is_legal_duty i d ≡ true
-from_all_duties i d h =
-    let a = from_flat_map (λ s. flat_map (λ day. map (λ list. record { shift = s; day = day; breaks = list }) (lists_of i s)) (below i.days)) (below (length (shift_list i))) d h in
-    let b = from_flat_map (λ day. map (λ list. record { shift = a.0; day = day; breaks = list }) (lists_of i a.0)) (below i.days) d a.2 in
-    let c = from_map {X = List Break} {Y = Duty} (λ list. record { shift = a.0; day = b.0; breaks = list }) (lists_of i a.0) d b.2 in
-    subst (λ x. is_legal_duty i x ≡ true) c.2
-    (and_from (nat_lt b.0 i.days) (is_list_of i a.0 c.0) (lt-ltb b.0 i.days (from_below i.days b.0 b.1)) (from_lists_of i a.0 c.0 c.1))
-
-pub once_in_duties : (i : Problem) (d : Duty) → is_legal_duty i d ≡ true → count_of (all_duties i) d ≡ 1
-once_in_duties i d h =
-    let l = legal_duty_parts i d h in
-    let N = below (length (shift_list i)) in
-    let with : ℕ → ℕ → List Duty = λ s day. map (λ list. record { shift = s; day = day; breaks = list }) (lists_of i s) in
-    let of_shift : ℕ → List Duty = λ s. flat_map (with s) (below i.days) in
-    let lists : count_by (same_list d.breaks) (lists_of i d.shift) ≡ 1 = once_of (slice_get (shift_list i) d.shift) d.breaks l.breaks in
-    count_by-flat_map (same_duty d) of_shift N
-    ∙ sum_by_same (λ s. count_by (same_duty d) (of_shift s)) (λ s. cond (d.shift == s) 1 0) N (λ s m.
-    count_by-flat_map (same_duty d) (with s) (below i.days)
-    ∙ sum_by_same (λ day. count_by (same_duty d) (with s day)) (λ day. cond ((d.shift == s) && (d.day == day)) 1 0) (below i.days) (λ day n.
-    count_by-map (same_duty d) (λ list. record { shift = s; day = day; breaks = list }) (lists_of i s)
-    ∙ count_by_and ((d.shift == s) && (d.day == day)) (same_list d.breaks) (lists_of i s)
-    ∙ cond_same ((d.shift == s) && (d.day == day)) (count_by (same_list d.breaks) (lists_of i s)) 1 (λ e.
-    subst (λ k. count_by (same_list d.breaks) (lists_of i k) ≡ 1) (eqb-true d.shift s (and_parts (d.shift == s) (d.day == day) e).0) lists))
-    ∙ count_by_and (d.shift == s) (λ day. d.day == day) (below i.days)
-    ∙ cond_same (d.shift == s) (count_by (λ day. d.day == day) (below i.days)) 1 (λ e. count_by-below d.day i.days l.day))
-    ∙ count_by-below d.shift (length (shift_list i)) l.shift
-
 -- ---- the law
 
 -- a legal rota below a settled node has the fixed number of each legal duty
@@ -149,14 +111,6 @@ plan_legal : (i : Problem) (cuts : List Cut) (d : Duty) → Has (settled_plan i 
 plan_legal i cuts d m =
     let a = from_flat_map (λ e. replicate (fixed_count i cuts e) e) (all_duties i) d m in
     subst (λ x. is_legal_duty i x ≡ true) (from_replicate (fixed_count i cuts a.0) a.0 d a.2) (from_all_duties i a.0 a.1)
-
-no_count : (i : Problem) (rota : List Duty) (d : Duty) → ((x : Duty) → Has rota x → is_legal_duty i x ≡ true) → is_legal_duty i d ≡ false → count_of rota d ≡ 0
-no_count i rota d legal h =
-    count_by_none (same_duty d) rota (λ x m.
-    elim (cases_Bool (same_duty d x)) [
-      | inl t ↦ absurd (false≢true (sym h ∙ ap (is_legal_duty i) ((same_duty_decides d x).0 t) ∙ legal x m))
-      | inr f ↦ f
-    ])
 
 -- a legal rota below a settled node has the duties of its plan
 pub settled_alike : (i : Problem) (cuts : List Cut) (rota : List Duty) → is_settled i cuts ≡ true → is_legal_rota i rota ≡ true → meets rota cuts ≡ true → AreAlike rota (settled_plan i cuts)

@@ -1,6 +1,7 @@
 pub mod Best
 pub mod ByClasses
 pub mod Duality
+pub mod Priced
 pub mod Examples
 pub mod Fixed
 pub mod Nodes

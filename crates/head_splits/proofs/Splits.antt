@@ -19,9 +19,10 @@ use Rattle.head_splits.specs.declared.Class.{Class}
 use Rattle.head_splits.specs.declared.Side.{Side}
 use Rattle.head_splits.specs.declared.Side.TheVariants.{AtMost, AtLeast}
 use Rattle.head_splits.specs.declared.Cut.{Cut}
-use Rattle.head_splits.specs.Cuts.{same_class, raised, lowered, low, high}
-use Rattle.head_splits.specs.Settled.{prefixes, class_of, is_closed, is_fixed, all_duties, is_settled, split_class, is_live_class, live_classes, span}
-use Rattle.head_splits.proofs.Fixed.{from_all_duties}
+use Rattle.head_splits.specs.Cuts.{same_class, raised, lowered, least_high, low, high}
+use Rattle.head_splits.specs.Settled.{prefixes, class_of, is_closed, is_fixed, is_settled, split_class, is_live_class, live_classes, span}
+use Rattle.shift_instance.specs.AllDuties.{all_duties}
+use Rattle.shift_instance.proofs.AllDuties.{from_all_duties}
 
 -- ---- the class to split
 
@@ -144,6 +145,15 @@ raised_least AtLeast m n = omega arith
 lowered_most : (side : Side) (m n : ℕ) → lowered side m n ≤ n
 lowered_most AtMost m n = omega arith
 lowered_most AtLeast m n = omega arith
+
+-- cuts leave no more than there was
+pub high_most : (cuts : List Cut) (class : Class) (most : ℕ) → least_high most cuts class ≤ most
+high_most [] class most = omega arith
+high_most (c ∷ cuts) class most =
+    let next : ℕ = cond (same_class c.class class) (lowered c.side c.m most) most in
+    let rest : least_high next cuts class ≤ next = high_most cuts class next in
+    let here : next ≤ most = cond_both (same_class c.class class) (lowered c.side c.m most) most (λ x. x ≤ most) (λ e. lowered_most c.side c.m most) (λ e. omega arith) in
+    omega arith
 
 pub span_less : (i : Problem) (cuts : List Cut) (class : Class) (side : Side) (m : ℕ) → is_live_class i class ≡ true → Within side (low cuts class) (high i cuts class) m
     → span i (cuts ++ record { class = class; side = side; m = m } ∷ []) < span i cuts

@@ -25,7 +25,8 @@ use Rattle.shift_instance.specs.Problem.{Problem, shift_list, below}
 use Rattle.shift_instance.specs.Rota.{lists_of}
 use Rattle.head_splits.specs.declared.Cut.{Cut}
 use Rattle.head_splits.specs.Cuts.{low, high}
-use Rattle.head_splits.specs.Settled.{prefixes, class_of, is_closed, is_fixed, fixed_count, row_of}
+use Rattle.head_splits.specs.Settled.{prefixes, class_of, is_closed, is_fixed, fixed_count}
+use Rattle.shift_instance.specs.AllDuties.{row_of}
 use Rattle.head_splits.specs.Below.{lists_below, duties_below, is_open, rows_of, IsWalked, StandsOn, IsClear}
 use Rattle.head_splits.proofs.ListsBelow.{below_list, below_whole, below_parts}
 

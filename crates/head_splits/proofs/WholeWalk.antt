@@ -17,7 +17,8 @@ use Rattle.shift_instance.specs.declared.Row.{Row}
 use Rattle.shift_instance.specs.Problem.{Problem, shift_list, below}
 use Rattle.shift_instance.specs.Rota.{lists_of}
 use Rattle.head_splits.specs.declared.Cut.{Cut}
-use Rattle.head_splits.specs.Settled.{all_duties, is_closed, is_fixed, is_settled}
+use Rattle.head_splits.specs.Settled.{is_closed, is_fixed, is_settled}
+use Rattle.shift_instance.specs.AllDuties.{all_duties}
 use Rattle.head_splits.specs.Below.{duties_below, is_open, IsWalked, StandsOn, IsClear, shift_duties, IsGraphOf}
 use Rattle.head_splits.proofs.Walked.{known, known_from, more_walked, stop_walked}
 

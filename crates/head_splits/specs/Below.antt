@@ -11,7 +11,8 @@ use Rattle.shift_instance.specs.Problem.{Problem, shift_list, below}
 use Rattle.shift_instance.specs.Rota.{lists_of}
 use Rattle.head_splits.specs.declared.Cut.{Cut}
 use Rattle.head_splits.specs.Cuts.{high}
-use Rattle.head_splits.specs.Settled.{class_of, is_closed, is_fixed, fixed_count, row_of}
+use Rattle.head_splits.specs.Settled.{class_of, is_closed, is_fixed, fixed_count}
+use Rattle.shift_instance.specs.AllDuties.{row_of}
 
 -- the legal lists of a shift that begin with some breaks
 abbrev pub lists_below : Problem → ℕ → List Break → List (List Break)

@@ -7,6 +7,7 @@ use Rattle.break_rules.specs.Breaks.{is_live}
 use Rattle.shift_instance.specs.declared.Duty.{Duty}
 use Rattle.shift_instance.specs.declared.Row.{Row}
 use Rattle.shift_instance.specs.Problem.{Problem, shift_list, below}
+use Rattle.shift_instance.specs.AllDuties.{all_duties, row_of}
 use Rattle.shift_instance.specs.Rota.{lists_of, is_list_of, live_lists_of, is_legal_rota, is_shift_and}
 use Rattle.head_splits.specs.declared.Class.{Class}
 use Rattle.head_splits.specs.declared.Cut.{Cut}
@@ -27,12 +28,6 @@ is_closed i cuts d = list_any (λ prefix. high i cuts (class_of d.shift d.day pr
 -- whether cuts leave one number of duties with the whole list
 abbrev pub is_fixed : Problem → List Cut → Duty → Bool
 is_fixed i cuts d = nat_le (high i cuts (class_of d.shift d.day d.breaks)) (low cuts (class_of d.shift d.day d.breaks))
-
--- every legal duty, in the order of rows
-abbrev pub all_duties : Problem → List Duty
-all_duties i =
-    flat_map (λ s. flat_map (λ day. map (λ list. record { shift = s; day = day; breaks = list }) (lists_of i s)) (below i.days))
-    (below (length (shift_list i)))
 
 -- whether a node with these cuts is settled: they fix the number of each legal duty
 abbrev pub is_settled : Problem → List Cut → Bool
@@ -78,10 +73,6 @@ pub data IsSettledClass (i : Problem) (cuts : List Cut) (s day : ℕ) : List Bre
   of_settled_extensions : (prefix : List Break) → IsFalse (is_list_of i s prefix)
       → ((b : Break) → IsTrue (is_live_class i (class_of s day (prefix ++ b ∷ []))) → IsSettledClass i cuts s day (prefix ++ b ∷ []))
       → IsSettledClass i cuts s day prefix
-
--- a duty that often, as a row
-abbrev pub row_of : Duty → ℕ → Row
-row_of d n = record { shift = d.shift; day = d.day; breaks = d.breaks; count = n }
 
 -- the plan of a settled node, as rows
 abbrev pub settled_rows : Problem → List Cut → List Row

@@ -6,7 +6,8 @@ ghost use Rattle.shift_instance.specs.Rota.{rota_of, heads_on};
 ghost use Rattle.head_splits.specs.Below.{IsWalked, StandsOn, IsClear, IsGraphOf, duties_below, shift_duties, is_open};
 ghost use Rattle.head_splits.specs.Cuts.{low, high, meets};
 ghost use Rattle.head_splits.specs.Ranges.{AreRanges, class_at};
-ghost use Rattle.head_splits.specs.Settled.{class_of, prefixes, all_duties, is_settled, settled_rows};
+ghost use Rattle.head_splits.specs.Settled.{class_of, prefixes, is_settled, settled_rows};
+ghost use Rattle.shift_instance.specs.AllDuties.{all_duties};
 ghost use Rattle.head_splits.specs.Settling.{IsSettle};
 
 use crate::table::{Place, RangeTable};

@@ -16,13 +16,8 @@ use Rattle.shift_instance.specs.declared.Shift.{Shift}
 use Rattle.shift_instance.specs.Faults.{period_causes, need_cause, size_causes, types_causes, part_causes, instance_causes}
 use Rattle.shift_instance.specs.Problem.{below, day_slots, shift_list}
 use Rattle.shift_instance.proofs.Judged.{causes_of_kinds, causes_last}
+use Rattle.shift_instance.proofs.Ranges.{range_next}
 use Rattle.instance_json.specs.Generated.{next_state, state_after, drawn, draw, is_busy, draws_before, need_of, needs_of, hour_rule, generated}
-
-range_next : (a n : ℕ) → range_with_len a (suc n) ≡ range_with_len a n ++ (a + n) ∷ []
-range_next a zero = ap (λ (k : ℕ). k ∷ []) (omega arith)
-range_next a (suc n) =
-    let at : a + 1 + n ≡ a + suc n = omega arith in
-    ap (λ (ks : List ℕ). a ∷ ks) (range_next (a + 1) n ∙ ap (λ (k : ℕ). range_with_len (a + 1) n ++ k ∷ []) at)
 
 draws_more : (slot : ℕ) → draws_before (slot + 1) ≡ draws_before slot + cond (is_busy slot) 1 0
 draws_more slot =

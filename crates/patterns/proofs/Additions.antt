@@ -15,23 +15,14 @@ use Rattle.break_rules.specs.declared.Break.{Break}
 use Rattle.break_rules.specs.Breaks.{same_list, begins_with}
 use Rattle.break_rules.specs.Sums.{int_sum_by}
 use Rattle.break_rules.proofs.LegalLists.{same_list_decides}
+use Rattle.break_rules.proofs.Sizes.{abs_add}
 use Rattle.break_rules.proofs.Sums.{int_sum_by-cons, int_sum_by-same, int_sum_by-add}
-use Rattle.patterns.specs.Bonuses.{share_of, bonus_of, with_added, AreSmall}
+use Rattle.patterns.specs.Bonuses.{with_added, AreSmall}
+use Rattle.break_rules.specs.Bonuses.{share_of, bonus_of}
 use Rattle.patterns.proofs.Beginnings.{own_of, share_more, share_empty}
 
-abs_bounds : (z : ℤ) (n : ℕ) → unsigned_abs z ≤ n → (z ≤ℤ pos n) × ((pos 0 -ℤ pos n) ≤ℤ z)
-abs_bounds (pos a) n h = (omega (arith, ints), omega (arith, ints))
-abs_bounds (negsuc a) n h = (omega (arith, ints), omega (arith, ints))
-
-abs_within : (z : ℤ) (n : ℕ) → z ≤ℤ pos n → (pos 0 -ℤ pos n) ≤ℤ z → unsigned_abs z ≤ n
-abs_within (pos a) n h l = omega (arith, ints)
-abs_within (negsuc a) n h l = omega (arith, ints)
-
-abs_add : (a b : ℤ) → unsigned_abs (a +ℤ b) ≤ unsigned_abs a + unsigned_abs b
-abs_add a b =
-    let p : (a ≤ℤ pos (unsigned_abs a)) × ((pos 0 -ℤ pos (unsigned_abs a)) ≤ℤ a) = abs_bounds a (unsigned_abs a) (omega arith) in
-    let q : (b ≤ℤ pos (unsigned_abs b)) × ((pos 0 -ℤ pos (unsigned_abs b)) ≤ℤ b) = abs_bounds b (unsigned_abs b) (omega arith) in
-    abs_within (a +ℤ b) (unsigned_abs a + unsigned_abs b) (omega (arith, ints)) (omega (arith, ints))
+size_add : (a b : ℤ) → unsigned_abs (a +ℤ b) ≤ unsigned_abs a + unsigned_abs b
+size_add a b = abs_add a b (unsigned_abs a) (unsigned_abs b) (omega arith) (omega arith)
 
 -- the sum of the sizes of all numbers
 abbrev pub weight : List (List Break × ℤ) → ℕ
@@ -52,7 +43,7 @@ pub bonus_size : (list : List Break) (es : List (List Break × ℤ)) → unsigne
 bonus_size list [] = omega arith
 bonus_size list (e ∷ es) =
     let one : bonus_of (e ∷ es) list ≡ share_of list e +ℤ bonus_of es list = int_sum_by-cons (share_of list) e es in
-    let two : unsigned_abs (share_of list e +ℤ bonus_of es list) ≤ unsigned_abs (share_of list e) + unsigned_abs (bonus_of es list) = abs_add (share_of list e) (bonus_of es list) in
+    let two : unsigned_abs (share_of list e +ℤ bonus_of es list) ≤ unsigned_abs (share_of list e) + unsigned_abs (bonus_of es list) = size_add (share_of list e) (bonus_of es list) in
     let rest = bonus_size list es in
     let here = share_size list e in
     let all : weight (e ∷ es) ≡ unsigned_abs e.1 + weight es = weight-cons e es in
@@ -64,7 +55,7 @@ pub fits : (z : ℤ) (w n : ℕ) → n ≤ 2 ^ 33 → w ≤ n * 1000000000000 �
 fits z w n few within small = fits_signed_from_abs w128 z (omega arith)
 
 pub fits_more : (z x : ℤ) (w n : ℕ) → n ≤ 2 ^ 33 → w ≤ n * 1000000000000 → unsigned_abs z ≤ w → unsigned_abs x ≤ 1000000000000 → FitsSigned w128 (z +ℤ x)
-fits_more z x w n few within small one = fits_signed_from_abs w128 (z +ℤ x) (let both = abs_add z x in omega arith)
+fits_more z x w n few within small one = fits_signed_from_abs w128 (z +ℤ x) (let both = size_add z x in omega arith)
 
 -- a number that was read and then kept in bits
 pub read : (r : ℤ) (o q : Option ℤ) → FitsSigned w128 r → r ≡ unwrap_or o (pos 0) → o ≡ q → to_z w128 (of_z w128 r) ≡ unwrap_or q (pos 0)
@@ -187,7 +178,7 @@ weight-with_added (e ∷ es) list x =
       | inl s ↦
           let found : weight (with_added (e ∷ es) list x) ≡ weight ((e.0, e.1 +ℤ x) ∷ es) = ap weight (cond-true _ ((e.0, e.1 +ℤ x) ∷ es) (e ∷ with_added es list x) s) in
           let one : weight ((e.0, e.1 +ℤ x) ∷ es) ≡ unsigned_abs (e.1 +ℤ x) + weight es = weight-cons (e.0, e.1 +ℤ x) es in
-          let two = abs_add e.1 x in
+          let two = size_add e.1 x in
           omega arith
       | inr s ↦
           let found : weight (with_added (e ∷ es) list x) ≡ weight (e ∷ with_added es list x) = ap weight (cond-false _ ((e.0, e.1 +ℤ x) ∷ es) (e ∷ with_added es list x) s) in

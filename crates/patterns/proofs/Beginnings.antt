@@ -5,7 +5,7 @@ use Rattle.std.proofs.lemmas.Int.{ints}
 use Rattle.break_rules.specs.declared.Break.{Break}
 use Rattle.break_rules.specs.Breaks.{same_list, begins_with}
 use Rattle.break_rules.proofs.LegalLists.{same_list_decides, begins_rest, begins_from}
-use Rattle.patterns.specs.Bonuses.{share_of}
+use Rattle.break_rules.specs.Bonuses.{share_of}
 
 -- the number of an entry, if its prefix is the whole list, and else 0
 abbrev pub own_of : List Break → List Break × ℤ → ℤ

@@ -1,22 +1,13 @@
 -- Numbers that stand at prefixes of break lists.
-use Rattle.std.specs.Prelude.{ℕ, ◌*◌, ◌^◌, ◌≤◌, ℤ, pos, ◌+ℤ◌, List, [], ◌∷◌, sum_by, if◌then◌else◌}
+use Rattle.std.specs.Prelude.{ℕ, ◌*◌, ◌^◌, ◌≤◌, ℤ, ◌+ℤ◌, List, [], ◌∷◌, sum_by, if◌then◌else◌}
 use Rattle.std.specs.Int.RustNames.{unsigned_abs}
 use Rattle.break_rules.specs.declared.Break.{Break}
-use Rattle.break_rules.specs.Breaks.{same_list, begins_with}
-use Rattle.break_rules.specs.Sums.{int_sum_by}
+use Rattle.break_rules.specs.Breaks.{same_list}
 
 -- prefixes, each with its number, in the order of their first additions; and how many additions there were
 pub record Bonuses : Type 0 where
   pub entries : List (List Break × ℤ)
   pub additions : ℕ
-
--- the number of an entry, if a list begins with its prefix, and else 0
-abbrev pub share_of : List Break → List Break × ℤ → ℤ
-share_of list entry = if begins_with list entry.0 then entry.1 else pos 0
-
--- the sum of the numbers of all entries with whose prefix a list begins
-abbrev pub bonus_of : List (List Break × ℤ) → List Break → ℤ
-bonus_of entries list = int_sum_by (share_of list) entries
 
 -- the entries after a number is added at a prefix: to the number that the prefix has, and in a new entry at the end where it has none
 abbrev pub with_added : List (List Break × ℤ) → List Break → ℤ → List (List Break × ℤ)

@@ -2,7 +2,8 @@
 
 ghost use Rattle.std.specs.Prelude.{◌≡◌, ◌+◌, ◌*◌, ◌^◌, ◌<◌, ◌≤◌, [], ◌∷◌, ◌++◌, List, OnOk, OnErr, IfOk, IsOk, map, pos, ◌+ℤ◌};
 ghost use Rattle.break_rules.specs.declared.Break.{Break};
-ghost use Rattle.patterns.specs.Bonuses.{Bonuses, bonus_of, with_added, AreSmall};
+ghost use Rattle.patterns.specs.Bonuses.{Bonuses, with_added, AreSmall};
+ghost use Rattle.break_rules.specs.Bonuses.{bonus_of};
 ghost use Rattle.std.specs.Int.RustNames.{unsigned_abs};
 
 use break_rules::{Break, NoMemory};

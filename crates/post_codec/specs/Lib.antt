@@ -1,4 +1,5 @@
 pub mod Spelling
+pub mod Batches
 pub mod Reading
 pub mod FaultText
 pub mod Fields

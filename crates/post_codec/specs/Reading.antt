@@ -1,4 +1,4 @@
--- How the parts of a spelling are read, one after the other. Contracts of private functions speak of it; what `read` answers is told without it.
+-- How the parts of a spelling are read, one after the other. Contracts of functions that read speak of it; what `read` answers is told without it.
 use Rattle.std.specs.Prelude.{◌≡◌, ℕ, ℤ, zero, suc, ◌-◌, List, [], ◌∷◌, length, take, drop, Result, Ok, Err, Vec, nat_lt, ◌==◌, if◌then◌else◌}
 use Rattle.std.specs.declared.alloc.Global.{Global}
 use Rattle.std.specs.Int.{Width, w16, w32, w64, byte_len, from_le_bytes, cast_signed}

@@ -33,9 +33,9 @@ impl fmt::Display for CodecFault {
 
 impl Error for CodecFault {}
 
-/// Why a field isn't read.
+/// Why a reader of bytes stopped before it had a value.
 #[derive(Debug, Drop)]
-pub(crate) enum Stop {
+pub enum Stop {
     /// No memory was left.
     Memory,
     /// The fault is where that many bytes are left.

@@ -23,7 +23,7 @@ mod writing;
 ghost use Rattle.post_codec.specs.Fields.{FieldsSpell};
 ghost use Rattle.post_codec.specs.Spelling.{EachSpellsOnce, EachIsSpelledOnce};
 
-pub use fault::CodecFault;
+pub use fault::{CodecFault, Stop};
 pub use post::Post;
 pub use reading::read;
 pub use writing::write;

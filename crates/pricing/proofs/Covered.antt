@@ -4,15 +4,15 @@ use Rattle.std.specs.Ordering.{int_eq}
 use Rattle.std.specs.Int.{w64}
 use Rattle.std.specs.Int.RustNames.{unsigned_abs}
 use mir.Syntax.{w128}
-use Rattle.patterns.specs.Bonuses.{bonus_of}
-use Rattle.pricing.proofs.Prices.{kept_worth}
+use Rattle.break_rules.specs.Bonuses.{bonus_of}
+use Rattle.price_sums.proofs.Prices.{kept_worth}
 use Rattle.std.proofs.lemmas.Int.{ints}
 use Rattle.std.proofs.lemmas.Bool.{false≢true, cases_Bool, or_cases, or_parts, and_parts}
 use Rattle.std.proofs.lemmas.Bool.Decides.{Decides-int_eq}
 use Rattle.break_rules.specs.declared.Break.{Break}
 use Rattle.break_rules.specs.Breaks.{is_legal, is_less_list}
 use Rattle.pricing.specs.declared.found.Found.{Found}
-use Rattle.pricing.specs.Rests.{price_in, earned_from}
+use Rattle.price_sums.specs.Along.{price_in, earned_from}
 use Rattle.pricing.specs.Values.{Priced}
 use Rattle.pricing.specs.Found.{IsLegal, worth_of, IsFound, Covers, is_better, Keeps, CoversFrom, IsBestFound}
 use Rattle.pricing.proofs.Best.{not_less}

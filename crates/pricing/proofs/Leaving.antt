@@ -11,9 +11,9 @@ use Rattle.break_rules.specs.Walk.{end_of_all}
 use Rattle.break_rules.proofs.Lists.{Has, any_none, same_tests}
 use Rattle.break_rules.proofs.LegalLists.{begins_rest, begins_from}
 use Rattle.break_rules.proofs.Sums.{int_sum_by-same}
-use Rattle.patterns.specs.Bonuses.{bonus_of, share_of}
+use Rattle.break_rules.specs.Bonuses.{bonus_of, share_of}
 use Rattle.pricing.specs.declared.found.Found.{Found}
-use Rattle.pricing.specs.Rests.{sum_at, price_in, earned_from, resumes, Completes}
+use Rattle.price_sums.specs.Along.{sum_at, price_in, earned_from, resumes, Completes}
 use Rattle.pricing.specs.Values.{Priced, rest_worth, IsBestTail}
 use Rattle.pricing.specs.Found.{IsLegal, Covers, CoversFrom, IsLeaving, leads_further}
 use Rattle.pricing.proofs.Lesser.{less_behind}

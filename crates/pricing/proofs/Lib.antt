@@ -1,10 +1,8 @@
-pub mod Stretches
 pub mod Best
 pub mod Steps
 pub mod Fronts
 pub mod Walks
 pub mod Most
-pub mod Prices
 pub mod Lesser
 pub mod Covered
 pub mod Leaving

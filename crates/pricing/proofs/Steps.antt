@@ -23,9 +23,11 @@ use Rattle.break_rules.proofs.Steps.{bounds, from_next}
 use Rattle.break_graph.specs.declared.Edge.{Edge}
 use Rattle.break_graph.specs.declared.Node.{Node}
 use Rattle.break_graph.specs.Graph.{IsGraph, StandsAt, node_at}
-use Rattle.pricing.specs.Rests.{sum_at, price_in, AreSums, resumes, earned_from, Completes, IsBestRest}
+use Rattle.price_sums.specs.Along.{sum_at, price_in, AreSums, resumes, earned_from, Completes}
+use Rattle.pricing.specs.Rests.{IsBestRest}
 use Rattle.pricing.specs.Values.{rest_worth, IsBestTail, IsValue, AreValues, reach_of, AreFit, IsMostReached, IsFirstWith, LeadsOn}
-use Rattle.pricing.proofs.Stretches.{earned_more, earned_end, earned_small, spaced_rest, resumes_behind, abs_add}
+use Rattle.price_sums.proofs.Stretches.{earned_more, earned_end, earned_small, spaced_rest, resumes_behind}
+use Rattle.break_rules.proofs.Sizes.{abs_add}
 use Rattle.pricing.proofs.Best.{Behind, best_more, best_allowed, not_less, less_rests}
 
 module _ (rule : Rule) (len : ℕ) (list : List Break) (b : Break) where

@@ -9,7 +9,8 @@ use Rattle.break_rules.specs.declared.Break.{Break}
 use Rattle.break_rules.specs.Breaks.{same_list, begins_with}
 use Rattle.break_rules.proofs.LegalLists.{same_list_decides}
 use Rattle.break_rules.proofs.Sums.{int_sum_by-cons, int_sum_by-append}
-use Rattle.patterns.specs.Bonuses.{share_of, bonus_of, with_added}
+use Rattle.patterns.specs.Bonuses.{with_added}
+use Rattle.break_rules.specs.Bonuses.{share_of, bonus_of}
 use Rattle.pricing.specs.Found.{leads_further}
 
 share_sum : (list prefix : List Break) (a b : ℤ) → share_of list (prefix, a +ℤ b) ≡ share_of list (prefix, a) +ℤ share_of list (prefix, b)

@@ -18,9 +18,10 @@ use Rattle.shift_instance.specs.Valid.{IsValid, IsShift}
 use Rattle.shift_instance.specs.Worth.{earned, worth, IsBest}
 use Rattle.shift_instance.proofs.Offsets.{earned_by_offsets}
 use Rattle.break_graph.specs.declared.Node.{Node}
-use Rattle.patterns.specs.Bonuses.{bonus_of}
+use Rattle.break_rules.specs.Bonuses.{bonus_of}
 use Rattle.pricing.specs.declared.found.Found.{Found}
-use Rattle.pricing.specs.Rests.{price_in, earned_from, ArePricesOf, IsBestRest}
+use Rattle.price_sums.specs.Along.{price_in, earned_from, ArePricesOf}
+use Rattle.pricing.specs.Rests.{IsBestRest}
 use Rattle.pricing.specs.Values.{Priced}
 use Rattle.pricing.specs.Found.{IsLegal, worth_of, IsBestFound}
 

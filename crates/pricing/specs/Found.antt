@@ -4,9 +4,10 @@ use Rattle.std.specs.List.{list_any}
 use Rattle.std.specs.Ordering.{int_eq}
 use Rattle.break_rules.specs.declared.Break.{Break}
 use Rattle.break_rules.specs.Breaks.{is_legal, is_less_list, begins_with}
-use Rattle.patterns.specs.Bonuses.{bonus_of}
+use Rattle.break_rules.specs.Bonuses.{bonus_of}
 use Rattle.pricing.specs.declared.found.Found.{Found}
-use Rattle.pricing.specs.Rests.{price_in, earned_from, IsBestRest}
+use Rattle.price_sums.specs.Along.{price_in, earned_from}
+use Rattle.pricing.specs.Rests.{IsBestRest}
 use Rattle.pricing.specs.Values.{Priced}
 
 -- whether a list is legal

@@ -9,7 +9,8 @@ use Rattle.break_rules.proofs.Lists.{Has}
 use Rattle.break_graph.specs.declared.Edge.{Edge}
 use Rattle.break_graph.specs.declared.Node.{Node}
 use Rattle.break_graph.specs.Graph.{IsGraph, StandsAt}
-use Rattle.pricing.specs.Rests.{sum_at, price_in, AreSums, resumes, earned_from, Completes, IsBestRest}
+use Rattle.price_sums.specs.Along.{sum_at, price_in, AreSums, resumes, earned_from, Completes}
+use Rattle.pricing.specs.Rests.{IsBestRest}
 
 -- what a list's rest earns
 abbrev pub rest_worth : List ℤ → Rule → ℕ → List Break → List Break → ℤ

@@ -1,11 +1,10 @@
 //! Break lists with their worth, and the better of two.
 
 ghost use Rattle.std.specs.Prelude.{◌≡◌};
-ghost use Rattle.break_rules.specs.Breaks.{is_less_break, is_less_list};
 ghost use Rattle.pricing.specs.Found.{is_better, IsLegal, IsFound, Covers, Keeps};
 
 use crate::rests::BestRests;
-use break_rules::{Break, Breaks};
+use break_rules::{Break, Breaks, is_less_list};
 use patterns::Trie;
 
 /// A legal break list, with what a duty with it is worth.
@@ -15,28 +14,6 @@ pub struct Found {
     pub list: Breaks,
     /// The prices that the duty earns, and the bonuses that it gets.
     pub value: i128,
-}
-
-/// Whether a break is less than another: by start, and then by length.
-fn is_less_break(a: Break, b: Break) -> bool
-    ensures { result ≡ is_less_break a b }
-{
-    a.start < b.start || a.start == b.start && a.len < b.len
-}
-
-/// Whether a break list is less than another: break by break, a proper prefix first.
-fn is_less_list(a: &[Break], b: &[Break]) -> bool
-    ensures { result ≡ is_less_list a.now b.now }
-{
-    for (i, x) in a.iter().enumerate() {
-        if b.len() <= i || is_less_break(b[i], *x) {
-            return false;
-        }
-        if is_less_break(*x, b[i]) {
-            return true;
-        }
-    }
-    a.len() < b.len()
 }
 
 /// Whether a list of some worth is better than what was found: it is worth more, or as much and it is less.

@@ -4,7 +4,6 @@
 mod found;
 mod rests;
 mod search;
-mod sums;
 mod values;
 
 pub use search::best_pattern;

@@ -6,14 +6,15 @@ ghost use Rattle.break_rules.specs.declared.Break.{Break};
 ghost use Rattle.break_rules.specs.Breaks.{is_legal, is_live};
 ghost use Rattle.break_rules.specs.Ranges.{IsRule};
 ghost use Rattle.break_graph.specs.Graph.{IsGraph, StandsAt, node_at};
-ghost use Rattle.pricing.specs.Rests.{AreSums, earned_from, price_in};
+ghost use Rattle.price_sums.specs.Along.{AreSums, earned_from, price_in};
 ghost use Rattle.pricing.specs.Values.{IsValue, LeadsOn, IsBestFrom};
 ghost use Rattle.break_rules.proofs.Lists.{Has};
 ghost use Rattle.break_graph.specs.declared.Edge.{Edge};
 
-use crate::values::{difference, first_reaching, node_values, resumption, sum_before, total};
+use crate::values::{difference, first_reaching, node_values, total};
 use break_graph::{Edge, Node};
 use break_rules::{Break, NoMemory, Rule};
+use price_sums::{resumption, sum_before};
 use std::alloc::Global;
 use std::marker::Model;
 

@@ -6,19 +6,19 @@ ghost use Rattle.break_rules.specs.declared.Break.{Break};
 ghost use Rattle.break_rules.specs.Breaks.{begins_with};
 ghost use Rattle.break_rules.specs.Ranges.{IsRule};
 ghost use Rattle.break_graph.specs.Graph.{StandsAt, node_at, IsGraph};
-ghost use Rattle.patterns.specs.Bonuses.{bonus_of};
+ghost use Rattle.break_rules.specs.Bonuses.{bonus_of};
 ghost use Rattle.shift_instance.specs.Problem.{shift_list, slots};
 ghost use Rattle.shift_instance.specs.Rota.{is_list_of};
 ghost use Rattle.shift_instance.specs.Worth.{IsBest};
-ghost use Rattle.pricing.specs.Rests.{AreSmallPrices};
+ghost use Rattle.price_sums.specs.Along.{AreSmallPrices};
 ghost use Rattle.pricing.specs.Found.{IsFound, Keeps, CoversFrom, CoversAlong, IsBestFound, leads_further};
 
 use crate::found::{Found, better};
 use crate::rests::BestRests;
-use crate::sums::price_sums;
 use break_graph::Graph;
 use break_rules::{Break, Breaks, NoMemory};
 use patterns::{Pattern, Trie};
+use price_sums::price_sums;
 use shift_instance::Instance;
 use std::alloc::Global;
 

@@ -7,30 +7,13 @@ ghost use Rattle.break_rules.specs.Ranges.{IsRule};
 ghost use Rattle.break_rules.proofs.Lists.{Has};
 ghost use Rattle.break_graph.specs.declared.Edge.{Edge};
 ghost use Rattle.break_graph.specs.Graph.{IsGraph, StandsAt, node_at};
-ghost use Rattle.pricing.specs.Rests.{sum_at, resumes, AreSums};
+ghost use Rattle.price_sums.specs.Along.{sum_at, AreSums};
 ghost use Rattle.pricing.specs.Values.{reach_of, AreFit, IsFirstWith, IsMostReached, IsValue, AreValues};
 
 use break_graph::{Edge, Node};
-use break_rules::{NoMemory, Rule, Spot};
+use break_rules::{NoMemory, Rule};
+use price_sums::{resumption, sum_before};
 use std::alloc::Global;
-
-/// The sum of the prices of the offsets before one.
-pub fn sum_before(sums: &[i64], offset: usize) -> i64
-    ensures { result ≡ sum_at sums.now offset }
-{
-    sums.get(offset).copied().unwrap_or(0)
-}
-
-/// The first offset that counts as work behind a spot.
-pub fn resumption(rule: &Rule, spot: Spot) -> usize
-    ensures { result ≡ resumes rule.now spot.offset }
-{
-    if spot.offset == 0 {
-        0
-    } else {
-        usize::from(spot.offset) + usize::from(rule.resettle)
-    }
-}
 
 /// What an edge reaches: the sum of the prices before its break, and the value of the node behind it.
 pub fn reach(sums: &[i64], values: &[i64], edge: Edge) -> i64

@@ -1,4 +1,3 @@
-pub mod Batches
 pub mod Rebuilt
 pub mod Taking
 pub mod Unspelled

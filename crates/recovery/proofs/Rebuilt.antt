@@ -12,11 +12,12 @@ use Rattle.search_core.specs.State.{StateView}
 use Rattle.search_core.proofs.Runs.{book_after-append}
 use Rattle.recovery.specs.declared.fault.Why.{Why}
 use Rattle.recovery.specs.declared.fault.Why.TheVariants.{Codec, Step}
-use Rattle.recovery.specs.Records.{MakeBook, SpellPosts}
+use Rattle.recovery.specs.Records.{MakeBook}
+use Rattle.post_codec.specs.Batches.{SpellPosts}
 use Rattle.recovery.specs.Refusals.{IsCause, IsFirstRejected, Refuses}
 use Rattle.recovery.specs.Folding.{fault_at, RecordStops, TakesRecord}
 use Rattle.search_core.specs.Taking.{Takes}
-use Rattle.recovery.proofs.Batches.{none_spelled, spell_next}
+use Rattle.post_codec.proofs.Batches.{none_spelled, spell_next}
 
 -- ---- lists
 

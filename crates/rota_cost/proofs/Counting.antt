@@ -91,24 +91,6 @@ cover_few i rows t valid h =
     let a : cover i (rota_of rows) t ≡ sum_by (working i t) rows = cover_rows i rows t in
     let b : sum_by (working i t) rows ≤ 204800 = cover_small i rows t valid h in omega arith
 
-pub range_push : (a n : ℕ) → range_with_len a (suc n) ≡ range_with_len a n ++ (a + n) ∷ []
-range_push a zero = ap (λ (k : ℕ). k ∷ []) (omega arith)
-range_push a (suc n) = ap (λ (ks : List ℕ). a ∷ ks) (range_push (a + 1) n ∙ ap (λ (k : ℕ). range_with_len (a + 1) n ++ k ∷ []) (omega arith))
-
--- a sum over the numbers below one more
-pub sum_below_more : (f : ℕ → ℕ) (n : ℕ) → sum_by f (below (n + 1)) ≡ sum_by f (below n) + f n
-sum_below_more f n = ap (λ (k : ℕ). sum_by f (below k)) (add-one n) ∙ ap (sum_by f) (range_push 0 n) ∙ sum_by_push f (below n) (0 + n) ∙ ap (λ (k : ℕ). sum_by f (below n) + f k) (omega arith)
-
--- a test of some number below one more
-pub any_below_more : (p : ℕ → Bool) (n : ℕ) → list_any p (below (n + 1)) ≡ (list_any p (below n) || p n)
-any_below_more p n =
-    ap (λ (k : ℕ). list_any p (below k)) (add-one n) ∙ ap (list_any p) (range_push 0 n) ∙ list_any-append p (below n) ((0 + n) ∷ [])
-    ∙ ap (λ b. list_any p (below n) || b) (or_false (p (0 + n)) ∙ ap p (let e : 0 + n ≡ n = omega arith in e))
-  where
-    or_false : (b : Bool) → (b || false) ≡ b
-    or_false true = refl
-    or_false false = refl
-
 -- the parts of a cost
 pub cost_from : (i : Problem) (rota : List Duty) (counts : List ℕ) (n w used : ℕ) → n ≡ sum_by (λ t. slot_cost i t (get_or counts t 0)) (below (slots i)) → ((t : ℕ) → t < slots i → get_or counts t 0 ≡ cover i rota t) → w ≡ i.shift → used ≡ shifts_used i rota → n + w * used ≡ cost i rota
 cost_from i rota counts n w used summed covers weight all =

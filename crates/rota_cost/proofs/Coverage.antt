@@ -52,7 +52,7 @@ one_more true a b c h = h
 one_more false a b c h = omega arith
 
 -- where at most m elements that pass have each number below n, at most n times m have a number below n
-count_below : {X : Type 0} (p : X → Bool) (key : X → ℕ) (n m : ℕ) (xs : List X) → ((k : ℕ) → k < n → count_by (λ x. p x && (key x == k)) xs ≤ m) → count_by (λ x. p x && nat_lt (key x) n) xs ≤ n * m
+pub count_below : {X : Type 0} (p : X → Bool) (key : X → ℕ) (n m : ℕ) (xs : List X) → ((k : ℕ) → k < n → count_by (λ x. p x && (key x == k)) xs ≤ m) → count_by (λ x. p x && nat_lt (key x) n) xs ≤ n * m
 count_below p key zero m xs h =
     let e : count_by (λ x. p x && nat_lt (key x) 0) xs ≡ 0 = count_by_none (λ x. p x && nat_lt (key x) 0) xs (λ x i. and_right (p x) (nat_lt (key x) 0) (le-ltb (key x) 0 (omega arith))) in
     omega arith

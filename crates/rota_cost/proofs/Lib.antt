@@ -1,4 +1,5 @@
 pub mod Coverage
+pub mod Lengths
 pub mod Counting
 pub mod Marks
 pub mod RowLaw

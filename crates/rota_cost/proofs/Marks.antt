@@ -15,7 +15,7 @@ use Rattle.shift_instance.specs.Rota.{works}
 use Rattle.shift_instance.specs.Valid.{IsValid}
 use Rattle.shift_instance.proofs.Offsets.{same_offset}
 use Rattle.shift_instance.proofs.Shifts.{some_at, is_some_and_at, Has_at, shift_short}
-use Rattle.rota_cost.proofs.Counting.{any_below_more}
+use Rattle.shift_instance.proofs.Ranges.{any_below_more}
 
 -- whether a duty works at an offset of its shift that stands at a slot
 abbrev pub at : Problem → Shift × Rule → Duty → ℕ → ℕ → Bool

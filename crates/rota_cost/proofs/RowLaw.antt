@@ -10,8 +10,6 @@ use Rattle.std.proofs.lemmas.List.Folds.{list_all-append}
 use Rattle.break_rules.specs.Causes.{first_cause}
 use Rattle.break_rules.proofs.Causes.{no_cause, none_from_no_cause}
 use Rattle.break_rules.proofs.Lists.{Has-append_right, Has-flat_map, all_at, all_from}
-use Rattle.break_rules.specs.declared.Break.{Break}
-use Rattle.break_rules.specs.Breaks.{same_break, is_less_break, is_less_list}
 use Rattle.shift_instance.specs.declared.Row.{Row}
 use Rattle.shift_instance.specs.Problem.{Problem, shift_list}
 use Rattle.shift_instance.specs.Rota.{is_list_of, is_on, heads_on, is_legal_duty, is_legal_rota, rota_of, duty_of, is_before, are_legal_rows}
@@ -159,53 +157,6 @@ order_last (q ∷ []) zero p r h e = ap (λ (x : Row). is_before x r) (sym e)
 order_last (q ∷ []) (suc n) p r h e = absurd (omega arith)
 order_last (q ∷ o ∷ rows) zero p r h e = absurd (omega arith)
 order_last (q ∷ o ∷ rows) (suc n) p r h e = order_last (o ∷ rows) n p r (omega arith) e
-
--- ---- break lists in their order
-less_once : (x y : Break) → is_less_break y x ≡ true → (is_less_break x y ≡ false) × (same_break x y ≡ false)
-less_once x y h =
-    elim (or_cases (nat_lt y.start x.start) ((y.start == x.start) && nat_lt y.len x.len) h) [
-      | inl l ↦
-          let low : y.start < x.start = ltb-true _ _ l in
-          let differ : (x.start == y.start) ≡ false = ne_eqb x.start y.start (λ e. omega arith) in
-          (or_from _ _ (le-ltb x.start y.start (omega arith)) (and_left _ (nat_lt x.len y.len) differ), and_left _ (x.len == y.len) differ)
-      | inr b ↦
-          let p = and_parts (y.start == x.start) (nat_lt y.len x.len) b in
-          let same : y.start ≡ x.start = eqb-true _ _ p.0 in
-          let low : y.len < x.len = ltb-true _ _ p.1 in (
-            or_from _ _ (le-ltb x.start y.start (omega arith)) (and_right (x.start == y.start) _ (le-ltb x.len y.len (omega arith))),
-            and_right (x.start == y.start) _ (ne_eqb x.len y.len (λ e. omega arith)),
-          )
-    ]
-
-pub less_stop : (a b : List Break) (i : ℕ) (d e : Break) → i < length a → i < length b → is_less_list (drop i a) (drop i b) ≡ is_less_list a b → is_less_break (get_or b i e) (get_or a i d) ≡ true → false ≡ is_less_list a b
-less_stop a b i d e la lb rest less =
-    let x = get_or a i d in
-    let y = get_or b i e in
-    let o = less_once x y less in
-    let one : is_less_list (drop i a) (drop i b) ≡ is_less_list (x ∷ drop (i + 1) a) (drop i b) = at_drop_more (λ xs. is_less_list xs (drop i b)) a i d la in
-    let two : is_less_list (x ∷ drop (i + 1) a) (drop i b) ≡ is_less_list (x ∷ drop (i + 1) a) (y ∷ drop (i + 1) b) = at_drop_more (λ ys. is_less_list (x ∷ drop (i + 1) a) ys) b i e lb in
-    sym (sym rest ∙ one ∙ two ∙ or_from (is_less_break x y) _ o.0 (and_left (same_break x y) _ o.1))
-
-pub less_out : (a b : List Break) (i : ℕ) (d : Break) → i < length a → length b ≤ i → is_less_list (drop i a) (drop i b) ≡ is_less_list a b → false ≡ is_less_list a b
-less_out a b i d la lb rest =
-    let one : is_less_list (drop i a) (drop i b) ≡ is_less_list (get_or a i d ∷ drop (i + 1) a) (drop i b) = at_drop_more (λ xs. is_less_list xs (drop i b)) a i d la in
-    let two : is_less_list (get_or a i d ∷ drop (i + 1) a) (drop i b) ≡ false = ap (λ ys. is_less_list (get_or a i d ∷ drop (i + 1) a) ys) (drop_all i b lb) in
-    sym (sym rest ∙ one ∙ two)
-
-none_less : (ys : List Break) → is_less_list [] ys ≡ nat_lt 0 (length ys)
-none_less [] = refl
-none_less (y ∷ ys) = sym (lt-ltb 0 (length (y ∷ ys)) (omega arith))
-
-pub less_end : (a b : List Break) (i : ℕ) → length a ≤ i → i ≤ length a → is_less_list (drop i a) (drop i b) ≡ is_less_list a b → nat_lt (length a) (length b) ≡ is_less_list a b
-less_end a b i long short rest =
-    let one : is_less_list (drop i a) (drop i b) ≡ is_less_list [] (drop i b) = ap (λ xs. is_less_list xs (drop i b)) (drop_all i a long) in
-    let len : length (drop i b) ≡ length b - i = length-drop i b in
-    let same : nat_lt 0 (length (drop i b)) ≡ nat_lt (length a) (length b) =
-    elim (cases_lt (length a) (length b)) [
-      | inl l ↦ lt-ltb 0 (length (drop i b)) (omega arith) ∙ sym (lt-ltb (length a) (length b) l)
-      | inr g ↦ le-ltb 0 (length (drop i b)) (omega arith) ∙ sym (le-ltb (length a) (length b) g)
-    ] in
-    sym same ∙ sym (none_less (drop i b)) ∙ sym one ∙ rest
 
 -- what judging rows answers, and whether they are legal
 pub legal_by_answer : (i : Problem) (rows : List Row) (r : Result (Unit {0}) RowFault) → MatchResult r (λ _. row_fault i rows ≡ None) (λ e. row_fault i rows ≡ Some e) → IsOk r ↔ IsTrue (are_legal_rows i rows)

@@ -9,7 +9,7 @@ use Rattle.shift_instance.specs.Problem.{Problem, slots, need_at, below}
 use Rattle.shift_instance.specs.Rota.{slot_cost}
 use Rattle.shift_instance.specs.Valid.{IsValid}
 use Rattle.rota_cost.specs.Counted.{slots_cost}
-use Rattle.rota_cost.proofs.Counting.{sum_below_more}
+use Rattle.shift_instance.proofs.Ranges.{sum_below_more}
 use Rattle.rota_cost.proofs.Coverage.{sum_few}
 
 -- one of the numbers that are summed is no more than the sum

@@ -37,3 +37,12 @@ fault_from i before (r ∷ rows) = option_or (first_cause (row_causes i before r
 -- the first fault of the first bad row
 abbrev pub row_fault : Problem → List Row → Option RowFault
 row_fault i rows = fault_from i [] rows
+
+-- the row of a fault
+abbrev pub row_of : RowFault → ℕ
+row_of (UnknownShift row) = row
+row_of (Day row) = row
+row_of (Breaks row) = row
+row_of (ZeroCount row) = row
+row_of (HeadsOver row) = row
+row_of (NotSorted row) = row

@@ -1,6 +1,5 @@
 //! Whether rows are legal, and the first fault if not.
 ghost use Rattle.std.specs.Prelude.{◌≡◌, ◌↔◌, ◌<◌, ◌≤◌, ◌+◌, ◌*◌, ◌++◌, ◌∷◌, [], IsTrue, IsOk, length, nat_lt, MatchResult, IfOk, None, Some};
-ghost use Rattle.break_rules.specs.Breaks.{is_less_break, is_less_list};
 ghost use Rattle.break_rules.specs.Causes.{first_cause};
 ghost use Rattle.shift_instance.specs.Problem.{shift_list};
 ghost use Rattle.shift_instance.specs.Rota.{are_legal_rows, is_list_of, is_before};
@@ -8,7 +7,7 @@ ghost use Rattle.rota_cost.specs.RowFaults.{heads_of, is_in_order, row_causes, r
 ghost use Rattle.rota_cost.specs.Run.{IsRun};
 
 use crate::RowFault;
-use break_rules::{Break, Breaks, legal};
+use break_rules::{Breaks, is_less_list, legal};
 use shift_instance::{Instance, Row, Rows};
 
 /// The shift and the day of the last row, and the duties that they have.
@@ -71,28 +70,6 @@ fn heads_with(before: &[Row], run: Run, row: &Row) -> u128
     ensures { result ≡ heads_of (before.now ++ row.now ∷ []) row.now.shift row.now.day }
 {
     heads_before(before, run, row) + u128::from(row.count)
-}
-
-/// Whether a break is less than another: by start, and then by length.
-fn is_less_break(a: Break, b: Break) -> bool
-    ensures { result ≡ is_less_break a b }
-{
-    a.start < b.start || a.start == b.start && a.len < b.len
-}
-
-/// Whether a break list is less than another: break by break, a proper prefix first.
-fn is_less_list(a: &[Break], b: &[Break]) -> bool
-    ensures { result ≡ is_less_list a.now b.now }
-{
-    for (i, x) in a.iter().enumerate() {
-        if b.len() <= i || is_less_break(b[i], *x) {
-            return false;
-        }
-        if is_less_break(*x, b[i]) {
-            return true;
-        }
-    }
-    a.len() < b.len()
 }
 
 /// Whether a row comes before another: by shift, then by day, then by break list. It takes no memory.

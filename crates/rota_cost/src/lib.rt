@@ -1,6 +1,9 @@
 //! Which rows are legal, and what they cost.
 #![tactic(auto)]
 
+ghost use Rattle.std.specs.Prelude.{◌≡◌};
+ghost use Rattle.rota_cost.specs.RowFaults.{row_of};
+
 mod costed;
 mod cover;
 mod covered;
@@ -31,6 +34,22 @@ pub enum RowFault {
     HeadsOver { row: u64 },
     /// The row doesn't come after the one before it, by shift, then by day, then by break list.
     NotSorted { row: u64 },
+}
+
+impl RowFault {
+    /// The number of the bad row, from 0 on.
+    pub fn row(self) -> u64
+        ensures { result ≡ row_of self }
+    {
+        match self {
+            RowFault::UnknownShift { row } => row,
+            RowFault::Day { row } => row,
+            RowFault::Breaks { row } => row,
+            RowFault::ZeroCount { row } => row,
+            RowFault::HeadsOver { row } => row,
+            RowFault::NotSorted { row } => row,
+        }
+    }
 }
 
 impl fmt::Display for RowFault {

@@ -18,10 +18,11 @@ use Rattle.search_core.specs.declared.board.Shutting.{Shutting}
 use Rattle.search_core.specs.declared.board.Shutting.TheVariants.{DiskFault, Full}
 use Rattle.search_core.proofs.Runs.{book_after-append}
 use Rattle.search_book.specs.PostLog.{PostLogView}
-use Rattle.search_book.specs.Posts.{bytes_used, joined, SpellPosts}
+use Rattle.search_book.specs.Posts.{bytes_used}
+use Rattle.post_codec.specs.Batches.{joined, SpellPosts}
 use Rattle.search_book.specs.Recorded.{IsPostLogInside, ShutIn}
 use Rattle.search_book.specs.Records.{LogView}
-use Rattle.search_book.proofs.Batches.{zip_right}
+use Rattle.post_codec.proofs.Batches.{zip_right}
 use Rattle.search_book.proofs.Few.{few_nodes, few_posts}
 use Rattle.search_book.proofs.Used.{end_is}
 use Rattle.search_book.proofs.Recording.{bytes_are, joined_more, recorded_first, recorded_more, recorded_spells, used_with}

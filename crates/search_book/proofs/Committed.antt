@@ -28,7 +28,7 @@ use Rattle.search_core.proofs.Outlines.{book_is}
 use Rattle.search_core.proofs.Runs.{front_folds}
 use Rattle.search_book.specs.Committing.{batches_of, commit_fault_of, step_posts, MayCommit, MayNot, RecordsStep, StepFails}
 use Rattle.search_book.specs.PostLog.{PostLogView}
-use Rattle.search_book.specs.Posts.{joined}
+use Rattle.post_codec.specs.Batches.{joined}
 use Rattle.search_book.specs.Recorded.{RecordFails, Records}
 use Rattle.search_book.specs.Search.{board_at, IsOver, KeepsSearch}
 use Rattle.search_book.proofs.Commits.{fold_more}

@@ -10,7 +10,8 @@ use Rattle.head_splits.specs.declared.Class.{Class}
 use Rattle.shift_instance.specs.Problem.{Problem}
 use Rattle.search_core.specs.Book.{Book, book_after, book_of, divided, is_better, opening, priced, settled, step}
 use Rattle.search_core.proofs.Sound.{at_node_some, bind_some, cond_some}
-use Rattle.search_book.specs.Posts.{bytes_used, joined, SpellPosts}
+use Rattle.search_book.specs.Posts.{bytes_used}
+use Rattle.post_codec.specs.Batches.{joined, SpellPosts}
 
 u16_size : (n : ℕ) → length (u16_bytes n) ≡ 2
 unfolding u16_bytes

@@ -4,6 +4,7 @@ use Rattle.std.specs.Prelude.{Err, IfOk, IsSomeAnd, Ok, Result, slice_get}
 use Rattle.std.specs.Option.{option_map_or, option_and_then}
 use Rattle.std.specs.List.{list_all, list_any}
 use Rattle.std.proofs.lemmas.Bool.{and_parts, false≢true, le-leb, lt-leb, ltb-false, ltb-true, not-true}
+use Rattle.shift_instance.proofs.Rotas.{slice_get_below}
 use Rattle.head_splits.specs.declared.Cut.{Cut}
 use Rattle.head_splits.specs.Nodes.{Node}
 use Rattle.search_core.specs.declared.outline.NodeState.{NodeState}
@@ -12,27 +13,7 @@ use Rattle.search_core.specs.Book.{Book, is_node_and, is_open}
 use Rattle.search_core.specs.Core.{hand, is_node}
 use Rattle.search_core.specs.Kept.{cuts_in}
 use Rattle.search_core.specs.State.{state_of}
-use Rattle.search_core.proofs.Sound.{bind_some}
-
--- ---- hands
-slice_get_set : {X : Type 0} (xs : List X) (w v : ℕ) (y x : X) → slice_get (set xs w y) v ≡ Some x → ((v ≡ w) × (y ≡ x)) ⊎ ((v ≢ w) × (slice_get xs v ≡ Some x))
-slice_get_set [] w v y x e = absurd (cc)
-slice_get_set (z ∷ xs) zero zero y x e = let same : y ≡ x = cc in inl (refl, same)
-slice_get_set (z ∷ xs) zero (suc v) y x e = inr (λ q. absurd (omega arith), e)
-slice_get_set (z ∷ xs) (suc w) zero y x e = inr (λ q. absurd (omega arith), e)
-slice_get_set (z ∷ xs) (suc w) (suc v) y x e =
-    elim (slice_get_set xs w v y x e) [
-      | inl p ↦ inl (ap suc p.0, p.1)
-      | inr p ↦ inr (λ q. p.0 (let r : v ≡ w = omega arith in r), p.1)
-    ]
-
-hand_some : (hands : List (Option ℕ)) (w x : ℕ) → hand hands w ≡ Some x → slice_get hands w ≡ Some (Some x)
-hand_some hands w x e = let r = bind_some (λ (h : Option ℕ). h) (slice_get hands w) x e in r.1 ∙ ap (λ (h : Option ℕ). Some h) r.2
-
-hand_set : (hands : List (Option ℕ)) (w v : ℕ) (h : Option ℕ) (x : ℕ) → hand (set hands w h) v ≡ Some x → ((v ≡ w) × (h ≡ Some x)) ⊎ ((v ≢ w) × (hand hands v ≡ Some x))
-hand_set hands w v h x e =
-    elim (slice_get_set hands w v h (Some x) (hand_some (set hands w h) v x e))
-    [ inl p ↦ inl p | inr p ↦ inr (p.0, ap (option_and_then (λ (h : Option ℕ). h)) p.1) ]
+use Rattle.search_core.proofs.Runs.{hand_set, hand_some}
 
 -- ---- the nodes in the hands are unsplit
 abbrev pub AreUnsplit : Book → List (Option ℕ) → Type 0
@@ -66,13 +47,8 @@ node_there : (o : Option Node) (p : Node → Bool) → option_map_or p o false �
 node_there None p h = absurd (false≢true h)
 node_there (Some n) p h = (n, refl)
 
-below_length : {X : Type 0} (xs : List X) (k : ℕ) (x : X) → slice_get xs k ≡ Some x → k < length xs
-below_length [] k x at = absurd (cc)
-below_length (y ∷ xs) zero x at = omega arith
-below_length (y ∷ xs) (suc k) x at = let less : k < length xs = below_length xs k x at in omega arith
-
 pub is_there : (b : Book) (k : ℕ) (p : Node → Bool) → is_node_and b k p ≡ true → k < length b.nodes
-is_there b k p h = let n = node_there (slice_get b.nodes k) p h in below_length b.nodes k n.0 n.1
+is_there b k p h = let n = node_there (slice_get b.nodes k) p h in slice_get_below b.nodes k n.0 n.1
 
 pub free_there : (b : Book) (hands : List (Option ℕ)) (k : ℕ) → is_free b hands k ≡ true → k < length b.nodes
 free_there b hands k free = is_there b k (is_open b) (and_parts (is_node_and b k (is_open b)) (not (list_any (is_node k) hands)) free).0

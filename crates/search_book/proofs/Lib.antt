@@ -1,7 +1,6 @@
 pub mod Prefixes
 pub mod Adds
 pub mod Sizes
-pub mod Batches
 pub mod Openings
 pub mod Used
 pub mod Crosses

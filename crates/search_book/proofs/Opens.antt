@@ -10,21 +10,19 @@ use Rattle.post_codec.specs.Spelling.{EachSpellsOnce}
 use Rattle.recovery.specs.declared.fault.RebuildFault.{RebuildFault}
 use Rattle.recovery.specs.declared.fault.RebuildFault.TheVariants.{Rejected as IsRejected, NoMemory as RebuildsMemory}
 use Rattle.recovery.specs.Records.{MakeBook}
+use Rattle.post_codec.specs.Batches.{SpellPosts}
 use Rattle.recovery.specs.Refusals.{Refuses}
-use Rattle.search_core.specs.Book.{Book, book_of}
+use Rattle.search_core.specs.Book.{Book}
 use Rattle.shift_instance.specs.Problem.{Problem}
 use Rattle.search_book.specs.declared.open_fault.OpenFault.{OpenFault}
 use Rattle.search_book.specs.declared.open_fault.OpenFault.TheVariants.{DiskFault, NotAJournal, OtherInstance, Damaged, Rejected, NoMemory}
 use Rattle.search_book.specs.Head.{HasOtherHead, HeadCause, KeepsHead}
 use Rattle.search_book.specs.Opened.{HoldsBook, of_rebuild_fault}
 use Rattle.search_book.specs.Opening.{IsFound, IsOpenedFrom}
-use Rattle.search_book.specs.Posts.{bytes_used, SpellPosts}
-use Rattle.search_book.proofs.Batches.{none_spelled, posts_once}
+use Rattle.search_book.specs.Posts.{bytes_used}
+use Rattle.post_codec.proofs.Batches.{none_spelled, posts_once}
 use Rattle.search_book.proofs.Used.{used_fresh}
 use Rattle.search_book.proofs.Openings.{found_content, may_be_new, no_posts_left}
-
-make_book : (i : Problem) (records : List (List ℕ)) (posts : List Post) (b : Book) → SpellPosts records posts → book_of i posts ≡ Some b → MakeBook i records posts b
-make_book i records posts b s f = record { spell = record { batches = s.batches; spelled = s.spelled; all = s.all }; make = f }
 
 -- ---- what an opening gives
 pub opened_from : EachSpellsOnce → (limit : ℕ) (i : Problem) (records : List (List ℕ)) (posts : List Post) (used : ℕ) (o o' : Option (List ℕ)) → used ≡ bytes_used (canonical_text i) records → SpellPosts records posts → IfSome o (IsFound limit (canonical_text i) records o') → IfSome o (IsOpenedFrom limit i posts used o')
@@ -78,4 +76,4 @@ only_rebuild limit i records (Some (x ∷ xs)) o' fault small found only = λ h.
     let some : (x ∷ xs) ≢ [] = λ e. absurd (cc) in
     let same = (stands_once limit (canonical_text i) (canonical_text i) h.stands.journal.records records (x ∷ xs) small h.stands.journal.stands (found.old some).0).1 in
     let spells : SpellPosts records h.posts = subst (λ (l : List (List ℕ)). SpellPosts l h.posts) same h.stands.journal.spells in
-    inr (ap of_rebuild_fault (only h.posts h.book (make_book i records h.posts h.book spells h.folds)))
+    inr (ap of_rebuild_fault (only h.posts h.book (record { spell = spells; make = h.folds })))

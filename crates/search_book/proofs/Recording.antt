@@ -18,10 +18,11 @@ use Rattle.search_core.specs.declared.board.Shutting.TheVariants.{DiskFault, Ful
 use Rattle.search_core.proofs.Runs.{front_folds}
 use Rattle.search_book.specs.Keeping.{HoldsBatches, IsKeptPosts, ShutOf}
 use Rattle.search_book.specs.PostLog.{PostLogView}
-use Rattle.search_book.specs.Posts.{joined, bytes_used, SpellPosts}
+use Rattle.search_book.specs.Posts.{bytes_used}
+use Rattle.post_codec.specs.Batches.{joined, SpellPosts}
 use Rattle.search_book.specs.Prefix.{HoldsPrefix}
 use Rattle.search_book.specs.Recorded.{IsRecorded, ShutIn}
-use Rattle.search_book.proofs.Batches.{zip_append, zip_length, zip_push, zip_right, zip_take}
+use Rattle.post_codec.proofs.Batches.{zip_length, zip_push, zip_take, zip_append, zip_right}
 use Rattle.search_book.proofs.Used.{used_more}
 
 -- ---- batches, joined

@@ -3,7 +3,7 @@ use Rattle.std.specs.Prelude.{◌≡◌, ℕ, Bool, List, Option, Some}
 use Rattle.std.proofs.Common.{sym}
 use Rattle.search_core.specs.declared.board.Shutting.TheVariants.{Full}
 use Rattle.search_core.specs.Board.{IsPast, IsSoundBoard}
-use Rattle.search_book.specs.Posts.{joined}
+use Rattle.post_codec.specs.Batches.{joined}
 use Rattle.search_book.specs.PostLog.{PostLogView}
 use Rattle.search_book.specs.Search.{board_at, KeepsSearch}
 

@@ -1,17 +1,14 @@
 -- Why a disk's file isn't opened as the journal of an instance.
-use Rattle.std.specs.Prelude.{◌≡◌, ◌≢◌, ◌⊎◌, ⊤, ℕ, List, [], Option, Some, IfSome, take, slice_get}
+use Rattle.std.specs.Prelude.{◌≡◌, ◌≢◌, ◌⊎◌, ⊤, ℕ, List, [], Option, Some, IfSome}
 use Rattle.plan_base.specs.Causes.{Rose}
 use Rattle.gated_journal.specs.Cuts.{IsNoJournal}
 use Rattle.gated_journal.specs.Faults.{IsDamagedAt}
 use Rattle.gated_journal.specs.declared.fault.JournalFault.{JournalFault}
 use Rattle.gated_journal.specs.declared.fault.JournalFault.TheVariants.{DiskFault as JournalsDisk, NoMemory as JournalsMemory, NotAJournal as NoJournal, Damaged as IsDamaged, Full}
 use Rattle.gated_journal.specs.Format.{StandsFor, fresh}
+use Rattle.search_core.specs.Board.{DifferAt}
 use Rattle.search_book.specs.declared.open_fault.OpenFault.{OpenFault}
 use Rattle.search_book.specs.declared.open_fault.OpenFault.TheVariants.{DiskFault, NotAJournal, OtherInstance, Damaged, Rejected, NoMemory}
-
--- the first place at which two texts differ, and the length of the shorter where it begins the other
-abbrev pub DifferAt : List ℕ → List ℕ → ℕ → Type 0
-DifferAt xs ys at = (take at xs ≡ take at ys) × (slice_get xs at ≢ slice_get ys at)
 
 -- a journal whose head differs from a text, first at that place
 pub record HasOtherHead (limit : ℕ) (text : List ℕ) (at : ℕ) (file : List ℕ) : Type 0 where

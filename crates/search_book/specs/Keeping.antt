@@ -8,7 +8,8 @@ use Rattle.shift_instance.specs.Valid.{IsValid}
 use Rattle.search_core.specs.Book.{Book, book_of}
 use Rattle.search_core.specs.declared.board.Shutting.{Shutting}
 use Rattle.search_core.specs.declared.board.Shutting.TheVariants.{DiskFault, Full}
-use Rattle.search_book.specs.Posts.{joined, StandsForPosts, IsJournalOf}
+use Rattle.search_book.specs.Posts.{StandsForPosts, IsJournalOf}
+use Rattle.post_codec.specs.Batches.{joined}
 use Rattle.search_book.specs.PostLog.{PostLogView}
 
 -- a file that stands for the opening posts of a run and the first of its batches, at least so many, each whole; these posts

@@ -2,22 +2,11 @@
 use Rattle.std.specs.Prelude.{◌≡◌, ℕ, ◌+◌, List, [], ◌∷◌, length, Option, None, Some, Vec}
 use Rattle.std.specs.declared.snapshot.Snapshot.{Snapshot}
 use Rattle.std.specs.declared.alloc.Global.{Global}
-use Rattle.std.specs.List.{AllZip, flat_map}
 use Rattle.gated_journal.specs.Format.{spelled, StandsFor}
 use Rattle.instance_json.specs.Canonical.{canonical_text}
 use Rattle.post_codec.specs.declared.post.Post.{Post}
-use Rattle.post_codec.specs.Spelling.{Spells}
+use Rattle.post_codec.specs.Batches.{SpellPosts}
 use Rattle.shift_instance.specs.Problem.{Problem}
-
--- batches of posts, joined
-abbrev pub joined : List (List Post) → List Post
-joined batches = flat_map (λ batch. batch) batches
-
--- each record is the spelling of a batch, and the batches joined are the posts
-pub record SpellPosts (records : List (List ℕ)) (posts : List Post) : Type 0 where
-  pub batches : List (List Post)
-  pub spelled : AllZip Spells records batches
-  pub all : joined batches ≡ posts
 
 -- the posts of a commit that ended in a disk fault, as a batch of their own
 abbrev pub batches_told : Option (Snapshot (Vec Post Global)) → List (List Post)

@@ -12,7 +12,7 @@ use Rattle.search_core.specs.Board.{bytes_of}
 use Rattle.search_core.specs.Book.{Book, book_of}
 use Rattle.search_core.specs.declared.board.Shutting.{Shutting}
 use Rattle.search_core.specs.declared.board.Shutting.TheVariants.{DiskFault, Full}
-use Rattle.search_book.specs.Posts.{joined, SpellPosts}
+use Rattle.post_codec.specs.Batches.{joined, SpellPosts}
 use Rattle.search_book.specs.PostLog.{PostLogView}
 use Rattle.search_book.specs.Records.{LogView}
 

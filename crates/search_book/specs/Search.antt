@@ -5,7 +5,7 @@ use Rattle.search_core.specs.Board.{bytes_of, BoardView}
 use Rattle.search_core.specs.Book.{book_of, is_node_and}
 use Rattle.search_core.specs.Core.{hand, AreApart}
 use Rattle.search_book.specs.Origins.{origin_at, tells}
-use Rattle.search_book.specs.Posts.{joined}
+use Rattle.post_codec.specs.Batches.{joined}
 use Rattle.search_book.specs.PostLog.{PostLogView}
 
 -- the journal had no room for the posts of a step, four at most, which the book allows: with their record it would end there

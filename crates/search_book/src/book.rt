@@ -8,7 +8,7 @@ ghost use Rattle.search_core.specs.Kept.{cuts_in};
 ghost use Rattle.search_core.specs.Steps.{Fits};
 ghost use Rattle.search_book.specs.Committing.{LeavesLog, RecordsStep};
 ghost use Rattle.search_book.specs.Keeping.{IsRunningPosts, PostsLast, ShutOf};
-ghost use Rattle.search_book.specs.Posts.{joined};
+ghost use Rattle.post_codec.specs.Batches.{joined};
 ghost use Rattle.search_book.specs.Search.{board_of};
 
 use crate::post_log::PostLog;

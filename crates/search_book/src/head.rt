@@ -2,7 +2,8 @@
 ghost use Rattle.std.specs.Prelude.{◌≡◌, ◌+◌, ◌^◌, ◌≤◌, ◌<◌, [], length, map, Some, IfOk, IfErr, IfSome, OnSome, MatchOption};
 ghost use Rattle.plan_base.specs.Disk.{HoldsThroughout, TellsAlike};
 ghost use Rattle.gated_journal.specs.View.{IsSettled};
-ghost use Rattle.search_book.specs.Head.{DifferAt, HeadCause, KeepsHead};
+ghost use Rattle.search_core.specs.Board.{DifferAt};
+ghost use Rattle.search_book.specs.Head.{HeadCause, KeepsHead};
 ghost use Rattle.search_book.specs.Opening.{IsFound, IsOldOrShort};
 
 use crate::open_fault::OpenFault;

@@ -9,7 +9,7 @@ ghost use Rattle.search_book.specs.Head.{KeepsHead};
 ghost use Rattle.search_book.specs.Keeping.{IsPostLog};
 ghost use Rattle.search_book.specs.Opened.{HoldsBook, OpenCause};
 ghost use Rattle.search_book.specs.Opening.{IsBegun, IsFound, IsOldOrShort, IsOpenedFrom};
-ghost use Rattle.search_book.specs.Posts.{SpellPosts};
+ghost use Rattle.post_codec.specs.Batches.{SpellPosts};
 ghost use Rattle.shift_instance.specs.Valid.{IsValid};
 
 use crate::head::open_head;

@@ -6,7 +6,8 @@ ghost use Rattle.post_codec.specs.Spelling.{CountsFitPost, Spells};
 ghost use Rattle.search_core.specs.Book.{Book};
 ghost use Rattle.search_core.specs.Drafting.{Makes};
 ghost use Rattle.search_book.specs.Keeping.{IsPostLog};
-ghost use Rattle.search_book.specs.Posts.{bytes_used, SpellPosts};
+ghost use Rattle.search_book.specs.Posts.{bytes_used};
+ghost use Rattle.post_codec.specs.Batches.{SpellPosts};
 ghost use Rattle.search_book.specs.Recorded.{RecordFails, Records};
 ghost use Rattle.shift_instance.specs.Valid.{IsValid};
 

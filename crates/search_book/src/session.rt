@@ -7,7 +7,7 @@ ghost use Rattle.search_core.specs.Kept.{cuts_in};
 ghost use Rattle.search_core.specs.Steps.{Fits};
 ghost use Rattle.search_core.specs.declared.board.Shutting.TheVariants.{Full};
 ghost use Rattle.search_book.specs.Committing.{LeavesLog, RecordsStep};
-ghost use Rattle.search_book.specs.Posts.{joined};
+ghost use Rattle.post_codec.specs.Batches.{joined};
 ghost use Rattle.search_book.specs.Search.{board_at, IsOver};
 
 use crate::committing::{may_commit, record_step};

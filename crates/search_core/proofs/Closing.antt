@@ -18,6 +18,7 @@ use Rattle.rota_cost.proofs.Coverage.{costs_below}
 use Rattle.shift_instance.specs.Problem.{Problem}
 use Rattle.shift_instance.specs.Rota.{cost, is_legal_rota, rota_of}
 use Rattle.shift_instance.specs.Valid.{IsValid}
+use Rattle.shift_instance.proofs.Rotas.{slice_get_below}
 use Rattle.shift_instance.specs.declared.TheConstants.{TOP}
 use Rattle.search_core.specs.declared.step_posts.StepPosts.{StepPosts}
 use Rattle.search_core.specs.declared.step_posts.Close.TheVariants.{ByPrice, Split as CloseBySplit, Settled as CloseAsSettled}
@@ -145,13 +146,8 @@ node_where : (p : Node → Bool) (o : Option Node) → option_map_or p o false �
 node_where p None h = absurd (false≢true h)
 node_where p (Some n) h = (n, refl, h)
 
-below_length : {X : Type 0} (xs : List X) (k : ℕ) (x : X) → slice_get xs k ≡ Some x → k < length xs
-below_length [] k x at = absurd (cc)
-below_length (y ∷ xs) zero x at = omega arith
-below_length (y ∷ xs) (suc k) x at = let less : k < length xs = below_length xs k x at in omega arith
-
 pub unsplit_there : (b : Book) (k : ℕ) → is_node_and b k (λ n. not n.split) ≡ true → k < length b.nodes
-unsplit_there b k unsplit = let n = node_where (λ n. not n.split) (slice_get b.nodes k) unsplit in below_length b.nodes k n.0 n.1
+unsplit_there b k unsplit = let n = node_where (λ n. not n.split) (slice_get b.nodes k) unsplit in slice_get_below b.nodes k n.0 n.1
 
 pub before_of : (i : Problem) (b : Book) (k : ℕ) (cuts : List Cut) (best floor : ℕ) → is_node_and b k (λ n. not n.split) ≡ true → cuts ≡ cuts_in b.nodes k → best ≡ b.cost → floor ≡ floor_of_node b k → IsAfter i b k cuts [] best floor false
 before_of i b k cuts best floor unsplit same cost_is low =

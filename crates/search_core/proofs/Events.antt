@@ -187,7 +187,7 @@ past [] w h = refl
 past (x ∷ xs) zero h = absurd (omega arith)
 past (x ∷ xs) (suc w) h = let less : length xs ≤ w = omega arith in past xs w less
 
-not_next : (i : Problem) (b c : Book) (posts : List Post) (count : ℕ) (post : Post) (before : Book)
+pub not_next : (i : Problem) (b c : Book) (posts : List Post) (count : ℕ) (post : Post) (before : Book)
     → book_after i b (take count posts) ≡ Some before → slice_get posts count ≡ Some post → step i before post ≡ None → book_after i b posts ≡ Some c → ⊥
 not_next i b c [] count post before taken next refused e = absurd (cc)
 not_next i b c (p ∷ posts) zero post before taken next refused e =

@@ -1,19 +1,18 @@
 -- Legal rows of an instance have a spelling.
-use Rattle.std.proofs.Common.{◌≡◌, inl, inr, ℕ, zero, suc, ◌+◌, ◌*◌, ◌/◌, ◌%◌, ◌<◌, ◌≤◌, ◌^◌, Bool, true, false, cond, ◌==◌, List, [], ◌∷◌, ◌++◌, length, replicate, refl, ap, ◌∙◌, sym, arith, sum_by, count_by, fold, nat_lt, nat_le, Option, Some, None, eq-eqb, length-append}
+use Rattle.std.proofs.Common.{◌≡◌, inl, inr, ℕ, ◌+◌, ◌*◌, ◌<◌, ◌≤◌, ◌^◌, Bool, true, false, cond, List, [], ◌∷◌, ◌++◌, length, replicate, refl, arith, sum_by, fold, nat_lt, nat_le, Option, Some, None, length-append}
 use Rattle.std.specs.Prelude.{All, IsTrue, slice_get}
 use Rattle.std.specs.Option.{option_map_or}
 use Rattle.std.specs.List.{list_all, AllByRecursion}
-use Rattle.std.proofs.lemmas.Bool.{and_parts, and_from, lt-ltb, le-ltb, ltb-true, eqb-true, false≢true, cond_both, cases_order, ne_eqb}
+use Rattle.std.proofs.lemmas.Bool.{and_parts, ltb-true, false≢true, cond_both}
 use Rattle.std.proofs.lemmas.List.{length-replicate}
 use Rattle.std.proofs.lemmas.List.Sums.{sum_by-cons}
 use Rattle.std.proofs.lemmas.List.Elements.{All-from_recursion, recursion_from_All}
-use Rattle.std.proofs.lemmas.Nat.{div-mul-add, mod-mul-add}
+use Rattle.std.proofs.Math.Nat.{mul-le-mul}
 use Rattle.break_rules.specs.declared.Break.{Break}
 use Rattle.break_rules.specs.declared.Rule.{Rule}
 use Rattle.break_rules.specs.Breaks.{is_legal, is_live, total_in}
 use Rattle.break_rules.specs.Ranges.{IsRule, IsTotal}
 use Rattle.break_rules.proofs.Lists.{Has, Has-flat_map, all_at}
-use Rattle.break_rules.proofs.Counts.{count_by_none, count_by_at_most}
 use Rattle.break_rules.proofs.LegalLists.{legal_parts, live_rest}
 use Rattle.break_rules.proofs.Ranges.{ranges_from_none}
 use Rattle.shift_instance.specs.declared.Shift.{Shift}
@@ -22,12 +21,12 @@ use Rattle.shift_instance.specs.declared.Row.{Row}
 use Rattle.shift_instance.specs.Problem.{Problem, shift_list}
 use Rattle.head_splits.specs.declared.Class.{Class}
 use Rattle.head_splits.specs.Settled.{is_live_class}
-use Rattle.shift_instance.specs.Rota.{is_shift_and, is_list_of, is_on, heads_on, is_legal_rota, duty_of, rota_of, are_legal_rows}
+use Rattle.shift_instance.specs.Rota.{is_shift_and, is_list_of, is_legal_rota, duty_of, rota_of, are_legal_rows}
 use Rattle.shift_instance.specs.Valid.{IsValid}
-use Rattle.shift_instance.proofs.Rotas.{heads_within, legal_duties}
+use Rattle.shift_instance.proofs.Rotas.{legal_duties}
 use Rattle.shift_instance.proofs.Shifts.{Has_at, rule_passes}
 use Rattle.rota_cost.proofs.Counting.{Has_copy, legal_rows_parts}
-use Rattle.rota_cost.proofs.Coverage.{split_count}
+use Rattle.rota_cost.proofs.Lengths.{legal_length}
 use Rattle.post_codec.specs.Spelling.{CountsFitRow, CountsFitRows}
 
 -- ---- how many breaks a row has
@@ -58,52 +57,11 @@ few_breaks : (i : Problem) (s : ℕ) (list : List Break) → IsValid i → is_li
 few_breaks i s list valid h = few_of_shift (slice_get (shift_list i) s) list (λ x at. ranges_from_none x.1 (rule_passes i valid x (Has_at (shift_list i) s x at))) h
 
 -- ---- how many duties a legal rota has
-last_or_below : (a n : ℕ) → ◌≡◌ {A = ℕ} (cond (nat_lt a (suc n)) 1 0) (cond (nat_lt a n) 1 0 + cond (a == n) 1 0)
-last_or_below a n =
-    elim (cases_order a n) [
-      | inl e ↦ rw (lt-ltb a (suc n) (omega arith), le-ltb a n (omega arith), eq-eqb a n e) refl
-      | inr o ↦ elim o [
-        | inl l ↦ rw (lt-ltb a (suc n) (omega arith), lt-ltb a n l, ne_eqb a n (λ e. omega arith)) refl
-        | inr g ↦ rw (le-ltb a (suc n) (omega arith), le-ltb a n (omega arith), ne_eqb a n (λ e. omega arith)) refl
-      ]
-    ]
-
--- where at most m elements have each key, at most n times m have a key below n
-count_keys : {X : Type 0} (key : X → ℕ) (n m : ℕ) (xs : List X) → ((k : ℕ) → count_by (λ x. key x == k) xs ≤ m) → count_by (λ x. nat_lt (key x) n) xs ≤ n * m
-count_keys key zero m xs h =
-    let e : count_by (λ x. nat_lt (key x) 0) xs ≡ 0 = count_by_none (λ x. nat_lt (key x) 0) xs (λ x i. le-ltb (key x) 0 (omega arith)) in
-    omega arith
-count_keys key (suc n) m xs h =
-    let a : count_by (λ x. nat_lt (key x) (suc n)) xs ≡ count_by (λ x. nat_lt (key x) n) xs + count_by (λ x. key x == n) xs =
-    split_count (λ x. nat_lt (key x) (suc n)) (λ x. nat_lt (key x) n) (λ x. key x == n) xs (λ x. last_or_below (key x) n) in
-    let b : count_by (λ x. nat_lt (key x) n) xs ≤ n * m = count_keys key n m xs h in
-    let c : count_by (λ x. key x == n) xs ≤ m = h n in
-    omega arith
-
-count_all : {X : Type 0} (p : X → Bool) (xs : List X) → ((x : X) → Has xs x → p x ≡ true) → count_by p xs ≡ length xs
-count_all p [] h = refl
-count_all {X} p (x ∷ xs) h =
-    let rest : count_by p xs ≡ length xs = count_all p xs (λ y i. h y (inr i)) in
-    let here : ◌≡◌ {A = ℕ} (cond (p x) 1 0) 1 = ap (λ t. cond t 1 0) (h x (inl refl)) in
-    omega (arith, sum_by-cons (λ (x : X). cond (p x) 1 0) x xs)
-
--- a number for each shift and day
-abbrev place : Duty → ℕ
-place d = d.shift * 7 + d.day
-
 few_duties : (i : Problem) (rota : List Duty) → IsValid i → is_legal_rota i rota ≡ true → length rota ≤ 1433600
 few_duties i rota valid h =
-    let day : (d : Duty) → Has rota d → d.day < 7 = λ d m. omega (arith, (legal_duties i rota h d m).day, valid.days) in
-    let each : (k : ℕ) → count_by (λ d. place d == k) rota ≤ 200 = λ k.
-    let most : count_by (λ d. place d == k) rota ≤ heads_on rota (k / 7) (k % 7) = count_by_at_most (λ d. place d == k) (is_on (k / 7) (k % 7)) rota (λ d m e.
-    let at : place d ≡ k = eqb-true _ _ e in
-    and_from (d.shift == k / 7) (d.day == k % 7)
-    (eq-eqb d.shift (k / 7) (sym (div-mul-add d.shift 7 d.day (day d m)) ∙ ap (λ (n : ℕ). n / 7) at))
-    (eq-eqb d.day (k % 7) (sym (mod-mul-add d.shift 7 d.day (day d m)) ∙ ap (λ (n : ℕ). n % 7) at))) in
-    omega (arith, most, heads_within i rota h (k / 7) (k % 7), valid.heads) in
-    let all : count_by (λ d. nat_lt (place d) 7168) rota ≡ length rota = count_all (λ d. nat_lt (place d) 7168) rota (λ d m.
-    lt-ltb (place d) 7168 (omega (arith, (legal_duties i rota h d m).shift, valid.shifts, day d m))) in
-    let most : count_by (λ d. nat_lt (place d) 7168) rota ≤ 7168 * 200 = count_keys place 7168 200 rota each in
+    let most : length rota ≤ length (shift_list i) * i.days * i.heads = legal_length i rota h in
+    let days : length (shift_list i) * i.days ≤ 1024 * 7 = mul-le-mul valid.shifts valid.days in
+    let heads : length (shift_list i) * i.days * i.heads ≤ 1024 * 7 * 200 = mul-le-mul days valid.heads in
     omega arith
 
 -- no row stands for no duty

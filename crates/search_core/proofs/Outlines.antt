@@ -13,7 +13,8 @@ use Rattle.head_splits.specs.declared.Class.{Class}
 use Rattle.head_splits.specs.declared.Side.{Side}
 use Rattle.head_splits.specs.declared.Side.TheVariants.{AtMost, AtLeast}
 use Rattle.head_splits.specs.declared.Cut.{Cut}
-use Rattle.head_splits.specs.Cuts.{low, high, least_high, same_class, lowered}
+use Rattle.head_splits.specs.Cuts.{low, high}
+use Rattle.head_splits.proofs.Splits.{high_most}
 use Rattle.head_splits.specs.Bound.{are_prices, bound_of}
 use Rattle.head_splits.specs.Settled.{is_live_class, is_settled}
 use Rattle.head_splits.specs.Nodes.{Node, child, with_floor, with_split, settled_floor}
@@ -177,18 +178,6 @@ floor_kept i history none o b c post k value s e n at unsplit floor same r =
 
 -- ---- a split
 
-low_high : (cuts : List Cut) (class : Class) (most : ℕ) → least_high most cuts class ≤ most
-low_high [] class most = omega arith
-low_high (c ∷ cuts) class most =
-    let here : cond (same_class c.class class) (lowered c.side c.m most) most ≤ most = lower (same_class c.class class) c.side c.m in
-    let rest : least_high (cond (same_class c.class class) (lowered c.side c.m most) most) cuts class ≤ cond (same_class c.class class) (lowered c.side c.m most) most = low_high cuts class _ in
-    omega arith
-  where
-    lower : (b : Bool) (side : Side) (m : ℕ) → cond b (lowered side m most) most ≤ most
-    lower true AtMost m = omega arith
-    lower true AtLeast m = omega arith
-    lower false side m = omega arith
-
 -- places of the two parts of a split
 odd_place : (s : ℕ) → (((1 + 2 * s) - 1) / 2 ≡ s) × (((1 + 2 * s) % 2 == 1) ≡ true)
 odd_place s = (omega arith, ap (λ r. r == 1) (let e : (1 + 2 * s) % 2 ≡ 1 = omega arith in e))
@@ -206,7 +195,7 @@ split_kept i history none o b c worker k m value class s e v =
     let q = cond_some (is_open b n && is_live_class i class && nat_le (low n.cuts class) m && nat_lt m (high i n.cuts class)) (with_split b.nodes k n class m) r.2 r.3 in
     let p3 = and_parts (is_open b n && is_live_class i class && nat_le (low n.cuts class) m) (nat_lt m (high i n.cuts class)) q.0 in
     let below : m < high i n.cuts class = ltb-true _ _ p3.1 in
-    let few : high i n.cuts class ≤ i.heads = low_high n.cuts class i.heads in
+    let few : high i n.cuts class ≤ i.heads = high_most n.cuts class i.heads in
     let heads : i.heads ≤ 200 = s.valid.heads in
     let is : record b { nodes = with_split b.nodes k n class m } ≡ c = ap (λ (nodes : List Node). record b { nodes = nodes }) q.1 ∙ r.4 in
     let worth : value ≡ n.floor = v ∙ number_there b k n (λ (n : Node). n.floor) at in

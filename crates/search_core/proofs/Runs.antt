@@ -31,7 +31,7 @@ front_folds i xs ys c e = bind_some (λ b. book_after i b ys) (book_of i xs) c (
 
 -- ---- hands
 
-slice_get_set : {X : Type 0} (xs : List X) (w v : ℕ) (y x : X) → slice_get (set xs w y) v ≡ Some x → ((v ≡ w) × (y ≡ x)) ⊎ ((v ≢ w) × (slice_get xs v ≡ Some x))
+pub slice_get_set : {X : Type 0} (xs : List X) (w v : ℕ) (y x : X) → slice_get (set xs w y) v ≡ Some x → ((v ≡ w) × (y ≡ x)) ⊎ ((v ≢ w) × (slice_get xs v ≡ Some x))
 slice_get_set [] w v y x e = absurd (cc)
 slice_get_set (z ∷ xs) zero zero y x e = let same : y ≡ x = cc in inl (refl, same)
 slice_get_set (z ∷ xs) zero (suc v) y x e = inr (λ q. absurd (omega arith), e)

@@ -2,7 +2,6 @@
 use Rattle.std.specs.Prelude.{◌≡◌, ◌≢◌, ℕ, ◌+◌, ◌<◌, ◌≤◌, ◌⊎◌, Bool, true, IsTrue, IsFalse, ◌&&◌, not, List, [], ◌∷◌, ◌++◌, Option, Some, None, IsSome, length, take, slice_get, slice_set}
 use Rattle.std.specs.List.{list_any}
 use Rattle.shift_instance.specs.Problem.{Problem}
-use Rattle.head_splits.specs.declared.Cut.{Cut}
 use Rattle.post_codec.specs.declared.post.Post.{Post}
 use Rattle.post_codec.specs.Spelling.{spelling}
 use Rattle.search_core.specs.declared.step_posts.StepPosts.{StepPosts}
@@ -104,7 +103,7 @@ TakeMakes Idle w old new = Gives old × NoneIsFree (book_at old) old.hands × (n
 -- ---- commit
 
 -- the first place at which two lists differ, and the length of the shorter where it begins the other
-abbrev pub DifferAt : List Cut → List Cut → ℕ → Type 0
+abbrev pub DifferAt : {A : Type 0} → List A → List A → ℕ → Type 0
 DifferAt xs ys at = (take at xs ≡ take at ys) × (slice_get xs at ≢ slice_get ys at)
 
 -- a step that a worker may commit: the board isn't shut, the worker holds the step's node, and the prices are for its cuts

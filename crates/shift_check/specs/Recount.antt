@@ -6,7 +6,7 @@ use Rattle.shift_instance.specs.Problem.{Problem}
 use Rattle.shift_instance.specs.Rota.{cost, rota_of}
 use Rattle.rota_cost.specs.RowFaults.{row_fault}
 use Rattle.rota_cost.specs.declared.RowFault.{RowFault}
-use Rattle.cert_check.specs.Judged.{row_of}
+use Rattle.rota_cost.specs.RowFaults.{row_of}
 
 -- what is said of rows whose first fault is given: their cost, or the bad row
 abbrev pub said_of : Problem → List Row → Option RowFault → List ℕ

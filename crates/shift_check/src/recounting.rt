@@ -1,29 +1,14 @@
 //! The rows of a report, judged and counted again.
 
 ghost use Rattle.std.specs.Prelude.{◌≡◌, Some, true, IfOk, string_bytes, codes};
-ghost use Rattle.cert_check.specs.Judged.{row_of};
 ghost use Rattle.shift_check.specs.Recount.{are_accepted, recount_text};
 ghost use Rattle.shift_check.specs.Verdict.{plan_rows};
 
 use crate::verdict::Verdict;
 use certificate::Cert;
-use rota_cost::{RowFault, legal_rows, recount};
+use rota_cost::{legal_rows, recount};
 use shift_instance::{Instance, Rows};
 use std::alloc::{AllocError, Global};
-
-/// The row at which a fault is, counted from 0.
-fn row_of(fault: RowFault) -> u64
-    ensures { result ≡ row_of fault }
-{
-    match fault {
-        RowFault::UnknownShift { row } => row,
-        RowFault::Day { row } => row,
-        RowFault::Breaks { row } => row,
-        RowFault::ZeroCount { row } => row,
-        RowFault::HeadsOver { row } => row,
-        RowFault::NotSorted { row } => row,
-    }
-}
 
 /// What is said of the rows of a report: the cost of legal rows by the definition, whatever the report claims, or the first
 /// bad row.
@@ -41,7 +26,7 @@ fn judge_rows(alloc: Global, instance: &Instance, rows: &Rows) -> Result<Verdict
             })
         }
         Err(fault) => {
-            let row = row_of(fault);
+            let row = fault.row();
             let line = format!(in alloc; "refused 5 {row}")?;
             Ok(Verdict {
                 line,

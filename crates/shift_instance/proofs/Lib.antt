@@ -3,7 +3,9 @@ pub mod Examples
 pub mod Judged
 pub mod KeptGraphs
 pub mod Made
+pub mod Ranges
 pub mod Offsets
 pub mod Rotas
+pub mod AllDuties
 pub mod RowCounts
 pub mod Shifts

@@ -19,11 +19,7 @@ use Rattle.shift_instance.specs.Graphs.{AreGraphs}
 use Rattle.shift_instance.specs.Valid.{IsValid, IsKind, IsInside}
 use Rattle.shift_instance.specs.Faults.{instance_causes}
 use Rattle.shift_instance.proofs.Judged.{valid_from_none}
-
--- one number more
-pub range_next : (a n : ℕ) → range_with_len a (suc n) ≡ range_with_len a n ++ (a + n) ∷ []
-range_next a zero = ap (λ (k : ℕ). k ∷ []) (omega arith)
-range_next a (suc n) = ap (λ (ks : List ℕ). a ∷ ks) (range_next (a + 1) n ∙ ap (λ (k : ℕ). range_with_len (a + 1) n ++ k ∷ []) (omega arith))
+use Rattle.shift_instance.proofs.Ranges.{range_next}
 
 firsts_of_start : (kind start : ℕ) (rule : Rule) (lens : List ℕ) → map (λ (x : Shift × Rule). x.0) (map (λ len. (record { kind = kind; start = start; len = len }, rule)) lens) ≡ map (shift_at kind start) lens
 firsts_of_start kind start rule [] = refl

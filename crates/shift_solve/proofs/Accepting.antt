@@ -21,7 +21,8 @@ use Rattle.head_splits.specs.Bound.{are_prices, bound_of, is_slot_price, is_cut_
 use Rattle.head_splits.specs.declared.Side.{Side}
 use Rattle.head_splits.specs.declared.Side.TheVariants.{AtMost, AtLeast}
 use Rattle.head_splits.specs.declared.Cut.{Cut}
-use Rattle.head_splits.specs.Cuts.{low, high, least_high, lowered, same_class}
+use Rattle.head_splits.specs.Cuts.{low, high}
+use Rattle.head_splits.proofs.Splits.{high_most}
 use Rattle.head_splits.proofs.Nodes.{floor_at}
 use Rattle.head_splits.specs.Settled.{is_live_class}
 use Rattle.head_splits.specs.Nodes.{Node, with_floor, with_split}
@@ -40,18 +41,6 @@ use Rattle.search_core.proofs.Floors.{finished_closed}
 use Rattle.shift_solve.specs.Report.{status_of_book, cert_of}
 
 -- ---- a split of a search is a good line
-
-lowered_most : (side : Side) (m n : ℕ) → lowered side m n ≤ n
-lowered_most AtMost m n = omega arith
-lowered_most AtLeast m n = omega arith
-
-high_most : (cuts : List Cut) (class : Class) (most : ℕ) → least_high most cuts class ≤ most
-high_most [] class most = omega arith
-high_most (c ∷ cuts) class most =
-    let next : ℕ = cond (same_class c.class class) (lowered c.side c.m most) most in
-    let rest : least_high next cuts class ≤ next = high_most cuts class next in
-    let here : next ≤ most = cond_both (same_class c.class class) (lowered c.side c.m most) most (λ x. x ≤ most) (λ e. lowered_most c.side c.m most) (λ e. omega arith) in
-    omega arith
 
 there_short : {X : Type 0} (xs : List X) (k : ℕ) (p : X → Bool) → option_map_or p (slice_get xs k) false ≡ true → k < length xs
 there_short [] k p h = absurd (false≢true h)

@@ -25,7 +25,8 @@ use Rattle.search_book.specs.Keeping.{HoldsBatches, PostsLast, IsRunningPosts, S
 use Rattle.search_book.specs.Opening.{IsBegun, IsOpenedFrom}
 use Rattle.search_book.specs.Origins.{tells}
 use Rattle.search_book.specs.Search.{SearchView, board_of}
-use Rattle.search_book.specs.Posts.{joined, IsJournalOf}
+use Rattle.search_book.specs.Posts.{IsJournalOf}
+use Rattle.post_codec.specs.Batches.{joined}
 use Rattle.worker_gate.specs.declared.run.RunEnd.{RunEnd}
 use Rattle.worker_gate.specs.declared.run.RunEnd.TheVariants.{Finished, Spent, Full as FullEnd, DiskFault as DiskEnd, NoMemory as MemoryEnd}
 use Rattle.worker_gate.specs.Runs.{is_plan_or_prices}

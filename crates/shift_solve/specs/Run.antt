@@ -19,7 +19,7 @@ use Rattle.search_core.specs.Calls.{steps_enough}
 use Rattle.search_core.specs.Steps.{posts_of}
 use Rattle.search_core.specs.declared.step_posts.StepPosts.{StepPosts}
 use Rattle.post_codec.specs.declared.post.Post.{Post}
-use Rattle.search_book.specs.Posts.{joined}
+use Rattle.post_codec.specs.Batches.{joined}
 use Rattle.search_book.specs.declared.open_fault.OpenFault.{OpenFault}
 use Rattle.search_book.specs.declared.open_fault.OpenFault.TheVariants.{DiskFault as OpeningsDisk, NotAJournal, OtherInstance, Damaged, Rejected, NoMemory as OpeningsMemory}
 use Rattle.search_book.specs.Opened.{HoldsBook, OpenCause}

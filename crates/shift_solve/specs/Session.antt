@@ -7,7 +7,8 @@ use Rattle.shift_instance.specs.Problem.{Problem}
 use Rattle.search_core.specs.Book.{Book, book_of}
 use Rattle.search_book.specs.Keeping.{HoldsBatches}
 use Rattle.search_book.specs.Opening.{IsOpenedFrom}
-use Rattle.search_book.specs.Posts.{joined, IsJournalOf}
+use Rattle.search_book.specs.Posts.{IsJournalOf}
+use Rattle.post_codec.specs.Batches.{joined}
 
 -- what shows of a run's disk: its content before and after the run (none where it doesn't tell), what a crash may leave before
 -- and after it and since a moment, and the numbers of its calls and of its faults before and after

@@ -3,7 +3,6 @@ use Rattle.std.proofs.Common.{◌≡◌, inl, inr, ℕ, ◌<◌, ◌≤◌, Bool
 use Rattle.std.specs.Prelude.{slice_get, IfSome}
 use Rattle.std.specs.Option.{option_map_or, option_and_then}
 use Rattle.std.proofs.lemmas.Bool.{and_from, cases_Bool, ltb-true, ltb-false, le-ltb}
-use Rattle.std.proofs.lemmas.List.{append-nil}
 use Rattle.shift_instance.specs.Problem.{Problem}
 use Rattle.shift_instance.specs.Rota.{are_legal_rows, cost, rota_of}
 use Rattle.rota_cost.specs.Costed.{Costing, IsCosted}
@@ -14,28 +13,15 @@ use Rattle.head_splits.specs.Nodes.{Node, with_floor}
 use Rattle.post_codec.specs.declared.post.Post.{Post}
 use Rattle.post_codec.specs.declared.post.Post.TheVariants.{Plan, Priced}
 use Rattle.search_core.specs.declared.step_posts.StepPosts.{StepPosts}
-use Rattle.search_core.specs.declared.step_posts.Close.{Close}
 use Rattle.search_core.specs.declared.step_posts.Close.TheVariants.{ByPrice}
 use Rattle.search_core.specs.Board.{floor_of_node, leaves_open}
 use Rattle.search_core.specs.Book.{Book, is_better, is_node_and, is_open, priced, step as step_to, book_after}
 use Rattle.search_core.specs.Kept.{cuts_in}
-use Rattle.search_core.specs.Steps.{after_step, book_then, close_posts, followed_by, plan_of, plan_posts, posts_of, where_open, Fits}
+use Rattle.search_core.specs.Steps.{after_step, book_then, plan_posts, posts_of, where_open, Fits}
 use Rattle.search_core.proofs.Closed.{at_set, node_not, some_node, then_is}
 use Rattle.search_core.proofs.Runs.{book_after-append}
+use Rattle.search_core.proofs.Stepped.{posts_by_price}
 use Rattle.worker_gate.specs.Decision.{cost_to_reach}
-
-module _ (i : Problem) (b : Book) (w : ℕ) (step : StepPosts) where
-  abbrev priced_at : Book → List Post
-  priced_at = where_open step.node (Priced w step.node step.proved.prices)
-
-  abbrev planned : List Post
-  planned = plan_posts w step.plan b
-
-  abbrev posts_with : Close → List Post
-  posts_with close = followed_by i b (followed_by i b (followed_by i b planned (plan_posts w (plan_of close))) priced_at) (close_posts w step.node close)
-
-  posts_by_price : step.close ≡ ByPrice → posts_of i b w step ≡ followed_by i b planned priced_at
-  posts_by_price is = ap posts_with is ∙ append-nil _ ∙ ap (λ (l : List Post). followed_by i b l priced_at) (append-nil planned)
 
 -- the book after the post of a plan
 record Planned (i : Problem) (b : Book) (w : ℕ) (plan : Option Costing) : Type 0 where
@@ -114,7 +100,7 @@ closes i b w step is fits costed proved cuts opened reach =
     let floor : floor_of_node b k ≡ n.floor = ap (λ (o : Option Node). option_map_or (λ m. m.floor) o 0) found.1 in
     let far : d.cost ≤ max n.floor step.proved.bound = subst (λ c. c ≤ max n.floor step.proved.bound) (sym p.cost) (subst (λ f. cost_to_reach b.cost step.plan ≤ max f step.proved.bound) floor reach) in
     let posts : posts_of i b w step ≡ plan_posts w step.plan b ++ where_open k (Priced w k step.proved.prices) d =
-    posts_by_price i b w step is ∙ ap (λ (c : Book). plan_posts w step.plan b ++ where_open k (Priced w k step.proved.prices) c) first in
+    sym (posts_by_price i b w step is) ∙ ap (λ (c : Book). plan_posts w step.plan b ++ where_open k (Priced w k step.proved.prices) c) first in
     let joined : (ys : List Post) → book_after i b (plan_posts w step.plan b ++ ys) ≡ book_after i d ys =
     λ ys. book_after-append i b (plan_posts w step.plan b) ys ∙ ap (option_and_then (λ (c : Book). book_after i c ys)) p.folds in
     let leaves : Book → Bool = λ c. is_node_and c k (is_open c) in

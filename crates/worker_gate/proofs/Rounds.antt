@@ -13,7 +13,7 @@ use Rattle.search_core.specs.Book.{Book, book_after, book_of, is_finished, is_no
 use Rattle.search_core.specs.Calls.{steps_enough}
 use Rattle.search_core.specs.Core.{empty_hands, is_node, IsFront}
 use Rattle.search_core.specs.Steps.{posts_of}
-use Rattle.search_core.proofs.Closed.{is_closed, is_there, node_is, node_not, some_node, step_keeps}
+use Rattle.search_core.proofs.Closed.{closed_now, is_closed, is_there, node_is, node_not, some_node, step_keeps}
 use Rattle.search_core.proofs.Counted.{nodes_within}
 use Rattle.search_core.proofs.Counts.{passing, passing_less, passing_more, passing_most}
 use Rattle.search_core.proofs.Outlines.{book_is}
@@ -31,12 +31,6 @@ pub record Made (i : Problem) (old new : BoardView) (rounds : ℕ) : Type 0 wher
   posts : old.history ++ rest ≡ new.history
   counted : rounds ≤ count_by is_plan_or_prices rest
   closed : rounds ≤ passing (is_closed book) (steps_enough i)
-
-closed_now : (c : Book) (k : ℕ) → is_node_and c k (is_open c) ≡ false → is_there c k ≡ true → is_closed c k ≡ true
-closed_now c k shut there =
-    let m = some_node (λ (n : Node). true) (slice_get c.nodes k) there in
-    let no : is_open c m.0 ≡ false = sym (ap (λ (o : Option Node). option_map_or (is_open c) o false) m.1) ∙ shut in
-    node_is (λ (n : Node). not (is_open c n)) (slice_get c.nodes k) m.0 m.1 (ap not no)
 
 one_book : {X : Type 0} {x y : X} → Some x ≡ Some y → x ≡ y
 one_book e = cc (e)

@@ -8,7 +8,8 @@ use Rattle.shift_instance.specs.Problem.{below}
 use Rattle.head_splits.specs.Cuts.{low, whole_class}
 use Rattle.head_splits.specs.Bound.{day_value, free_day_value}
 use Rattle.bound_sums.specs.Values.{IsValue}
-use Rattle.bound_sums.proofs.Sizes.{fits, added, added_small, sum_below_more, any_below_more}
+use Rattle.shift_instance.proofs.Ranges.{int_sum_below_more, any_below_more}
+use Rattle.bound_sums.proofs.Sizes.{fits, added, added_small}
 use Rattle.bound_sums.proofs.ShiftTerms.{day_worth, free_worth, term_is}
 use Rattle.bound_sums.proofs.terms.term.Goals as goal
 
@@ -41,9 +42,9 @@ loop-day-preserved c =
       forced = c.needs_duty-is_forced.ensures ∙ ap (λ (n : ℕ). c.loop-day.is_forced || nat_lt 0 n) c.whole_range-low.ensures.low
           ∙ ap (λ (b : Bool). b || needs day) c.loop-day.invariant.forced ∙ sym (any_below_more needs day);
       worth = added _ c.ranged_value-ranged.result (f day) day (2 ^ 90) fit of_range c.ranged_value-ranged.ensures.small c.loop-day.invariant.small limit
-          ∙ ap (λ (z : ℤ). z +ℤ f day) c.loop-day.invariant.worth ∙ sym (sum_below_more f day);
+          ∙ ap (λ (z : ℤ). z +ℤ f day) c.loop-day.invariant.worth ∙ sym (int_sum_below_more f day);
       free_worth = added _ c.free_value-free.result (g day) day (2 ^ 90) fit_free of_free c.free_value-free.ensures.small c.loop-day.invariant.free_small limit
-          ∙ ap (λ (z : ℤ). z +ℤ g day) c.loop-day.invariant.free_worth ∙ sym (sum_below_more g day);
+          ∙ ap (λ (z : ℤ). z +ℤ g day) c.loop-day.invariant.free_worth ∙ sym (int_sum_below_more g day);
       small = added_small _ c.ranged_value-ranged.result (f day) day (2 ^ 90) fit of_range c.ranged_value-ranged.ensures.small c.loop-day.invariant.small limit;
       free_small = added_small _ c.free_value-free.result (g day) day (2 ^ 90) fit_free of_free c.free_value-free.ensures.small c.loop-day.invariant.free_small limit;
     }

@@ -3,7 +3,8 @@ use mir.Syntax.{w64}
 use Rattle.std.proofs.lemmas.Int.{to_z-of_z, fits_signed_from_abs}
 use Rattle.shift_instance.specs.Problem.{need_at, slots}
 use Rattle.shift_instance.specs.Worth.{price_of}
-use Rattle.bound_sums.proofs.Sizes.{added_fits, added, added_small, sum_below_more}
+use Rattle.shift_instance.proofs.Ranges.{int_sum_below_more}
+use Rattle.bound_sums.proofs.Sizes.{added_fits, added, added_small}
 use Rattle.bound_sums.proofs.totals.slots_worth.Goals as goal
 
 pub overflow_add-sum : goal.overflow_add-sum
@@ -23,7 +24,7 @@ loop-t-preserved c =
     let limit : (c.loop-t.t + 1) * 10 ^ 14 < 2 ^ 127 = omega arith in
     record {
       worth = added _ c.slot_worth-sum.result (f c.loop-t.t) c.loop-t.t (10 ^ 14) (record { sfits = c.slot_worth-sum.type_inv }) here c.slot_worth-sum.ensures.small c.loop-t.invariant.small limit
-          ∙ ap (λ (z : ℤ). z +ℤ f c.loop-t.t) c.loop-t.invariant.worth ∙ sym (sum_below_more f c.loop-t.t);
+          ∙ ap (λ (z : ℤ). z +ℤ f c.loop-t.t) c.loop-t.invariant.worth ∙ sym (int_sum_below_more f c.loop-t.t);
       small = added_small _ c.slot_worth-sum.result (f c.loop-t.t) c.loop-t.t (10 ^ 14) (record { sfits = c.slot_worth-sum.type_inv }) here c.slot_worth-sum.ensures.small c.loop-t.invariant.small limit;
     }
 

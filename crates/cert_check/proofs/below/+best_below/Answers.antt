@@ -7,7 +7,8 @@ use Rattle.break_rules.specs.Walk.{end_of_all}
 use Rattle.break_graph.specs.declared.Edge.{Edge}
 use Rattle.break_graph.specs.declared.Node.{Node}
 use Rattle.break_graph.specs.Graph.{node_at, live_nexts, StandsAt}
-use Rattle.cert_check.specs.Rests.{sum_at, resumes, Through, IsGreatest, IsGreatestOf, Completes}
+use Rattle.price_sums.specs.Along.{sum_at, resumes, Completes}
+use Rattle.cert_check.specs.Rests.{Through, IsGreatest, IsGreatestOf}
 use Rattle.cert_check.specs.Below.{whole_worth, bonuses, duty_with, goes_further}
 use Rattle.cert_check.proofs.Greatest.{greatest_some, legal_alone}
 use Rattle.cert_check.proofs.Values.{before_of, no_edge, node_is, edge_before, edge_behind, edge_stops, all_stops, resumes_at, via_fits}
@@ -26,7 +27,7 @@ returns-then-not-goes_further-clause-greatest t c =
     let list = c.args.list.now in
     let v : ℤ = sum_at c.args.rests.now.values.items c.args.k in
     let g = c.requires.values c.args.k list c.requires.stands.within c.requires.stands in
-    let read : to_z w64 (of_z w64 c.number_at.result) ≡ v = to_z-of_z w64 _ (record { sfits = c.number_at.type_inv }) ∙ c.number_at.ensures ∙ ap (λ (xs : List ℤ). sum_at xs c.args.k) c.deref.ensures.value in
+    let read : to_z w64 (of_z w64 c.sum_before.result) ≡ v = to_z-of_z w64 _ (record { sfits = c.sum_before.type_inv }) ∙ c.sum_before.ensures ∙ ap (λ (xs : List ℤ). sum_at xs c.args.k) c.deref.ensures.value in
     let added : to_z w128 (of_z w128 c.bonuses.result) ≡ bonuses cuts prices (duty_with s day list) = to_z-of_z w128 _ (record { sfits = c.bonuses.type_inv }) ∙ c.bonuses.ensures.bonuses in
     let alone : to_z w128 (of_z w128 c.earned_and-alone.result) ≡ v +ℤ bonuses cuts prices (duty_with s day list) =
     to_z-of_z w128 _ (record { sfits = c.earned_and-alone.type_inv }) ∙ c.earned_and-alone.ensures ∙ ap (λ (z : ℤ). z +ℤ to_z w128 (of_z w128 c.bonuses.result)) read ∙ ap (λ (z : ℤ). v +ℤ z) added in
@@ -153,7 +154,7 @@ returns-in-None-clause-greatest t c =
     (subst (IsGreatestOf (Through rule len list (map (λ (e : Edge). e.stop) (take c.loop-edge.edge-index edges))) worth) c.in-None.is c.loop-edge.invariant) in
     let v : ℤ = sum_at c.args.rests.now.values.items c.args.k in
     let g = c.requires.values c.args.k list within c.requires.stands in
-    let read : to_z w64 (of_z w64 c.number_at.result) ≡ v = to_z-of_z w64 _ (record { sfits = c.number_at.type_inv }) ∙ c.number_at.ensures ∙ ap (λ (xs : List ℤ). sum_at xs c.args.k) c.deref.ensures.value in
+    let read : to_z w64 (of_z w64 c.sum_before.result) ≡ v = to_z-of_z w64 _ (record { sfits = c.sum_before.type_inv }) ∙ c.sum_before.ensures ∙ ap (λ (xs : List ℤ). sum_at xs c.args.k) c.deref.ensures.value in
     let added : to_z w128 (of_z w128 c.bonuses.result) ≡ bonuses cuts prices (duty_with s day list) = to_z-of_z w128 _ (record { sfits = c.bonuses.type_inv }) ∙ c.bonuses.ensures.bonuses in
     let alone : to_z w128 (of_z w128 c.earned_and-alone.result) ≡ v +ℤ bonuses cuts prices (duty_with s day list) =
     to_z-of_z w128 _ (record { sfits = c.earned_and-alone.type_inv }) ∙ c.earned_and-alone.ensures ∙ ap (λ (z : ℤ). z +ℤ to_z w128 (of_z w128 c.bonuses.result)) read ∙ ap (λ (z : ℤ). v +ℤ z) added in

@@ -6,7 +6,8 @@ use Rattle.break_graph.specs.declared.Edge.{Edge}
 use Rattle.break_graph.specs.declared.Node.{Node}
 use Rattle.break_graph.specs.Graph.{node_at, live_nexts}
 use Rattle.break_rules.specs.Walk.{end_of_all}
-use Rattle.cert_check.specs.Rests.{sum_at, resumes, rest_worth, Through, IsGreatest, IsGreatestOf, greater_of}
+use Rattle.price_sums.specs.Along.{sum_at, resumes}
+use Rattle.cert_check.specs.Rests.{rest_worth, Through, IsGreatest, IsGreatestOf, greater_of}
 use Rattle.cert_check.proofs.Greatest.{greatest_some, legal_alone, greatest_alone}
 use Rattle.cert_check.proofs.Values.{before_of, no_edge, node_is, edge_before, edge_behind, edge_stops, all_stops, resumes_at, value_more, greatest_kept, worth_end, end_fits}
 use Rattle.cert_check.proofs.rests.rest_value.Goals as goal
@@ -25,12 +26,12 @@ loop-edge-preserved c list at =
     let b = (get_or edges i no_edge).stop in
     let w : ℤ = sum_at c.args.values.now (get_or edges i no_edge).next in
     let v : ℤ = to_z w64 (of_z w64 c.earned_via-value.result) in
-    let same_behind : to_z w64 (of_z w64 c.number_at-behind.result) ≡ w = to_z-of_z w64 _ (record { sfits = c.number_at-behind.type_inv }) ∙ c.number_at-behind.ensures in
+    let same_behind : to_z w64 (of_z w64 c.sum_before-behind.result) ≡ w = to_z-of_z w64 _ (record { sfits = c.sum_before-behind.type_inv }) ∙ c.sum_before-behind.ensures in
     let from : c.resumption-from.result ≡ resumes rule (end_of_all list) = c.resumption-from.ensures ∙ resumes_at rule c.args.len nodes k c.index-nodes-k.result list node at in
     let step : sum_at sums c.from.result -ℤ sum_at sums c.resumption-from.result ≡ before_of sums rule list b =
     ap (λ (n : ℕ). sum_at sums n -ℤ sum_at sums c.resumption-from.result) c.from.ensures ∙ ap (λ (n : ℕ). sum_at sums b.start -ℤ sum_at sums n) from in
-    let whole : (sum_at sums c.from.result -ℤ sum_at sums c.resumption-from.result) +ℤ to_z w64 (of_z w64 c.number_at-behind.result) ≡ before_of sums rule list b +ℤ w =
-    ap (λ (z : ℤ). z +ℤ to_z w64 (of_z w64 c.number_at-behind.result)) step ∙ ap (λ (z : ℤ). before_of sums rule list b +ℤ z) same_behind in
+    let whole : (sum_at sums c.from.result -ℤ sum_at sums c.resumption-from.result) +ℤ to_z w64 (of_z w64 c.sum_before-behind.result) ≡ before_of sums rule list b +ℤ w =
+    ap (λ (z : ℤ). z +ℤ to_z w64 (of_z w64 c.sum_before-behind.result)) step ∙ ap (λ (z : ℤ). before_of sums rule list b +ℤ z) same_behind in
     let more : IsGreatest (Through rule c.args.len list (map (λ (e : Edge). e.stop) (take i edges) ++ b ∷ [])) (rest_worth sums rule c.args.len list) (greater_of c.loop-edge.best v) =
     value_more rule c.args.len sums list (map (λ (e : Edge). e.stop) (take i edges)) b c.loop-edge.best w v c.requires.rule c.requires.sums (c.loop-edge.invariant list at)
     (c.requires.known (get_or edges i no_edge).next (list ++ b ∷ []) (edge_before rule c.args.len nodes k edges c.requires.graph c.requires.node are i inside) (edge_behind rule c.args.len nodes k edges c.requires.graph c.requires.node are i list inside at))

@@ -7,7 +7,8 @@ use Rattle.shift_instance.specs.declared.Shift.{Shift}
 use Rattle.shift_instance.specs.Problem.{shift_list, slots}
 use Rattle.shift_instance.proofs.Shifts.{Has_at, shift_short}
 use Rattle.head_splits.specs.declared.Cut.{Cut}
-use Rattle.cert_check.specs.Rests.{AreSmallPrices, ArePricesOf, Completes, IsGreatest}
+use Rattle.price_sums.specs.Along.{AreSmallPrices, ArePricesOf, Completes}
+use Rattle.cert_check.specs.Rests.{IsGreatest}
 use Rattle.cert_check.specs.Below.{whole_worth}
 use Rattle.bound_sums.specs.Values.{IsValue}
 use Rattle.bound_sums.proofs.Priced.{cut_small, slots_small}

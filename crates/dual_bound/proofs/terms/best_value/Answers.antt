@@ -1,9 +1,10 @@
 use Rattle.std.proofs.Common.{◌≤◌, ℕ, ℤ, List, All, length, get_or, ◌^◌, subst, sym, arith}
 use Rattle.std.specs.Int.RustNames.{unsigned_abs}
 use Rattle.break_rules.specs.declared.Break.{Break}
-use Rattle.pricing.specs.Rests.{AreSmallPrices}
+use Rattle.price_sums.specs.Along.{AreSmallPrices}
 use Rattle.dual_bound.proofs.Entries.{entry_small, entries_few, all_from_has, same_entries}
-use Rattle.bound_sums.proofs.Priced.{priced, cut_small, slots_small}
+use Rattle.head_splits.proofs.Priced.{priced}
+use Rattle.bound_sums.proofs.Priced.{cut_small, slots_small}
 use Rattle.dual_bound.proofs.Values.{found_value}
 use Rattle.dual_bound.proofs.terms.best_value.Goals as goal
 

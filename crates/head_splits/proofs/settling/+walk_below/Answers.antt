@@ -6,7 +6,8 @@ use Rattle.break_graph.specs.declared.Node.{Node}
 use Rattle.break_graph.specs.Graph.{node_at}
 use Rattle.shift_instance.specs.declared.Duty.{Duty}
 use Rattle.head_splits.specs.Cuts.{low, high}
-use Rattle.head_splits.specs.Settled.{class_of, row_of}
+use Rattle.head_splits.specs.Settled.{class_of}
+use Rattle.shift_instance.specs.AllDuties.{row_of}
 use Rattle.head_splits.specs.Below.{IsWalked, StandsOn, IsClear, duties_below}
 use Rattle.head_splits.proofs.Walked.{both_ok, no_some, index_any, index_get, flat_map_taken, flat_map_split, popped, more_walked, stop_walked, duty, whole_duties, part_duties, closed_walked, clear_more, whole_walked, stands_next, stands_within}
 use Rattle.head_splits.proofs.settling.+walk_below.Goals as goal

@@ -5,8 +5,8 @@ use Rattle.std.proofs.lemmas.Int.{ints, to_z-of_z}
 use Rattle.std.proofs.lemmas.List.{drop_more, drop_all}
 use Rattle.break_rules.specs.declared.Break.{Break}
 use Rattle.break_rules.specs.Breaks.{end_of}
-use Rattle.pricing.specs.Rests.{sum_at, earned_from, price_in}
-use Rattle.pricing.proofs.Stretches.{Spaced, difference_fits, sum_more, sum_fits, sum_last, whole_fits, earned_size, spaced_list}
+use Rattle.price_sums.specs.Along.{sum_at, earned_from, price_in}
+use Rattle.price_sums.proofs.Stretches.{Spaced, difference_fits, sum_more, sum_fits, sum_last, whole_fits, earned_size, spaced_list}
 use Rattle.pricing.proofs.rests.earned_along.Goals as goal
 
 pub loop-stop-init : goal.loop-stop-init

@@ -1,6 +1,6 @@
 use Rattle.std.proofs.Common.{◌≡◌, ◌+ℤ◌, drop}
-use Rattle.pricing.specs.Rests.{earned_from, price_in}
-use Rattle.pricing.proofs.Stretches.{Spaced}
+use Rattle.price_sums.specs.Along.{earned_from, price_in}
+use Rattle.price_sums.proofs.Stretches.{Spaced}
 use Rattle.pricing.proofs.rests.earned_along.Given as goal
 
 abbrev pub invariant-loop-stop : goal.invariant-loop-stop

@@ -1,7 +1,7 @@
 use Rattle.std.proofs.Common.{◌≡◌, ℤ, ◌+ℤ◌, List, [], ◌∷◌, length, ap, sym, subst, ◌∙◌, refl, arith, eqb-true}
 use Rattle.std.specs.Prelude.{IfOk}
 use Rattle.break_rules.specs.declared.Break.{Break}
-use Rattle.pricing.specs.Rests.{price_in, earned_from}
+use Rattle.price_sums.specs.Along.{price_in, earned_from}
 use Rattle.pricing.specs.Found.{IsBestFound}
 use Rattle.pricing.proofs.Beyond.{ok_map}
 use Rattle.pricing.proofs.Covered.{best_same}

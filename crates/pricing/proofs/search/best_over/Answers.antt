@@ -10,7 +10,7 @@ use Rattle.shift_instance.specs.Worth.{IsBest}
 use Rattle.pricing.specs.Rests.{IsBestRest}
 use Rattle.pricing.specs.Values.{Priced}
 use Rattle.pricing.specs.Found.{IsLegal, worth_of}
-use Rattle.pricing.proofs.Prices.{some_at}
+use Rattle.price_sums.proofs.Prices.{some_at}
 use Rattle.pricing.proofs.Worths.{some_of, short_shift, best_is, found_some}
 use Rattle.pricing.proofs.search.best_over.Goals as goal
 

@@ -3,10 +3,11 @@ use Rattle.std.proofs.lemmas.List.{take_all}
 use Rattle.std.proofs.lemmas.List.Elements.{All-get_or}
 use Rattle.std.specs.Int.RustNames.{unsigned_abs}
 use Rattle.break_rules.specs.declared.Break.{Break}
-use Rattle.patterns.specs.Bonuses.{bonus_of, with_added}
+use Rattle.patterns.specs.Bonuses.{with_added}
+use Rattle.break_rules.specs.Bonuses.{bonus_of}
 use Rattle.pricing.specs.Found.{leads_further}
 use Rattle.std.specs.Int.{w64}
-use Rattle.pricing.proofs.Prices.{kept_small}
+use Rattle.price_sums.proofs.Prices.{kept_small}
 use Rattle.pricing.proofs.Tries.{sums_more, prefixes_more}
 use Rattle.pricing.proofs.search.trie_of.Goals as goal
 

@@ -1,6 +1,6 @@
 use Rattle.std.proofs.Common.{◌≡◌, List, take, true}
 use Rattle.break_rules.specs.declared.Break.{Break}
-use Rattle.patterns.specs.Bonuses.{bonus_of}
+use Rattle.break_rules.specs.Bonuses.{bonus_of}
 use Rattle.pricing.specs.Found.{leads_further}
 use Rattle.pricing.proofs.search.trie_of.Given as goal
 

@@ -7,7 +7,7 @@ use Rattle.break_graph.specs.declared.Node.{Node}
 use Rattle.break_graph.specs.Graph.{node_at}
 use Rattle.std.proofs.lemmas.List.{get_or_default}
 use Rattle.std.proofs.lemmas.Int.{to_z-of_z}
-use Rattle.pricing.specs.Rests.{sum_at, resumes}
+use Rattle.price_sums.specs.Along.{sum_at, resumes}
 use Rattle.pricing.specs.Values.{reach_of, AreFit, IsMostReached, IsValue}
 use Rattle.pricing.proofs.Steps.{fits, value_by_edges, value_at_end, value_small}
 use Rattle.pricing.proofs.values.value_of.Goals as goal

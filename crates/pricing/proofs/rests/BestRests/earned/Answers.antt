@@ -1,7 +1,7 @@
 use Rattle.std.proofs.Common.{◌≡◌, ℤ, List, ap, subst, ◌∙◌, to_z, of_z}
 use Rattle.std.specs.Int.{w64}
 use Rattle.std.proofs.lemmas.Int.{to_z-of_z}
-use Rattle.pricing.specs.Rests.{earned_from, price_in}
+use Rattle.price_sums.specs.Along.{earned_from, price_in}
 use Rattle.pricing.specs.Values.{Priced}
 use Rattle.pricing.proofs.rests.BestRests.earned.Goals as goal
 

@@ -9,7 +9,7 @@ use Rattle.break_rules.proofs.Lists.{Has}
 use Rattle.break_graph.specs.declared.Edge.{Edge}
 use Rattle.break_graph.specs.declared.Node.{Node}
 use Rattle.break_graph.specs.Graph.{StandsAt, node_at}
-use Rattle.pricing.specs.Rests.{sum_at, resumes}
+use Rattle.price_sums.specs.Along.{sum_at, resumes}
 use Rattle.pricing.specs.Values.{Priced, LeadsOn, reach_of, AreFit, IsFirstWith}
 use Rattle.pricing.proofs.Walks.{whole_fits, first_leads, leads_back}
 use Rattle.pricing.proofs.rests.BestRests.next_at.Goals as goal

@@ -1,0 +1,12 @@
+use Rattle.std.proofs.Common.{◌≡◌, ◌≤◌, ◌*◌, ◌^◌}
+use Rattle.std.specs.Int.RustNames.{unsigned_abs}
+use Rattle.break_rules.specs.Sums.{int_sum_by}
+use Rattle.shift_instance.specs.Problem.{below}
+use Rattle.head_splits.specs.Bound.{term}
+use Rattle.bound_sums.proofs.bounds.terms.Given as goal
+
+abbrev pub invariant-loop-shift : goal.invariant-loop-shift
+invariant-loop-shift g l = record {
+  sum : l.sum ≡ int_sum_by (term l.instance l.cuts l.prices) (below l.shift);
+  small : unsigned_abs l.sum ≤ l.shift * 2 ^ 94;
+}

@@ -1,0 +1,91 @@
+//! The bound of a price set, by the values of the duties of its shifts.
+ghost use Rattle.std.specs.Prelude.{◌≡◌, ◌≤◌, ◌<◌, ◌^◌, IfOk, IsTrue, MatchOption, length};
+ghost use Rattle.std.specs.Int.RustNames.{unsigned_abs};
+ghost use Rattle.break_rules.specs.Sums.{int_sum_by};
+ghost use Rattle.shift_instance.specs.Problem.{below, shift_list};
+ghost use Rattle.shift_instance.specs.Rota.{lists_of};
+ghost use Rattle.shift_instance.specs.Valid.{IsValid};
+ghost use Rattle.head_splits.specs.Bound.{are_prices, bound_of, is_nil, term};
+ghost use Rattle.bound_sums.specs.Values.{AreValues};
+
+use crate::terms::term;
+use crate::totals::bound_of;
+use break_rules::NoMemory;
+use head_splits::{Cuts, Prices};
+use shift_instance::Instance;
+use std::alloc::Global;
+
+/// A way to find what the duties of a shift are worth at prices.
+pub trait DayValues {
+    /// The greatest reduced values of the duties of a shift, day by day, and `None` where no break list is legal.
+    fn of_shift(
+        &self,
+        alloc: Global,
+        instance: &Instance,
+        cuts: &Cuts,
+        prices: &Prices,
+        shift: u16,
+    ) -> Result<Option<Vec<i128>>, NoMemory>
+        requires shift { shift < length (shift_list instance.now) }
+        requires few { length cuts.now ≤ 2 ^ 33 }
+        requires passes { IsTrue (are_prices instance.now cuts.now prices.now) }
+        ensures { IfOk result (λ found. MatchOption found (IsTrue (is_nil (lists_of instance.now shift))) (λ values. AreValues instance.now cuts.now prices.now shift instance.now.days values.items)) };
+}
+
+/// The term of a shift.
+fn shift_term<V: DayValues>(
+    alloc: Global,
+    values: &V,
+    instance: &Instance,
+    cuts: &Cuts,
+    prices: &Prices,
+    shift: u16,
+) -> Result<i128, NoMemory>
+    requires shift { shift < length (shift_list instance.now) }
+    requires few { length cuts.now ≤ 2 ^ 33 }
+    requires passes { IsTrue (are_prices instance.now cuts.now prices.now) }
+    ensures term { IfOk result (λ z. z ≡ term instance.now cuts.now prices.now shift) }
+    ensures small { IfOk result (λ z. unsigned_abs z ≤ 2 ^ 94) }
+{
+    match values.of_shift(alloc, instance, cuts, prices, shift)? {
+        Some(days) => Ok(term(alloc, instance, cuts, prices, shift, &days)),
+        None => Ok(0),
+    }
+}
+
+/// The sum of the terms of all shifts.
+fn terms<V: DayValues>(
+    alloc: Global,
+    values: &V,
+    instance: &Instance,
+    cuts: &Cuts,
+    prices: &Prices,
+) -> Result<i128, NoMemory>
+    requires few { length cuts.now ≤ 2 ^ 33 }
+    requires passes { IsTrue (are_prices instance.now cuts.now prices.now) }
+    ensures terms { IfOk result (λ z. z ≡ int_sum_by (term instance.now cuts.now prices.now) (below (length (shift_list instance.now)))) }
+    ensures small { IfOk result (λ z. unsigned_abs z ≤ 2 ^ 104) }
+{
+    let mut sum = 0;
+    for shift in 0..instance.shifts().len() as u16 {
+        sum += shift_term(alloc, values, instance, cuts, prices, shift)?;
+    }
+    Ok(sum)
+}
+
+/// The bound of a price set, with the values of duties found in some way.
+pub fn bound_by<V: DayValues>(
+    alloc: Global,
+    values: &V,
+    instance: &Instance,
+    cuts: &Cuts,
+    prices: &Prices,
+) -> Result<u64, NoMemory>
+    requires valid { IsValid instance.now }
+    requires few { length cuts.now ≤ 2 ^ 33 }
+    requires passes { IsTrue (are_prices instance.now cuts.now prices.now) }
+    ensures { IfOk result (λ b. b ≡ bound_of instance.now cuts.now prices.now) }
+{
+    let terms = terms(alloc, values, instance, cuts, prices)?;
+    Ok(bound_of(instance, cuts, prices, terms))
+}
