@@ -8,7 +8,7 @@ mod places;
 
 ghost use Rattle.std.specs.Prelude.{◌≡◌, ◌-◌, ◌^◌, min, sum_by, length};
 
-use break_rules::{Break, Spot};
+use break_rules::{Break, Sequence, Spot};
 use std::marker::Model;
 
 /// A break with which some legal list goes on from a spot.
@@ -21,35 +21,7 @@ pub struct Edge {
 }
 
 /// The edges of a node, by their breaks in rising order.
-#[derive(Clone, Debug, Drop)]
-pub struct Edges {
-    list: Vec<Edge>,
-}
-
-impl Model for Edges {
-    ghost use Rattle.std.specs.Prelude.{List};
-    ghost use Rattle.break_graph.specs.declared.Edge.{Edge};
-
-    ghost Value = { List Edge };
-
-    ghost view = { λ t. t.list.items };
-}
-
-impl Edges {
-    /// These edges, in their order.
-    pub fn new(list: Vec<Edge>) -> Edges
-        ensures { result ≡ list.items }
-    {
-        Edges { list }
-    }
-
-    /// The edges in their order.
-    pub fn as_slice(&self) -> &[Edge]
-        ensures { result.now ≡ self.now }
-    {
-        self.list.as_slice()
-    }
-}
+pub type Edges = Sequence<Edge>;
 
 /// A spot at which walks stand with which some legal list begins.
 #[derive(Clone, Debug, Drop)]

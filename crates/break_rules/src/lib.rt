@@ -9,6 +9,7 @@ mod legality;
 mod living;
 mod order;
 mod places;
+mod sequence;
 mod walking;
 
 ghost use Rattle.std.specs.Prelude.{◌≡◌, ℕ, ◌≤◌, [], ◌∷◌, length, OnOk, IfOk, IsOk, IsTrue, ◌↔◌, MatchResult, Some, None};
@@ -23,10 +24,10 @@ pub use legality::legal;
 pub use living::{LiveSpots, least, live};
 pub use order::is_less_list;
 pub use places::{place, spot_at};
+pub use sequence::{Breaks, Sequence};
 use std::alloc::{AllocError, Global};
 use std::error::Error;
 use std::fmt;
-use std::marker::Model;
 pub use walking::{NextBreaks, after, ends, nexts};
 
 /// The refusal of a call that found no memory.
@@ -57,79 +58,10 @@ pub struct Lunch {
 
 /// The table from shift lengths to total break times: pairs of the length from which an entry counts and its total,
 /// both in slots.
-#[derive(Clone, Debug, Drop)]
-pub struct Totals {
-    list: Vec<(u16, u16)>,
-}
-
-impl Model for Totals {
-    ghost use Rattle.std.specs.Prelude.{ℕ, List};
-
-    ghost Value = { List (ℕ × ℕ) };
-
-    ghost view = { λ t. t.list.items };
-}
-
-impl Totals {
-    /// The table of these pairs, in their order.
-    pub fn new(list: Vec<(u16, u16)>) -> Totals
-        ensures { result ≡ list.items }
-    {
-        Totals { list }
-    }
-
-    /// The pairs, given back.
-    pub fn into_vec(self) -> Vec<(u16, u16)>
-        ensures { result.items ≡ self }
-    {
-        self.list
-    }
-
-    /// The pairs in their order.
-    pub fn as_slice(&self) -> &[(u16, u16)]
-        ensures { result.now ≡ self.now }
-    {
-        self.list.as_slice()
-    }
-}
+pub type Totals = Sequence<(u16, u16)>;
 
 /// The lunch entries of a rule.
-#[derive(Clone, Debug, Drop)]
-pub struct Lunches {
-    list: Vec<Lunch>,
-}
-
-impl Model for Lunches {
-    ghost use Rattle.std.specs.Prelude.{List};
-    ghost use Rattle.break_rules.specs.declared.Lunch.{Lunch};
-
-    ghost Value = { List Lunch };
-
-    ghost view = { λ t. t.list.items };
-}
-
-impl Lunches {
-    /// These entries, in their order.
-    pub fn new(list: Vec<Lunch>) -> Lunches
-        ensures { result ≡ list.items }
-    {
-        Lunches { list }
-    }
-
-    /// The entries, given back.
-    pub fn into_vec(self) -> Vec<Lunch>
-        ensures { result.items ≡ self }
-    {
-        self.list
-    }
-
-    /// The entries in their order.
-    pub fn as_slice(&self) -> &[Lunch]
-        ensures { result.now ≡ self.now }
-    {
-        self.list.as_slice()
-    }
-}
+pub type Lunches = Sequence<Lunch>;
 
 /// The break rule of a shift type. All numbers are slots.
 #[derive(Clone, Debug, Drop)]
@@ -270,64 +202,5 @@ impl Rule {
             Some(fault) => Err(fault),
             None => Ok(()),
         }
-    }
-}
-
-/// The breaks of a duty, in the order of time.
-#[derive(Clone, Debug, Drop)]
-pub struct Breaks {
-    list: Vec<Break>,
-}
-
-impl Model for Breaks {
-    ghost use Rattle.std.specs.Prelude.{List};
-    ghost use Rattle.break_rules.specs.declared.Break.{Break};
-
-    ghost Value = { List Break };
-
-    ghost view = { λ b. b.list.items };
-}
-
-impl Breaks {
-    /// These breaks, in their order.
-    pub fn new(list: Vec<Break>) -> Breaks
-        ensures { result ≡ list.items }
-    {
-        Breaks { list }
-    }
-
-    /// The breaks, given back.
-    pub fn into_vec(self) -> Vec<Break>
-        ensures { result.items ≡ self }
-    {
-        self.list
-    }
-
-    /// The breaks in their order.
-    pub fn as_slice(&self) -> &[Break]
-        ensures { result.now ≡ self.now }
-    {
-        self.list.as_slice()
-    }
-
-    /// How many breaks there are.
-    pub fn len(&self) -> usize
-        ensures { result ≡ length self.now }
-    {
-        self.list.len()
-    }
-
-    /// Whether there is no break.
-    pub fn is_empty(&self) -> bool
-        ensures { IsTrue result ↔ (length self.now ≡ 0) }
-    {
-        self.list.is_empty()
-    }
-
-    /// Whether both are the same breaks in the same order.
-    pub fn is_same(&self, other: &Breaks) -> bool
-        ensures { IsTrue result ↔ (self.now ≡ other.now) }
-    {
-        self.as_slice() == other.as_slice()
     }
 }

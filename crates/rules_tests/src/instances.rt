@@ -105,8 +105,8 @@ fn rows_are_given_back(rt: HostRuntime) -> Result<(), Fail> {
     };
     let rows = Rows::new(vec![in alloc; row]?).clone()?;
     assert!(rt; rows.len() == 1 && !rows.is_empty());
-    assert!(rt; rows.row(0).shift == 4 && rows.row(0).day == 2);
-    assert!(rt; rows.row(0).breaks.as_slice().len() == 1 && rows.row(0).count == 7);
+    assert!(rt; rows.as_slice()[0].shift == 4 && rows.as_slice()[0].day == 2);
+    assert!(rt; rows.as_slice()[0].breaks.as_slice().len() == 1 && rows.as_slice()[0].count == 7);
     assert!(rt; rows.into_vec().len() == 1);
     Ok(())
 }

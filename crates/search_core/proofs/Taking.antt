@@ -108,6 +108,12 @@ taking_stops i all old passed left next number mid post fault j t e r =
       })
     ]
 
+-- what a refused post leaves is the state of the posts before it
+pub taking_left : (all : List Post) (old : StateView) (passed left : List Post) (number : ℕ) (mid new : StateView) → Taking all old passed left number mid → new ≡ mid → Takes old (take number all) new
+taking_left all old passed left number mid new t same =
+    let front : take number all ≡ passed = ap (λ (n : ℕ). take n all) t.count ∙ ap (λ (l : List Post). take (length passed) l) (sym t.split) ∙ take-append_seam passed left in
+    subst (λ (s : StateView). Takes old (take number all) s) (sym same) (subst (λ (l : List Post). Takes old l mid) (sym front) t.takes)
+
 -- ---- a state made anew
 
 -- the state without posts

@@ -1,5 +1,5 @@
 //! Posts added to a state, one after another.
-ghost use Rattle.std.specs.Prelude.{◌≡◌, OnOk, IfErr};
+ghost use Rattle.std.specs.Prelude.{◌≡◌, OnOk, IfErr, take};
 ghost use Rattle.search_core.specs.Taking.{Stops, Takes};
 
 use crate::{State, StepFault};
@@ -13,11 +13,12 @@ pub struct Refusal {
     pub why: StepFault,
 }
 
-/// Adds posts to a state, up to the first one that isn't allowed.
+/// Adds posts to a state, up to the first one that isn't allowed. Where one is refused, the state is that of the posts before it.
 pub fn add_posts(state: &mut State, instance: &Instance, posts: Vec<Post>) -> Result<(), Refusal>
     requires { instance.now ≡ state.old.instance }
     ensures ok { OnOk result (Takes state.old posts.items state.new) }
     ensures err { IfErr result (Stops instance.now state.old.book posts.items) }
+    ensures left { IfErr result (λ r. Takes state.old (take r.at posts.items) state.new) }
 {
     let mut at = 0;
     for post in posts {
