@@ -2,6 +2,7 @@
 #![tactic(auto)]
 
 mod cuts;
+mod hint;
 pub mod laws;
 mod meeting;
 mod price_lists;
@@ -11,6 +12,7 @@ mod table;
 
 use break_rules::Breaks;
 pub use cuts::Cuts;
+pub use hint::Hint;
 pub use meeting::meets;
 pub use price_lists::{CutPrices, SlotPrices};
 pub use ranges::range;

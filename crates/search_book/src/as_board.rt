@@ -1,7 +1,7 @@
 //! The book of a search as a board.
 use crate::Book;
 use break_rules::NoMemory;
-use head_splits::Cuts;
+use head_splits::{Cuts, Hint};
 use plan_base::Disk;
 use search_core::{Board, CommitFault, Kept, StepPosts, Taken};
 
@@ -19,6 +19,11 @@ impl<D: Disk> Board for Book<D> {
     /// The cuts of the node in a worker's hand.
     fn cuts(&self, worker: u32) -> Result<Cuts, NoMemory> {
         self.cuts(worker)
+    }
+
+    /// What is known already of the node in a worker's hand. Nothing is promised of it.
+    fn hint(&self, worker: u32) -> Result<Hint, NoMemory> {
+        self.hint(worker)
     }
 
     /// A worker commits a step for the node in its hand, and lets go of it.

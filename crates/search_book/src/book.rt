@@ -15,7 +15,7 @@ use crate::post_log::PostLog;
 use crate::readers::is_finished;
 use crate::session::Session;
 use break_rules::NoMemory;
-use head_splits::Cuts;
+use head_splits::{Cuts, Hint};
 use plan_base::Disk;
 use post_codec::Post;
 use search_core::{CommitFault, Kept, StepPosts, Taken};
@@ -116,6 +116,15 @@ impl<D: Disk> Book<D> {
         ensures few { IfOk result (λ cuts. length cuts ≤ 2 ^ 24) }
     {
         self.session.cuts(worker)
+    }
+
+    /// What is known already of the node in a worker's hand: the prices last posted for it or above it, and the best rota. Nothing
+    /// is promised of it.
+    pub fn hint(&self, worker: u32) -> Result<Hint, NoMemory>
+        requires worker { worker < 16 }
+        requires full { IsSome (hand self.now.hands worker) }
+    {
+        self.session.hint(worker)
     }
 
     /// A worker commits a step for the node in its hand, and lets go of it. All posts of the step are one record; where it has

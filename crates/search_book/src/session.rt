@@ -14,7 +14,7 @@ use crate::committing::{may_commit, record_step};
 use crate::post_log::PostLog;
 use crate::readers::is_finished;
 use break_rules::NoMemory;
-use head_splits::Cuts;
+use head_splits::{Cuts, Hint};
 use plan_base::Disk;
 use search_core::{CommitFault, Hands, Kept, StepPosts, Taken};
 
@@ -92,6 +92,18 @@ impl<D: Disk> Session<D> {
         let _made = self.log.made();
         match self.hands.held(worker) {
             Some(node) => self.log.state().cuts_of(node),
+            None => unreachable!(),
+        }
+    }
+
+    /// What is known already of the node in a worker's hand.
+    pub(crate) fn hint(&self, worker: u32) -> Result<Hint, NoMemory>
+        requires worker { worker < 16 }
+        requires full { IsSome (hand self.now.hands worker) }
+    {
+        let _made = self.log.made();
+        match self.hands.held(worker) {
+            Some(node) => self.log.state().hint(node),
             None => unreachable!(),
         }
     }

@@ -7,7 +7,7 @@ ghost use Rattle.search_core.specs.Steps.{Fits};
 
 use crate::{Posts, StepPosts};
 use break_rules::NoMemory;
-use head_splits::Cuts;
+use head_splits::{Cuts, Hint};
 
 /// What a take answers, the first that applies.
 #[derive(Clone, Copy, Debug, PartialEq, Eq, Drop)]
@@ -124,6 +124,12 @@ pub trait Board {
         requires full { IsSome (hand (seen self.now).hands worker) }
         ensures cuts { IfOk result (λ cuts. (k : ℕ) → hand (seen self.now).hands worker ≡ Some k → cuts ≡ cuts_in (book_at (seen self.now)).nodes k) }
         ensures few { IfOk result (λ cuts. length cuts ≤ 2 ^ 24) };
+
+    /// What is known already of the node in a worker's hand: the prices last posted for it or above it, and the best rota. Nothing
+    /// is promised of it.
+    fn hint(&self, worker: u32) -> Result<Hint, NoMemory>
+        requires worker { worker < 16 }
+        requires full { IsSome (hand (seen self.now).hands worker) };
 
     /// A worker commits a step for the node in its hand, and lets go of it. All posts of the step are one record; where it has
     /// none, no record is made.

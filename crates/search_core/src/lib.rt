@@ -9,6 +9,7 @@ mod event;
 mod event_fault;
 mod fault;
 mod hands;
+mod hints;
 mod judging;
 pub mod laws;
 mod outline;

@@ -18,11 +18,12 @@ pub struct NodeState {
 }
 
 /// The nodes of a book without their cuts, the places of the posts that split nodes and of the one with the best rota,
-/// and what that rota costs.
+/// and what that rota costs. Beside them, for hints alone, the place of the last post of prices for each node.
 #[derive(Drop)]
 pub(crate) struct Outline {
     nodes: Vec<NodeState>,
     splits: Vec<usize>,
+    priced: Vec<Option<usize>>,
     best_at: Option<usize>,
     cost: u64,
     spare: usize,
@@ -37,7 +38,7 @@ impl Model for Outline {
 
     ghost view = { λ o. record { nodes = o.nodes.items; splits = o.splits.items; best_at = o.best_at; cost = o.cost; spare = o.spare } };
 
-    ghost invariant = { λ o. (vec_len o.nodes + 2 * o.spare ≤ vec_capacity o.nodes) × (vec_len o.splits + o.spare ≤ vec_capacity o.splits) };
+    ghost invariant = { λ o. (vec_len o.nodes + 2 * o.spare ≤ vec_capacity o.nodes) × (vec_len o.splits + o.spare ≤ vec_capacity o.splits) × (vec_len o.priced + 2 * o.spare ≤ vec_capacity o.priced) };
 }
 
 impl Outline {
@@ -50,9 +51,12 @@ impl Outline {
             floor: 0,
             split: false,
         })?;
+        let mut priced = Vec::new(alloc);
+        priced.push(None)?;
         Ok(Outline {
             nodes,
             splits: Vec::new(alloc),
+            priced,
             best_at: None,
             cost,
             spare: 0,
@@ -70,6 +74,7 @@ impl Outline {
         }
         self.nodes.reserve(2 * posts)?;
         self.splits.reserve(posts)?;
+        self.priced.reserve(2 * posts)?;
         self.spare = posts;
         Ok(())
     }
@@ -125,7 +130,10 @@ impl Outline {
                 worker: _,
                 node,
                 prices: _,
-            } => self.raise_floor(*node as usize, value),
+            } => {
+                self.raise_floor(*node as usize, value);
+                self.keep_prices(*node as usize, at);
+            }
             Post::Split {
                 worker: _,
                 node,
@@ -170,6 +178,20 @@ impl Outline {
         self.set_floor(node, old.max(floor));
     }
 
+    /// The place of the last post of prices for a node.
+    pub(crate) fn priced_at(&self, node: usize) -> Option<usize> {
+        *self.priced.as_slice().get(node)?
+    }
+
+    /// The last post of prices for a node is at a place.
+    fn keep_prices(&mut self, node: usize, at: usize)
+        ensures { self.new ≡ self.old }
+    {
+        if node < self.priced.len() {
+            self.priced[node] = Some(at);
+        }
+    }
+
     /// A node with that floor is split by the post at a place.
     fn split(&mut self, node: usize, floor: u64, at: usize)
         requires room { 0 < self.old.spare }
@@ -185,6 +207,8 @@ impl Outline {
         let at_least = at_most;
         self.nodes.push_reserved(at_most);
         self.nodes.push_reserved(at_least);
+        self.priced.push_reserved(None);
+        self.priced.push_reserved(None);
         self.splits.push_reserved(at);
     }
 }

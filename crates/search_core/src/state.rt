@@ -14,13 +14,14 @@ ghost use Rattle.search_core.specs.Steps.{Fits};
 
 use crate::drafting::Draft;
 use crate::fault::StepFault;
+use crate::hints::deepened;
 use crate::judging::{is_live_class, plan_fault};
 use crate::outline::{NodeState, Outline, least_floor, next_node};
 use crate::stepping::{draft_of, stays_open};
 use crate::{Hands, StepPosts};
 use break_rules::NoMemory;
 use dual_bound::{Fixing, prove, settle};
-use head_splits::{Class, Cut, Cuts, Prices, Side, range};
+use head_splits::{Class, Cut, Cuts, Hint, Prices, Side, range};
 use post_codec::Post;
 use rota_cost::recount;
 use shift_instance::{Instance, Rows};
@@ -236,6 +237,44 @@ impl State {
         }
         list.reverse();
         Ok(Cuts::new(list))
+    }
+
+    /// What is known already of a node: the prices last posted for it or above it, and the best rota.
+    pub fn hint(&self, node: u32) -> Result<Hint, NoMemory>
+        requires { node < length self.now.book.nodes }
+    {
+        let prices = self.last_prices(node as usize)?;
+        let rows = self.best().clone()?;
+        Ok(Hint { prices, rows })
+    }
+
+    /// The prices last posted for a node, or else for its nearest ancestor that has some, with the price 0 for each cut below that.
+    fn last_prices(&self, node: usize) -> Result<Option<Prices>, NoMemory>
+        requires { node < length self.now.book.nodes }
+    {
+        let mut at = node;
+        let mut below = 0;
+        while at > 0 && self.prices_of(at).is_none() {
+            let (above, _cut) = self.cut_above(at)?;
+            at = above;
+            below += 1;
+        }
+        match self.prices_of(at) {
+            Some(prices) => Ok(Some(deepened(prices, below)?)),
+            None => Ok(None),
+        }
+    }
+
+    /// The prices last posted for a node.
+    fn prices_of(&self, node: usize) -> Option<&Prices> {
+        match self.posts.as_slice().get(self.outline.priced_at(node)?)? {
+            Post::Priced {
+                worker: _,
+                node: _,
+                prices,
+            } => Some(prices),
+            _ => None,
+        }
     }
 
     /// The posts that a worker's step for an unsplit node makes, with the numbers that go with them, the best cost after them and
