@@ -13,9 +13,6 @@ use std::process::Abort;
 use std::test::Fail;
 use worker_gate::step_of;
 
-/// The most bytes of a journal.
-pub const LIMIT: u32 = 1 << 26;
-
 /// Hour slots of one day, of which 8 to 11 need an employee; at most HEADS duties of a shift; the costs 1 of excess, 2 of
 /// shortage and 3 of a shift used; and one shift, of 4 hours from 8 on. Without a duty it costs 8, and with one 3.
 const MORNING: &str =

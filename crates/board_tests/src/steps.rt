@@ -1,35 +1,42 @@
-//! A step that is committed on a book.
-ghost use Rattle.std.specs.Prelude.{◌≡◌, IfOk, length};
+//! Steps that are committed on a book.
+ghost use Rattle.std.specs.Prelude.{◌≡◌, ◌≤◌, ◌^◌, IfOk, IfSome, length};
 ghost use Rattle.instance_json.specs.Canonical.{canonical_text};
 ghost use Rattle.search_core.specs.Core.{empty_hands};
 ghost use Rattle.search_core.specs.Steps.{Fits};
 
-use crate::fixtures::{LIMIT, first_step, morning};
+use crate::fixtures::{first_step, morning};
 use plan_base::{Disk, MemDisk};
 use search_book::{Book, sent};
-use search_core::{Kept, StepPosts, Taken};
+use search_core::{CommitFault, Kept, StepPosts, Taken};
 use shift_instance::Instance;
 use std::alloc::Global;
 use std::process::Abort;
 use std::test::Fail;
 
-/// The book of an instance on a new disk.
-fn opened(alloc: Global, instance: &Instance, disk: MemDisk) -> Result<Book<MemDisk>, Fail>
+/// The book of an instance on a new disk, with a journal of at most `limit` bytes.
+fn opened(
+    alloc: Global,
+    instance: &Instance,
+    disk: MemDisk,
+    limit: u32,
+) -> Result<Book<MemDisk>, Fail>
     requires size { length (canonical_text instance.now) ≡ 372 }
     requires calls { ⟦<MemDisk as Disk>⟧.calls disk ≡ 0 }
+    requires room { 385 ≤ limit }
+    requires most { limit ≤ 2 ^ 26 }
     ensures instance { IfOk result (λ book. book.log.instance ≡ instance.now) }
     ensures hands { IfOk result (λ book. book.hands ≡ empty_hands) }
 {
-    match Book::open(alloc, instance, disk, 10, LIMIT) {
+    match Book::open(alloc, instance, disk, 10, limit) {
         Ok(book) => Ok(book),
         Err(_) => Err("it isn't opened")?,
     }
 }
 
-/// What the first worker's commit of a step keeps, on the node that it takes; nothing where the commit fails.
-fn commit_root(rt: &impl Abort, book: &mut Book<MemDisk>, step: StepPosts) -> Option<Kept>
-    requires fits { Fits book.old.log.instance step }
+/// Whether the first worker takes the first node, and gets its cuts.
+fn takes_root(book: &mut Book<MemDisk>) -> bool
     requires empty { book.old.hands ≡ empty_hands }
+    ensures log { book.new.log ≡ book.old.log }
 {
     let first = Taken::Node {
         node: 0,
@@ -37,7 +44,13 @@ fn commit_root(rt: &impl Abort, book: &mut Book<MemDisk>, step: StepPosts) -> Op
         best: 8,
     };
     let is_first = book.take(0) == first;
-    assert!(rt; is_first && book.cuts(0).is_ok());
+    is_first && book.cuts(0).is_ok()
+}
+
+/// What the first worker's commit of a step keeps; nothing where the commit fails.
+fn kept(book: &mut Book<MemDisk>, step: StepPosts) -> Option<Kept>
+    requires { Fits book.old.log.instance step }
+{
     book.commit(0, step).ok()
 }
 
@@ -48,16 +61,55 @@ fn a_step_is_committed(rt: HostRuntime) -> Result<(), Fail> {
     let instance = morning(&rt, alloc, "1")?;
     let step = first_step(alloc, &instance)?;
     let disk = MemDisk::new(alloc, Vec::new(alloc), Vec::new(alloc));
-    let mut book = opened(alloc, &instance, disk)?;
-    let kept = Kept {
+    let mut book = opened(alloc, &instance, disk, 622)?;
+    let is_taken = takes_root(&mut book) && book.held(0) == Some(0);
+    let wanted = Kept {
         plan: true,
         records: 1,
         best: 3,
         floor: 3,
     };
-    let is_kept = commit_root(&rt, &mut book, step) == Some(kept);
-    assert!(rt; is_kept && book.posts() == 2 && book.finished());
+    let is_kept = kept(&mut book, step) == Some(wanted);
+    let is_told = book.posts() == 2 && book.batches() == 1 && book.held(0).is_none();
+    assert!(rt; is_taken && is_kept && is_told && book.finished());
     let disk = sent(book).into_disk();
     assert!(rt; disk.bytes().len() == 622 && disk.calls() == 8);
+    Ok(())
+}
+
+/// Where the journal would end with the record of a step of the first worker, and its limit, where it has no room for that.
+fn refused(book: &mut Book<MemDisk>, step: StepPosts) -> Option<(u64, u32)>
+    requires { Fits book.old.log.instance step }
+    ensures { IfSome result (λ _. book.new.log.instance ≡ book.old.log.instance) }
+{
+    match book.commit(0, step) {
+        Err(CommitFault::Full { end, limit }) => Some((end, limit)),
+        _ => None,
+    }
+}
+
+/// Whether a step of the first worker is refused since the book is shut.
+fn is_shut(book: &mut Book<MemDisk>, step: StepPosts) -> bool
+    requires { Fits book.old.log.instance step }
+{
+    matches!(book.commit(0, step), Err(CommitFault::Shut))
+}
+
+// With the record the journal would end at 622 bytes. The hand is kept.
+#[test]
+fn a_full_journal_shuts_its_book(rt: HostRuntime) -> Result<(), Fail> {
+    let alloc = rt.alloc();
+    let instance = morning(&rt, alloc, "1")?;
+    let step = first_step(alloc, &instance)?;
+    let again = first_step(alloc, &instance)?;
+    let disk = MemDisk::new(alloc, Vec::new(alloc), Vec::new(alloc));
+    let mut book = opened(alloc, &instance, disk, 500)?;
+    assert!(rt; takes_root(&mut book));
+    let Some(full) = refused(&mut book, step) else {
+        return Err("it isn't refused".into());
+    };
+    let is_held = book.held(0) == Some(0) && book.batches() == 0;
+    assert!(rt; full == (622, 500) && is_held && is_shut(&mut book, again));
+    assert!(rt; book.into_disk().bytes().len() == 385);
     Ok(())
 }

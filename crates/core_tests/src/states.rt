@@ -1,11 +1,10 @@
-//! A state and a core of a small instance.
-ghost use Rattle.std.specs.Prelude.{◌≡◌, IfOk};
+//! States of a small instance.
 
 use crate::fixtures::morning;
 use break_rules::{Break, Breaks};
 use head_splits::{Class, CutPrices, Prices, Side, SlotPrices};
 use post_codec::Post;
-use search_core::{Core, Event, EventFault, Hands, Posts, State, StepFault};
+use search_core::{EventFault, Hands, State, StepFault};
 use shift_instance::{Instance, Row, Rows};
 use std::alloc::Global;
 use std::test::Fail;
@@ -114,33 +113,5 @@ fn refusals_are_shown(rt: HostRuntime) -> Result<(), Fail> {
     let why = StepFault::NotLive { class };
     let shown = EventFault::Refused { at: 5, why }.to_string(alloc)?;
     assert_eq!(rt; shown.as_str(), "7 5 7 4 1 3+1,6+2");
-    Ok(())
-}
-
-/// A core after the first worker has taken the root and committed these posts.
-fn committed(alloc: Global, instance: &Instance, posts: Vec<Post>) -> Result<Core, Fail>
-    ensures { IfOk result (λ core. core.instance ≡ instance.now) }
-{
-    let mut core = Core::new(alloc, instance)?;
-    let take = Event::Take { worker: 0, node: 0 };
-    let posts = Posts::new(posts);
-    let commit = Event::Commit { worker: 0, posts };
-    core.event(instance, take).ok().ok_or("not taken")?;
-    core.event(instance, commit).ok().ok_or("not committed")?;
-    Ok(core)
-}
-
-#[test]
-fn events_run(rt: HostRuntime) -> Result<(), Fail> {
-    let alloc = rt.alloc();
-    let instance = morning(alloc, "1")?;
-    let posts = vec![in alloc; plan(alloc)?, split(alloc)]?;
-    let mut core = committed(alloc, &instance, posts)?;
-    assert!(rt; core.history().len() == 2 && core.acked() == 0);
-    assert!(rt; core.held(0).is_none());
-    let crash = core.event(&instance, Event::Crash { keep: 1 });
-    assert!(rt; crash.is_ok() && core.state().cost() == 3);
-    let let_go = core.event(&instance, Event::Yield { worker: 1 });
-    assert!(rt; let_go.is_ok() && core.acked() == 1);
     Ok(())
 }

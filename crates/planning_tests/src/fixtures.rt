@@ -16,7 +16,7 @@ pub fn rests(alloc: Global, len: u16, total: u16) -> Result<Rule, NoMemory> {
 }
 
 /// A type of shifts of one start and one length.
-pub fn kind(
+fn kind(
     alloc: Global,
     name: &str,
     start: u16,

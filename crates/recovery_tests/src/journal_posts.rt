@@ -1,6 +1,7 @@
 //! A state made again from the records of a journal.
 use crate::fixtures::morning;
 use recovery::rebuild;
+use shift_instance::Instance;
 use std::alloc::Global;
 use std::test::Fail;
 
@@ -29,24 +30,36 @@ fn priced(alloc: Global) -> Result<Vec<u8>, Fail> {
     Ok(bytes)
 }
 
+/// The records of a journal with posts of every kind.
+fn records(alloc: Global) -> Result<Vec<Vec<u8>>, Fail> {
+    let mut records = vec![in alloc; priced(alloc)?]?;
+    let others: [&[u8]; 4] = [&SPLIT, &NO_POSTS, &TWO_SETTLED, &PLAN];
+    for bytes in others {
+        records.push(Vec::from_slice(alloc, bytes)?)?;
+    }
+    Ok(records)
+}
+
+/// The cost, the floor and the count of rows of the state of these records, and how many posts and nodes it has.
+fn rebuilt(
+    alloc: Global,
+    instance: &Instance,
+    records: &[Vec<u8>],
+) -> Result<(u64, u64, [usize; 3]), Fail> {
+    let state = rebuild(alloc, instance, records, 1).ok().ok_or("no state")?;
+    let counts = [
+        state.best().len(),
+        state.history().len(),
+        state.nodes().len(),
+    ];
+    Ok((state.cost(), state.floor(), counts))
+}
+
 #[test]
 fn posts_of_every_kind_are_taken(rt: HostRuntime) -> Result<(), Fail> {
     let alloc = rt.alloc();
+    let records = records(alloc)?;
     let instance = morning(alloc, "1")?;
-    let records = vec![in alloc;
-        priced(alloc)?,
-        Vec::from_slice(alloc, &SPLIT)?,
-        Vec::from_slice(alloc, &NO_POSTS)?,
-        Vec::from_slice(alloc, &TWO_SETTLED)?,
-        Vec::from_slice(alloc, &PLAN)?,
-    ]?;
-    let state = rebuild(alloc, &instance, &records, 1)
-        .ok()
-        .ok_or("no state")?;
-    assert_eq!(rt;
-        (state.cost(), state.floor(), state.best().len()),
-        (3, 3, 1)
-    );
-    assert_eq!(rt; (state.history().len(), state.nodes().len()), (5, 3));
+    assert!(rt; rebuilt(alloc, &instance, &records)? == (3, 3, [1, 5, 3]));
     Ok(())
 }

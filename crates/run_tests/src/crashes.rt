@@ -18,7 +18,7 @@ struct Found {
     told: Option<u64>,
     /// All bytes are in the file that were written.
     written: Option<u64>,
-    /// Other bytes stand in place of those that were written since the last sync.
+    /// Another byte stands in place of each that was written since the last sync.
     lost: Option<u64>,
 }
 
@@ -60,12 +60,12 @@ fn posts_on(alloc: Global, instance: &Instance, disk: MemDisk) -> Result<Option<
     }
 }
 
-/// What there is after a crash at a call that failed.
-fn found_after(rt: &impl Abort, alloc: Global, call: u64) -> Result<Found, Fail> {
+/// What there is after a crash at a call that failed, where that other byte is `fill`.
+fn found_after(rt: &impl Abort, alloc: Global, call: u64, fill: u8) -> Result<Found, Fail> {
     let instance = morning(rt, alloc, "2")?;
     let (disk, told) = stopped(rt, alloc, &instance, call)?;
     let written = posts_on(alloc, &instance, disk.image(None)?)?;
-    let lost = posts_on(alloc, &instance, disk.image(Some(255))?)?;
+    let lost = posts_on(alloc, &instance, disk.image(Some(fill))?)?;
     Ok(Found {
         told,
         written,
@@ -73,10 +73,16 @@ fn found_after(rt: &impl Abort, alloc: Global, call: u64) -> Result<Found, Fail>
     })
 }
 
-/// Whether this is what there is after a crash at each of two calls.
-fn is_found(rt: &impl Abort, alloc: Global, calls: [u64; 2], found: Found) -> Result<bool, Fail> {
-    let first = found_after(rt, alloc, calls[0])?;
-    let second = found_after(rt, alloc, calls[1])?;
+/// Whether this is what there is after a crash at each of two calls, where the other byte is `fill`.
+fn is_found(
+    rt: &impl Abort,
+    alloc: Global,
+    calls: [u64; 2],
+    fill: u8,
+    found: Found,
+) -> Result<bool, Fail> {
+    let first = found_after(rt, alloc, calls[0], fill)?;
+    let second = found_after(rt, alloc, calls[1], fill)?;
     Ok(first == found && second == found)
 }
 
@@ -92,8 +98,8 @@ fn an_opening_leaves_a_whole_journal_or_none(rt: HostRuntime) -> Result<(), Fail
         lost: None,
         ..unwritten
     };
-    assert!(rt; is_found(&rt, rt.alloc(), [1, 2], unwritten)?);
-    assert!(rt; is_found(&rt, rt.alloc(), [3, 4], unsure)?);
+    assert!(rt; is_found(&rt, rt.alloc(), [1, 2], 255, unwritten)?);
+    assert!(rt; is_found(&rt, rt.alloc(), [3, 4], 255, unsure)?);
     Ok(())
 }
 
@@ -116,10 +122,25 @@ fn within(posts: u64, after: u64) -> (Found, Found) {
 #[test]
 fn a_step_is_there_whole_or_not_at_all(rt: HostRuntime) -> Result<(), Fail> {
     let (closed, opened) = within(0, 3);
-    assert!(rt; is_found(&rt, rt.alloc(), [5, 6], closed)?);
-    assert!(rt; is_found(&rt, rt.alloc(), [7, 8], opened)?);
+    assert!(rt; is_found(&rt, rt.alloc(), [5, 6], 255, closed)?);
+    assert!(rt; is_found(&rt, rt.alloc(), [7, 8], 255, opened)?);
     let (closed, opened) = within(3, 4);
-    assert!(rt; is_found(&rt, rt.alloc(), [9, 10], closed)?);
-    assert!(rt; is_found(&rt, rt.alloc(), [11, 12], opened)?);
+    assert!(rt; is_found(&rt, rt.alloc(), [9, 10], 255, closed)?);
+    assert!(rt; is_found(&rt, rt.alloc(), [11, 12], 255, opened)?);
+    Ok(())
+}
+
+// A lost byte of the first step may be 0, or 1, which is what the byte of an open gate is.
+#[test]
+fn other_bytes_than_were_written_make_no_step(rt: HostRuntime) -> Result<(), Fail> {
+    let (closed, opened) = within(0, 3);
+    assert!(rt; is_found(&rt, rt.alloc(), [5, 6], 0, closed)?);
+    assert!(rt; is_found(&rt, rt.alloc(), [7, 8], 0, opened)?);
+    let whole = Found {
+        lost: Some(3),
+        ..opened
+    };
+    assert!(rt; is_found(&rt, rt.alloc(), [5, 6], 1, closed)?);
+    assert!(rt; is_found(&rt, rt.alloc(), [7, 8], 1, whole)?);
     Ok(())
 }
