@@ -1,14 +1,12 @@
 -- The value of a duty.
-use Rattle.std.proofs.Common.{◌≡◌, inl, ℕ, zero, suc, ◌+◌, ◌*◌, ◌^◌, ◌≤◌, ℤ, pos, ◌-ℤ◌, ◌*ℤ◌, Bool, true, false, cond, List, [], ◌∷◌, length, refl, sym, ap, ◌∙◌, subst, arith}
+use Rattle.std.proofs.Common.{◌≡◌, inl, ℕ, zero, suc, ◌+◌, ◌*◌, ◌^◌, ◌≤◌, ℤ, pos, Bool, true, false, cond, List, [], ◌∷◌, length, refl, sym, ◌∙◌, subst, arith}
 use Rattle.std.specs.Prelude.{Option, Some, None, MatchOption}
 use Rattle.std.specs.Option.{option_map}
-use Rattle.std.specs.Int.{int_max, int_min}
 use Rattle.std.specs.Int.RustNames.{unsigned_abs}
 use Rattle.std.specs.List.{zip, range_with_len}
 use Rattle.std.proofs.lemmas.Bool.{false≢true}
 use Rattle.break_rules.specs.declared.Break.{Break}
 use Rattle.break_rules.specs.Breaks.{begins_with}
-use Rattle.break_rules.specs.Sums.{int_sum_by}
 use Rattle.break_rules.proofs.Lists.{Has}
 use Rattle.shift_instance.specs.declared.Duty.{Duty}
 use Rattle.shift_instance.specs.Problem.{Problem, slots, below}
@@ -19,8 +17,7 @@ use Rattle.shift_instance.specs.Valid.{IsValid}
 use Rattle.shift_instance.proofs.Rotas.{Has-lists_of, from_lists_of}
 use Rattle.head_splits.specs.declared.Cut.{Cut}
 use Rattle.head_splits.specs.declared.Prices.{Prices}
-use Rattle.head_splits.specs.Cuts.{low, high, whole_class}
-use Rattle.head_splits.specs.Bound.{is_nil, entries_of, is_forced, day_value, free_day_value, term, are_prices}
+use Rattle.head_splits.specs.Bound.{is_nil, entries_of, are_prices}
 use Rattle.patterns.specs.declared.Pattern.{Pattern}
 use Rattle.head_splits.proofs.Best.{best_is_value}
 use Rattle.bound_sums.specs.Values.{IsValue}

@@ -1,7 +1,7 @@
 -- The greedy plan: it takes shifts one after another, always that which lowers the cost most, each with its best lists. Source: this project's profile.
 use Rattle.std.specs.Prelude.{ℕ, zero, suc, ◌*◌, ℤ, pos, ◌-ℤ◌, neg_ℤ, Bool, not, ◌&&◌, nat_lt, int_lt, List, [], ◌++◌, map, length, Option, unwrap_or, if◌then◌else◌}
 use Rattle.std.specs.Option.{option_map_or}
-use Rattle.std.specs.List.{list_any, filter, find, flat_map}
+use Rattle.std.specs.List.{list_any, filter, find}
 use Rattle.break_rules.specs.declared.Break.{Break}
 use Rattle.break_rules.specs.Sums.{int_sum_by}
 use Rattle.shift_instance.specs.declared.Duty.{Duty}

@@ -1,21 +1,21 @@
 -- Settled nodes: all legal rotas below one have the same duties, and those of its plan.
-use Rattle.std.proofs.Common.{◌≡◌, inl, inr, ℕ, ◌+◌, ◌*◌, ◌≤◌, true, false, cond, ◌&&◌, ◌||◌, ◌==◌, not, List, [], ◌++◌, map, replicate, length, take, drop, refl, sym, ap, ◌∙◌, subst, arith, nat_lt, eq-eqb, Option, Some, None}
+use Rattle.std.proofs.Common.{◌≡◌, inl, inr, ℕ, ◌+◌, ◌*◌, ◌≤◌, true, false, cond, ◌&&◌, ◌||◌, ◌==◌, not, List, [], ◌++◌, replicate, length, take, drop, refl, sym, ap, ◌∙◌, subst, arith, eq-eqb, Option, Some, None}
 use Rattle.std.specs.Prelude.{slice_get}
 use Rattle.std.specs.Option.{option_map_or}
-use Rattle.std.specs.List.{list_all, count_by, flat_map}
-use Rattle.std.proofs.lemmas.Bool.{and_parts, and_from, leb-true, eqb-true, cases_Bool, false≢true, lt-ltb}
+use Rattle.std.specs.List.{list_all, count_by}
+use Rattle.std.proofs.lemmas.Bool.{and_parts, and_from, leb-true, eqb-true, cases_Bool, false≢true}
 use Rattle.std.proofs.lemmas.List.{take-append-drop, append-nil}
 use Rattle.break_rules.specs.declared.Break.{Break}
 use Rattle.break_rules.specs.declared.Rule.{Rule}
-use Rattle.break_rules.specs.Breaks.{is_legal, legal_lists, same_list, begins_with}
-use Rattle.break_rules.proofs.Lists.{Has, from_map, Has-map, from_flat_map, Has-flat_map, all_at, all_from, any_some, Has-below, from_below, from_replicate}
-use Rattle.break_rules.proofs.Counts.{count_by_none, count_by_same, count_by_at_most, sum_by_same, sum_by_if, count_by-flat_map, count_by-map, count_by-replicate, count_by-below}
+use Rattle.break_rules.specs.Breaks.{is_legal, same_list, begins_with}
+use Rattle.break_rules.proofs.Lists.{Has, from_map, from_flat_map, all_at, all_from, any_some, from_replicate}
+use Rattle.break_rules.proofs.Counts.{count_by_same, count_by_at_most, sum_by_same, sum_by_if, count_by-flat_map, count_by-replicate}
 use Rattle.break_rules.proofs.LegalLists.{begins_rest, begins_from, no_longer_list, same_list_decides}
-use Rattle.break_rules.proofs.Once.{once_legal, count_by_and, cond_same}
+use Rattle.break_rules.proofs.Once.{cond_same}
 use Rattle.shift_instance.specs.declared.Shift.{Shift}
 use Rattle.shift_instance.specs.declared.Duty.{Duty}
 use Rattle.shift_instance.specs.Problem.{Problem, shift_list, below}
-use Rattle.shift_instance.specs.Rota.{same_duty, count_of, lists_of, is_list_of, is_legal_duty, is_legal_rota, is_on, cost}
+use Rattle.shift_instance.specs.Rota.{same_duty, count_of, is_list_of, is_legal_duty, is_legal_rota, is_on, cost}
 use Rattle.shift_instance.proofs.AllDuties.{Has-all_duties, from_all_duties, no_count, once_in_duties}
 use Rattle.shift_instance.proofs.Rotas.{legal_duty_parts, legal_duties}
 use Rattle.shift_instance.proofs.Alike.{same_duty_decides, AreAlike, alike_from_counts, alike_cost, alike_legal}

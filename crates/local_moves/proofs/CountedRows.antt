@@ -1,6 +1,6 @@
 -- A plan's duties and heads, row by row.
-use Rattle.std.proofs.Common.{◌≡◌, ℕ, zero, suc, ◌+◌, ◌*◌, ◌<◌, ◌≤◌, Bool, false, cond, ◌&&◌, ◌==◌, List, [], ◌∷◌, ◌++◌, length, get_or, set, take, drop, replicate, refl, sym, ap, ◌∙◌, subst, arith, append_assoc, append-nil, add-one, eq-eqb, true}
-use Rattle.std.specs.List.{flat_map, count_by}
+use Rattle.std.proofs.Common.{◌≡◌, ℕ, zero, suc, ◌+◌, ◌*◌, ◌<◌, ◌≤◌, Bool, cond, ◌&&◌, ◌==◌, List, [], ◌∷◌, ◌++◌, length, get_or, set, take, replicate, refl, sym, ap, ◌∙◌, subst, arith, append_assoc, append-nil, add-one, eq-eqb, true}
+use Rattle.std.specs.List.{count_by}
 use Rattle.std.proofs.lemmas.Bool.{and_from}
 use Rattle.std.proofs.lemmas.List.{length-append, length-replicate}
 use Rattle.break_rules.proofs.Counts.{count_by-append, count_by-replicate}
@@ -12,7 +12,7 @@ use Rattle.shift_instance.specs.Valid.{IsValid}
 use Rattle.shift_instance.proofs.Rotas.{heads_within}
 use Rattle.rota_cost.proofs.Counting.{legal_rows_parts, row_duty}
 use Rattle.rota_cost.specs.Cover.{Covering}
-use Rattle.greedy.specs.Drafts.{IsDraft, heads_at}
+use Rattle.greedy.specs.Drafts.{IsDraft}
 use Rattle.greedy.specs.Greedy.{rows_of}
 use Rattle.greedy.proofs.Growing.{few_duties}
 use Rattle.local_moves.proofs.OwnRows.{own_rows}

@@ -15,7 +15,6 @@ use Rattle.shift_instance.proofs.Alike.{same_duty_decides, AreAlike}
 use Rattle.rota_cost.specs.Cover.{Covering, without}
 use Rattle.rota_cost.proofs.Duties.{with_removed}
 use Rattle.greedy.specs.Drafts.{IsDraft}
-use Rattle.greedy.specs.Greedy.{rows_of}
 use Rattle.greedy.proofs.PlanRows.{rows_alike, rows_legal, rota_costs}
 use Rattle.local_moves.specs.Drafting.{Drafting, IsExchanged}
 use Rattle.local_moves.specs.Places.{IsBefore}

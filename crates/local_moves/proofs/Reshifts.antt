@@ -1,9 +1,9 @@
 -- What it needs and gives that all duties of a shift go over to another one.
-use Rattle.std.proofs.Common.{◌≡◌, ◌⊎◌, inl, inr, ℕ, zero, suc, ◌+◌, ◌*◌, ◌<◌, ◌≤◌, Bool, true, false, cond, not, ◌&&◌, ◌||◌, ◌==◌, nat_lt, max, List, [], ◌∷◌, ◌++◌, map, filter, take, replicate, length, get_or, Option, Some, None, refl, sym, ap, ◌∙◌, subst, arith, add-one, append-nil, eqb-true, eq-eqb}
+use Rattle.std.proofs.Common.{◌≡◌, ◌⊎◌, inl, inr, ℕ, zero, suc, ◌+◌, ◌*◌, ◌<◌, ◌≤◌, Bool, true, false, cond, not, ◌&&◌, ◌||◌, ◌==◌, nat_lt, max, List, [], ◌∷◌, ◌++◌, map, filter, take, replicate, length, get_or, Some, None, refl, sym, ap, ◌∙◌, subst, arith, add-one, append-nil, eqb-true, eq-eqb}
 use Rattle.std.specs.Prelude.{slice_get, unwrap_or}
 use Rattle.std.specs.Option.{option_map_or}
-use Rattle.std.specs.List.{count_by, list_any}
-use Rattle.std.proofs.lemmas.Bool.{and_parts, and_from, cases_Bool, cases_lt, cases_eq, ne_eqb, ltb-true, lt-ltb, ltb-false, le-ltb, false≢true}
+use Rattle.std.specs.List.{count_by}
+use Rattle.std.proofs.lemmas.Bool.{and_parts, and_from, cases_Bool, cases_lt, ne_eqb, ltb-true, lt-ltb, ltb-false, le-ltb, false≢true}
 use Rattle.std.proofs.lemmas.List.Elements.{filter-append}
 use Rattle.std.proofs.lemmas.List.Sums.{sum_by-cons}
 use Rattle.break_rules.specs.declared.Break.{Break}
@@ -23,9 +23,8 @@ use Rattle.shift_instance.proofs.Rotas.{heads_within, legal_duties, from_lists_o
 use Rattle.shift_instance.proofs.Shifts.{some_at, Has_at, kind_of}
 use Rattle.rota_cost.specs.Counted.{duties_of}
 use Rattle.greedy.specs.Greedy.{duty}
-use Rattle.greedy.proofs.Ranges.{below_push}
+use Rattle.shift_instance.proofs.Ranges.{below_next}
 use Rattle.greedy.proofs.Rounds.{count_by-filter_and}
-use Rattle.local_moves.specs.declared.moves.MoveFault.{MoveFault}
 use Rattle.local_moves.specs.declared.moves.MoveFault.TheVariants.{Absent, HeadsOver}
 use Rattle.local_moves.specs.Drafting.{IsExchanged}
 use Rattle.local_moves.specs.Moves.{of_shift, list_after, reshifted, AreSameDuties, is_known, greatest, most_heads, pair_causes, heads_causes}
@@ -106,7 +105,7 @@ greatest_push f [] k = omega arith
 greatest_push f (x ∷ xs) k = ap (max (f x)) (greatest_push f xs k) ∙ sym (max_three (f x) (greatest f xs) (f k))
 
 pub greatest_more : (f : ℕ → ℕ) (n most next : ℕ) → most ≡ greatest f (below n) → next ≡ max most (f n) → next ≡ greatest f (below (n + 1))
-greatest_more f n most next h e = e ∙ ap (λ m. max m (f n)) h ∙ sym (ap (greatest f) (below_push n) ∙ greatest_push f (below n) n)
+greatest_more f n most next h e = e ∙ ap (λ m. max m (f n)) h ∙ sym (ap (greatest f) (below_next n) ∙ greatest_push f (below n) n)
 
 at_most_greatest : (f : ℕ → ℕ) (xs : List ℕ) (k : ℕ) → Has xs k → f k ≤ greatest f xs
 at_most_greatest f [] k m = absurd m

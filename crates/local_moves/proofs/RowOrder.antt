@@ -11,7 +11,7 @@ use Rattle.shift_instance.specs.declared.Duty.{Duty}
 use Rattle.shift_instance.specs.declared.Row.{Row}
 use Rattle.shift_instance.specs.Rota.{same_duty, duty_of, is_before}
 use Rattle.shift_instance.proofs.Alike.{same_duty_decides}
-use Rattle.greedy.specs.Greedy.{row_of}
+use Rattle.shift_instance.specs.AllDuties.{row_of}
 use Rattle.local_moves.specs.Places.{IsBefore}
 
 pub is_false : (b : Bool) → (b ≡ true → ⊥) → b ≡ false

@@ -1,10 +1,9 @@
 -- Where a duty stands among rows in order.
-use Rattle.std.proofs.Common.{◌≡◌, ◌⊎◌, inl, inr, ℕ, zero, suc, ◌+◌, ◌-◌, ◌*◌, ◌/◌, ◌<◌, ◌≤◌, Bool, true, false, cond, Some, List, [], ◌∷◌, ◌++◌, length, get_or, take, drop, set, remove, replicate, refl, sym, ap, ◌∙◌, subst, arith, add-one, nat_lt}
-use Rattle.std.specs.Prelude.{slice_get, IfSome, sum_by, count_by}
-use Rattle.std.specs.List.{flat_map, list_all}
+use Rattle.std.proofs.Common.{◌≡◌, ◌⊎◌, inl, inr, ℕ, zero, suc, ◌+◌, ◌-◌, ◌*◌, ◌/◌, ◌<◌, ◌≤◌, Bool, true, false, cond, Some, List, [], ◌∷◌, ◌++◌, length, get_or, take, drop, set, replicate, refl, sym, ap, ◌∙◌, subst, arith, add-one, nat_lt}
+use Rattle.std.specs.Prelude.{slice_get}
+use Rattle.std.specs.List.{list_all}
 use Rattle.std.proofs.lemmas.Bool.{cases_Bool, cases_lt, false≢true, ltb-true, lt-ltb, le-ltb, and_parts}
-use Rattle.std.proofs.lemmas.List.Sums.{sum_by-cons}
-use Rattle.break_rules.proofs.Counts.{count_by_none, count_by-append, count_by-replicate}
+use Rattle.break_rules.proofs.Counts.{count_by-append, count_by-replicate}
 use Rattle.break_rules.proofs.Lists.{Has}
 use Rattle.break_rules.proofs.Ordered.{Sorted}
 use Rattle.shift_instance.specs.declared.Duty.{Duty}
@@ -14,7 +13,7 @@ use Rattle.shift_instance.proofs.Alike.{same_duty_decides}
 use Rattle.std.proofs.lemmas.Option.{slice_get_read}
 use Rattle.shift_instance.proofs.Shifts.{some_at}
 use Rattle.greedy.specs.Drafts.{with_one_more}
-use Rattle.greedy.specs.Greedy.{row_of}
+use Rattle.shift_instance.specs.AllDuties.{row_of}
 use Rattle.greedy.proofs.Places.{place_on, place_alike, place_new, place_last}
 use Rattle.local_moves.specs.Places.{IsBefore, AreBefore, IsNotBefore, with_one_less}
 use Rattle.local_moves.proofs.RowOrder.{is_false, before_trans, not_alike, not_alike_after, in_order}

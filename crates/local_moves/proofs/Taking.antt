@@ -1,11 +1,11 @@
 -- A legal plan that loses one duty.
-use Rattle.std.proofs.Common.{◌≡◌, ◌⊎◌, inl, inr, ℕ, ◌+◌, ◌-◌, ◌*◌, ◌/◌, ◌%◌, ◌<◌, ◌≤◌, Bool, true, false, cond, ◌&&◌, ◌==◌, not, nat_lt, nat_le, List, [], ◌∷◌, ◌++◌, length, get_or, set, refl, sym, ap, ◌∙◌, subst, arith, eq-eqb}
+use Rattle.std.proofs.Common.{◌≡◌, ◌⊎◌, inl, inr, ℕ, ◌+◌, ◌-◌, ◌*◌, ◌/◌, ◌%◌, ◌<◌, ◌≤◌, true, false, cond, ◌&&◌, ◌==◌, not, nat_le, List, [], ◌∷◌, ◌++◌, length, get_or, set, refl, sym, ap, ◌∙◌, subst, arith, eq-eqb}
 use Rattle.std.specs.List.{list_all, count_by}
 use Rattle.std.proofs.lemmas.Bool.{and_parts, and_from, eqb-true, le-leb, cases_Bool, cases_eq}
 use Rattle.std.proofs.lemmas.Grind.{common_steps}
 use Rattle.std.proofs.lemmas.List.{get_or-set_same, get_or-set_other}
 use Rattle.std.proofs.lemmas.Nat.{div-mul-add, mod-mul-add, mul-add-lt}
-use Rattle.break_rules.proofs.Lists.{Has, all_from, all_at}
+use Rattle.break_rules.proofs.Lists.{all_from, all_at}
 use Rattle.break_rules.proofs.Counts.{all_by_count, all_from_count, Has-from_count}
 use Rattle.shift_instance.specs.declared.Duty.{Duty}
 use Rattle.shift_instance.specs.declared.Row.{Row}
@@ -16,7 +16,7 @@ use Rattle.shift_instance.proofs.Alike.{same_duty_decides, AreAlike}
 use Rattle.rota_cost.specs.Cover.{Covering, without}
 use Rattle.rota_cost.proofs.Duties.{IsWith, with_removed, with_pushed}
 use Rattle.rota_cost.proofs.Counting.{legal_rows_parts}
-use Rattle.greedy.specs.Drafts.{IsDraft, heads_at, with_one_more}
+use Rattle.greedy.specs.Drafts.{IsDraft, heads_at}
 use Rattle.greedy.specs.Greedy.{rows_of}
 use Rattle.greedy.proofs.PlanRows.{rows_legal}
 use Rattle.greedy.proofs.RowSteps.{rows_more}

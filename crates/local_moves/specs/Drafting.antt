@@ -3,7 +3,6 @@ use Rattle.std.specs.Prelude.{◌≡◌, ℕ, ◌+◌, Bool, List, count_by}
 use Rattle.shift_instance.specs.declared.Duty.{Duty}
 use Rattle.shift_instance.specs.declared.Row.{Row}
 use Rattle.shift_instance.specs.Problem.{Problem}
-use Rattle.shift_instance.specs.Rota.{rota_of}
 
 -- an instance, and the rows of a legal plan for it: how often each duty stands in it, in order
 pub record Drafting : Type 0 where

@@ -1,9 +1,9 @@
 -- Where a duty stands among rows that are in order, and rows with one duty less.
-use Rattle.std.specs.Prelude.{◌≡◌, ℕ, ◌-◌, ◌<◌, Bool, true, false, nat_lt, List, [], ◌∷◌, slice_get, Some, if◌then◌else◌}
+use Rattle.std.specs.Prelude.{◌≡◌, ℕ, ◌-◌, ◌<◌, true, false, nat_lt, List, [], ◌∷◌, slice_get, Some, if◌then◌else◌}
 use Rattle.shift_instance.specs.declared.Duty.{Duty}
 use Rattle.shift_instance.specs.declared.Row.{Row}
 use Rattle.shift_instance.specs.Rota.{same_duty, duty_of, is_before}
-use Rattle.greedy.specs.Greedy.{row_of}
+use Rattle.shift_instance.specs.AllDuties.{row_of}
 
 -- a row that comes before another
 abbrev pub IsBefore : Row → Row → Type 0

@@ -1,33 +1,10 @@
 //! The order of rows.
 ghost use Rattle.std.specs.Prelude.{◌≡◌};
-ghost use Rattle.break_rules.specs.Breaks.{is_less_break, is_less_list};
 ghost use Rattle.shift_instance.specs.Rota.{is_before, same_duty, duty_of};
-ghost use Rattle.greedy.specs.Greedy.{row_of};
+ghost use Rattle.shift_instance.specs.AllDuties.{row_of};
 
-use break_rules::Break;
+use break_rules::is_less_list;
 use shift_instance::{Duty, Row};
-
-/// Whether a break is less than another: by start, and then by length.
-fn is_less_break(a: Break, b: Break) -> bool
-    ensures { result ≡ is_less_break a b }
-{
-    a.start < b.start || a.start == b.start && a.len < b.len
-}
-
-/// Whether a break list is less than another: break by break, a proper prefix first.
-fn is_less_list(a: &[Break], b: &[Break]) -> bool
-    ensures { result ≡ is_less_list a.now b.now }
-{
-    for (i, x) in a.iter().enumerate() {
-        if b.len() <= i || is_less_break(b[i], *x) {
-            return false;
-        }
-        if is_less_break(*x, b[i]) {
-            return true;
-        }
-    }
-    a.len() < b.len()
-}
 
 /// Whether a row comes before a duty: by shift, then by day, then by break list.
 pub(crate) fn is_before(row: &Row, duty: &Duty) -> bool

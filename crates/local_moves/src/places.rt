@@ -3,7 +3,7 @@ ghost use Rattle.std.specs.Prelude.{◌≡◌, ◌+◌, ◌≤◌, ◌<◌, All,
 ghost use Rattle.break_rules.proofs.Ordered.{Sorted};
 ghost use Rattle.shift_instance.specs.Rota.{count_of, rota_of};
 ghost use Rattle.greedy.specs.Drafts.{with_one_more};
-ghost use Rattle.greedy.specs.Greedy.{row_of};
+ghost use Rattle.shift_instance.specs.AllDuties.{row_of};
 ghost use Rattle.local_moves.specs.Places.{IsBefore, AreBefore, IsNotBefore, with_one_less};
 
 use crate::order::{is_before, is_of};

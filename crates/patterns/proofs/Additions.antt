@@ -1,5 +1,5 @@
 -- Sums of the numbers at prefixes, and what an addition does to them.
-use Rattle.std.proofs.Common.{◌≡◌, inl, inr, ℕ, ◌+◌, ◌*◌, ◌^◌, ◌<◌, ◌≤◌, ℤ, pos, negsuc, ◌+ℤ◌, Bool, true, false, cond, List, [], ◌∷◌, ◌++◌, map, length, take, get_or, refl, sym, ap, ◌∙◌, subst, arith, Option, Some, ◌-ℤ◌, ◌≤ℤ◌, FitsSigned, to_z, of_z}
+use Rattle.std.proofs.Common.{◌≡◌, inl, inr, ℕ, ◌+◌, ◌*◌, ◌^◌, ◌<◌, ◌≤◌, ℤ, pos, ◌+ℤ◌, Bool, true, false, cond, List, [], ◌∷◌, ◌++◌, map, length, take, get_or, refl, sym, ap, ◌∙◌, subst, arith, Option, Some, FitsSigned, to_z, of_z}
 use Rattle.std.specs.Option.{unwrap_or}
 use mir.Syntax.{w128, w64}
 use Rattle.std.proofs.lemmas.Bool.{cases_Bool, cond-true, cond-false}

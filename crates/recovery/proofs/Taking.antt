@@ -6,7 +6,6 @@ use Rattle.post_codec.specs.Spelling.{Spells}
 use Rattle.search_core.specs.declared.adding.Refusal.{Refusal}
 use Rattle.search_core.specs.Book.{Book}
 use Rattle.search_core.specs.Taking.{Stops}
-use Rattle.recovery.specs.declared.fault.Why.{Why}
 use Rattle.recovery.specs.declared.fault.Why.TheVariants.{Step}
 use Rattle.recovery.specs.Folding.{RecordStops}
 

@@ -1,10 +1,10 @@
 -- Rows have no fault exactly where they are legal.
-use Rattle.std.proofs.Common.{◌≡◌, inl, inr, ℕ, zero, suc, ◌+◌, ◌<◌, ◌≤◌, Bool, true, false, cond, ◌&&◌, ◌==◌, List, [], ◌∷◌, ◌++◌, length, drop, get_or, ◌-◌, replicate, refl, sym, ap, ◌∙◌, subst, arith, sum_by, nat_le, nat_lt, Option, Some, None, append_assoc}
+use Rattle.std.proofs.Common.{◌≡◌, inl, inr, ℕ, zero, suc, ◌+◌, ◌<◌, ◌≤◌, Bool, true, cond, ◌==◌, List, [], ◌∷◌, ◌++◌, length, drop, get_or, replicate, refl, sym, ap, ◌∙◌, subst, arith, sum_by, nat_le, nat_lt, Option, Some, None, append_assoc}
 use Rattle.std.specs.Prelude.{Result, Ok, Err, MatchResult, IsOk, IsTrue, ◌↔◌}
 use Rattle.std.specs.List.{list_all, zip}
 use Rattle.std.specs.Option.{option_or}
-use Rattle.std.proofs.lemmas.Bool.{and_parts, and_from, le-leb, ltb-true, ltb-false, lt-ltb, le-ltb, eqb-true, false≢true, cases_Bool, not-false, not_from_true, or_cases, or_from, and_left, and_right, ne_eqb, cases_lt}
-use Rattle.std.proofs.lemmas.List.{append-nil, at_drop_more, drop_all, length-drop}
+use Rattle.std.proofs.lemmas.Bool.{and_parts, and_from, le-leb, ltb-true, ltb-false, lt-ltb, le-ltb, eqb-true, false≢true, cases_Bool, not-false, not_from_true}
+use Rattle.std.proofs.lemmas.List.{append-nil}
 use Rattle.std.proofs.lemmas.List.Sums.{sum_by_push, sum_by-append}
 use Rattle.std.proofs.lemmas.List.Folds.{list_all-append}
 use Rattle.break_rules.specs.Causes.{first_cause}

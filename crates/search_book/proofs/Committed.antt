@@ -1,5 +1,5 @@
 -- What a commit makes of a book, and why it is refused.
-use Rattle.std.proofs.Common.{◌≡◌, ◌≢◌, ℕ, zero, suc, ◌==◌, ◌<◌, ◌≤◌, ◌+◌, ◌*◌, List, [], ◌∷◌, ◌++◌, length, Option, None, Some, Bool, true, false, not, refl, sym, ◌∙◌, ap, subst, arith, length-set}
+use Rattle.std.proofs.Common.{◌≡◌, ◌≢◌, ℕ, zero, suc, ◌==◌, ◌<◌, ◌≤◌, ◌+◌, ◌*◌, List, [], ◌∷◌, ◌++◌, length, Option, None, Some, Bool, true, false, refl, sym, ◌∙◌, ap, subst, arith, length-set}
 use Rattle.std.specs.Prelude.{is_some, IsSome, slice_set}
 use Rattle.std.specs.Option.{option_map_or}
 use Rattle.std.proofs.lemmas.List.{append-nil}
@@ -11,14 +11,13 @@ use Rattle.shift_instance.specs.Problem.{Problem}
 use Rattle.search_core.specs.declared.board.CommitFault.{CommitFault}
 use Rattle.search_core.specs.declared.board.CommitFault.TheVariants.{DiskFault, Full, NotHeld, Shut, NotClosing, OtherCuts, NoMemory}
 use Rattle.search_core.specs.declared.board.Kept.{Kept}
-use Rattle.search_core.specs.declared.board.Shutting.{Shutting}
-use Rattle.search_core.specs.declared.board.Shutting.TheVariants.{DiskFault as ByDisk, Full as ByLimit}
+use Rattle.search_core.specs.declared.board.Shutting.TheVariants.{Full as ByLimit}
 use Rattle.search_core.specs.declared.drafting.Draft.{Draft}
 use Rattle.search_core.specs.declared.step_posts.StepPosts.{StepPosts}
 use Rattle.search_core.specs.declared.step_posts.Close.TheVariants.{ByPrice}
 use Rattle.search_core.specs.Board.{book_at, bytes_of, floor_of_node, leaves_open, posts_at, records_of, BoardView, CommitRefuses, Commits, DifferAt, HasPosts, HoldsStep}
 use Rattle.search_core.specs.Book.{Book, book_after, book_of, is_node_and, is_open}
-use Rattle.search_core.specs.Core.{hand, HoldsApart}
+use Rattle.search_core.specs.Core.{HoldsApart}
 use Rattle.search_core.specs.Drafting.{Drafts, LeavesOpen, Makes}
 use Rattle.search_core.specs.Kept.{cuts_in}
 use Rattle.search_core.specs.Steps.{after_step, book_then, is_cheaper, posts_of}
@@ -30,7 +29,7 @@ use Rattle.search_book.specs.Committing.{batches_of, commit_fault_of, step_posts
 use Rattle.search_book.specs.PostLog.{PostLogView}
 use Rattle.post_codec.specs.Batches.{joined}
 use Rattle.search_book.specs.Recorded.{RecordFails, Records}
-use Rattle.search_book.specs.Search.{board_at, IsOver, KeepsSearch}
+use Rattle.search_book.specs.Search.{board_at, KeepsSearch}
 use Rattle.search_book.proofs.Commits.{fold_more}
 use Rattle.search_book.proofs.Handing.{emptied_counted}
 

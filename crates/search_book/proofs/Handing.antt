@@ -1,7 +1,7 @@
 -- The hands of workers over a book.
-use Rattle.std.proofs.Common.{◌≡◌, ◌≢◌, ◌⊎◌, inl, inr, ℕ, zero, suc, ◌<◌, ◌≤◌, ◌^◌, Bool, true, false, ◌&&◌, not, List, [], ◌∷◌, length, map, set, replicate, refl, ap, ◌∙◌, subst, arith, nat_le, nat_lt, Option, Some, None, ◌||◌, sym}
+use Rattle.std.proofs.Common.{◌≡◌, ◌≢◌, ◌⊎◌, inl, inr, ℕ, ◌<◌, ◌≤◌, ◌^◌, Bool, true, false, ◌&&◌, not, List, [], ◌∷◌, length, map, set, refl, ap, ◌∙◌, subst, arith, nat_le, nat_lt, Option, Some, None, ◌||◌, sym}
 use Rattle.std.specs.Prelude.{Err, IfOk, IsSomeAnd, Ok, Result, slice_get}
-use Rattle.std.specs.Option.{option_map_or, option_and_then}
+use Rattle.std.specs.Option.{option_map_or}
 use Rattle.std.specs.List.{list_all, list_any}
 use Rattle.std.proofs.lemmas.Bool.{and_parts, false≢true, le-leb, lt-leb, ltb-false, ltb-true, not-true}
 use Rattle.shift_instance.proofs.Rotas.{slice_get_below}
@@ -13,7 +13,7 @@ use Rattle.search_core.specs.Book.{Book, is_node_and, is_open}
 use Rattle.search_core.specs.Core.{hand, is_node}
 use Rattle.search_core.specs.Kept.{cuts_in}
 use Rattle.search_core.specs.State.{state_of}
-use Rattle.search_core.proofs.Runs.{hand_set, hand_some}
+use Rattle.search_core.proofs.Runs.{hand_set}
 
 -- ---- the nodes in the hands are unsplit
 abbrev pub AreUnsplit : Book → List (Option ℕ) → Type 0

@@ -1,5 +1,5 @@
 -- What a commit makes of a log of posts, as contracts see it.
-use Rattle.std.proofs.Common.{◌≡◌, ℕ, ◌+◌, ◌<◌, ◌≤◌, List, [], ◌∷◌, ◌++◌, length, sym, ◌∙◌, ap, subst, arith, Option, Some}
+use Rattle.std.proofs.Common.{◌≡◌, ℕ, ◌+◌, ◌<◌, ◌≤◌, List, [], ◌∷◌, ◌++◌, length, ◌∙◌, ap, subst, Option, Some}
 use Rattle.plan_base.specs.Causes.{Rose}
 use Rattle.gated_journal.specs.declared.fault.JournalFault.TheVariants.{DiskFault as DiskFails, Full as IsFull}
 use Rattle.post_codec.specs.declared.post.Post.{Post}

@@ -1,5 +1,5 @@
 -- The records of a journal, and the batches of posts that they spell.
-use Rattle.std.proofs.Common.{◌≡◌, ◌≢◌, ℕ, zero, suc, ◌+◌, ◌-◌, ◌*◌, ◌<◌, ◌≤◌, List, [], ◌∷◌, ◌++◌, length, take, drop, refl, sym, ◌∙◌, ap, subst, arith, length-append, Option, None, Some}
+use Rattle.std.proofs.Common.{◌≡◌, ◌≢◌, ℕ, suc, ◌+◌, ◌-◌, ◌*◌, ◌<◌, ◌≤◌, List, [], ◌∷◌, ◌++◌, length, take, drop, refl, sym, ◌∙◌, ap, subst, arith, length-append, Option, None, Some}
 use Rattle.std.specs.Prelude.{IfSome, IsSome, OnSome}
 use Rattle.std.specs.List.{AllZip}
 use Rattle.std.proofs.lemmas.List.{take-append-drop, append-nil, append_assoc}
@@ -9,10 +9,10 @@ use Rattle.gated_journal.specs.Format.{StandsFor}
 use Rattle.gated_journal.specs.View.{IsStored, JournalView}
 use Rattle.instance_json.specs.Canonical.{canonical_text}
 use Rattle.post_codec.specs.declared.post.Post.{Post}
-use Rattle.post_codec.specs.Spelling.{Spells, spelling}
+use Rattle.post_codec.specs.Spelling.{Spells}
 use Rattle.shift_instance.specs.Problem.{Problem}
 use Rattle.search_core.specs.Board.{bytes_of}
-use Rattle.search_core.specs.Book.{Book, book_of}
+use Rattle.search_core.specs.Book.{book_of}
 use Rattle.search_core.specs.declared.board.Shutting.{Shutting}
 use Rattle.search_core.specs.declared.board.Shutting.TheVariants.{DiskFault, Full}
 use Rattle.search_core.proofs.Runs.{front_folds}
@@ -22,7 +22,7 @@ use Rattle.search_book.specs.Posts.{bytes_used}
 use Rattle.post_codec.specs.Batches.{joined, SpellPosts}
 use Rattle.search_book.specs.Prefix.{HoldsPrefix}
 use Rattle.search_book.specs.Recorded.{IsRecorded, ShutIn}
-use Rattle.post_codec.proofs.Batches.{zip_length, zip_push, zip_take, zip_append, zip_right}
+use Rattle.post_codec.proofs.Batches.{zip_length, zip_take, zip_append, zip_right}
 use Rattle.search_book.proofs.Used.{used_more}
 
 -- ---- batches, joined

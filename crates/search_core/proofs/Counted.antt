@@ -283,7 +283,7 @@ fresh_counts v f =
       exact = λ going. omega arith;
     }
 
-calls_count : (old new : BoardView) (commits : ℕ) → IsFresh old → AreCalls old new commits → Counts old.instance new commits × IsSoundBoard new
+pub calls_count : (old new : BoardView) (commits : ℕ) → IsFresh old → AreCalls old new commits → Counts old.instance new commits × IsSoundBoard new
 calls_count old new commits f none = (fresh_counts old f, f.sound)
 calls_count old new commits f (one_more mid next before more calls call sound) =
     let r = calls_count old mid before f calls in

@@ -1,12 +1,12 @@
 -- From how a run ends over an instance to what its status says.
-use Rattle.std.proofs.Common.{◌≡◌, inl, inr, sym, subst, refl, ℕ, List, arith}
+use Rattle.std.proofs.Common.{◌≡◌, inr, sym, subst, refl, ℕ, List, arith}
 use Rattle.std.specs.Prelude.{Option, Some, None, IsSome}
 use Rattle.std.specs.Option.{option_map}
 use Rattle.shift_instance.specs.Problem.{Problem}
 use Rattle.shift_check.specs.declared.words.Command.{Command}
 use Rattle.shift_check.specs.declared.status.CheckStatus.{CheckStatus}
 use Rattle.shift_check.specs.declared.status.CheckStatus.TheVariants.{Accepted, Refused, Usage, Input, Bundle, ReadFault, WriteFault, NoMemory}
-use Rattle.shift_check.specs.Check.{Met, HasCommand, ReadsInstance, EndsOver, Explains}
+use Rattle.shift_check.specs.Check.{Met, ReadsInstance, EndsOver, Explains}
 use Rattle.shift_check.specs.Words.{Asked, request_of}
 
 -- the words' command, where what they ask for was seen

@@ -14,7 +14,7 @@ use Rattle.search_core.specs.Kept.{cuts_in}
 use Rattle.search_core.specs.Steps.{after_step, posts_of}
 use Rattle.search_core.proofs.Outlines.{book_is}
 use Rattle.search_core.proofs.Runs.{front_folds}
-use Rattle.search_book.specs.Posts.{joined}
+use Rattle.post_codec.specs.Batches.{joined}
 use Rattle.search_book.proofs.Recording.{joined_more}
 use Rattle.worker_gate.specs.declared.run.RunEnd.TheVariants.{Full}
 use Rattle.worker_gate.specs.Decision.{IsDecision}

@@ -2,7 +2,7 @@ use Rattle.std.proofs.Common.{◌≡◌, ◌+◌, ◌*◌, ◌<◌, ◌≤◌, �
 use Rattle.std.proofs.lemmas.Nat.{mul-add-lt}
 use Rattle.shift_instance.specs.declared.Duty.{Duty}
 use Rattle.shift_instance.specs.Problem.{shift_list}
-use Rattle.shift_instance.specs.Rota.{duty_of, rota_of, heads_on}
+use Rattle.shift_instance.specs.Rota.{rota_of, heads_on}
 use Rattle.local_moves.proofs.CountedRows.{next_row, heads_more}
 use Rattle.local_moves.proofs.draft.count_rows.Goals as goal
 

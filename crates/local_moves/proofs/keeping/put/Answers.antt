@@ -1,4 +1,4 @@
-use Rattle.std.proofs.Common.{◌≡◌, ◌+◌, ◌*◌, ◌<◌, ◌≤◌, ◌∙◌, length, set, get_or, sym, ap, arith, rules}
+use Rattle.std.proofs.Common.{◌≡◌, ◌+◌, ◌*◌, ◌<◌, ◌≤◌, ◌∙◌, set, get_or, ap, arith, rules}
 use Rattle.shift_instance.specs.Rota.{heads_on}
 use Rattle.shift_instance.proofs.Rotas.{legal_duty_parts}
 use Rattle.greedy.proofs.Growing.{draft_add, few_duties, rows_room}

@@ -1,6 +1,6 @@
 use Rattle.std.proofs.Common.{◌≡◌, ◌∙◌, sym, rules}
 use Rattle.std.proofs.lemmas.Bool.{eqb-true}
-use Rattle.greedy.specs.Greedy.{row_of}
+use Rattle.shift_instance.specs.AllDuties.{row_of}
 use Rattle.greedy.proofs.RowSteps.{alike_is}
 use Rattle.local_moves.proofs.order.is_same.Goals as goal
 use Rattle.local_moves.proofs.order.is_same.Goals.{then-a-b, else-a-b}

@@ -4,7 +4,7 @@ use Rattle.break_rules.specs.Causes.{first_cause}
 use Rattle.shift_instance.specs.declared.Duty.{Duty}
 use Rattle.shift_instance.specs.Rota.{rota_of}
 use Rattle.local_moves.specs.declared.moves.Move.{Move}
-use Rattle.local_moves.specs.declared.moves.Move.TheVariants.{Add, Drop, Rebreak, Reshift}
+use Rattle.local_moves.specs.declared.moves.Move.TheVariants.{Add, Drop, Rebreak}
 use Rattle.local_moves.specs.Moves.{Answers, AreSameDuties, move_causes, moved}
 use Rattle.local_moves.proofs.draft.Draft.apply.Goals as goal
 

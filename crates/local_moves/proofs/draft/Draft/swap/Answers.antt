@@ -1,10 +1,8 @@
-use Rattle.std.proofs.Common.{◌≡◌, ◌∙◌, ◌+◌, ◌≤◌, ℕ, List, refl, sym, ap, subst, rules}
+use Rattle.std.proofs.Common.{◌≡◌, ◌∙◌, ◌+◌, ◌≤◌, ℕ, List, sym, subst, rules}
 use Rattle.break_rules.proofs.Ordered.{Sorted}
 use Rattle.shift_instance.specs.declared.Duty.{Duty}
 use Rattle.shift_instance.specs.declared.Row.{Row}
 use Rattle.shift_instance.specs.Rota.{count_of, heads_on, rota_of}
-use Rattle.local_moves.specs.declared.changes.Change.{Change}
-use Rattle.local_moves.specs.Changes.{IsDone, IsTied, completed, with_places}
 use Rattle.local_moves.specs.Drafting.{IsExchanged}
 use Rattle.local_moves.specs.Places.{IsBefore}
 use Rattle.local_moves.proofs.Balance.{made_changes}

@@ -1,13 +1,10 @@
-use Rattle.std.proofs.Common.{◌≡◌, ℕ, false, true, not, List, Option, None, sym, subst, ap}
-use Rattle.head_splits.specs.Nodes.{Node}
+use Rattle.std.proofs.Common.{◌≡◌, ℕ, false, true, not, List, Option, sym, subst}
 use Rattle.shift_instance.specs.Problem.{Problem}
 use Rattle.search_core.specs.Board.{leaves_open, Commits}
 use Rattle.search_core.specs.Book.{Book, is_node_and}
-use Rattle.search_core.specs.Core.{AreApart}
 use Rattle.search_core.specs.Drafting.{LeavesOpen}
 use Rattle.search_core.specs.Kept.{cuts_in}
 use Rattle.search_core.specs.Steps.{Fits}
-use Rattle.search_book.specs.PostLog.{PostLogView}
 use Rattle.search_book.specs.Search.{board_at, KeepsSearch}
 use Rattle.search_book.proofs.Committed.{commit_keeps, commits, may_refuses, open_refuses, record_refuses, refusal_keeps}
 use Rattle.search_book.proofs.session.Session.commit.Goals as goal
