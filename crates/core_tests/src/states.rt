@@ -1,4 +1,5 @@
 //! States of a small instance.
+ghost use Rattle.std.specs.Prelude.{◌<◌, length};
 
 use crate::fixtures::morning;
 use break_rules::{Break, Breaks};
@@ -98,6 +99,30 @@ fn a_part_is_settled(rt: HostRuntime) -> Result<(), Fail> {
     assert!(rt; state.next_node(&Hands::empty()) == Some(1));
     let cut = state.cuts_of(2)?.into_vec().pop().ok_or("no cut")?;
     assert!(rt; cut.side == Side::AtLeast && cut.m == 1);
+    Ok(())
+}
+
+/// How many cuts the prices have that are known of the second part of the first node, and whether each has the price 0.
+fn hinted_cuts(state: &State) -> Result<Option<(usize, bool)>, Fail>
+    requires { 2 < length state.now.book.nodes }
+{
+    match state.hint(2)?.prices {
+        Some(prices) => {
+            let are_zero = prices.cuts.as_slice() == [0u64].as_slice();
+            Ok(Some((prices.cuts.len(), are_zero)))
+        }
+        None => Ok(None),
+    }
+}
+
+// The prices were posted for the first node, which has no cuts; its second part has one.
+#[test]
+fn the_prices_above_a_part_are_known_of_it(rt: HostRuntime) -> Result<(), Fail> {
+    let alloc = rt.alloc();
+    let instance = morning(alloc, "1")?;
+    let state = after(alloc, &instance, priced(alloc)?, split(alloc))?;
+    assert!(rt; state.nodes().len() == 3);
+    assert!(rt; hinted_cuts(&state)? == Some((1, true)));
     Ok(())
 }
 
