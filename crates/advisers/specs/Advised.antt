@@ -1,5 +1,5 @@
 -- What an adviser advises. Source: this project's profile.
-use Rattle.std.specs.Prelude.{List, Option, Some, None, length, replicate, if◌then◌else◌}
+use Rattle.std.specs.Prelude.{ℕ, ℤ, List, Option, Some, None, length, replicate, if◌then◌else◌}
 use Rattle.shift_instance.specs.declared.Row.{Row}
 use Rattle.shift_instance.specs.Problem.{Problem}
 use Rattle.head_splits.specs.declared.Cut.{Cut}
@@ -17,4 +17,11 @@ abbrev pub greedy_advice : Problem → List Cut → Advice
 greedy_advice i cuts = record {
   prices = record { q = 1; slots = forced_prices i cuts; cuts = replicate (length cuts) 0 };
   plan = greedy_plan i;
+}
+
+-- what the adviser of the same prices advises: its scale and its prices of slots, with price 0 for each cut, and no plan
+abbrev pub fixed_advice : ℕ → List ℤ → List Cut → Advice
+fixed_advice q slots cuts = record {
+  prices = record { q = q; slots = slots; cuts = replicate (length cuts) 0 };
+  plan = None;
 }

@@ -1,3 +1,4 @@
 pub mod Forced
 pub mod Advised
 pub mod Same
+pub mod Hearing

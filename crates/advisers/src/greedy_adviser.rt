@@ -3,27 +3,47 @@ ghost use Rattle.std.specs.Prelude.{◌≡◌, ◌≤◌, ◌^◌, IfOk, IfSome,
 ghost use Rattle.greedy.specs.Greedy.{greedy_rows};
 ghost use Rattle.advisers.specs.Advised.{greedy_advice, greedy_plan};
 ghost use Rattle.advisers.specs.Forced.{forced_prices};
+ghost use Rattle.advisers.specs.Hearing.{after, unheard};
 
 use crate::forced::forced_prices;
+use crate::heard::Heard;
 use crate::kept::KeptPlan;
-use crate::{Advice, Ask};
+use crate::{Advice, Adviser, Ask, Told};
 use break_rules::NoMemory;
 use head_splits::{CutPrices, Prices, SlotPrices};
 use shift_instance::{Instance, Rows};
 use std::alloc::Global;
+use std::marker::Model;
 
 /// The adviser of the greedy plan. It makes the plan at its first advice, and keeps it for as long as it is asked about
 /// the same instance.
+///
+/// Contracts see what the adviser was told.
 #[derive(Drop)]
 pub struct Greedy {
     alloc: Global,
     kept: Option<KeptPlan>,
+    heard: Heard,
+}
+
+impl Model for Greedy {
+    ghost use Rattle.advisers.specs.declared.heard.Heard.{Heard};
+
+    ghost Value = { Heard };
+
+    ghost view = { λ g. g.heard };
 }
 
 impl Greedy {
     /// An adviser that wasn't asked yet. It takes no memory.
-    pub fn new(alloc: Global) -> Greedy {
-        Greedy { alloc, kept: None }
+    pub fn new(alloc: Global) -> Greedy
+        ensures { result ≡ unheard }
+    {
+        Greedy {
+            alloc,
+            kept: None,
+            heard: Heard::nothing(),
+        }
     }
 
     /// The kept rows of the greedy plan of this instance, if they are kept.
@@ -38,7 +58,8 @@ impl Greedy {
 
     /// The rows of the greedy plan, kept or made now.
     fn rows(&mut self, instance: &Instance) -> Result<Rows, NoMemory>
-        ensures { IfOk result (λ rows. rows ≡ greedy_rows instance.now) }
+        ensures rows { IfOk result (λ rows. rows ≡ greedy_rows instance.now) }
+        ensures same { self.new ≡ self.old }
     {
         if let Some(rows) = self.kept_rows(instance)? {
             return Ok(rows);
@@ -51,7 +72,8 @@ impl Greedy {
 
     /// The greedy plan, and `None` where it has no duty.
     fn plan(&mut self, instance: &Instance) -> Result<Option<Rows>, NoMemory>
-        ensures { IfOk result (λ plan. plan ≡ greedy_plan instance.now) }
+        ensures plan { IfOk result (λ plan. plan ≡ greedy_plan instance.now) }
+        ensures same { self.new ≡ self.old }
     {
         let rows = self.rows(instance)?;
         if rows.is_empty() {
@@ -66,6 +88,7 @@ impl Greedy {
     pub fn advise(&mut self, instance: &Instance, ask: &Ask) -> Result<Advice, NoMemory>
         requires { length ask.now.cuts ≤ 2 ^ 33 }
         ensures advice { IfOk result (λ advice. advice ≡ greedy_advice instance.now ask.now.cuts) }
+        ensures same { self.new ≡ self.old }
     {
         let slots = forced_prices(self.alloc, instance, &ask.cuts)?;
         let cuts = vec![in self.alloc; 0; ask.cuts.len()]?;
@@ -76,5 +99,27 @@ impl Greedy {
         };
         let plan = self.plan(instance)?;
         Ok(Advice { prices, plan })
+    }
+}
+
+impl Adviser for Greedy {
+    ghost told = { λ g. g.told };
+
+    ghost last = { λ g. g.last };
+
+    /// Advises the prices of the duties that the cuts force, and the greedy plan where it has a duty.
+    fn advise(&mut self, instance: &Instance, ask: &Ask) -> Result<Advice, NoMemory>
+        requires { length ask.now.cuts ≤ 2 ^ 33 }
+        ensures advice { IfOk result (λ advice. advice ≡ greedy_advice instance.now ask.now.cuts) }
+        ensures same { self.new ≡ self.old }
+    {
+        self.advise(instance, ask)
+    }
+
+    /// Tells the adviser what became of a step.
+    fn learn(&mut self, news: &Told)
+        ensures { self.new ≡ after self.old news.now }
+    {
+        self.heard.hear(news);
     }
 }

@@ -2,9 +2,14 @@
 #![tactic(auto)]
 
 mod advice;
+mod adviser;
+mod fixed;
 mod forced;
 mod greedy_adviser;
+mod heard;
 mod kept;
 
 pub use advice::{Advice, Ask};
+pub use adviser::{Adviser, Told};
+pub use fixed::Fixed;
 pub use greedy_adviser::Greedy;

@@ -1,5 +1,13 @@
+pub mod Leaving
+pub mod Moved
+pub mod Hands
+pub mod Pointwise
 pub mod Counted
 pub mod Closing
 pub mod Rounds
 pub mod Lawful
 pub mod Runs
+pub mod Used
+pub mod Ran
+pub mod Telling
+pub mod Rooted

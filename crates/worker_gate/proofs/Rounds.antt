@@ -108,7 +108,7 @@ some_open b (n ∷ nodes) h =
     ]
 
 -- an unfinished book has an open node
-open_of : (b : Book) → is_finished b ≡ false → (k : ℕ) × (is_node_and b k (is_open b) ≡ true)
+pub open_of : (b : Book) → is_finished b ≡ false → (k : ℕ) × (is_node_and b k (is_open b) ≡ true)
 open_of b unfinished =
     let found = some_open b b.nodes unfinished in
     (found.0, node_is (is_open b) (slice_get b.nodes found.0) found.1 found.2 found.3)

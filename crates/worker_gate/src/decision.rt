@@ -32,7 +32,7 @@ fn cost_plan(instance: &Instance, plan: Option<Rows>) -> Option<Costed>
 }
 
 /// The cuts once more.
-fn copy_of(cuts: &Cuts) -> Result<Cuts, NoMemory>
+pub(crate) fn copy_of(cuts: &Cuts) -> Result<Cuts, NoMemory>
     ensures { IfOk result (λ copy. copy ≡ cuts.now) }
 {
     let copy = cuts.clone()?;
@@ -105,7 +105,7 @@ fn cost_to_reach(best: u64, plan: &Option<Costed>) -> u64
 }
 
 /// The split or the settled plan that these cuts have.
-fn close_of(alloc: Global, instance: &Instance, cuts: Cuts) -> Result<Close, NoMemory>
+pub(crate) fn close_of(alloc: Global, instance: &Instance, cuts: Cuts) -> Result<Close, NoMemory>
     ensures given { IfOk result (λ close. IsGivenClose instance.now cuts close) }
     ensures fits { IfOk result (λ close. FitsClose instance.now cuts close) }
     ensures other { IfOk result (λ close. close ≢ ByPrice) }

@@ -1,8 +1,20 @@
-//! What a worker makes of an advice, and the run of one worker over a board.
+//! What a worker makes of an advice, and the run of workers over a board.
 #![tactic(auto)]
 
+mod bench;
 mod decision;
+mod gate;
+mod last;
 mod run;
+mod running;
+mod seat;
+mod seating;
+mod turns;
+mod worker;
+mod workers;
 
 pub use decision::step_of;
+pub use gate::{Gate, Open};
 pub use run::{RunEnd, run_worker};
+pub use seat::Seat;
+pub use workers::run_workers;

@@ -1,0 +1,18 @@
+-- What an adviser keeps of what it was told.
+use Rattle.std.specs.Prelude.{ℕ, ℤ, ◌+◌, ◌-◌, ◌^◌, min, List, Some, None}
+use Rattle.advisers.specs.declared.adviser.Told.{Told}
+use Rattle.advisers.specs.declared.heard.Heard.{Heard}
+
+-- nothing yet
+abbrev pub unheard : Heard
+unheard = record { told = 0; last = None }
+
+-- one thing more; the number stands still at the last value of a u64
+abbrev pub after : Heard → Told → Heard
+after h news = record { told = min (h.told + 1) (2 ^ 64 - 1); last = Some news }
+
+-- what an adviser of the same prices was made with, and what it was told
+pub record FixedPrices : Type 0 where
+  pub q : ℕ
+  pub slots : List ℤ
+  pub heard : Heard

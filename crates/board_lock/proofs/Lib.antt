@@ -1,0 +1,4 @@
+pub mod Bounded
+mod Keeps
+pub mod Shutting
+pub mod Turned

@@ -1,0 +1,5 @@
+pub mod Locking
+pub mod Passes
+pub mod Roots
+pub mod Shut
+pub mod Turns

@@ -1,0 +1,7 @@
+use Rattle.std.proofs.Common.{subst, sym}
+use Rattle.board_lock.specs.Passes.{RestsAt}
+use Rattle.worker_gate.specs.Workers.{KnowsBoard}
+use Rattle.worker_gate.proofs.bench.work_all.Goals as goal
+
+pub for_each_mut-requires-clause-accepts : goal.for_each_mut-requires-clause-accepts
+for_each_mut-requires-clause-accepts g c κs within i p low e = subst (λ q. RestsAt (KnowsBoard g.B.Board.seen c.args.instance.now q.number) c.args.lock.now q.badge) (sym e) (c.requires.rest i p.now low)

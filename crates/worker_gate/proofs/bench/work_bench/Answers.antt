@@ -1,0 +1,15 @@
+use Rattle.std.proofs.Common.{◌≡◌, ◌<◌, ◌∙◌, arith, length, ap}
+use Rattle.worker_gate.proofs.Moved.{written}
+use Rattle.worker_gate.proofs.bench.work_bench.Goals as goal
+
+pub returns-clause-numbers : goal.returns-clause-numbers
+returns-clause-numbers g c =
+    let same = written c.args.bench.now.len c.args.bench.now.items c.work_all.new.bench (omega (arith, c.args.bench.now.ok)) (c.work_all.auto.bench ∙ ap length c.as_mut_slice.ensures.value) in
+    let numbers = rw c.as_mut_slice.ensures.value at c.work_all.ensures.numbers in
+    λ i d low. rw same (numbers i d (omega (arith, low, c.args.bench.now.ok)))
+
+pub returns-clause-told : goal.returns-clause-told
+returns-clause-told g c =
+    let same = written c.args.bench.now.len c.args.bench.now.items c.work_all.new.bench (omega (arith, c.args.bench.now.ok)) (c.work_all.auto.bench ∙ ap length c.as_mut_slice.ensures.value) in
+    let told = rw c.as_mut_slice.ensures.value at c.work_all.ensures.told in
+    λ i d low. rw same (told i d (omega (arith, low, c.args.bench.now.ok)))

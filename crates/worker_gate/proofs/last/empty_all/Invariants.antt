@@ -1,0 +1,15 @@
+use Rattle.std.proofs.Common.{◌≡◌, ◌<◌, ◌+◌, ◌^◌, ℕ, None, length, slice_index_or}
+use Rattle.search_core.specs.Core.{hand}
+use Rattle.board_lock.specs.Roots.{root_at}
+use Rattle.worker_gate.proofs.last.empty_all.Given as goal
+
+abbrev pub invariant-loop-place : goal.invariant-loop-place
+invariant-loop-place g l = record {
+  root : root_at l.held.opened l.held.workers ≡ root_at l.initial.held.opened l.initial.held.workers;
+  passed : (g.B.Board.seen l.held.board).shut ≡ None → (w : ℕ) → w < l.place-index → hand (g.B.Board.seen l.held.board).hands w ≡ None;
+  numbers : (i : ℕ) (d : _) → i < length l.bench → (slice_index_or l.bench i d).number ≡ i;
+  told : (i : ℕ) (d : _) → i < length l.bench
+      → (goal.Adviser-dyn g ((slice_index_or l.initial.bench i d).seat.adviser.vtable, (slice_index_or l.initial.bench i d).seat.adviser.value)).told (slice_index_or l.initial.bench i d).seat.adviser.value < 2 ^ 63 + (slice_index_or l.initial.bench i d).seat.told
+      → (goal.Adviser-dyn g ((slice_index_or l.bench i d).seat.adviser.vtable, (slice_index_or l.bench i d).seat.adviser.value)).told (slice_index_or l.bench i d).seat.adviser.value + (slice_index_or l.initial.bench i d).seat.told
+      ≡ (goal.Adviser-dyn g ((slice_index_or l.initial.bench i d).seat.adviser.vtable, (slice_index_or l.initial.bench i d).seat.adviser.value)).told (slice_index_or l.initial.bench i d).seat.adviser.value + (slice_index_or l.bench i d).seat.told;
+}

@@ -1,0 +1,55 @@
+use Rattle.std.proofs.Common.{◌≡◌, ◌<◌, ◌^◌, ◌∙◌, arith, refl, sym, ap, subst, length, sum_by, vec_len}
+use Rattle.std.proofs.lemmas.List.{length-map}
+use Rattle.board_lock.specs.Passes.{root_of}
+use Rattle.board_lock.proofs.Turned.{no_turns}
+use Rattle.worker_gate.specs.Workers.{KnowsBoard, WorkersEnd}
+use Rattle.worker_gate.proofs.Moved.{sum_none}
+use Rattle.worker_gate.proofs.Rooted.{all_know, knows}
+use Rattle.worker_gate.proofs.Telling.{told_through}
+use Rattle.worker_gate.proofs.running.run_in.Goals as goal
+
+pub returns-in_default-clause-turns : goal.returns-in_default-clause-turns
+returns-in_default-clause-turns g c =
+    let none = sum_none (λ s. s.share) c.args.seats.items (λ k d l. (c.requires.new k d l).1) in
+    no_turns (vec_len c.args.seats) (g.B.Board.seen c.args.board) (g.B.Board.seen c.args.board) (sum_by (λ s. s.share) c.args.seats.items) refl none
+
+pub returns-in-Err-clause-turns : goal.returns-in-Err-clause-turns
+returns-in-Err-clause-turns g c =
+    let none = sum_none (λ s. s.share) c.args.seats.items (λ k d l. (c.requires.new k d l).1) in
+    let back = c.into_board-board.ensures.board ∙ ap (λ h. h.board) c.in-Err.ensures.refused ∙ c.new-held.ensures.board in
+    no_turns (vec_len c.args.seats) (g.B.Board.seen c.args.board) (g.B.Board.seen c.into_board-board.result) (sum_by (λ s. s.share) c.args.seats.items) (ap g.B.Board.seen (sym back)) none
+
+pub work_bench-requires-clause-rest : goal.work_bench-requires-clause-rest
+work_bench-requires-clause-rest g c κs within =
+    let xs = c.seat_all.new.bench.items in
+    let many = ap length c.seat_all.ensures.bench in
+    let mapped = length-map {A = _} xs (λ p. p.seat) in
+    let instance = ap (λ b. (g.B.Board.seen b).instance) c.new-held.ensures.opened ∙ c.requires.instance in
+    let budget = subst (λ b. (g.B.Board.seen b).budget < 2 ^ 63) (sym c.new-held.ensures.opened) c.requires.budget in
+    all_know g.B.Board.seen (λ p. p.number) (λ p. p.badge) c.in-Ok-new.made.0 c.args.instance.now (root_of c.in-Ok-new.made.1) xs
+    (λ k low. subst (λ r. KnowsBoard g.B.Board.seen c.args.instance.now k r) (sym c.in-Ok-new.ensures.root)
+    (knows g.B.Board.seen c.args.instance.now k c.new-held.result.workers c.new-held.result.opened instance budget (omega (arith, low, many, mapped, c.new-held.ensures.workers, c.len-2.ensures, c.args.seats.ok, c.requires.sixteen))))
+    (λ k d low. c.seat_all.ensures.numbers k d (omega (arith, low, many, mapped, c.args.seats.ok)))
+    c.seat_all.ensures.rest
+
+pub finish_all-end-requires-clause-numbers : goal.finish_all-end-requires-clause-numbers
+finish_all-end-requires-clause-numbers g c =
+    let many = ap length c.seat_all.ensures.bench in
+    let mapped = length-map {A = _} c.seat_all.new.bench.items (λ p. p.seat) in
+    λ i d low.
+    c.work_bench.ensures.numbers i d (omega (arith, low, c.work_bench.new.bench.ok, c.seat_all.new.bench.ok, c.work_bench.ensures.len))
+    ∙ c.seat_all.ensures.numbers i d (omega (arith, low, c.work_bench.new.bench.ok, c.work_bench.ensures.len, many, mapped, c.args.seats.ok))
+
+pub returns-clause-end : goal.returns-clause-end
+returns-clause-end g c =
+    subst (λ b. WorkersEnd (g.B.Board.seen c.args.board) (g.B.Board.seen b) c.finish_all-end.result) (sym c.into_board-board-2.ensures.board) (c.finish_all-end.ensures.end (g.B.Board.seen c.args.board))
+
+pub returns-clause-told : goal.returns-clause-told
+returns-clause-told g c =
+    let all = told_through (λ p. p.seat) (λ s. (goal.Adviser-dyn g (s.adviser.vtable, s.adviser.value)).told s.adviser.value) (λ s. s.told)
+    c.seat_all.new.bench.items c.work_bench.new.bench.items c.finish_all-end.new.bench.items c.args.seats.items c.unseat_all.new.seats.items
+    c.seat_all.ensures.bench c.unseat_all.ensures.seats c.work_bench.ensures.len c.finish_all-end.ensures.len
+    (λ k d l. (c.requires.new k d l).0)
+    (λ i d low. c.work_bench.ensures.told i d (omega (arith, low, c.seat_all.new.bench.ok)))
+    (λ i d low. c.finish_all-end.ensures.told i d (omega (arith, low, c.work_bench.new.bench.ok))) in
+    λ i d low. all i d (omega (arith, low, c.args.seats.ok))

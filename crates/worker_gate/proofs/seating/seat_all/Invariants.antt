@@ -1,0 +1,22 @@
+use Rattle.std.proofs.Common.{◌≡◌, ◌<◌, ◌+◌, ◌++◌, ℕ, All, length, map, slice_index_or, vec_len}
+use Rattle.std.specs.Vec.{vec_capacity}
+use Rattle.board_lock.specs.Passes.{root_of, IsOutside, RestsAt}
+use Rattle.worker_gate.proofs.seating.seat_all.Given as goal
+
+abbrev pub invariant-loop-seats : goal.invariant-loop-seats
+invariant-loop-seats g l = record {
+  first : IsOutside l.lock l.first;
+  root : root_of l.first ≡ root_of l.initial.first;
+  parts : l.all.parts + vec_len l.bench ≡ l.initial.all.parts;
+  amount : l.all.amount ≡ 0;
+  lens : vec_len l.bench + vec_len l.seats ≡ vec_len l.initial.seats;
+  moved : map (λ p. p.seat) l.bench.items ++ l.seats.items ≡ l.initial.seats.items;
+  numbers : (i : ℕ) (d : _) → i < length l.bench.items → (slice_index_or l.bench.items i d).number ≡ i;
+  rest : All (λ p. RestsAt (λ r. r ≡ root_of l.initial.first) l.lock p.badge) l.bench.items;
+  new : All (λ s. (s.told ≡ 0) × (s.share ≡ 0)) l.seats.items;
+  room : vec_capacity l.bench ≡ vec_capacity l.initial.bench;
+  kept : vec_capacity l.seats ≡ vec_capacity l.initial.seats;
+}
+
+abbrev pub decreases-loop-seats : goal.decreases-loop-seats
+decreases-loop-seats g l = vec_len l.seats

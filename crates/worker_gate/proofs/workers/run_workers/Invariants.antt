@@ -1,0 +1,4 @@
+use Rattle.worker_gate.proofs.workers.run_workers.Given as goal
+
+abbrev pub ghosts-run_in : goal.ghosts-run_in
+ghosts-run_in g a = record { name = a.blank.name; parts = a.blank.parts }

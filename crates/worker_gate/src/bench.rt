@@ -1,0 +1,70 @@
+//! The workers at their places, each in a thread.
+ghost use Rattle.std.specs.Prelude.{◌≡◌, ◌<◌, ◌+◌, ◌^◌, ℕ, All, length, slice_index_or, vec_len};
+ghost use Rattle.board_lock.specs.Passes.{RestsAt};
+ghost use Rattle.worker_gate.specs.Workers.{KnowsBoard};
+
+use crate::gate::Gate;
+use crate::seat::Place;
+use crate::turns::BoardLock;
+use crate::worker::work;
+use advisers::Adviser;
+use search_core::Board;
+use shift_instance::Instance;
+use std::alloc::Global;
+use std::sync::Wait;
+use std::sync::ledger::Ledger;
+use std::thread;
+use std::thread::Threads;
+
+/// The worker at each place works until there is nothing more to do.
+fn work_all<B: Board + Send, L: Ledger + Send + Sync, G: Gate + Sync, R: Threads + Wait + Sync>(
+    rt: &R,
+    alloc: Global,
+    instance: &Instance,
+    lock: &BoardLock<B, L>,
+    gate: &G,
+    bench: &mut [Place<B, L>],
+)
+    requires some { 0 < length bench.old }
+    requires rest { All (λ p. RestsAt (KnowsBoard B.seen instance.now p.number) lock.now p.badge) bench.old }
+    ensures numbers { (i : ℕ) (d : _) → i < length bench.old → (slice_index_or bench.new i d).number ≡ (slice_index_or bench.old i d).number }
+    ensures told { (i : ℕ) (d : _) → i < length bench.old → told (slice_index_or bench.old i d).seat.adviser < 2 ^ 63 + (slice_index_or bench.old i d).seat.told
+        → told (slice_index_or bench.new i d).seat.adviser + (slice_index_or bench.old i d).seat.told ≡ told (slice_index_or bench.old i d).seat.adviser + (slice_index_or bench.new i d).seat.told }
+{
+    let threads = bench.len();
+    thread::for_each_mut(
+        rt,
+        bench,
+        threads,
+        &|_, place: &mut Place<B, L>|
+            requires { RestsAt (KnowsBoard B.seen instance.now place.now.number) lock.now place.now.badge }
+            ensures number { place.exit.now.number ≡ place.entry.now.number }
+            ensures told { told place.entry.now.seat.adviser < 2 ^ 63 + place.entry.now.seat.told
+                → told place.exit.now.seat.adviser + place.entry.now.seat.told ≡ told place.entry.now.seat.adviser + place.exit.now.seat.told }
+        { work(rt, alloc, instance, lock, gate, place) },
+    );
+}
+
+/// The same for a bench that owns its places.
+pub(crate) fn work_bench<
+    B: Board + Send,
+    L: Ledger + Send + Sync,
+    G: Gate + Sync,
+    R: Threads + Wait + Sync,
+>(
+    rt: &R,
+    alloc: Global,
+    instance: &Instance,
+    lock: &BoardLock<B, L>,
+    gate: &G,
+    bench: &mut Vec<Place<B, L>>,
+)
+    requires some { 0 < vec_len bench.old }
+    requires rest { All (λ p. RestsAt (KnowsBoard B.seen instance.now p.number) lock.now p.badge) bench.old.items }
+    ensures len { length bench.new.items ≡ length bench.old.items }
+    ensures numbers { (i : ℕ) (d : _) → i < vec_len bench.old → (slice_index_or bench.new.items i d).number ≡ (slice_index_or bench.old.items i d).number }
+    ensures told { (i : ℕ) (d : _) → i < vec_len bench.old → told (slice_index_or bench.old.items i d).seat.adviser < 2 ^ 63 + (slice_index_or bench.old.items i d).seat.told
+        → told (slice_index_or bench.new.items i d).seat.adviser + (slice_index_or bench.old.items i d).seat.told ≡ told (slice_index_or bench.old.items i d).seat.adviser + (slice_index_or bench.new.items i d).seat.told }
+{
+    work_all(rt, alloc, instance, lock, gate, bench.as_mut_slice());
+}

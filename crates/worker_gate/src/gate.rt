@@ -1,0 +1,16 @@
+//! What a worker passes between a take and its commit.
+
+/// What a worker passes once between a take and its commit. A gate may count, wait, or hold a worker back: nothing that is proved of
+/// a run depends on it.
+pub trait Gate {
+    /// The worker of this number passes. It has taken so many nodes in this run, this one among them; at the end of its type the
+    /// number stands still.
+    fn enter(&self, worker: u32, step: u64);
+}
+
+/// The gate that does nothing.
+pub struct Open;
+
+impl Gate for Open {
+    fn enter(&self, _worker: u32, _step: u64) {}
+}

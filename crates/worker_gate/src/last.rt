@@ -1,0 +1,233 @@
+//! What the caller does with the board alone, once all workers have ended.
+ghost use Rattle.std.specs.Prelude.{◌≡◌, ◌+◌, ◌<◌, ◌≤◌, ◌^◌, ℕ, None, Some, OnErr, OnOk, length, slice_index_or, slice_set};
+ghost use Rattle.search_core.specs.Board.{book_at, BoardView, HoldsStep};
+ghost use Rattle.search_core.specs.Core.{empty_hands, hand};
+ghost use Rattle.search_core.specs.Kept.{cuts_in};
+ghost use Rattle.search_core.specs.Steps.{Fits};
+ghost use Rattle.board_lock.specs.Roots.{root_at};
+ghost use Rattle.worker_gate.specs.Workers.{KnowsBoard, WorkersEnd};
+
+use crate::RunEnd;
+use crate::seat::Place;
+use crate::turns::{Left, Rest, Work, commit_in, work_of};
+use crate::worker::{closed_again, decide};
+use advisers::{Adviser, Told};
+use board_lock::Held;
+use search_core::{Board, Kept, Shutting, StepPosts, Taken};
+use shift_instance::Instance;
+use std::alloc::Global;
+use std::sync::ledger::{Ledger, Share};
+
+/// How a run ends on a board that is shut.
+fn end_of(shut: Shutting) -> RunEnd
+    ensures disk { shut ≡ Shutting.DiskFault → result ≡ RunEnd.DiskFault }
+    ensures full { (end limit : ℕ) → shut ≡ Shutting.Full end limit → result ≡ RunEnd.Full end limit }
+{
+    match shut {
+        Shutting::DiskFault => RunEnd::DiskFault,
+        Shutting::Full { end, limit } => RunEnd::Full { end, limit },
+    }
+}
+
+/// Commits a step for the node in a hand. Where by its price alone it would leave the node open, it is committed once more, closed by
+/// the split or the settled plan that its cuts have. Unless the board is shut, the hand is empty afterwards.
+fn commit_alone<B: Board, L: Ledger>(
+    alloc: Global,
+    instance: &Instance,
+    held: &mut Held<B, L>,
+    worker: u32,
+    step: StepPosts,
+    share: &mut Share<L>,
+) -> Result<Kept, Rest>
+    requires worker { worker < 16 }
+    requires instance { (B.seen held.old.opened.value).instance ≡ instance.now }
+    requires holds { HoldsStep worker step (B.seen held.old.board) }
+    requires fits { Fits instance.now step }
+    requires part { 0 < share.old.parts }
+    ensures root { root_at held.new.opened held.new.workers ≡ root_at held.old.opened held.old.workers }
+    ensures emptied { (B.seen held.new.board).shut ≡ None → (B.seen held.new.board).hands ≡ slice_set (B.seen held.old.board).hands worker None }
+    ensures taken { (B.seen held.new.board).taken ≡ (B.seen held.old.board).taken }
+    ensures counted { OnOk result (share.new.amount ≡ share.old.amount + 1) }
+    ensures uncounted { OnErr result (share.new.amount ≡ share.old.amount) }
+    ensures within { share.new.amount ≤ (B.seen held.old.opened.value).budget }
+    ensures parts { share.new.parts ≡ share.old.parts }
+{
+    let step = match commit_in(held, worker, step, share) {
+        Ok(kept) => return Ok(kept),
+        Err(Left::NotClosing(step)) => step,
+        Err(Left::End) => return Err(Rest::End),
+        // the worker holds the step's node, and the prices are for its cuts
+        Err(Left::Again) => unreachable!(),
+    };
+    let Ok(step) = closed_again(alloc, instance, step) else {
+        held.yield_node(worker);
+        return Err(Rest::End);
+    };
+    match commit_in(held, worker, step, share) {
+        Ok(kept) => Ok(kept),
+        Err(Left::End) => Err(Rest::End),
+        Err(Left::Again) => unreachable!(),
+        // the step isn't closed by its price
+        Err(Left::NotClosing(_)) => unreachable!(),
+    }
+}
+
+/// Finishes the node in a hand with that hand's seat. Unless the board is shut, the hand is empty afterwards.
+fn finish<B: Board, L: Ledger>(
+    alloc: Global,
+    instance: &Instance,
+    held: &mut Held<B, L>,
+    place: &mut Place<B, L>,
+    work: Work,
+)
+    requires knows { KnowsBoard B.seen instance.now place.old.number (root_at held.old.opened held.old.workers) }
+    requires running { (B.seen held.old.board).shut ≡ None }
+    requires holds { hand (B.seen held.old.board).hands place.old.number ≡ Some work.node }
+    requires cuts { work.ask.cuts ≡ cuts_in (book_at (B.seen held.old.board)).nodes work.node }
+    requires few { length work.ask.cuts ≤ 2 ^ 24 }
+    ensures root { root_at held.new.opened held.new.workers ≡ root_at held.old.opened held.old.workers }
+    ensures emptied { (B.seen held.new.board).shut ≡ None → (B.seen held.new.board).hands ≡ slice_set (B.seen held.old.board).hands place.old.number None }
+    ensures taken { (B.seen held.new.board).taken ≡ (B.seen held.old.board).taken }
+    ensures number { place.new.number ≡ place.old.number }
+    ensures told { told place.old.seat.adviser < 2 ^ 63 + place.old.seat.told
+        → told place.new.seat.adviser + place.old.seat.told ≡ told place.old.seat.adviser + place.new.seat.told }
+{
+    let Place {
+        badge: _,
+        seat,
+        share,
+        number,
+    } = place;
+    let Work {
+        node,
+        ask,
+        taken: _,
+    } = work;
+    let Ok(step) = decide(alloc, instance, seat, node, ask) else {
+        held.yield_node(*number);
+        return;
+    };
+    let Ok(kept) = commit_alone(alloc, instance, held, *number, step, share) else {
+        return;
+    };
+    seat.adviser.learn(&Told {
+        node,
+        floor: kept.floor,
+        best: kept.best,
+    });
+    seat.told += 1;
+    seat.share += 1;
+}
+
+/// Finishes the node in a hand, or lets go of it where there is no memory for its cuts. Unless the board is shut, the hand is empty
+/// afterwards.
+fn finish_node<B: Board, L: Ledger>(
+    alloc: Global,
+    instance: &Instance,
+    held: &mut Held<B, L>,
+    place: &mut Place<B, L>,
+    node: u32,
+    floor: u64,
+    best: u64,
+)
+    requires knows { KnowsBoard B.seen instance.now place.old.number (root_at held.old.opened held.old.workers) }
+    requires running { (B.seen held.old.board).shut ≡ None }
+    requires holds { hand (B.seen held.old.board).hands place.old.number ≡ Some node }
+    ensures root { root_at held.new.opened held.new.workers ≡ root_at held.old.opened held.old.workers }
+    ensures emptied { (B.seen held.new.board).shut ≡ None → (B.seen held.new.board).hands ≡ slice_set (B.seen held.old.board).hands place.old.number None }
+    ensures taken { (B.seen held.new.board).taken ≡ (B.seen held.old.board).taken }
+    ensures number { place.new.number ≡ place.old.number }
+    ensures told { told place.old.seat.adviser < 2 ^ 63 + place.old.seat.told
+        → told place.new.seat.adviser + place.old.seat.told ≡ told place.old.seat.adviser + place.new.seat.told }
+{
+    if let Ok(work) = work_of(held, place.number, node, floor, best, false) {
+        finish(alloc, instance, held, place, work);
+    }
+}
+
+/// Empties a hand, unless the board is shut: its node is finished with its seat, or let go of where a worker gave up.
+fn empty_hand<B: Board, L: Ledger>(
+    alloc: Global,
+    instance: &Instance,
+    held: &mut Held<B, L>,
+    place: &mut Place<B, L>,
+)
+    requires knows { KnowsBoard B.seen instance.now place.old.number (root_at held.old.opened held.old.workers) }
+    ensures root { root_at held.new.opened held.new.workers ≡ root_at held.old.opened held.old.workers }
+    ensures emptied { (B.seen held.new.board).shut ≡ None → (B.seen held.new.board).hands ≡ slice_set (B.seen held.old.board).hands place.old.number None }
+    ensures running { (B.seen held.new.board).shut ≡ None → (B.seen held.old.board).shut ≡ None }
+    ensures number { place.new.number ≡ place.old.number }
+    ensures told { told place.old.seat.adviser < 2 ^ 63 + place.old.seat.told
+        → told place.new.seat.adviser + place.old.seat.told ≡ told place.old.seat.adviser + place.new.seat.told }
+{
+    let number = place.number;
+    if held.shut.is_some() {
+        return;
+    }
+    let Some(node) = held.board.held(number) else {
+        return;
+    };
+    if held.halted {
+        held.yield_node(number);
+        return;
+    }
+    let best = held.board.best_cost();
+    finish_node(alloc, instance, held, place, node, 0, best);
+}
+
+/// Empties each hand, unless the board is shut. The places have the numbers of the hands.
+pub(crate) fn empty_all<B: Board, L: Ledger>(
+    alloc: Global,
+    instance: &Instance,
+    held: &mut Held<B, L>,
+    bench: &mut [Place<B, L>],
+)
+    requires numbers { (i : ℕ) (d : _) → i < length bench.old → (slice_index_or bench.old i d).number ≡ i }
+    requires all { length bench.old ≡ held.old.workers }
+    requires knows { (i : ℕ) → i < held.old.workers → KnowsBoard B.seen instance.now i (root_at held.old.opened held.old.workers) }
+    ensures root { root_at held.new.opened held.new.workers ≡ root_at held.old.opened held.old.workers }
+    ensures empty { (B.seen held.new.board).shut ≡ None → (B.seen held.new.board).hands ≡ empty_hands }
+    ensures len { length bench.new ≡ length bench.old }
+    ensures numbers { (i : ℕ) (d : _) → i < length bench.old → (slice_index_or bench.new i d).number ≡ i }
+    ensures told { (i : ℕ) (d : _) → i < length bench.old → told (slice_index_or bench.old i d).seat.adviser < 2 ^ 63 + (slice_index_or bench.old i d).seat.told
+        → told (slice_index_or bench.new i d).seat.adviser + (slice_index_or bench.old i d).seat.told ≡ told (slice_index_or bench.old i d).seat.adviser + (slice_index_or bench.new i d).seat.told }
+{
+    for place in bench.iter_mut() {
+        empty_hand(alloc, instance, held, place);
+    }
+}
+
+/// Goes on with the first seat until nothing is taken any more, and tells how the run ends. Unless the board is shut, all hands are
+/// empty before and afterwards.
+pub(crate) fn go_on<B: Board, L: Ledger>(
+    alloc: Global,
+    instance: &Instance,
+    held: &mut Held<B, L>,
+    place: &mut Place<B, L>,
+) -> RunEnd
+    requires knows { KnowsBoard B.seen instance.now place.old.number (root_at held.old.opened held.old.workers) }
+    requires first { place.old.number ≡ 0 }
+    requires empty { (B.seen held.old.board).shut ≡ None → (B.seen held.old.board).hands ≡ empty_hands }
+    ensures root { root_at held.new.opened held.new.workers ≡ root_at held.old.opened held.old.workers }
+    ensures end { (before : BoardView) → WorkersEnd before (B.seen held.new.board) result }
+    ensures told { told place.old.seat.adviser < 2 ^ 63 + place.old.seat.told
+        → told place.new.seat.adviser + place.old.seat.told ≡ told place.old.seat.adviser + place.new.seat.told }
+{
+    loop {
+        if let Some(shut) = held.shut {
+            return end_of(shut);
+        }
+        match held.take(0) {
+            Taken::Node { node, floor, best } => {
+                finish_node(alloc, instance, held, place, node, floor, best);
+            }
+            Taken::Finished => return RunEnd::Finished,
+            Taken::Spent => return RunEnd::Spent,
+            Taken::Halted => return RunEnd::NoMemory,
+            // nothing shut the board
+            Taken::Closed => unreachable!(),
+            // no hand holds a node
+            Taken::Idle => unreachable!(),
+        }
+    }
+}

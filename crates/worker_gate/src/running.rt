@@ -1,0 +1,97 @@
+//! The run of workers over a board, for a ledger of its commits.
+ghost use Rattle.std.specs.Prelude.{◌≡◌, ◌+◌, ◌<◌, ◌≤◌, ◌^◌, ℕ, All, None, false, length, slice_index_or, sum_by, vec_len};
+ghost use Rattle.search_core.specs.Board.{BoardView};
+ghost use Rattle.search_core.specs.Core.{empty_hands};
+ghost use Rattle.board_lock.specs.Roots.{root_at};
+ghost use Rattle.board_lock.specs.Turns.{AreTurns};
+ghost use Rattle.worker_gate.specs.Workers.{WorkersEnd};
+
+use crate::bench::work_bench;
+use crate::last::{empty_all, go_on};
+use crate::seat::Place;
+use crate::seating::{seat_all, unseat_all};
+use crate::{Gate, RunEnd, Seat};
+use advisers::Adviser;
+use board_lock::{Held, Lock};
+use search_core::Board;
+use shift_instance::Instance;
+use std::alloc::Global;
+use std::sync::Wait;
+use std::sync::ledger::{Blank, Ledger};
+use std::thread::Threads;
+
+/// Once all workers have ended: empties each hand, goes on with the first seat, and tells how the run ends.
+fn finish_all<B: Board, L: Ledger>(
+    alloc: Global,
+    instance: &Instance,
+    held: &mut Held<B, L>,
+    bench: &mut Vec<Place<B, L>>,
+) -> RunEnd
+    requires some { 0 < vec_len bench.old }
+    requires numbers { (i : ℕ) (d : _) → i < vec_len bench.old → (slice_index_or bench.old.items i d).number ≡ i }
+    requires all { vec_len bench.old ≡ held.old.workers }
+    requires instance { (B.seen held.old.opened.value).instance ≡ instance.now }
+    requires budget { (B.seen held.old.opened.value).budget < 2 ^ 63 }
+    ensures root { root_at held.new.opened held.new.workers ≡ root_at held.old.opened held.old.workers }
+    ensures end { (before : BoardView) → WorkersEnd before (B.seen held.new.board) result }
+    ensures len { length bench.new.items ≡ length bench.old.items }
+    ensures told { (i : ℕ) (d : _) → i < vec_len bench.old → told (slice_index_or bench.old.items i d).seat.adviser < 2 ^ 63 + (slice_index_or bench.old.items i d).seat.told
+        → told (slice_index_or bench.new.items i d).seat.adviser + (slice_index_or bench.old.items i d).seat.told ≡ told (slice_index_or bench.old.items i d).seat.adviser + (slice_index_or bench.new.items i d).seat.told }
+{
+    empty_all(alloc, instance, held, bench.as_mut_slice());
+    go_on(alloc, instance, held, &mut bench[0])
+}
+
+/// What `run_workers` does, for the ledger that the blank stands for.
+pub(crate) fn run_in<
+    B: Board + Send,
+    L: Ledger + Send + Sync,
+    G: Gate + Sync,
+    R: Threads + Wait + Sync,
+>(
+    rt: &R,
+    alloc: Global,
+    instance: &Instance,
+    board: B,
+    mut seats: Vec<Seat>,
+    gate: &G,
+    blank: Blank,
+) -> (B, Vec<Seat>, RunEnd)
+    requires ledger { (blank.name ≡ L.name) × (blank.parts ≡ L.parts) × (blank.parts ≡ vec_len seats + 1) }
+    requires instance { (B.seen board).instance ≡ instance.now }
+    requires fresh { (B.seen board).taken ≡ 0 }
+    requires running { (B.seen board).shut ≡ None }
+    requires going { (B.seen board).halted ≡ false }
+    requires empty { (B.seen board).hands ≡ empty_hands }
+    requires budget { (B.seen board).budget < 2 ^ 63 }
+    requires some { 0 < vec_len seats }
+    requires sixteen { vec_len seats ≤ 16 }
+    requires new { All (λ s. (s.told ≡ 0) × (s.share ≡ 0)) seats.items }
+    ensures turns { ∥ AreTurns (vec_len seats) (B.seen board) (B.seen result.0) (sum_by (λ s. s.share) result.1.items) ∥₁ }
+    ensures end { WorkersEnd (B.seen board) (B.seen result.0) result.2 }
+    ensures seats { vec_len result.1 ≡ vec_len seats }
+    ensures each { All (λ s. s.told ≡ s.share) result.1.items }
+    ensures told { (i : ℕ) (d : _) → i < vec_len seats → told (slice_index_or seats.items i d).adviser < 2 ^ 63
+        → told (slice_index_or result.1.items i d).adviser ≡ told (slice_index_or seats.items i d).adviser + (slice_index_or result.1.items i d).told }
+{
+    let Ok(mut bench) = Vec::<Place<B, L>>::with_capacity(alloc, seats.len()) else {
+        return (board, seats, RunEnd::NoMemory);
+    };
+    let (commits, mut all) = blank.open::<L>();
+    let held = Held::new(board, seats.len() as u32, commits);
+    let (lock, mut first) = match Lock::new(alloc, held) {
+        Ok(made) => made,
+        Err(held) => {
+            let board = held.into_board(&mut all);
+            return (board, seats, RunEnd::NoMemory);
+        }
+    };
+    seat_all(&lock, &mut first, &mut all, &mut seats, &mut bench);
+    work_bench(rt, alloc, instance, &lock, gate, &mut bench);
+    let mut held = lock.enter(rt, &mut first);
+    lock.retire(first);
+    let end = finish_all(alloc, instance, &mut held, &mut bench);
+    unseat_all(&mut bench, &mut seats, &mut all);
+    let board = held.into_board(&mut all);
+    (board, seats, end)
+}

@@ -1,0 +1,31 @@
+//! A seat of a worker, and the place from which it works.
+ghost use Rattle.std.specs.Prelude.{◌≡◌, ◌<◌};
+
+use advisers::Adviser;
+use atomic_table::Badge;
+use board_lock::{BoardRoot, View};
+use std::sync::ledger::{Ledger, Share};
+
+/// A seat for a worker, with its adviser.
+#[derive(Drop)]
+pub struct Seat {
+    /// The adviser that the worker asks, and tells what became of its steps.
+    pub adviser: Box<dyn Adviser + Send>,
+    /// How often the worker told its adviser something in the run.
+    pub told: u64,
+    /// The worker's part of the commits of the run that answered `Ok`.
+    pub share: u64,
+}
+
+/// A seat with what its worker needs: a seat at the lock of the board, a share of the ledger of commits, and its number.
+#[derive(Drop)]
+pub(crate) struct Place<B, L: Ledger> {
+    pub(crate) badge: Badge<View<BoardRoot<B>>>,
+    pub(crate) seat: Seat,
+    pub(crate) share: Share<L>,
+    pub(crate) number: u32,
+    ghost told: { seat.told ≡ share.amount },
+    ghost shared: { seat.share ≡ share.amount },
+    ghost one_part: { share.parts ≡ 1 },
+    ghost sixteen: { number < 16 },
+}

@@ -1,0 +1,98 @@
+//! Seats are put onto a bench before a run, and taken from it afterwards.
+ghost use Rattle.std.specs.Prelude.{◌≡◌, ◌≤◌, ◌<◌, ◌+◌, [], ℕ, All, map, slice_index_or, sum_by, vec_len};
+ghost use Rattle.std.specs.Vec.{vec_capacity};
+ghost use Rattle.board_lock.specs.Passes.{root_of, IsOutside, RestsAt};
+
+use crate::seat::{Place, Seat};
+use crate::turns::{BoardLock, BoardPass};
+use search_core::Board;
+use std::sync::ledger::{Ledger, Share};
+
+/// A place for a seat, with a seat at the lock and a share of the ledger.
+fn seat_one<B: Board, L: Ledger>(
+    lock: &BoardLock<B, L>,
+    first: &mut BoardPass<B, L>,
+    all: &mut Share<L>,
+    seat: Seat,
+    number: u32,
+) -> Place<B, L>
+    requires first { IsOutside lock.now first.old }
+    requires number { number < 16 }
+    requires new { (seat.told ≡ 0) × (seat.share ≡ 0) }
+    requires parts { 1 < all.old.parts }
+    requires none { all.old.amount ≡ 0 }
+    ensures first { IsOutside lock.now first.new }
+    ensures root { root_of first.new ≡ root_of first.old }
+    ensures parts { all.new.parts + 1 ≡ all.old.parts }
+    ensures none { all.new.amount ≡ 0 }
+    ensures seat { result.seat ≡ seat }
+    ensures number { result.number ≡ number }
+    ensures rests { RestsAt (λ r. r ≡ root_of first.old) lock.now result.badge }
+{
+    let pass = lock.another(first);
+    let share = all.split_off(1, 0);
+    Place {
+        badge: pass.into_badge(),
+        seat,
+        share,
+        number,
+    }
+}
+
+/// A place for each seat, in their order.
+pub(crate) fn seat_all<B: Board, L: Ledger>(
+    lock: &BoardLock<B, L>,
+    first: &mut BoardPass<B, L>,
+    all: &mut Share<L>,
+    seats: &mut Vec<Seat>,
+    bench: &mut Vec<Place<B, L>>,
+)
+    requires first { IsOutside lock.now first.old }
+    requires sixteen { vec_len seats.old ≤ 16 }
+    requires new { All (λ s. (s.told ≡ 0) × (s.share ≡ 0)) seats.old.items }
+    requires empty { bench.old.items ≡ [] }
+    requires room { vec_len seats.old ≤ vec_capacity bench.old }
+    requires parts { vec_len seats.old < all.old.parts }
+    requires none { all.old.amount ≡ 0 }
+    ensures first { IsOutside lock.now first.new }
+    ensures root { root_of first.new ≡ root_of first.old }
+    ensures parts { all.new.parts + vec_len seats.old ≡ all.old.parts }
+    ensures none { all.new.amount ≡ 0 }
+    ensures bench { map (λ p. p.seat) bench.new.items ≡ seats.old.items }
+    ensures numbers { (i : ℕ) (d : _) → i < vec_len seats.old → (slice_index_or bench.new.items i d).number ≡ i }
+    ensures rest { All (λ p. RestsAt (λ r. r ≡ root_of first.old) lock.now p.badge) bench.new.items }
+    ensures seats { seats.new.items ≡ [] }
+    ensures kept { vec_capacity seats.new ≡ vec_capacity seats.old }
+{
+    while !seats.is_empty() {
+        let seat = seats.remove(0);
+        let number = bench.len() as u32;
+        let place = seat_one(lock, first, all, seat, number);
+        bench.push_reserved(place);
+    }
+}
+
+/// The seats come back in their order, and their shares are put together.
+pub(crate) fn unseat_all<B: Board, L: Ledger>(
+    bench: &mut Vec<Place<B, L>>,
+    seats: &mut Vec<Seat>,
+    all: &mut Share<L>,
+)
+    requires empty { seats.old.items ≡ [] }
+    requires room { vec_len bench.old ≤ vec_capacity seats.old }
+    ensures seats { seats.new.items ≡ map (λ p. p.seat) bench.old.items }
+    ensures each { All (λ s. s.told ≡ s.share) seats.new.items }
+    ensures parts { all.new.parts ≡ all.old.parts + vec_len bench.old }
+    ensures amount { all.new.amount ≡ all.old.amount + sum_by (λ s. s.share) seats.new.items }
+{
+    while !bench.is_empty() {
+        let Place {
+            badge: _,
+            seat,
+            share,
+            number: _,
+        } = bench.remove(0);
+        all.merge(share);
+        seats.push_reserved(seat);
+    }
+}

@@ -1,0 +1,198 @@
+//! A worker's turns at the lock of a board.
+ghost use Rattle.std.specs.Prelude.{◌≡◌, ◌+◌, ◌<◌, ◌≤◌, ◌^◌, Some, IfErr, IfOk, OnErr, OnOk, length};
+ghost use Rattle.search_core.specs.Board.{book_at, yields, Commits};
+ghost use Rattle.search_core.specs.Core.{hand};
+ghost use Rattle.search_core.specs.Kept.{cuts_in};
+ghost use Rattle.search_core.specs.Steps.{Fits};
+ghost use Rattle.board_lock.specs.Passes.{root_of, IsOutside};
+ghost use Rattle.board_lock.specs.Roots.{root_at};
+ghost use Rattle.worker_gate.specs.Workers.{IsLeft, LeavesStep};
+
+use advisers::Ask;
+use board_lock::{BoardRoot, Held, Lock, Pass};
+use search_core::{Board, CommitFault, Kept, StepPosts, Taken};
+use std::sync::Wait;
+use std::sync::ledger::{Ledger, Share};
+
+/// The lock of a board, and a seat at it.
+pub(crate) type BoardLock<B, L> = Lock<Held<B, L>>;
+
+pub(crate) type BoardPass<B, L> = Pass<Held<B, L>, BoardRoot<B>>;
+
+/// The node in a worker's hand, with what to ask for it.
+#[derive(Drop)]
+pub(crate) struct Work {
+    pub(crate) node: u32,
+    pub(crate) ask: Ask,
+    /// Whether it was taken at this turn.
+    pub(crate) taken: bool,
+}
+
+/// Why a worker has nothing to work on.
+#[derive(Clone, Copy, Debug, PartialEq, Eq, Drop)]
+pub(crate) enum Rest {
+    /// It takes another turn.
+    Again,
+    /// Its run is over.
+    End,
+}
+
+/// What became of a step that wasn't committed.
+#[derive(Drop)]
+pub(crate) enum Left {
+    /// The worker goes on with what its hand holds.
+    Again,
+    /// By its price alone it would have left its node open. It comes back.
+    NotClosing(StepPosts),
+    /// The worker's run is over.
+    End,
+}
+
+/// The worker's node with its cuts. Without memory for these the worker lets go of it.
+pub(crate) fn work_of<B: Board, L: Ledger>(
+    held: &mut Held<B, L>,
+    worker: u32,
+    node: u32,
+    floor: u64,
+    best: u64,
+    taken: bool,
+) -> Result<Work, Rest>
+    requires worker { worker < 16 }
+    requires holds { hand (B.seen held.old.board).hands worker ≡ Some node }
+    ensures root { root_at held.new.opened held.new.workers ≡ root_at held.old.opened held.old.workers }
+    ensures node { IfOk result (λ work. work.node ≡ node) }
+    ensures cuts { IfOk result (λ work. work.ask.cuts ≡ cuts_in (book_at (B.seen held.old.board)).nodes node) }
+    ensures few { IfOk result (λ work. length work.ask.cuts ≤ 2 ^ 24) }
+    ensures same { OnOk result (B.seen held.new.board ≡ B.seen held.old.board) }
+    ensures let_go { OnErr result (B.seen held.new.board ≡ yields worker (B.seen held.old.board)) }
+{
+    match held.board.cuts(worker) {
+        Ok(cuts) => Ok(Work {
+            node,
+            ask: Ask { cuts, floor, best },
+            taken,
+        }),
+        Err(_) => {
+            held.yield_node(worker);
+            Err(Rest::End)
+        }
+    }
+}
+
+/// The node that the worker's hand holds, or else one that it takes.
+fn next_work<B: Board, L: Ledger>(held: &mut Held<B, L>, worker: u32) -> Result<Work, Rest>
+    requires worker { worker < held.old.workers }
+    ensures root { root_at held.new.opened held.new.workers ≡ root_at held.old.opened held.old.workers }
+    ensures few { IfOk result (λ work. length work.ask.cuts ≤ 2 ^ 24) }
+{
+    match held.board.held(worker) {
+        Some(node) => {
+            let best = held.board.best_cost();
+            work_of(held, worker, node, 0, best, false)
+        }
+        None => match held.take(worker) {
+            Taken::Node { node, floor, best } => work_of(held, worker, node, floor, best, true),
+            Taken::Idle => Err(Rest::Again),
+            Taken::Closed => Err(Rest::End),
+            Taken::Finished => Err(Rest::End),
+            Taken::Halted => Err(Rest::End),
+            Taken::Spent => Err(Rest::End),
+        },
+    }
+}
+
+/// A turn for a node to work on.
+pub(crate) fn take_turn<B: Board, L: Ledger, R: Wait>(
+    rt: &R,
+    lock: &BoardLock<B, L>,
+    pass: &mut BoardPass<B, L>,
+    worker: u32,
+) -> Result<Work, Rest>
+    requires pass { IsOutside lock.now pass.old }
+    requires worker { worker < (root_of pass.old).workers }
+    ensures pass { IsOutside lock.now pass.new }
+    ensures root { root_of pass.new ≡ root_of pass.old }
+    ensures few { IfOk result (λ work. length work.ask.cuts ≤ 2 ^ 24) }
+{
+    let mut held = lock.enter(rt, pass);
+    let work = next_work(&mut held, worker);
+    lock.leave(held, pass);
+    work
+}
+
+/// Commits the worker's step, or tells how it goes on. Without memory the worker lets go of its node.
+pub(crate) fn commit_in<B: Board, L: Ledger>(
+    held: &mut Held<B, L>,
+    worker: u32,
+    step: StepPosts,
+    share: &mut Share<L>,
+) -> Result<Kept, Left>
+    requires worker { worker < 16 }
+    requires fits { Fits (B.seen held.old.opened.value).instance step }
+    requires part { 0 < share.old.parts }
+    ensures root { root_at held.new.opened held.new.workers ≡ root_at held.old.opened held.old.workers }
+    ensures counted { OnOk result (share.new.amount ≡ share.old.amount + 1) }
+    ensures uncounted { OnErr result (share.new.amount ≡ share.old.amount) }
+    ensures within { share.new.amount ≤ (B.seen held.old.opened.value).budget }
+    ensures parts { share.new.parts ≡ share.old.parts }
+    ensures kept { IfOk result (Commits worker step (B.seen held.old.board) (B.seen held.new.board)) }
+    ensures left { IfErr result (LeavesStep worker step (B.seen held.old.board) (B.seen held.new.board)) }
+{
+    match held.commit(worker, step, share) {
+        Ok(kept) => Ok(kept),
+        Err(CommitFault::NotClosing { step, .. }) => Err(Left::NotClosing(step)),
+        Err(CommitFault::NotHeld { .. }) => Err(Left::Again),
+        Err(CommitFault::OtherCuts { .. }) => Err(Left::Again),
+        Err(CommitFault::NoMemory) => {
+            held.yield_node(worker);
+            Err(Left::End)
+        }
+        Err(CommitFault::DiskFault) => Err(Left::End),
+        Err(CommitFault::Full { .. }) => Err(Left::End),
+        Err(CommitFault::Shut) => Err(Left::End),
+    }
+}
+
+/// A turn to commit a step for the worker's node.
+pub(crate) fn commit_turn<B: Board, L: Ledger, R: Wait>(
+    rt: &R,
+    lock: &BoardLock<B, L>,
+    pass: &mut BoardPass<B, L>,
+    worker: u32,
+    step: StepPosts,
+    share: &mut Share<L>,
+) -> Result<Kept, Left>
+    requires pass { IsOutside lock.now pass.old }
+    requires worker { worker < 16 }
+    requires fits { Fits (B.seen (root_of pass.old).opened.value).instance step }
+    requires part { 0 < share.old.parts }
+    ensures pass { IsOutside lock.now pass.new }
+    ensures root { root_of pass.new ≡ root_of pass.old }
+    ensures counted { OnOk result (share.new.amount ≡ share.old.amount + 1) }
+    ensures uncounted { OnErr result (share.new.amount ≡ share.old.amount) }
+    ensures within { share.new.amount ≤ (B.seen (root_of pass.old).opened.value).budget }
+    ensures parts { share.new.parts ≡ share.old.parts }
+    ensures left { IfErr result (IsLeft step) }
+{
+    let mut held = lock.enter(rt, pass);
+    let kept = commit_in(&mut held, worker, step, share);
+    lock.leave(held, pass);
+    kept
+}
+
+/// A turn to let go of the worker's node for want of memory.
+pub(crate) fn yield_turn<B: Board, L: Ledger, R: Wait>(
+    rt: &R,
+    lock: &BoardLock<B, L>,
+    pass: &mut BoardPass<B, L>,
+    worker: u32,
+)
+    requires pass { IsOutside lock.now pass.old }
+    requires worker { worker < 16 }
+    ensures pass { IsOutside lock.now pass.new }
+    ensures root { root_of pass.new ≡ root_of pass.old }
+{
+    let mut held = lock.enter(rt, pass);
+    held.yield_node(worker);
+    lock.leave(held, pass);
+}

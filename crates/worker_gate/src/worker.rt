@@ -1,0 +1,218 @@
+//! A worker's rounds.
+ghost use Rattle.std.specs.Prelude.{◌≡◌, ◌≢◌, ◌+◌, ◌<◌, ◌≤◌, ◌^◌, IfOk, OnErr, OnOk, length};
+ghost use Rattle.search_core.specs.Steps.{Fits};
+ghost use Rattle.search_core.specs.declared.step_posts.Close.TheVariants.{ByPrice};
+ghost use Rattle.board_lock.specs.Passes.{root_of, IsOutside, RestsAt};
+ghost use Rattle.worker_gate.specs.Workers.{KnowsBoard};
+
+use crate::decision::{close_of, copy_of, step_of};
+use crate::gate::Gate;
+use crate::seat::{Place, Seat};
+use crate::turns::{BoardLock, BoardPass, Left, Rest, Work, commit_turn, take_turn, yield_turn};
+use advisers::{Adviser, Ask, Told};
+use atomic_table::Badge;
+use break_rules::NoMemory;
+use search_core::{Board, Kept, StepPosts};
+use shift_instance::Instance;
+use std::alloc::Global;
+use std::mem;
+use std::sync::Wait;
+use std::sync::ledger::{Ledger, Share};
+
+/// The step that a worker makes of what its adviser advises for a node.
+pub(crate) fn decide(
+    alloc: Global,
+    instance: &Instance,
+    seat: &mut Seat,
+    node: u32,
+    ask: Ask,
+) -> Result<StepPosts, NoMemory>
+    requires few { length ask.cuts ≤ 2 ^ 24 }
+    ensures node { IfOk result (λ step. step.node ≡ node) }
+    ensures cuts { IfOk result (λ step. step.proved.cuts ≡ ask.cuts) }
+    ensures fits { IfOk result (λ step. Fits instance.now step) }
+    ensures adviser { told seat.new.adviser ≡ told seat.old.adviser }
+    ensures told { seat.new.told ≡ seat.old.told }
+    ensures share { seat.new.share ≡ seat.old.share }
+{
+    let advice = seat.adviser.advise(instance, &ask)?;
+    step_of(alloc, instance, node, ask, advice)
+}
+
+/// The step again, closed by the split or the settled plan that its cuts have.
+pub(crate) fn closed_again(
+    alloc: Global,
+    instance: &Instance,
+    step: StepPosts,
+) -> Result<StepPosts, NoMemory>
+    requires fits { Fits instance.now step }
+    ensures node { IfOk result (λ closed. closed.node ≡ step.node) }
+    ensures cuts { IfOk result (λ closed. closed.proved.cuts ≡ step.proved.cuts) }
+    ensures fits { IfOk result (λ closed. Fits instance.now closed) }
+    ensures closes { IfOk result (λ closed. closed.close ≢ ByPrice) }
+{
+    let StepPosts {
+        node,
+        plan,
+        proved,
+        close: _,
+    } = step;
+    let cuts = copy_of(proved.cuts())?;
+    let close = close_of(alloc, instance, cuts)?;
+    Ok(StepPosts {
+        node,
+        plan,
+        proved,
+        close,
+    })
+}
+
+/// Commits a step that came back, closed by the split or the settled plan that its cuts have.
+fn commit_again<B: Board, L: Ledger, R: Wait>(
+    rt: &R,
+    alloc: Global,
+    instance: &Instance,
+    lock: &BoardLock<B, L>,
+    pass: &mut BoardPass<B, L>,
+    worker: u32,
+    step: StepPosts,
+    share: &mut Share<L>,
+) -> Result<Kept, Rest>
+    requires pass { IsOutside lock.now pass.old }
+    requires knows { KnowsBoard B.seen instance.now worker (root_of pass.old) }
+    requires worker { worker < 16 }
+    requires fits { Fits instance.now step }
+    requires part { 0 < share.old.parts }
+    ensures pass { IsOutside lock.now pass.new }
+    ensures root { root_of pass.new ≡ root_of pass.old }
+    ensures counted { OnOk result (share.new.amount ≡ share.old.amount + 1) }
+    ensures uncounted { OnErr result (share.new.amount ≡ share.old.amount) }
+    ensures within { OnOk result (share.new.amount < 2 ^ 63) }
+    ensures parts { share.new.parts ≡ share.old.parts }
+{
+    let Ok(step) = closed_again(alloc, instance, step) else {
+        yield_turn(rt, lock, pass, worker);
+        return Err(Rest::End);
+    };
+    match commit_turn(rt, lock, pass, worker, step, share) {
+        Ok(kept) => Ok(kept),
+        Err(Left::Again) => Err(Rest::Again),
+        Err(Left::End) => Err(Rest::End),
+        // the step isn't closed by its price
+        Err(Left::NotClosing(_)) => unreachable!(),
+    }
+}
+
+/// Commits a step for the worker's node. Where by its price alone it would leave the node open, it is committed once more, closed by
+/// the split or the settled plan that its cuts have.
+fn commit_closing<B: Board, L: Ledger, R: Wait>(
+    rt: &R,
+    alloc: Global,
+    instance: &Instance,
+    lock: &BoardLock<B, L>,
+    pass: &mut BoardPass<B, L>,
+    worker: u32,
+    step: StepPosts,
+    share: &mut Share<L>,
+) -> Result<Kept, Rest>
+    requires pass { IsOutside lock.now pass.old }
+    requires knows { KnowsBoard B.seen instance.now worker (root_of pass.old) }
+    requires worker { worker < 16 }
+    requires fits { Fits instance.now step }
+    requires part { 0 < share.old.parts }
+    ensures pass { IsOutside lock.now pass.new }
+    ensures root { root_of pass.new ≡ root_of pass.old }
+    ensures counted { OnOk result (share.new.amount ≡ share.old.amount + 1) }
+    ensures uncounted { OnErr result (share.new.amount ≡ share.old.amount) }
+    ensures within { OnOk result (share.new.amount < 2 ^ 63) }
+    ensures parts { share.new.parts ≡ share.old.parts }
+{
+    match commit_turn(rt, lock, pass, worker, step, share) {
+        Ok(kept) => Ok(kept),
+        Err(Left::Again) => Err(Rest::Again),
+        Err(Left::End) => Err(Rest::End),
+        Err(Left::NotClosing(step)) => {
+            commit_again(rt, alloc, instance, lock, pass, worker, step, share)
+        }
+    }
+}
+
+/// One round of a worker, and whether it goes on. `steps` counts the nodes that it has taken.
+fn round<B: Board, L: Ledger, G: Gate, R: Wait>(
+    rt: &R,
+    alloc: Global,
+    instance: &Instance,
+    lock: &BoardLock<B, L>,
+    gate: &G,
+    steps: &mut u64,
+    pass: &mut BoardPass<B, L>,
+    place: &mut Place<B, L>,
+) -> bool
+    requires pass { IsOutside lock.now pass.old }
+    requires knows { KnowsBoard B.seen instance.now place.old.number (root_of pass.old) }
+    ensures pass { IsOutside lock.now pass.new }
+    ensures root { root_of pass.new ≡ root_of pass.old }
+    ensures number { place.new.number ≡ place.old.number }
+    ensures told { told place.old.seat.adviser < 2 ^ 63 + place.old.seat.told
+        → told place.new.seat.adviser + place.old.seat.told ≡ told place.old.seat.adviser + place.new.seat.told }
+{
+    let Place {
+        badge: _,
+        seat,
+        share,
+        number,
+    } = place;
+    let Work { node, ask, taken } = match take_turn(rt, lock, pass, *number) {
+        Ok(work) => work,
+        Err(Rest::Again) => return true,
+        Err(Rest::End) => return false,
+    };
+    if taken {
+        *steps = steps.saturating_add(1);
+        gate.enter(*number, *steps);
+    }
+    let Ok(step) = decide(alloc, instance, seat, node, ask) else {
+        yield_turn(rt, lock, pass, *number);
+        return false;
+    };
+    match commit_closing(rt, alloc, instance, lock, pass, *number, step, share) {
+        Ok(kept) => {
+            seat.adviser.learn(&Told {
+                node,
+                floor: kept.floor,
+                best: kept.best,
+            });
+            seat.told += 1;
+            seat.share += 1;
+            true
+        }
+        Err(Rest::Again) => true,
+        Err(Rest::End) => false,
+    }
+}
+
+/// Works until there is nothing more to do.
+pub(crate) fn work<B: Board, L: Ledger, G: Gate, R: Wait>(
+    rt: &R,
+    alloc: Global,
+    instance: &Instance,
+    lock: &BoardLock<B, L>,
+    gate: &G,
+    place: &mut Place<B, L>,
+)
+    requires { RestsAt (KnowsBoard B.seen instance.now place.old.number) lock.now place.old.badge }
+    ensures number { place.new.number ≡ place.old.number }
+    ensures told { told place.old.seat.adviser < 2 ^ 63 + place.old.seat.told
+        → told place.new.seat.adviser + place.old.seat.told ≡ told place.old.seat.adviser + place.new.seat.told }
+{
+    let badge = mem::replace(&mut place.badge, Badge::blank());
+    let mut pass = badge.into_seat();
+    let mut steps = 0u64;
+    for _ in rt.forever() {
+        if !round(
+            rt, alloc, instance, lock, gate, &mut steps, &mut pass, place,
+        ) {
+            break;
+        }
+    }
+}
