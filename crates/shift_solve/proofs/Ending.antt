@@ -14,14 +14,15 @@ use Rattle.search_book.specs.Search.{SearchView, board_of}
 use Rattle.worker_gate.specs.declared.run.RunEnd.{RunEnd}
 use Rattle.worker_gate.specs.declared.run.RunEnd.TheVariants.{Finished, Spent, Full as FullEnd, DiskFault as DiskEnd, NoMemory as MemoryEnd}
 use Rattle.worker_gate.specs.Runs.{committed, plans_and_prices_since, IsSameSearch, RunEnds, RunMakes}
-use Rattle.shift_solve.specs.Run.{SinkMet, IsLeft, IsRefusal, OverDisk, status_of}
+use Rattle.shift_solve.specs.Run.{IsLeft, IsRefusal, OverDisk, status_of}
 use Rattle.shift_solve.specs.Search.{is_reported, status_at, Ends, IsLanded, IsReported, SearchEnds, Unwritten}
 use Rattle.shift_solve.specs.Session.{DiskMet}
+use Rattle.shift_solve.specs.Streams.{SinkMet}
 use Rattle.shift_solve.specs.declared.status.Status.{Status}
 use Rattle.shift_solve.specs.declared.status.Status.TheVariants.{Optimal, Budget, Full, Usage, Input, ReadFault, WriteFault, DiskFault, NoMemory, Journal}
 
 -- ---- how a search ends
-few_steps : (budget enough : ℕ) → (enough ≤ budget → ⊥) → budget < enough
+pub few_steps : (budget enough : ℕ) → (enough ≤ budget → ⊥) → budget < enough
 few_steps budget enough more = elim (cases_lt budget enough) [ inl less ↦ less | inr le ↦ absurd (more le) ]
 
 module _ {D : Type 0} (reads : D → Option (List ℕ)) (calls faults : D → ℕ) where

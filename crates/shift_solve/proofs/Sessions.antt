@@ -30,15 +30,16 @@ use Rattle.post_codec.specs.Batches.{joined}
 use Rattle.worker_gate.specs.declared.run.RunEnd.{RunEnd}
 use Rattle.worker_gate.specs.declared.run.RunEnd.TheVariants.{Finished, Spent, Full as FullEnd, DiskFault as DiskEnd, NoMemory as MemoryEnd}
 use Rattle.worker_gate.specs.Runs.{is_plan_or_prices}
-use Rattle.shift_solve.specs.Report.{cert_of, output_of}
-use Rattle.shift_solve.specs.Run.{SinkMet, OverDisk, IsFinished, IsSpent, IsFull, IsUnbeaten, Reports, ReportsPart}
+use Rattle.shift_solve.specs.Report.{cert_of, output_of, IsUnbeaten}
+use Rattle.shift_solve.specs.Run.{OverDisk, IsFinished, IsSpent, IsFull, Reports, ReportsPart}
 use Rattle.shift_solve.specs.Search.{is_reported, Ends, GoesOn, IsLanded, IsReported, IsReportedPart, SearchEnds}
 use Rattle.shift_solve.specs.Session.{met_of, Session, IsOnlyJournal}
 use Rattle.shift_solve.specs.Steps.{AreSteps, IsNextStep}
+use Rattle.shift_solve.specs.Streams.{SinkMet}
 use Rattle.shift_solve.specs.declared.status.Status.{Status}
 use Rattle.shift_solve.specs.declared.status.Status.TheVariants.{Optimal, Budget, Full, Usage, Input, ReadFault, WriteFault, DiskFault, NoMemory, Journal}
 use Rattle.shift_solve.proofs.Accepting.{accepted, FewBreaks}
-use Rattle.shift_solve.proofs.Walked.{stopped}
+use Rattle.shift_solve.proofs.Walked.{stopped, walk_of}
 
 -- a fact of what there is implies another
 map_some : {A : Type 0} {P Q : A → Type 0} (o : Option A) → ((a : A) → P a → Q a) → IfSome o P → IfSome o Q
@@ -184,18 +185,34 @@ module _ {D : Type 0} (reads : D → Option (List ℕ)) (images : D → List ℕ
   added_of k =
       ap (λ (h : List Post). drop (length h) new.log.history) (opening_of k) ∙ ap (drop (length new.log.opening)) k.all ∙ drop-append_seam new.log.opening (joined new.log.batches)
 
-  spent_of : (k : Known) → Ends reads calls faults old new Spent → IsSpent old.budget (session_of k)
-  unfolding session_of
-  spent_of k e = record {
-    landed = landed_of k Spent e tt;
-    unfinished = subst (λ (b : Book). is_finished b ≡ false) (book_same k) e.ends.1;
-    shown = subst (λ (l : List Post). old.budget ≤ count_by is_plan_or_prices l) (added_of k) (e.shown refl);
-    few = subst (λ (j : Problem). old.budget < steps_enough j) k.begins.instance (e.few refl);
-  }
-
   -- the book of the board before is its own
   first_same : Known → book_at (board_of reads calls faults old) ≡ old.log.book
   first_same k = book_is old.log.instance old.log.history old.log.book old.keeps.folds
+
+  -- the steps of a run lead from its first book to its last, and their posts are those that were added
+  made_of : (k : Known) (steps : List (List Post)) → AreSteps i (book_at (board_of reads calls faults old)) steps (book_at (board_of reads calls faults new)) → AreSteps i old.log.book steps new.log.book
+  made_of k steps made =
+      subst (λ (b : Book). AreSteps i b steps new.log.book) (first_same k)
+      (subst (λ (b : Book). AreSteps i (book_at (board_of reads calls faults old)) steps b) (book_same k) made)
+
+  all_of : (k : Known) (steps : List (List Post)) → new.log.history ≡ old.log.history ++ joined steps → joined steps ≡ joined new.log.batches
+  all_of k steps all = sym (drop-append_seam old.log.history (joined steps)) ∙ sym (ap (drop (length old.log.history)) all) ∙ added_of k
+
+  spent_of : (k : Known) → Ends reads calls faults old new Spent → IsSpent old.budget (session_of k)
+  unfolding session_of
+  spent_of k e =
+      let w = walk_of i (board_of reads calls faults old) (board_of reads calls faults new) k.begins.instance k.empty e.makes in
+      let taken : new.taken ≡ new.budget = e.ends.2 in
+      record {
+        landed = landed_of k Spent e tt;
+        unfinished = subst (λ (b : Book). is_finished b ≡ false) (book_same k) e.ends.1;
+        steps = w.steps;
+        made = made_of k w.steps w.made;
+        all = all_of k w.steps w.all;
+        count = w.count ∙ taken ∙ k.on.same.budget;
+        shown = subst (λ (l : List Post). old.budget ≤ count_by is_plan_or_prices l) (added_of k) (e.shown refl);
+        few = subst (λ (j : Problem). old.budget < steps_enough j) k.begins.instance (e.few refl);
+      }
 
   full_of : (k : Known) (end limit : ℕ) → Ends reads calls faults old new (FullEnd end limit) → IsFull old.budget end limit (session_of k)
   unfolding session_of
@@ -208,10 +225,8 @@ module _ {D : Type 0} (reads : D → Option (List ℕ)) (images : D → List ℕ
         landed = landed_of k (FullEnd end limit) e tt;
         unfinished = subst (λ (b : Book). is_finished b ≡ false) (book_same k) s.unfinished;
         steps = s.steps;
-        made =
-            subst (λ (b : Book). AreSteps i b s.steps new.log.book) (first_same k)
-            (subst (λ (b : Book). AreSteps i (book_at (board_of reads calls faults old)) s.steps b) (book_same k) s.made);
-        all = sym (drop-append_seam old.log.history (joined s.steps)) ∙ sym (ap (drop (length old.log.history)) s.all) ∙ added_of k;
+        made = made_of k s.steps s.made;
+        all = all_of k s.steps s.all;
         left = omega (arith, left, budget);
         step = s.step;
         next = subst (λ (b : Book). IsNextStep i b s.step) (book_same k) s.next;

@@ -16,7 +16,7 @@ use Rattle.search_core.proofs.Outlines.{book_is}
 use Rattle.search_core.proofs.Runs.{front_folds}
 use Rattle.post_codec.specs.Batches.{joined}
 use Rattle.search_book.proofs.Recording.{joined_more}
-use Rattle.worker_gate.specs.declared.run.RunEnd.TheVariants.{Full}
+use Rattle.worker_gate.specs.declared.run.RunEnd.TheVariants.{Full, Spent}
 use Rattle.worker_gate.specs.Decision.{IsDecision}
 use Rattle.worker_gate.specs.Runs.{AreRounds, IsRound, MakesStep, RunMakes}
 use Rattle.worker_gate.specs.Runs.AreRounds.{none, one_more}
@@ -100,6 +100,26 @@ round_walked i old mid new rounds w r =
 rounds_walked : (i : Problem) (old new : BoardView) (rounds : ℕ) → old.instance ≡ i → old.hands ≡ empty_hands → AreRounds old new rounds → Walked i old new rounds
 rounds_walked i old new rounds root empty none = record { root = root; empty = empty; steps = []; made = refl; count = refl; all = sym (append-nil old.history); used = omega arith }
 rounds_walked i old new rounds root empty (one_more mid next n before r) = round_walked i old mid next n (rounds_walked i old mid n root empty before) r
+
+-- ---- a run that took all its steps
+
+pub record Walk (i : Problem) (old new : BoardView) : Type 0 where
+  pub steps : List (List Post)
+  pub made : AreSteps i (book_at old) steps (book_at new)
+  pub all : new.history ≡ old.history ++ joined steps
+  pub count : length steps ≡ new.taken
+
+pub walk_of : (i : Problem) (old new : BoardView) → old.instance ≡ i → old.hands ≡ empty_hands → RunMakes old new Spent → Walk i old new
+walk_of i old new root empty run =
+    let last : BoardView = run.last in
+    let same : new ≡ last = run.end in
+    let w = rounds_walked i old last last.taken root empty run.rounds in
+    record {
+      steps = w.steps;
+      made = subst (λ (v : BoardView). AreSteps i (book_at old) w.steps (book_at v)) (sym same) w.made;
+      all = ap (λ (v : BoardView). v.history) same ∙ w.all;
+      count = w.count ∙ ap (λ (v : BoardView). v.taken) (sym same);
+    }
 
 -- ---- a run that ended with a full journal
 

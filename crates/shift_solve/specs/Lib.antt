@@ -1,7 +1,9 @@
+pub mod Demo
 pub mod Report
 pub mod Run
 pub mod Search
 pub mod Session
 pub mod Status
 pub mod Steps
+pub mod Streams
 pub mod Words

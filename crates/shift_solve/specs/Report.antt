@@ -1,7 +1,9 @@
 -- What a run writes of its book.
-use Rattle.std.specs.Prelude.{ℕ, Bool, List, [], ◌++◌, Some, if◌then◌else◌}
+use Rattle.std.specs.Prelude.{ℕ, ◌≤◌, Bool, IsTrue, List, [], ◌++◌, Some, if◌then◌else◌}
 use Rattle.post_codec.specs.declared.post.Post.{Post}
+use Rattle.shift_instance.specs.declared.Duty.{Duty}
 use Rattle.shift_instance.specs.Problem.{Problem}
+use Rattle.shift_instance.specs.Rota.{cost, is_legal_rota}
 use Rattle.certificate.specs.declared.Cert.{Cert}
 use Rattle.certificate.specs.declared.CertStatus.{CertStatus}
 use Rattle.certificate.specs.declared.CertStatus.TheVariants.{Optimal, Stopped}
@@ -23,3 +25,7 @@ cert_of posts book = record { status = status_of_book book; plan = Some (book.co
 -- asked for
 abbrev pub output_of : Problem → Bool → List Post → Book → List ℕ
 output_of i table posts book = cert_text (cert_of posts book) ++ (if table then table_text i book.best else [])
+
+-- no legal rota costs less
+abbrev pub IsUnbeaten : Problem → ℕ → Type 0
+IsUnbeaten i least = (rota : List Duty) → IsTrue (is_legal_rota i rota) → least ≤ cost i rota

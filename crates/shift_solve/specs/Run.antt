@@ -5,9 +5,7 @@ use Rattle.plan_base.specs.Causes.{Rose}
 use Rattle.plan_base.specs.Streams.{AppendsPart}
 use Rattle.gated_journal.specs.declared.TheConstants.{JOURNAL_MAX}
 use Rattle.gated_journal.specs.Format.{fresh}
-use Rattle.shift_instance.specs.declared.Duty.{Duty}
 use Rattle.shift_instance.specs.Problem.{Problem}
-use Rattle.shift_instance.specs.Rota.{cost, is_legal_rota}
 use Rattle.instance_json.specs.Canonical.{canonical_text}
 use Rattle.instance_input.specs.declared.Unread.TheVariants.{Refused as DocumentRefused}
 use Rattle.instance_input.specs.Unread.{IsReadAs, WhyUnread}
@@ -27,20 +25,14 @@ use Rattle.search_book.specs.Opening.{IsOldOrShort}
 use Rattle.worker_gate.specs.Runs.{is_plan_or_prices}
 use Rattle.shift_solve.specs.declared.status.Status.{Status}
 use Rattle.shift_solve.specs.declared.status.Status.TheVariants.{Optimal, Budget, Full, Usage, Input, ReadFault, WriteFault, DiskFault, NoMemory, Journal}
-use Rattle.shift_solve.specs.Report.{cert_of, output_of}
+use Rattle.shift_solve.specs.Demo.{OverMemory}
+use Rattle.shift_solve.specs.Report.{cert_of, output_of, IsUnbeaten}
 use Rattle.shift_solve.specs.Session.{DiskMet, IsUncalled, Session, posts_in}
+use Rattle.shift_solve.specs.Status.{EndsBeforeReading}
 use Rattle.shift_solve.specs.Steps.{bytes_in, AreSteps, IsNextStep}
-use Rattle.shift_solve.specs.Words.{Command, command_of}
-
--- no legal rota costs less
-abbrev pub IsUnbeaten : Problem → ℕ → Type 0
-IsUnbeaten i least = (rota : List Duty) → IsTrue (is_legal_rota i rota) → least ≤ cost i rota
-
--- what shows of a run's sink: what it holds before and after the run (none where it doesn't tell), and its counts of faults then
-pub record SinkMet : Type 0 where
-  pub held : Option (List ℕ)
-  pub held_after : Option (List ℕ)
-  pub faults : ℕ × ℕ
+use Rattle.shift_solve.specs.Streams.{SinkMet}
+use Rattle.shift_solve.specs.Words.{AreNoCommand, Command, IsCommand}
+use Rattle.solve_words.specs.Words.{from_number, Asks}
 
 -- ---- how a search ends that wasn't cut off
 
@@ -54,6 +46,11 @@ pub record IsFinished {disk : DiskMet} {i : Problem} (session : Session disk i) 
 pub record IsSpent (budget : ℕ) {disk : DiskMet} {i : Problem} (session : Session disk i) : Type 0 where
   pub landed : session.in_flight ≡ []
   pub unfinished : IsFalse (is_finished session.last)
+  -- the posts of each step: they are those of the session, and the steps are as many as the budget has
+  pub steps : List (List Post)
+  pub made : AreSteps i session.first steps session.last
+  pub all : joined steps ≡ joined session.batches
+  pub count : length steps ≡ budget
   pub shown : budget ≤ count_by is_plan_or_prices (joined session.batches)
   pub few : budget < steps_enough i
 
@@ -140,7 +137,8 @@ OverDisk disk sink i table budget opened (Input why) = ⊥
 OverDisk disk sink i table budget opened ReadFault = ⊥
 
 -- what a run meets: its words, what the source has left (none where it doesn't tell) and its counts of faults before and after the
--- run, what shows of its sink and of its disk, and whether it opened a book there
+-- run, what shows of its sink and of its disk, whether it opened a book there, and what the disk in memory reads that is handed back:
+-- none only where no such disk is, as one always tells its content
 pub record Met : Type 1 where
   pub words : List (List ℕ)
   pub left : Option (List ℕ)
@@ -148,32 +146,63 @@ pub record Met : Type 1 where
   pub sink : SinkMet
   pub disk : DiskMet
   pub opened : Bool
+  pub demo : Option (List ℕ)
 
--- the words are a command
-abbrev pub IsCommand : Met → Type 0
-IsCommand met = IsSome (command_of met.words)
+-- no book was opened on the disk, and no disk in memory is handed back
+pub record IsUnopened (met : Met) : Type 0 where
+  pub opened : met.opened ≡ false
+  pub demo : met.demo ≡ None
 
--- the words are that command, and the bytes that the source gave up to its end make that instance
-pub record Reads (met : Met) (command : Command) (i : Problem) : Type 0 where
-  pub words : command_of met.words ≡ Some command
+-- how a search ends over the instance that the bytes make which the source gave up to its end
+pub record EndsOver (met : Met) (command : Command) (status : Status) : Type 0 where
+  pub i : Problem
   pub document : IsReadAs met.left i
+  pub ends : OverDisk met.disk met.sink i command.table command.steps met.opened status
+  pub demo : met.demo ≡ None
 
--- how a run ends that has read an instance
-abbrev pub EndsOver : Met → Status → Type 0
-EndsOver met status = (command : Command) × (i : Problem) × Reads met command i × OverDisk met.disk met.sink i command.table command.steps met.opened status
+-- when each status of a command's search comes, and what it says
+abbrev pub Searched : Met → Command → Status → Type 0
+Searched met command Usage = ⊥
+Searched met command (Input why) = IsUnopened met × WhyUnread met.left met.read_faults.0 met.read_faults.1 (DocumentRefused why)
+Searched met command ReadFault = IsUnopened met × Rose met.read_faults.0 met.read_faults.1
+Searched met command NoMemory = (IsUnopened met × IsUncalled met.disk) ⊎ EndsOver met command NoMemory
+Searched met command Optimal = EndsOver met command Optimal
+Searched met command Budget = EndsOver met command Budget
+Searched met command (Full end limit) = EndsOver met command (Full end limit)
+Searched met command WriteFault = EndsOver met command WriteFault
+Searched met command DiskFault = EndsOver met command DiskFault
+Searched met command (Journal why) = EndsOver met command (Journal why)
+
+-- the words ask for a search, which ended so
+pub record EndsSearch (met : Met) (status : Status) : Type 0 where
+  pub command : Command
+  pub words : IsCommand met.words command
+  pub ends : Searched met command status
+
+-- the words ask for a demonstration, which ended so; no book was opened on the disk
+pub record EndsDemo (met : Met) (status : Status) : Type 0 where
+  pub number : ℕ
+  pub steps : ℕ
+  pub words : Asks met.words (from_number number steps)
+  pub opened : met.opened ≡ false
+  pub ends : OverMemory (record { number = number; budget = steps; sink = met.sink; file = met.demo }) status
 
 -- when each status comes, and what it says
 abbrev pub Explains : Met → Status → Type 0
-Explains met Usage = (met.opened ≡ false) × (command_of met.words ≡ None)
-Explains met (Input why) = (met.opened ≡ false) × IsCommand met × WhyUnread met.left met.read_faults.0 met.read_faults.1 (DocumentRefused why)
-Explains met ReadFault = (met.opened ≡ false) × IsCommand met × Rose met.read_faults.0 met.read_faults.1
-Explains met NoMemory = IsCommand met × (((met.opened ≡ false) × IsUncalled met.disk) ⊎ EndsOver met NoMemory)
-Explains met Optimal = EndsOver met Optimal
-Explains met Budget = EndsOver met Budget
-Explains met (Full end limit) = EndsOver met (Full end limit)
-Explains met WriteFault = EndsOver met WriteFault
-Explains met DiskFault = EndsOver met DiskFault
-Explains met (Journal why) = EndsOver met (Journal why)
+Explains met Usage = IsUnopened met × AreNoCommand met.words
+Explains met (Input why) = EndsSearch met (Input why)
+Explains met ReadFault = EndsSearch met ReadFault
+Explains met DiskFault = EndsSearch met DiskFault
+Explains met (Journal why) = EndsSearch met (Journal why)
+Explains met Optimal = EndsSearch met Optimal ⊎ EndsDemo met Optimal
+Explains met Budget = EndsSearch met Budget ⊎ EndsDemo met Budget
+Explains met (Full end limit) = EndsSearch met (Full end limit) ⊎ EndsDemo met (Full end limit)
+Explains met WriteFault = EndsSearch met WriteFault ⊎ EndsDemo met WriteFault
+Explains met NoMemory = (IsUnopened met × IsUncalled met.disk) ⊎ (EndsSearch met NoMemory ⊎ EndsDemo met NoMemory)
+
+-- the source wasn't touched: the words are no command, or ask for a demonstration
+abbrev pub IsUnread : List (List ℕ) → Status → Type 0
+IsUnread words status = (EndsBeforeReading status) ⊎ ((number : ℕ) × (steps : ℕ) × Asks words (from_number number steps))
 
 -- how a run ends whose book isn't opened
 abbrev pub status_of : OpenFault → Status

@@ -61,3 +61,16 @@ EndsEarly WriteFault = ⊥
 EndsEarly DiskFault = ⊥
 EndsEarly NoMemory = ⊥
 EndsEarly (Journal why) = ⊥
+
+-- a run with this end hasn't come to its source
+abbrev pub EndsBeforeReading : Status → Type 0
+EndsBeforeReading Usage = Unit {0}
+EndsBeforeReading (Input why) = ⊥
+EndsBeforeReading ReadFault = ⊥
+EndsBeforeReading Optimal = ⊥
+EndsBeforeReading Budget = ⊥
+EndsBeforeReading (Full end limit) = ⊥
+EndsBeforeReading WriteFault = ⊥
+EndsBeforeReading DiskFault = ⊥
+EndsBeforeReading NoMemory = ⊥
+EndsBeforeReading (Journal why) = ⊥

@@ -1,7 +1,9 @@
 //! The shift planner: `shift_solve solve JOURNAL` reads an instance document from the standard input, searches for a cheapest
-//! plan over the journal, and prints the report of the search.
+//! plan over the journal, and prints the report of the search. `shift_solve solve --demo N` searches for one of the instance that is
+//! made from a number, and prints a line.
 #![tactic(auto)]
 
+mod demo;
 mod report;
 mod run;
 #[cfg(test)]
@@ -10,8 +12,9 @@ mod search;
 mod status;
 mod words;
 
+pub use demo::demo_line;
 use plan_base::{FileDisk, StdSink, StdSource};
-pub use run::solve_run;
+pub use run::{Ended, solve_run};
 pub use status::{Status, status_line};
 use std::process::ExitCode;
 use std::{env, io};
@@ -31,7 +34,7 @@ fn command_words(rt: &HostRuntime) -> Result<Vec<String>, Status> {
 
 /// The run of these words over the standard streams, and over a disk on the JOURNAL word's path.
 fn solve(rt: HostRuntime, words: &[String]) -> Status {
-    let path = match journal_path(words) {
+    let path = match journal_path(rt.alloc(), words) {
         Ok(Some(path)) => path,
         Ok(None) => String::new(rt.alloc()),
         Err(_) => return Status::NoMemory,
@@ -39,8 +42,7 @@ fn solve(rt: HostRuntime, words: &[String]) -> Status {
     let mut input = StdSource::new(rt);
     let mut out = StdSink::new(rt);
     let disk = FileDisk::new(rt, path);
-    let (status, _disk, _opened) = solve_run(rt.alloc(), words, &mut input, &mut out, disk);
-    status
+    solve_run(rt.alloc(), words, &mut input, &mut out, disk).status
 }
 
 /// Says a status on standard error, unless it is that of an optimal plan.

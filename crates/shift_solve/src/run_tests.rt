@@ -3,7 +3,7 @@
 
 ghost use Rattle.std.specs.Prelude.{◌<◌, ◌^◌};
 
-use crate::{Status, journal_path, solve_run, status_line};
+use crate::{Status, demo_line, journal_path, solve_run, status_line};
 use plan_base::{Disk, MemDisk, MemSink, MemSource};
 use std::alloc::{AllocError, Global};
 use std::test::Fail;
@@ -48,12 +48,12 @@ fn run(
     let text = Vec::from_slice(alloc, text.as_bytes())?;
     let mut source = MemSource::new(alloc, text, vec![in alloc; bad_read]?, 100);
     let mut sink = MemSink::new(alloc, vec![in alloc; bad_write]?, 20);
-    let (status, disk, opened) = solve_run(alloc, words.as_slice(), &mut source, &mut sink, disk);
+    let ended = solve_run(alloc, words.as_slice(), &mut source, &mut sink, disk);
     Ok(Ran {
-        status,
+        status: ended.status,
         written: Vec::from_slice(alloc, sink.bytes())?,
-        disk,
-        opened,
+        disk: ended.disk,
+        opened: ended.opened,
     })
 }
 
@@ -76,7 +76,7 @@ fn a_step_closes_the_root(rt: HostRuntime) -> Result<(), Fail> {
 #[test]
 fn a_journal_has_its_path(rt: HostRuntime) -> Result<(), Fail> {
     let alloc = rt.alloc();
-    let path = journal_path(solve_words(alloc)?.as_slice())?.ok_or("no path")?;
+    let path = journal_path(alloc, solve_words(alloc)?.as_slice())?.ok_or("no path")?;
     assert_eq!(rt; path.as_str(), "J");
     Ok(())
 }
@@ -170,5 +170,38 @@ fn a_failing_write_leaves_the_beginning(rt: HostRuntime) -> Result<(), Fail> {
     assert_eq!(rt; ran.status.number(), 6);
     assert_eq!(rt; ran.written.as_slice(), b"shift-report 1\nstatu".as_slice());
     assert_eq!(rt; (ran.disk.bytes().len(), ran.disk.calls()), (622, 8));
+    Ok(())
+}
+
+#[test]
+fn a_demonstration_has_its_line(rt: HostRuntime) -> Result<(), Fail> {
+    let line = demo_line(rt.alloc(), 7, true, 186, 185, 1_000)?;
+    assert_eq!(rt;
+        line.as_slice(),
+        b"demo 7 status optimal cost 186 bound 185 steps 1000\n".as_slice()
+    );
+    Ok(())
+}
+
+/// A demonstration of no steps, beside a source and a disk of which each call fails.
+#[test]
+fn a_demonstration_keeps_its_journal(rt: HostRuntime) -> Result<(), Fail> {
+    let alloc = rt.alloc();
+    let words = vec![in alloc;
+        String::from_str(alloc, "solve")?,
+        String::from_str(alloc, "--demo=0")?,
+        String::from_str(alloc, "--steps=0")?,
+    ]?;
+    let mut source = MemSource::new(alloc, Vec::new(alloc), vec![in alloc; 1]?, 100);
+    let mut sink = MemSink::new(alloc, Vec::new(alloc), 20);
+    let disk = MemDisk::new(alloc, Vec::new(alloc), vec![in alloc; 1]?);
+    let ended = solve_run(alloc, words.as_slice(), &mut source, &mut sink, disk);
+    let demo = ended.demo.ok_or("no disk in memory")?;
+    assert_eq!(rt; (ended.status.number(), ended.opened), (10, false));
+    assert_eq!(rt;
+        sink.bytes(),
+        b"demo 0 status stopped cost 788 bound 0 steps 0\n".as_slice()
+    );
+    assert_eq!(rt; (ended.disk.calls(), demo.calls()), (0, 4));
     Ok(())
 }

@@ -23,7 +23,7 @@ fn run_search<D: Disk>(alloc: Global, instance: &Instance, book: &mut Book<D>) -
 }
 
 /// Whether a search came to an end of which a report is written.
-fn is_reported(end: RunEnd) -> bool
+pub(crate) fn is_reported(end: RunEnd) -> bool
     ensures { result ≡ is_reported end }
 {
     match end {
@@ -36,7 +36,7 @@ fn is_reported(end: RunEnd) -> bool
 }
 
 /// How a run ends whose search ended so, and whose report was written, where there is one.
-fn status_at(end: RunEnd) -> Status
+pub(crate) fn status_at(end: RunEnd) -> Status
     ensures { result ≡ status_at end }
 {
     match end {

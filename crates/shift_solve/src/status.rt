@@ -14,21 +14,20 @@ const USAGE: &str =
 /// How a run of `solve` ends.
 #[derive(Debug, Drop)]
 pub enum Status {
-    /// The report was written, and no legal plan costs less than the printed one.
+    /// The report or the line of a demonstration was written, and no legal plan costs less than the best one found.
     Optimal,
-    /// The report was written. All steps of the budget were taken, and the search isn't finished.
+    /// The report or the line was written. All steps of the budget were taken, and the search isn't finished.
     Budget,
-    /// The report was written, and the journal had no room for the posts of a step: with them the file would have ended at
-    /// `end`, which is past `limit`. Both are lengths in bytes.
+    /// The report or the line was written, and the journal had no room for the posts of a step: with them the file would have
+    /// ended at `end`, which is past `limit`. Both are lengths in bytes.
     Full { end: u64, limit: u32 },
-    /// The words aren't `solve JOURNAL` with `--steps B` and `--table`, each or none, in this order behind it, with a JOURNAL
-    /// that isn't empty and doesn't begin with `-`, and a B of 1 to 10 digits which is at most 4,000,000,000.
+    /// The words are no command (`solve_words::command_of`), or ask for a search by a number of workers.
     Usage,
     /// The document that was read is refused. Never holds `NoMemory`.
     Input(ReadRefusal),
     /// A read of the document failed.
     ReadFault,
-    /// A write of the report failed. What was written is the beginning of the report.
+    /// A write of the report or the line failed. What was written is its beginning.
     WriteFault,
     /// A call on the journal's file failed.
     DiskFault,

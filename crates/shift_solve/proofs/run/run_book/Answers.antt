@@ -1,7 +1,8 @@
 use Rattle.std.proofs.Common.{ℕ, subst, sym, true, false}
 use Rattle.search_core.proofs.Fits.{class_few}
-use Rattle.shift_solve.specs.Run.{OverDisk, SinkMet}
+use Rattle.shift_solve.specs.Run.{OverDisk}
 use Rattle.shift_solve.specs.Session.{met_of}
+use Rattle.shift_solve.specs.Streams.{SinkMet}
 use Rattle.shift_solve.proofs.Ending.{not_opened}
 use Rattle.shift_solve.proofs.Sessions.{Known, on_some, over_disk}
 use Rattle.shift_solve.proofs.run.run_book.Goals as goal

@@ -7,9 +7,9 @@ use Rattle.std.proofs.lemmas.Bool.{leb-true, and_parts}
 use Rattle.std.proofs.lemmas.Str.{digit_value_digit}
 use Rattle.std.proofs.lemmas.Str.Parse.{without_leading_plus_none}
 use Rattle.std.proofs.Math.Nat.{pow-le-pow_right, pow-suc}
-use Rattle.shift_solve.specs.Words.{is_number}
+use Rattle.solve_words.specs.Words.{is_number}
 
-digit_small : (c : ℕ) → is_ascii_digit c ≡ true → (digit_value c < 10) × (48 ≤ c)
+pub digit_small : (c : ℕ) → is_ascii_digit c ≡ true → (digit_value c < 10) × (48 ≤ c)
 digit_small c e =
     let p = and_parts (leb 48 c) (leb c 57) e in
     let low : 48 ≤ c = leb-true 48 c p.0 in

@@ -1,0 +1,11 @@
+pub mod Classes
+pub mod Digits
+pub mod Ends
+pub mod Finding
+pub mod Giving
+pub mod Rows
+pub mod Singles
+pub mod Sorting
+pub mod Spelled
+pub mod Steps
+pub mod Walks

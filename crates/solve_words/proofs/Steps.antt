@@ -1,0 +1,61 @@
+-- What the parser's walk makes of one word.
+use Rattle.std.proofs.Common.{◌≡◌, refl, ℕ, Bool, false, List, [], ◌∷◌, ◌++◌, codes, Some, None}
+use Rattle.std.specs.Prelude.{if◌then◌else◌}
+use Rattle.clap.specs.Faults.{react_fault, settle_fault, turn_fault}
+use Rattle.clap.specs.Kinds.{or_else}
+use Rattle.clap.specs.Walk.{Held, idle, option, reacted, settled, Text, Walk, walked}
+use Rattle.solve_words.specs.Words.{demo, name_of, Part, Setting, steps, table, workers}
+use Rattle.solve_words.proofs.Rows.{bare_name, option_rules, rows_for, rule_for, setting_rule, shape}
+
+-- between two parts: the parts that have rows, the one that waits for its, and whether a path was met
+abbrev pub place : Bool → ℕ
+place met = if met then 2 else 1
+
+abbrev pub calm : Held → Bool → Walk
+calm held met = record { held = held; waiting = idle; position = place met; is_trailing = false; stopped = None }
+
+-- behind the name of an option, before its number
+abbrev pub held_for : List Part → Setting → Held
+held_for before setting = record { rows = rows_for before; pending = Some (bare_name setting, []); skip = 0 }
+
+abbrev pub hungry : Held → Setting → Bool → Walk
+hungry held setting met = record { held = held; waiting = option (bare_name setting); position = place met; is_trailing = false; stopped = None }
+
+-- ---- the name of an option
+
+pub name_walked : (setting : Setting) (held : Held) (met : Bool)
+    → walked option_rules [] (calm held met) (name_of setting) ≡ hungry (record (settled option_rules held) { pending = Some (bare_name setting, []) }) setting met
+unfolding walked
+name_walked workers held met = refl
+name_walked steps held met = refl
+name_walked demo held met = refl
+
+pub name_fault : (setting : Setting) (held : Held) (met : Bool)
+    → turn_fault shape [] (calm held met) (name_of setting) ≡ or_else (settle_fault option_rules false held) []
+name_fault workers held met = refl
+name_fault steps held met = refl
+name_fault demo held met = refl
+
+-- ---- the name of an option with its number in the same word
+
+pub assign_walked : (setting : Setting) (digits : Text) (held : Held) (met : Bool)
+    → walked option_rules [] (calm held met) (name_of setting ++ (codes "=" ++ digits)) ≡ calm (reacted option_rules (setting_rule setting) (digits ∷ []) held) met
+unfolding walked
+assign_walked workers digits held met = refl
+assign_walked steps digits held met = refl
+assign_walked demo digits held met = refl
+
+pub assign_fault : (setting : Setting) (digits : Text) (held : Held) (met : Bool)
+    → turn_fault shape [] (calm held met) (name_of setting ++ (codes "=" ++ digits)) ≡ or_else (react_fault option_rules false (setting_rule setting) (digits ∷ []) held) []
+assign_fault workers digits held met = refl
+assign_fault steps digits held met = refl
+assign_fault demo digits held met = refl
+
+-- ---- the wish for a table
+
+pub table_walked : (held : Held) (met : Bool) → walked option_rules [] (calm held met) (codes "--table") ≡ calm (reacted option_rules (rule_for table) [] held) met
+unfolding walked
+table_walked held met = refl
+
+pub table_fault : (held : Held) (met : Bool) → turn_fault shape [] (calm held met) (codes "--table") ≡ or_else (react_fault option_rules false (rule_for table) [] held) []
+table_fault held met = refl

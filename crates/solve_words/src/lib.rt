@@ -1,0 +1,10 @@
+//! The words of `solve`: what a command line asks for, and which words are no command.
+#![tactic(auto)]
+
+mod command;
+mod numbers;
+#[cfg(test)]
+mod tests;
+mod texts;
+
+pub use command::{Command, command_of};
