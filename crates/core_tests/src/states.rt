@@ -3,7 +3,7 @@ ghost use Rattle.std.specs.Prelude.{◌<◌, length};
 
 use crate::fixtures::morning;
 use break_rules::{Break, Breaks};
-use head_splits::{Class, CutPrices, Prices, Side, SlotPrices};
+use head_splits::{Class, CutPrices, Hint, Prices, Side, SlotPrices};
 use post_codec::Post;
 use search_core::{EventFault, Hands, State, StepFault};
 use shift_instance::{Instance, Row, Rows};
@@ -106,7 +106,8 @@ fn a_part_is_settled(rt: HostRuntime) -> Result<(), Fail> {
 fn hinted_cuts(state: &State) -> Result<Option<(usize, bool)>, Fail>
     requires { 2 < length state.now.book.nodes }
 {
-    match state.hint(2)?.prices {
+    let Hint { prices, rows: _ } = state.hint(2)?;
+    match prices {
         Some(prices) => {
             let are_zero = prices.cuts.as_slice() == [0u64].as_slice();
             Ok(Some((prices.cuts.len(), are_zero)))
