@@ -84,7 +84,8 @@ impl Greedy {
 
     /// Advises for a node: prices at scale 1, and the greedy plan where it has a duty. A slot's price is the cost of an
     /// employee too few where fewer work there than needed of the duties that the cuts force, each with the least legal
-    /// list of its shift; minus the cost of an employee too many where more do; and else 0. Each cut's price is 0.
+    /// list of its shift; minus the cost of an employee too many where more do; and else 0. Each cut's price is 0. It advises no
+    /// split.
     pub fn advise(&mut self, instance: &Instance, ask: &Ask) -> Result<Advice, NoMemory>
         requires { length ask.now.cuts ≤ 2 ^ 33 }
         ensures advice { IfOk result (λ advice. advice ≡ greedy_advice instance.now ask.now.cuts) }
@@ -98,7 +99,33 @@ impl Greedy {
             cuts: CutPrices::new(cuts),
         };
         let plan = self.plan(instance)?;
-        Ok(Advice { prices, plan })
+        Ok(Advice {
+            prices,
+            plan,
+            split: None,
+        })
+    }
+}
+
+impl Adviser for Greedy {
+    ghost told = { λ g. g.told };
+
+    ghost last = { λ g. g.last };
+
+    /// Advises the prices of the duties that the cuts force, the greedy plan where it has a duty, and no split.
+    fn advise(&mut self, instance: &Instance, ask: &Ask) -> Result<Advice, NoMemory>
+        requires { length ask.now.cuts ≤ 2 ^ 33 }
+        ensures advice { IfOk result (λ advice. advice ≡ greedy_advice instance.now ask.now.cuts) }
+        ensures same { self.new ≡ self.old }
+    {
+        self.advise(instance, ask)
+    }
+
+    /// Tells the adviser what became of a step.
+    fn learn(&mut self, news: &Told)
+        ensures { self.new ≡ after self.old news.now }
+    {
+        self.heard.hear(news);
     }
 }
 

@@ -9,7 +9,7 @@ mod greedy_adviser;
 mod heard;
 mod kept;
 
-pub use advice::{Advice, Ask};
+pub use advice::{Advice, Ask, Splitting};
 pub use adviser::{Adviser, Told};
 pub use fixed::Fixed;
 pub use greedy_adviser::Greedy;

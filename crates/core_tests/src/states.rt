@@ -1,5 +1,4 @@
 //! States of a small instance.
-ghost use Rattle.std.specs.Prelude.{◌<◌, length};
 
 use crate::fixtures::morning;
 use break_rules::{Break, Breaks};

@@ -4,8 +4,8 @@ ghost use Rattle.std.specs.Prelude.{◌≡◌, IfOk, length};
 use crate::fixtures::{Size, instance_of, plain_type};
 use advisers::{Ask, Greedy};
 use break_rules::{Breaks, NoMemory};
-use head_splits::{Class, Cut, Cuts, Side};
-use shift_instance::Instance;
+use head_splits::{Class, Cut, Cuts, Hint, Side};
+use shift_instance::{Instance, Rows};
 use std::alloc::Global;
 use std::test::Fail;
 
@@ -34,6 +34,10 @@ fn ask(alloc: Global, m: u16) -> Result<Ask, NoMemory>
         cuts: Cuts::new(vec![in alloc; Cut { class, side, m }]?),
         floor: 0,
         best: 8,
+        hint: Hint {
+            prices: None,
+            rows: Rows::new(Vec::new(alloc)),
+        },
     })
 }
 

@@ -1,4 +1,4 @@
-//! Tests of runs over a book on a disk in memory: of one worker, with a journal that gets full and with calls that fail, and of several.
+//! Tests of one worker's runs over a book on a disk in memory: with a journal that gets full, and with calls that fail.
 #![tactic(auto)]
 
 #[cfg(test)]
@@ -7,7 +7,3 @@ mod crashes;
 mod fixtures;
 #[cfg(test)]
 mod full_journals;
-#[cfg(test)]
-mod side_by_side;
-#[cfg(test)]
-mod workers;

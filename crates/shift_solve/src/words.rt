@@ -6,23 +6,12 @@ ghost use Rattle.shift_solve.specs.Words.{IsPathIn};
 use solve_words::{Command, command_of};
 use std::alloc::{AllocError, Global};
 
-/// The JOURNAL word, and none where the words have none, say a number of workers, or are no command.
+/// The JOURNAL word, and none where the words have none or are no command.
 pub fn journal_path(alloc: Global, words: &[String]) -> Result<Option<String>, AllocError>
     ensures { IfOk result (λ path. IsPathIn (map string_bytes words.now) (option_map string_bytes path)) }
 {
     match command_of(alloc, words)? {
-        Some(
-            Command::Search {
-                journal,
-                workers,
-                ..
-            },
-        ) => {
-            if workers.is_some() {
-                return Ok(None);
-            }
-            Ok(Some(String::from_str(alloc, journal)?))
-        }
+        Some(Command::Search { journal, .. }) => Ok(Some(String::from_str(alloc, journal)?)),
         Some(Command::Demo { .. }) => Ok(None),
         None => Ok(None),
     }

@@ -1,9 +1,10 @@
 -- While no worker gave up, each step taken used a node: it is closed, or in a hand. So with an open node left and empty hands, fewer
 -- steps were taken than are enough.
-use Rattle.std.proofs.Common.{◌≡◌, ◌⊎◌, inl, inr, ℕ, zero, suc, ◌+◌, ◌<◌, ◌≤◌, true, false, ◌||◌, not, List, [], ◌∷◌, ◌++◌, length, set, refl, sym, ap, ◌∙◌, subst, arith, Option, Some, None, eq-eqb}
+use Rattle.std.proofs.Common.{◌≡◌, ◌⊎◌, inl, inr, ℕ, zero, suc, ◌+◌, ◌<◌, ◌≤◌, Bool, true, false, ◌||◌, not, List, [], ◌∷◌, ◌++◌, length, set, refl, sym, ap, ◌∙◌, subst, arith, Option, Some, None, eq-eqb}
 use Rattle.std.specs.Prelude.{slice_get}
 use Rattle.std.specs.List.{list_any}
 use Rattle.std.proofs.Math.Logic.{∥∥₁_elim}
+use Rattle.std.proofs.Props.{props}
 use Rattle.std.proofs.lemmas.Bool.{and_parts, eqb-true, false≢true, not-true, or_cases, or_from, or_left, or_right}
 use Rattle.shift_instance.specs.Problem.{Problem}
 use Rattle.head_splits.specs.Nodes.{Node}
@@ -14,7 +15,7 @@ use Rattle.search_core.specs.declared.board.Taken.{Taken}
 use Rattle.search_core.specs.declared.board.Taken.TheVariants.{Closed, Finished, Halted, Spent, Node as TakenNode, Idle}
 use Rattle.search_core.specs.declared.board.CommitFault.{CommitFault}
 use Rattle.search_core.specs.declared.board.CommitFault.TheVariants.{DiskFault, Full, NotHeld, Shut, NotClosing, OtherCuts, NoMemory}
-use Rattle.search_core.specs.Board.{BoardView, book_at, posts_at, Commits, CommitRefuses, IsSoundBoard, TakeMakes}
+use Rattle.search_core.specs.Board.{BoardView, book_at, posts_at, yields, Commits, CommitRefuses, IsSoundBoard, TakeMakes}
 use Rattle.search_core.specs.Book.{Book, book_after, book_of, is_finished, is_node_and, is_open}
 use Rattle.search_core.specs.Calls.{steps_enough, AreCalls, IsCall, IsFresh}
 use Rattle.search_core.specs.Calls.AreCalls.{none, one_more}

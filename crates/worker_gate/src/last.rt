@@ -11,7 +11,7 @@ use crate::RunEnd;
 use crate::seat::Place;
 use crate::turns::{Left, Rest, Work, commit_in, work_of};
 use crate::worker::{closed_again, decide};
-use advisers::{Adviser, Told};
+use advisers::Adviser;
 use board_lock::Held;
 use search_core::{Board, Kept, Shutting, StepPosts, Taken};
 use shift_instance::Instance;
@@ -110,13 +110,7 @@ fn finish<B: Board, L: Ledger>(
     let Ok(kept) = commit_alone(alloc, instance, held, *number, step, share) else {
         return;
     };
-    seat.adviser.learn(&Told {
-        node,
-        floor: kept.floor,
-        best: kept.best,
-    });
-    seat.told += 1;
-    seat.share += 1;
+    seat.tell(node, kept);
 }
 
 /// Finishes the node in a hand, or lets go of it where there is no memory for its cuts. Unless the board is shut, the hand is empty

@@ -1,9 +1,10 @@
 //! A seat of a worker, and the place from which it works.
-ghost use Rattle.std.specs.Prelude.{◌≡◌, ◌<◌};
+ghost use Rattle.std.specs.Prelude.{◌≡◌, ◌+◌, ◌-◌, ◌<◌, ◌^◌, min};
 
-use advisers::Adviser;
+use advisers::{Adviser, Told};
 use atomic_table::Badge;
 use board_lock::{BoardRoot, View};
+use search_core::Kept;
 use std::sync::ledger::{Ledger, Share};
 
 /// A seat for a worker, with its adviser.
@@ -15,6 +16,25 @@ pub struct Seat {
     pub told: u64,
     /// The worker's part of the commits of the run that answered `Ok`.
     pub share: u64,
+}
+
+impl Seat {
+    /// Tells the adviser what a commit made of its step for that node, and counts it.
+    pub(crate) fn tell(&mut self, node: u32, kept: Kept)
+        requires told { self.old.told < 2 ^ 63 }
+        requires share { self.old.share < 2 ^ 63 }
+        ensures counted { self.new.told ≡ self.old.told + 1 }
+        ensures share { self.new.share ≡ self.old.share + 1 }
+        ensures told { told self.new.adviser ≡ min (told self.old.adviser + 1) (2 ^ 64 - 1) }
+    {
+        self.adviser.learn(&Told {
+            node,
+            floor: kept.floor,
+            best: kept.best,
+        });
+        self.told += 1;
+        self.share += 1;
+    }
 }
 
 /// A seat with what its worker needs: a seat at the lock of the board, a share of the ledger of commits, and its number.
