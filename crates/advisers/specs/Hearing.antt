@@ -16,3 +16,8 @@ pub record FixedPrices : Type 0 where
   pub q : ℕ
   pub slots : List ℤ
   pub heard : Heard
+
+-- the scale that an adviser of prices at a scale was made with, and what it was told
+pub record Scaled : Type 0 where
+  pub q : ℕ
+  pub heard : Heard

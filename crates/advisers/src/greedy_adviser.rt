@@ -1,5 +1,6 @@
 //! The adviser that advises the greedy plan.
-ghost use Rattle.std.specs.Prelude.{◌≡◌, ◌≤◌, ◌^◌, IfOk, IfSome, length, replicate};
+ghost use Rattle.std.specs.Prelude.{◌≡◌, ◌≤◌, ◌^◌, IfOk, IfSome, IsTrue, length, replicate};
+ghost use Rattle.shift_instance.specs.Rota.{are_legal_rows};
 ghost use Rattle.greedy.specs.Greedy.{greedy_rows};
 ghost use Rattle.advisers.specs.Advised.{greedy_advice, greedy_plan};
 ghost use Rattle.advisers.specs.Forced.{forced_prices};
@@ -48,7 +49,8 @@ impl Greedy {
 
     /// The kept rows of the greedy plan of this instance, if they are kept.
     fn kept_rows(&self, instance: &Instance) -> Result<Option<Rows>, NoMemory>
-        ensures { IfOk result (λ rows. IfSome rows (λ rows. rows ≡ greedy_rows instance.now)) }
+        ensures rows { IfOk result (λ rows. IfSome rows (λ rows. rows ≡ greedy_rows instance.now)) }
+        ensures legal { IfOk result (λ rows. IfSome rows (λ rows. IsTrue (are_legal_rows instance.now rows))) }
     {
         match &self.kept {
             Some(kept) if kept.is_of(instance) => Ok(Some(kept.copy()?)),
@@ -59,6 +61,7 @@ impl Greedy {
     /// The rows of the greedy plan, kept or made now.
     fn rows(&mut self, instance: &Instance) -> Result<Rows, NoMemory>
         ensures rows { IfOk result (λ rows. rows ≡ greedy_rows instance.now) }
+        ensures legal { IfOk result (λ rows. IsTrue (are_legal_rows instance.now rows)) }
         ensures same { self.new ≡ self.old }
     {
         if let Some(rows) = self.kept_rows(instance)? {
@@ -71,8 +74,9 @@ impl Greedy {
     }
 
     /// The greedy plan, and `None` where it has no duty.
-    fn plan(&mut self, instance: &Instance) -> Result<Option<Rows>, NoMemory>
+    pub(crate) fn plan(&mut self, instance: &Instance) -> Result<Option<Rows>, NoMemory>
         ensures plan { IfOk result (λ plan. plan ≡ greedy_plan instance.now) }
+        ensures legal { IfOk result (λ plan. IfSome plan (λ rows. IsTrue (are_legal_rows instance.now rows))) }
         ensures same { self.new ≡ self.old }
     {
         let rows = self.rows(instance)?;

@@ -1,6 +1,7 @@
 //! The greedy plan of an instance, kept with the numbers of the instance.
-ghost use Rattle.std.specs.Prelude.{◌≡◌, IfOk};
+ghost use Rattle.std.specs.Prelude.{◌≡◌, IfOk, IsTrue};
 ghost use Rattle.std.specs.Bool.{OnTrue};
+ghost use Rattle.shift_instance.specs.Rota.{are_legal_rows};
 ghost use Rattle.greedy.specs.Greedy.{greedy_rows};
 ghost use Rattle.advisers.specs.Same.{rule_numbers, type_numbers, instance_numbers};
 
@@ -17,6 +18,7 @@ pub(crate) struct KeptPlan {
     /// The rows of its greedy plan.
     pub(crate) rows: Rows,
     ghost made: { rows ≡ greedy_rows parts },
+    ghost legal: { IsTrue (are_legal_rows parts rows) },
 }
 
 /// The numbers of a break rule outside its lists.
@@ -116,6 +118,7 @@ impl KeptPlan {
     pub(crate) fn of(alloc: Global, instance: &Instance) -> Result<KeptPlan, NoMemory>
         ensures parts { IfOk result (λ k. k.parts ≡ instance.now) }
         ensures rows { IfOk result (λ k. k.rows ≡ greedy_rows instance.now) }
+        ensures legal { IfOk result (λ k. IsTrue (are_legal_rows instance.now k.rows)) }
     {
         let rows = greedy_plan(alloc, instance)?;
         let parts = instance.parts().clone()?;
@@ -132,7 +135,8 @@ impl KeptPlan {
 
     /// Whether it is the plan of this instance.
     pub(crate) fn is_of(&self, instance: &Instance) -> bool
-        ensures { OnTrue result (self.now.rows ≡ greedy_rows instance.now) }
+        ensures made { OnTrue result (self.now.rows ≡ greedy_rows instance.now) }
+        ensures legal { OnTrue result (IsTrue (are_legal_rows instance.now self.now.rows)) }
     {
         is_same(&self.parts, instance.parts())
     }
