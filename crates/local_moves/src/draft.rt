@@ -48,6 +48,14 @@ pub(crate) fn duty_of(alloc: Global, row: &Row) -> Result<Duty, NoMemory>
     duty_with(alloc, row.shift, row.day, &row.breaks)
 }
 
+/// Rows once more.
+fn copied_rows(rows: &Rows) -> Result<Rows, NoMemory>
+    ensures { IfOk result (λ copy. copy ≡ rows.now) }
+{
+    let copy = rows.clone()?;
+    Ok(copy)
+}
+
 /// Adds a duty to a cover that often.
 fn add_often(instance: &Instance, cover: &mut Cover, duty: &Duty, often: u16)
     requires instance { cover.old.instance ≡ instance.now }
@@ -112,6 +120,23 @@ impl Draft {
         ensures legal { IsTrue (are_legal_rows self.now.instance self.now.rows) }
     {
         &self.rows
+    }
+
+    /// The rows of the plan, in order, given back.
+    pub fn into_rows(self) -> Rows
+        ensures rows { result ≡ self.rows }
+        ensures legal { IsTrue (are_legal_rows self.instance self.rows) }
+    {
+        self.rows
+    }
+
+    /// The draft once more.
+    pub fn copied(&self, instance: &Instance) -> Result<Draft, NoMemory>
+        requires { self.now.instance ≡ instance.now }
+        ensures { IfOk result (λ d. d ≡ self.now) }
+    {
+        let rows = copied_rows(self.rows())?;
+        Draft::new(self.allocator(), instance, rows)
     }
 
     /// What the plan costs. It takes no memory.

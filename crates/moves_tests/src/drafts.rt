@@ -2,7 +2,7 @@
 ghost use Rattle.std.specs.Prelude.{◌≡◌, IfOk};
 
 use break_rules::{Break, Breaks, Rule, Totals};
-use local_moves::{Draft, Move, MoveFault};
+use local_moves::{Descent, Draft, Move, MoveFault, best_duty, descend, descended};
 use rota_cost::{Costed, cost_rows};
 use shift_instance::{Instance, Parts, Row, Rows, TypeParts};
 use std::alloc::Global;
@@ -157,5 +157,48 @@ fn a_shift_without_breaks_takes_no_duties(rt: HostRuntime) -> Result<(), Fail> {
         there_and_back(&instance, &mut draft, &shorter),
         Err(MoveFault::Breaks)
     );
+    Ok(())
+}
+
+/// Two starts and two lengths of one type, and a shift with a type of its own: the shifts 0 to 3 by start and then by
+/// length, and shift 4.
+fn five_shifts(alloc: Global) -> Result<Instance, Fail> {
+    let mut types = vec![in alloc; kind(alloc, "M", 9, 9)?]?;
+    types.push(kind(alloc, "N", 8, 8)?)?;
+    day(alloc, types)
+}
+
+// The best break of a second duty lies in the first of the two hours that need one employee.
+#[test]
+fn the_best_duty_costs_least(rt: HostRuntime) -> Result<(), Fail> {
+    let alloc = rt.alloc();
+    let instance = five_shifts(alloc)?;
+    let draft = draft_of(alloc, &instance, &[2])?;
+    assert!(rt; instance.shifts().len() == 5 && instance.days() == 1);
+    assert_eq!(rt; draft.cost(), 2 * 7 + 3);
+    let (list, cost) = best_duty(&instance, &draft, 0, 0)?.ok_or("no list")?;
+    assert!(rt; list.as_slice() == [Break { start: 3, len: 1 }].as_slice());
+    assert_eq!(rt; cost, 6);
+    assert_eq!(rt; draft.duties_of(&instance, 0), 1);
+    assert_eq!(rt; draft.heads_on(&instance, 0, 0), 1);
+    Ok(())
+}
+
+// One move leads from both breaks in the first hours to the plan in which each lies where one employee is enough.
+#[test]
+fn descent_ends_where_no_move_is_left(rt: HostRuntime) -> Result<(), Fail> {
+    let alloc = rt.alloc();
+    let instance = day(alloc, vec![in alloc; kind(alloc, "M", 8, 8)?]?)?;
+    let mut draft = draft_of(alloc, &instance, &[2, 3])?;
+    let copy = draft.copied(&instance)?;
+    descend(&instance, &mut draft, 5)?;
+    assert_eq!(rt; draft.cost(), 3);
+    assert_eq!(rt; copy.cost(), 6);
+    let rows = descended(alloc, &instance, copy.into_rows(), 5)?;
+    let descent = costed(&instance, rows)?;
+    assert_eq!(rt; descent.cost(), 3);
+    let rows = Descent::new(alloc, 1000).plan(&instance)?;
+    let plan = costed(&instance, rows)?;
+    assert_eq!(rt; plan.cost(), 3);
     Ok(())
 }
