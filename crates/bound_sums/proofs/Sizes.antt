@@ -2,11 +2,13 @@
 use Rattle.std.proofs.Common.{◌≡◌, inl, inr, ℕ, ◌+◌, ◌*◌, ◌^◌, ◌<◌, ◌≤◌, ℤ, ◌+ℤ◌, List, [], ◌∷◌, length, refl, sym, ap, ◌∙◌, subst, arith, FitsSigned, to_z, of_z}
 use mir.Syntax.{w128}
 use Rattle.std.specs.Int.RustNames.{unsigned_abs}
-use Rattle.std.proofs.lemmas.Int.{fits_signed_from_abs, to_z-of_z}
+use Rattle.std.specs.List.{list_any, range_with_len}
+use Rattle.std.proofs.lemmas.Int.{ints, fits_signed_from_abs, to_z-of_z}
 use Rattle.break_rules.specs.Sums.{int_sum_by}
 use Rattle.break_rules.proofs.Lists.{Has}
 use Rattle.break_rules.proofs.Sizes.{abs_add}
-use Rattle.break_rules.proofs.Sums.{int_sum_by-cons}
+use Rattle.break_rules.proofs.Sums.{int_sum_by-append, int_sum_by-cons}
+use Rattle.shift_instance.specs.Problem.{below}
 
 -- a small number fits
 pub fits : (z : ℤ) (n : ℕ) → unsigned_abs z ≤ n → n < 2 ^ 127 → FitsSigned w128 z

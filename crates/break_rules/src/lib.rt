@@ -9,7 +9,6 @@ mod legality;
 mod living;
 mod order;
 mod places;
-mod sequence;
 mod walking;
 
 ghost use Rattle.std.specs.Prelude.{◌≡◌, ℕ, ◌≤◌, [], ◌∷◌, length, OnOk, IfOk, IsOk, IsTrue, ◌↔◌, MatchResult, Some, None};
@@ -24,7 +23,6 @@ pub use legality::legal;
 pub use living::{LiveSpots, least, live};
 pub use order::is_less_list;
 pub use places::{place, spot_at};
-pub use sequence::{Breaks, Sequence};
 use std::alloc::{AllocError, Global};
 use std::error::Error;
 use std::fmt;

@@ -21,7 +21,8 @@ use Rattle.shift_instance.proofs.Offsets.{earned_by_offsets}
 use Rattle.shift_instance.proofs.Rotas.{Has-lists_of, from_lists_of}
 use Rattle.head_splits.specs.declared.Cut.{Cut}
 use Rattle.head_splits.specs.declared.Prices.{Prices}
-use Rattle.head_splits.specs.Bound.{is_nil, reduced}
+use Rattle.head_splits.specs.Cuts.{low, high, whole_class}
+use Rattle.head_splits.specs.Bound.{is_nil, reduced, is_forced, day_value, free_day_value, term}
 use Rattle.price_sums.specs.Along.{price_in, earned_from, ArePricesOf, Completes}
 use Rattle.cert_check.specs.Rests.{IsGreatest}
 use Rattle.cert_check.specs.Below.{duty_with, bonuses, whole_worth}

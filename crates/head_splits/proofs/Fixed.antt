@@ -15,7 +15,7 @@ use Rattle.break_rules.proofs.Once.{cond_same}
 use Rattle.shift_instance.specs.declared.Shift.{Shift}
 use Rattle.shift_instance.specs.declared.Duty.{Duty}
 use Rattle.shift_instance.specs.Problem.{Problem, shift_list, below}
-use Rattle.shift_instance.specs.Rota.{same_duty, count_of, is_list_of, is_legal_duty, is_legal_rota, is_on, cost}
+use Rattle.shift_instance.specs.Rota.{same_duty, count_of, lists_of, is_list_of, is_legal_duty, is_legal_rota, is_on, cost}
 use Rattle.shift_instance.proofs.AllDuties.{Has-all_duties, from_all_duties, no_count, once_in_duties}
 use Rattle.shift_instance.proofs.Rotas.{legal_duty_parts, legal_duties}
 use Rattle.shift_instance.proofs.Alike.{same_duty_decides, AreAlike, alike_from_counts, alike_cost, alike_legal}

@@ -1,5 +1,5 @@
 -- The parts of a price set, by the test of one.
-use Rattle.std.proofs.Common.{◌≡◌, ◌≤◌, ℤ, ◌≤ℤ◌, true, ◌&&◌, ◌==◌, nat_le, List, length}
+use Rattle.std.proofs.Common.{◌≡◌, ℕ, ◌≤◌, ℤ, ◌≤ℤ◌, true, ◌&&◌, ◌==◌, nat_le, List, length}
 use Rattle.std.specs.Prelude.{int_le}
 use Rattle.std.specs.Int.Signed.{le_z_yes}
 use Rattle.std.specs.List.{list_all, zip}

@@ -8,7 +8,7 @@ use Rattle.shift_instance.specs.declared.Duty.{Duty}
 use Rattle.shift_instance.specs.declared.Row.{Row}
 use Rattle.shift_instance.specs.Problem.{Problem, shift_list, below}
 use Rattle.shift_instance.specs.AllDuties.{all_duties, row_of}
-use Rattle.shift_instance.specs.Rota.{is_list_of, live_lists_of, is_legal_rota, is_shift_and}
+use Rattle.shift_instance.specs.Rota.{lists_of, is_list_of, live_lists_of, is_legal_rota, is_shift_and}
 use Rattle.head_splits.specs.declared.Class.{Class}
 use Rattle.head_splits.specs.declared.Cut.{Cut}
 use Rattle.head_splits.specs.Cuts.{low, high, meets}

@@ -11,3 +11,5 @@ pub mod CountedRows
 pub mod ShiftDuties
 pub mod Exchanges
 pub mod Reshifts
+pub mod OneMore
+pub mod Descents

@@ -3,3 +3,4 @@ pub mod Drafting
 pub mod Moves
 pub mod FaultText
 pub mod Changes
+pub mod Descending

@@ -114,6 +114,23 @@ impl Draft {
         &self.rows
     }
 
+    /// The rows of the plan, in order, given back.
+    pub fn into_rows(self) -> Rows
+        ensures rows { result ≡ self.rows }
+        ensures legal { IsTrue (are_legal_rows self.instance self.rows) }
+    {
+        self.rows
+    }
+
+    /// The draft once more.
+    pub fn copied(&self, instance: &Instance) -> Result<Draft, NoMemory>
+        requires { self.now.instance ≡ instance.now }
+        ensures { IfOk result (λ d. d ≡ self.now) }
+    {
+        let rows = self.rows().clone()?;
+        Draft::new(self.allocator(), instance, rows)
+    }
+
     /// What the plan costs. It takes no memory.
     pub fn cost(&self) -> u64
         ensures cost { result ≡ cost self.now.instance (rota_of self.now.rows) }

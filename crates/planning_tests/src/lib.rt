@@ -11,3 +11,5 @@ mod fixtures;
 mod price_bounds;
 #[cfg(test)]
 mod settled_nodes;
+#[cfg(test)]
+mod thorough_advice;

@@ -13,7 +13,7 @@ use Rattle.search_core.specs.Book.{Book, is_node_and, is_open}
 use Rattle.search_core.specs.Core.{hand, is_node}
 use Rattle.search_core.specs.Kept.{cuts_in}
 use Rattle.search_core.specs.State.{state_of}
-use Rattle.search_core.proofs.Runs.{hand_set}
+use Rattle.search_core.proofs.Runs.{hand_set, hand_some}
 
 -- ---- the nodes in the hands are unsplit
 abbrev pub AreUnsplit : Book → List (Option ℕ) → Type 0

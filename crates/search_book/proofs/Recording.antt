@@ -22,7 +22,7 @@ use Rattle.search_book.specs.Posts.{bytes_used}
 use Rattle.post_codec.specs.Batches.{joined, SpellPosts}
 use Rattle.search_book.specs.Prefix.{HoldsPrefix}
 use Rattle.search_book.specs.Recorded.{IsRecorded, ShutIn}
-use Rattle.post_codec.proofs.Batches.{zip_length, zip_take, zip_append, zip_right}
+use Rattle.post_codec.proofs.Batches.{zip_length, zip_push, zip_take, zip_append, zip_right}
 use Rattle.search_book.proofs.Used.{used_more}
 
 -- ---- batches, joined

@@ -1,7 +1,8 @@
 -- The book of a search is a sound board.
 use Rattle.std.specs.Prelude.{◌≡◌, ℕ, Bool, List, Option}
 use Rattle.std.proofs.Common.{sym}
-use Rattle.search_core.specs.Board.{IsSoundBoard}
+use Rattle.search_core.specs.declared.board.Shutting.TheVariants.{Full}
+use Rattle.search_core.specs.Board.{IsPast, IsSoundBoard}
 use Rattle.post_codec.specs.Batches.{joined}
 use Rattle.search_book.specs.PostLog.{PostLogView}
 use Rattle.search_book.specs.Search.{board_at, KeepsSearch}

@@ -1,10 +1,10 @@
 -- What becomes of a step that isn't committed.
-use Rattle.std.proofs.Common.{◌≡◌, ◌⊎◌, inl, inr, ℕ, List, refl, sym, ap, ◌∙◌, subst, Option}
+use Rattle.std.proofs.Common.{◌≡◌, ◌⊎◌, inl, inr, ℕ, List, refl, sym, ap, ◌∙◌, subst, Option, Some, None}
 use Rattle.std.specs.Prelude.{slice_get, IsSome}
 use Rattle.head_splits.specs.declared.Cut.{Cut}
 use Rattle.search_core.specs.declared.step_posts.StepPosts.{StepPosts}
 use Rattle.search_core.specs.declared.board.CommitFault.TheVariants.{DiskFault, Full, NotHeld, Shut, NotClosing, OtherCuts, NoMemory}
-use Rattle.search_core.specs.Board.{BoardView, yields, CommitRefuses}
+use Rattle.search_core.specs.Board.{BoardView, yields, CommitRefuses, HoldsStep}
 use Rattle.worker_gate.specs.declared.turns.Left.TheVariants.{Again, End, NotClosing as LeftNotClosing}
 use Rattle.worker_gate.specs.Workers.{LeavesStep}
 

@@ -1,7 +1,5 @@
 pub mod Leaving
 pub mod Moved
-pub mod Hands
-pub mod Pointwise
 pub mod Counted
 pub mod Closing
 pub mod Rounds

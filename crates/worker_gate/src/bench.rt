@@ -27,8 +27,7 @@ fn work_all<B: Board + Send, L: Ledger + Send + Sync, G: Gate + Sync, R: Threads
 )
     requires some { 0 < length bench.old }
     requires rest { All (λ p. RestsAt (KnowsBoard B.seen instance.now p.number) lock.now p.badge) bench.old }
-    ensures numbers { (i : ℕ) (d : _) → i < length bench.old → (slice_index_or bench.new i d).number ≡ (slice_index_or bench.old i d).number }
-    ensures told { (i : ℕ) (d : _) → i < length bench.old → told (slice_index_or bench.old i d).seat.adviser < 2 ^ 63 + (slice_index_or bench.old i d).seat.told
+    ensures { (i : ℕ) (d : _) → i < length bench.old → told (slice_index_or bench.old i d).seat.adviser < 2 ^ 63 + (slice_index_or bench.old i d).seat.told
         → told (slice_index_or bench.new i d).seat.adviser + (slice_index_or bench.old i d).seat.told ≡ told (slice_index_or bench.old i d).seat.adviser + (slice_index_or bench.new i d).seat.told }
 {
     let threads = bench.len();
@@ -38,8 +37,7 @@ fn work_all<B: Board + Send, L: Ledger + Send + Sync, G: Gate + Sync, R: Threads
         threads,
         &|_, place: &mut Place<B, L>|
             requires { RestsAt (KnowsBoard B.seen instance.now place.now.number) lock.now place.now.badge }
-            ensures number { place.exit.now.number ≡ place.entry.now.number }
-            ensures told { told place.entry.now.seat.adviser < 2 ^ 63 + place.entry.now.seat.told
+            ensures { told place.entry.now.seat.adviser < 2 ^ 63 + place.entry.now.seat.told
                 → told place.exit.now.seat.adviser + place.entry.now.seat.told ≡ told place.entry.now.seat.adviser + place.exit.now.seat.told }
         { work(rt, alloc, instance, lock, gate, place) },
     );
@@ -62,7 +60,6 @@ pub(crate) fn work_bench<
     requires some { 0 < vec_len bench.old }
     requires rest { All (λ p. RestsAt (KnowsBoard B.seen instance.now p.number) lock.now p.badge) bench.old.items }
     ensures len { length bench.new.items ≡ length bench.old.items }
-    ensures numbers { (i : ℕ) (d : _) → i < vec_len bench.old → (slice_index_or bench.new.items i d).number ≡ (slice_index_or bench.old.items i d).number }
     ensures told { (i : ℕ) (d : _) → i < vec_len bench.old → told (slice_index_or bench.old.items i d).seat.adviser < 2 ^ 63 + (slice_index_or bench.old.items i d).seat.told
         → told (slice_index_or bench.new.items i d).seat.adviser + (slice_index_or bench.old.items i d).seat.told ≡ told (slice_index_or bench.old.items i d).seat.adviser + (slice_index_or bench.new.items i d).seat.told }
 {

@@ -119,32 +119,6 @@ fn finish<B: Board, L: Ledger>(
     seat.share += 1;
 }
 
-/// Finishes the node in a hand, or lets go of it where there is no memory for its cuts. Unless the board is shut, the hand is empty
-/// afterwards.
-fn finish_node<B: Board, L: Ledger>(
-    alloc: Global,
-    instance: &Instance,
-    held: &mut Held<B, L>,
-    place: &mut Place<B, L>,
-    node: u32,
-    floor: u64,
-    best: u64,
-)
-    requires knows { KnowsBoard B.seen instance.now place.old.number (root_at held.old.opened held.old.workers) }
-    requires running { (B.seen held.old.board).shut ≡ None }
-    requires holds { hand (B.seen held.old.board).hands place.old.number ≡ Some node }
-    ensures root { root_at held.new.opened held.new.workers ≡ root_at held.old.opened held.old.workers }
-    ensures emptied { (B.seen held.new.board).shut ≡ None → (B.seen held.new.board).hands ≡ slice_set (B.seen held.old.board).hands place.old.number None }
-    ensures taken { (B.seen held.new.board).taken ≡ (B.seen held.old.board).taken }
-    ensures number { place.new.number ≡ place.old.number }
-    ensures told { told place.old.seat.adviser < 2 ^ 63 + place.old.seat.told
-        → told place.new.seat.adviser + place.old.seat.told ≡ told place.old.seat.adviser + place.new.seat.told }
-{
-    if let Ok(work) = work_of(held, place.number, node, floor, best, false) {
-        finish(alloc, instance, held, place, work);
-    }
-}
-
 /// Empties a hand, unless the board is shut: its node is finished with its seat, or let go of where a worker gave up.
 fn empty_hand<B: Board, L: Ledger>(
     alloc: Global,
@@ -155,7 +129,6 @@ fn empty_hand<B: Board, L: Ledger>(
     requires knows { KnowsBoard B.seen instance.now place.old.number (root_at held.old.opened held.old.workers) }
     ensures root { root_at held.new.opened held.new.workers ≡ root_at held.old.opened held.old.workers }
     ensures emptied { (B.seen held.new.board).shut ≡ None → (B.seen held.new.board).hands ≡ slice_set (B.seen held.old.board).hands place.old.number None }
-    ensures running { (B.seen held.new.board).shut ≡ None → (B.seen held.old.board).shut ≡ None }
     ensures number { place.new.number ≡ place.old.number }
     ensures told { told place.old.seat.adviser < 2 ^ 63 + place.old.seat.told
         → told place.new.seat.adviser + place.old.seat.told ≡ told place.old.seat.adviser + place.new.seat.told }
@@ -172,7 +145,9 @@ fn empty_hand<B: Board, L: Ledger>(
         return;
     }
     let best = held.board.best_cost();
-    finish_node(alloc, instance, held, place, node, 0, best);
+    if let Ok(work) = work_of(held, number, node, 0, best, false) {
+        finish(alloc, instance, held, place, work);
+    }
 }
 
 /// Empties each hand, unless the board is shut. The places have the numbers of the hands.
@@ -209,7 +184,7 @@ pub(crate) fn go_on<B: Board, L: Ledger>(
     requires first { place.old.number ≡ 0 }
     requires empty { (B.seen held.old.board).shut ≡ None → (B.seen held.old.board).hands ≡ empty_hands }
     ensures root { root_at held.new.opened held.new.workers ≡ root_at held.old.opened held.old.workers }
-    ensures end { (before : BoardView) → WorkersEnd before (B.seen held.new.board) result }
+    ensures end { WorkersEnd (B.seen held.old.board) (B.seen held.new.board) result }
     ensures told { told place.old.seat.adviser < 2 ^ 63 + place.old.seat.told
         → told place.new.seat.adviser + place.old.seat.told ≡ told place.old.seat.adviser + place.new.seat.told }
 {
@@ -219,7 +194,9 @@ pub(crate) fn go_on<B: Board, L: Ledger>(
         }
         match held.take(0) {
             Taken::Node { node, floor, best } => {
-                finish_node(alloc, instance, held, place, node, floor, best);
+                if let Ok(work) = work_of(held, 0, node, floor, best, true) {
+                    finish(alloc, instance, held, place, work);
+                }
             }
             Taken::Finished => return RunEnd::Finished,
             Taken::Spent => return RunEnd::Spent,

@@ -1,8 +1,6 @@
 //! The run of workers over a board, for a ledger of its commits.
-ghost use Rattle.std.specs.Prelude.{◌≡◌, ◌+◌, ◌<◌, ◌≤◌, ◌^◌, ℕ, All, None, false, length, slice_index_or, sum_by, vec_len};
-ghost use Rattle.search_core.specs.Board.{BoardView};
+ghost use Rattle.std.specs.Prelude.{◌≡◌, ◌+◌, ◌<◌, ◌≤◌, ◌^◌, ℕ, All, None, false, slice_index_or, sum_by, vec_len};
 ghost use Rattle.search_core.specs.Core.{empty_hands};
-ghost use Rattle.board_lock.specs.Roots.{root_at};
 ghost use Rattle.board_lock.specs.Turns.{AreTurns};
 ghost use Rattle.worker_gate.specs.Workers.{WorkersEnd};
 
@@ -13,34 +11,12 @@ use crate::seating::{seat_all, unseat_all};
 use crate::{Gate, RunEnd, Seat};
 use advisers::Adviser;
 use board_lock::{Held, Lock};
-use search_core::Board;
+use search_core::{Board, keeps_sound};
 use shift_instance::Instance;
 use std::alloc::Global;
 use std::sync::Wait;
 use std::sync::ledger::{Blank, Ledger};
 use std::thread::Threads;
-
-/// Once all workers have ended: empties each hand, goes on with the first seat, and tells how the run ends.
-fn finish_all<B: Board, L: Ledger>(
-    alloc: Global,
-    instance: &Instance,
-    held: &mut Held<B, L>,
-    bench: &mut Vec<Place<B, L>>,
-) -> RunEnd
-    requires some { 0 < vec_len bench.old }
-    requires numbers { (i : ℕ) (d : _) → i < vec_len bench.old → (slice_index_or bench.old.items i d).number ≡ i }
-    requires all { vec_len bench.old ≡ held.old.workers }
-    requires instance { (B.seen held.old.opened.value).instance ≡ instance.now }
-    requires budget { (B.seen held.old.opened.value).budget < 2 ^ 63 }
-    ensures root { root_at held.new.opened held.new.workers ≡ root_at held.old.opened held.old.workers }
-    ensures end { (before : BoardView) → WorkersEnd before (B.seen held.new.board) result }
-    ensures len { length bench.new.items ≡ length bench.old.items }
-    ensures told { (i : ℕ) (d : _) → i < vec_len bench.old → told (slice_index_or bench.old.items i d).seat.adviser < 2 ^ 63 + (slice_index_or bench.old.items i d).seat.told
-        → told (slice_index_or bench.new.items i d).seat.adviser + (slice_index_or bench.old.items i d).seat.told ≡ told (slice_index_or bench.old.items i d).seat.adviser + (slice_index_or bench.new.items i d).seat.told }
-{
-    empty_all(alloc, instance, held, bench.as_mut_slice());
-    go_on(alloc, instance, held, &mut bench[0])
-}
 
 /// What `run_workers` does, for the ledger that the blank stands for.
 pub(crate) fn run_in<
@@ -90,8 +66,10 @@ pub(crate) fn run_in<
     work_bench(rt, alloc, instance, &lock, gate, &mut bench);
     let mut held = lock.enter(rt, &mut first);
     lock.retire(first);
-    let end = finish_all(alloc, instance, &mut held, &mut bench);
+    empty_all(alloc, instance, &mut held, bench.as_mut_slice());
+    let end = go_on(alloc, instance, &mut held, &mut bench[0]);
     unseat_all(&mut bench, &mut seats, &mut all);
     let board = held.into_board(&mut all);
+    keeps_sound(&board);
     (board, seats, end)
 }

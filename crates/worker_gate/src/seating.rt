@@ -1,5 +1,5 @@
 //! Seats are put onto a bench before a run, and taken from it afterwards.
-ghost use Rattle.std.specs.Prelude.{◌≡◌, ◌≤◌, ◌<◌, ◌+◌, [], ℕ, All, map, slice_index_or, sum_by, vec_len};
+ghost use Rattle.std.specs.Prelude.{◌≡◌, ◌≤◌, ◌<◌, ◌+◌, [], All, map, sum_by, vec_len};
 ghost use Rattle.std.specs.Vec.{vec_capacity};
 ghost use Rattle.board_lock.specs.Passes.{root_of, IsOutside, RestsAt};
 
@@ -59,7 +59,7 @@ pub(crate) fn seat_all<B: Board, L: Ledger>(
     ensures parts { all.new.parts + vec_len seats.old ≡ all.old.parts }
     ensures none { all.new.amount ≡ 0 }
     ensures bench { map (λ p. p.seat) bench.new.items ≡ seats.old.items }
-    ensures numbers { (i : ℕ) (d : _) → i < vec_len seats.old → (slice_index_or bench.new.items i d).number ≡ i }
+    ensures numbers { All (λ p. p.number < vec_len seats.old) bench.new.items }
     ensures rest { All (λ p. RestsAt (λ r. r ≡ root_of first.old) lock.now p.badge) bench.new.items }
     ensures seats { seats.new.items ≡ [] }
     ensures kept { vec_capacity seats.new ≡ vec_capacity seats.old }

@@ -201,8 +201,7 @@ pub(crate) fn work<B: Board, L: Ledger, G: Gate, R: Wait>(
     place: &mut Place<B, L>,
 )
     requires { RestsAt (KnowsBoard B.seen instance.now place.old.number) lock.now place.old.badge }
-    ensures number { place.new.number ≡ place.old.number }
-    ensures told { told place.old.seat.adviser < 2 ^ 63 + place.old.seat.told
+    ensures { told place.old.seat.adviser < 2 ^ 63 + place.old.seat.told
         → told place.new.seat.adviser + place.old.seat.told ≡ told place.old.seat.adviser + place.new.seat.told }
 {
     let badge = mem::replace(&mut place.badge, Badge::blank());

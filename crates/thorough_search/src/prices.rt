@@ -1,0 +1,62 @@
+//! Prices as they are advised, and as a climb reads them.
+
+use break_rules::NoMemory;
+use head_splits::CUT_PRICE_MAX;
+use price_climb::Ranges;
+use shift_tables::Tables;
+use std::alloc::Global;
+use std::num::{saturating_f64_to_i64, saturating_f64_to_u64};
+
+/// The scale of the prices that are advised.
+pub(crate) const SCALE: u16 = 10_000;
+
+/// The scale as a float.
+const SCALE_FLOAT: f64 = 10000.0;
+
+/// A price as a whole number, within what a slot's price may be.
+fn whole(tables: &Tables, price: f64) -> i64 {
+    let scaled = (price * SCALE_FLOAT).round();
+    let least = -tables.excess * SCALE_FLOAT;
+    saturating_f64_to_i64(scaled.max(least).min(tables.shortage * SCALE_FLOAT))
+}
+
+/// The prices of the slots, rounded to whole numbers over the scale.
+pub(crate) fn slot_prices(
+    alloc: Global,
+    tables: &Tables,
+    prices: &[f64],
+) -> Result<Vec<i64>, NoMemory> {
+    let mut list = Vec::with_capacity(alloc, tables.slots)?;
+    for price in prices.iter().take(tables.slots) {
+        list.push(whole(tables, *price))?;
+    }
+    Ok(list)
+}
+
+/// The prices of so many cuts, rounded to whole numbers over the scale: 0 but for those on duties of certain breaks, whose prices
+/// stand behind those of the slots.
+pub(crate) fn cut_prices(
+    alloc: Global,
+    tables: &Tables,
+    ranges: &Ranges,
+    prices: &[f64],
+    count: usize,
+) -> Result<Vec<u64>, NoMemory> {
+    let mut list = vec![in alloc; 0; count]?;
+    for (cut, price) in ranges.fronts().iter().zip(prices.iter().skip(tables.slots)) {
+        if let Some(place) = list.get_mut(cut.place) {
+            *place = saturating_f64_to_u64((*price * SCALE_FLOAT).round()).min(CUT_PRICE_MAX);
+        }
+    }
+    Ok(list)
+}
+
+/// The prices to begin with where nothing is known: what an employee too few costs in each slot with a need, and else 0.
+pub(crate) fn first_prices(alloc: Global, tables: &Tables) -> Result<Vec<f64>, NoMemory> {
+    let mut list = Vec::with_capacity(alloc, tables.slots)?;
+    for need in &tables.need {
+        let price = if 0 < *need { tables.shortage } else { 0.0 };
+        list.push(price)?;
+    }
+    Ok(list)
+}
