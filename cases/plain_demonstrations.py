@@ -93,7 +93,7 @@ def ran(words, text=""):
 def searched(solve, number, steps):
     """The numbers of the line for a search by so many steps for the document of a number; none where it ends otherwise."""
     with tempfile.TemporaryDirectory() as folder:
-        words = [solve, "solve", pathlib.Path(folder) / "journal", "--steps", str(steps)]
+        words = [solve, "solve", pathlib.Path(folder) / "journal", "--workers", "1", "--steps", str(steps)]
         status, report, _ = ran(words, json.dumps(document_of(number)))
     said = dict(line.split(" ", 1) for line in report.split("\n")[1:4]) if status == 10 else {}
     return (int(said["cost"]), int(said["bound"]), steps) if said.get("status") == "stopped" else None

@@ -356,7 +356,7 @@ class Trial:
         reading, nodes = self.reading, Nodes(self.reading)
         span = reading.heads * sum(len({breaks[:size] for breaks in reading.lists[shift] for size in range(99)}) for shift, _ in reading.places)
         steps = 2 ** (span + 1) - 1 if span <= MOST_SPAN else self.draw.randint(0, 8)
-        status, text, said = self.run([self.solve, "solve", self.folder / "journal", "--steps", str(steps)], self.text)
+        status, text, said = self.run([self.solve, "solve", self.folder / "journal", "--workers", "1", "--steps", str(steps)], self.text)
         if status not in (0, 10):
             return [("solve ends with %d: %s" % (status, said), text)]
         report = read_report(text)

@@ -1,2 +1,6 @@
 pub mod Forcing
-pub mod Alike
+pub mod PriceSizes
+pub mod Searching
+pub mod Passing
+pub mod Choices
+pub mod PriceSteps

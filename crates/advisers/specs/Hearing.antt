@@ -1,6 +1,6 @@
 -- What an adviser keeps of what it was told.
 use Rattle.std.specs.Prelude.{ℕ, ℤ, ◌+◌, ◌-◌, ◌^◌, min, List, Some, None}
-use Rattle.advisers.specs.declared.adviser.Told.{Told}
+use Rattle.advice.specs.declared.adviser.Told.{Told}
 use Rattle.advisers.specs.declared.heard.Heard.{Heard}
 
 -- nothing yet
@@ -15,4 +15,9 @@ after h news = record { told = min (h.told + 1) (2 ^ 64 - 1); last = Some news }
 pub record FixedPrices : Type 0 where
   pub q : ℕ
   pub slots : List ℤ
+  pub heard : Heard
+
+-- the scale that an adviser of prices at a scale was made with, and what it was told
+pub record Scaled : Type 0 where
+  pub q : ℕ
   pub heard : Heard

@@ -1,4 +1,7 @@
 pub mod Forced
 pub mod Advised
-pub mod Same
 pub mod Hearing
+pub mod Solutions
+pub mod Subgradient
+pub mod Chosen
+pub mod Rounds

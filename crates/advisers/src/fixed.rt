@@ -4,14 +4,14 @@ ghost use Rattle.advisers.specs.Advised.{fixed_advice};
 ghost use Rattle.advisers.specs.Hearing.{after, unheard};
 
 use crate::heard::Heard;
-use crate::{Advice, Adviser, Ask, Told};
+use advice::{Advice, Adviser, Ask, Told};
 use break_rules::NoMemory;
 use head_splits::{CutPrices, Prices, SlotPrices};
 use shift_instance::Instance;
 use std::alloc::Global;
 use std::marker::Model;
 
-/// The adviser that advises the same scale and the same prices of slots for each node, and no plan.
+/// The adviser that advises the same scale and the same prices of slots for each node, no plan and no split.
 ///
 /// Contracts see the scale, the prices of the slots, and what the adviser was told.
 #[derive(Drop)]
@@ -50,7 +50,8 @@ impl Adviser for Fixed {
 
     ghost last = { λ f. f.heard.last };
 
-    /// Advises the scale and the prices of slots that the adviser was made with, price 0 for each cut, and no plan.
+    /// Advises the scale and the prices of slots that the adviser was made with, price 0 for each cut, no plan and no
+    /// split.
     fn advise(&mut self, _instance: &Instance, ask: &Ask) -> Result<Advice, NoMemory>
         ensures advice { IfOk result (λ advice. advice ≡ fixed_advice self.old.q self.old.slots ask.now.cuts) }
         ensures same { self.new ≡ self.old }
@@ -62,7 +63,11 @@ impl Adviser for Fixed {
             slots: SlotPrices::new(slots),
             cuts: CutPrices::new(cuts),
         };
-        Ok(Advice { prices, plan: None })
+        Ok(Advice {
+            prices,
+            plan: None,
+            split: None,
+        })
     }
 
     /// Tells the adviser what became of a step.

@@ -1,5 +1,7 @@
 //! The adviser that advises the greedy plan.
-ghost use Rattle.std.specs.Prelude.{◌≡◌, ◌≤◌, ◌^◌, IfOk, IfSome, length, replicate};
+ghost use Rattle.std.specs.Prelude.{◌≡◌, ◌≤◌, ◌^◌, IfOk, IfSome, IsTrue, length, replicate};
+ghost use Rattle.shift_instance.specs.Rota.{are_legal_rows};
+ghost use Rattle.instance_json.specs.Canonical.{canonical_text};
 ghost use Rattle.greedy.specs.Greedy.{greedy_rows};
 ghost use Rattle.advisers.specs.Advised.{greedy_advice, greedy_plan};
 ghost use Rattle.advisers.specs.Forced.{forced_prices};
@@ -8,9 +10,10 @@ ghost use Rattle.advisers.specs.Hearing.{after, unheard};
 use crate::forced::forced_prices;
 use crate::heard::Heard;
 use crate::kept::KeptPlan;
-use crate::{Advice, Adviser, Ask, Told};
+use advice::{Advice, Adviser, Ask, Told};
 use break_rules::NoMemory;
 use head_splits::{CutPrices, Prices, SlotPrices};
+use instance_json::canonical;
 use shift_instance::{Instance, Rows};
 use std::alloc::Global;
 use std::marker::Model;
@@ -46,12 +49,14 @@ impl Greedy {
         }
     }
 
-    /// The kept rows of the greedy plan of this instance, if they are kept.
-    fn kept_rows(&self, instance: &Instance) -> Result<Option<Rows>, NoMemory>
-        ensures { IfOk result (λ rows. IfSome rows (λ rows. rows ≡ greedy_rows instance.now)) }
+    /// The kept rows of the greedy plan of this instance, which is written as this text, if they are kept.
+    fn kept_rows(&self, instance: &Instance, text: &[u8]) -> Result<Option<Rows>, NoMemory>
+        requires { text.now ≡ canonical_text instance.now }
+        ensures rows { IfOk result (λ rows. IfSome rows (λ rows. rows ≡ greedy_rows instance.now)) }
+        ensures legal { IfOk result (λ rows. IfSome rows (λ rows. IsTrue (are_legal_rows instance.now rows))) }
     {
         match &self.kept {
-            Some(kept) if kept.is_of(instance) => Ok(Some(kept.copy()?)),
+            Some(kept) if kept.is_of(instance, text) => Ok(Some(kept.copy()?)),
             _ => Ok(None),
         }
     }
@@ -59,20 +64,23 @@ impl Greedy {
     /// The rows of the greedy plan, kept or made now.
     fn rows(&mut self, instance: &Instance) -> Result<Rows, NoMemory>
         ensures rows { IfOk result (λ rows. rows ≡ greedy_rows instance.now) }
+        ensures legal { IfOk result (λ rows. IsTrue (are_legal_rows instance.now rows)) }
         ensures same { self.new ≡ self.old }
     {
-        if let Some(rows) = self.kept_rows(instance)? {
+        let text = canonical(self.alloc, instance)?;
+        if let Some(rows) = self.kept_rows(instance, text.as_slice())? {
             return Ok(rows);
         }
-        let kept = KeptPlan::of(self.alloc, instance)?;
+        let kept = KeptPlan::of(self.alloc, instance, text)?;
         let rows = kept.copy()?;
         self.kept = Some(kept);
         Ok(rows)
     }
 
     /// The greedy plan, and `None` where it has no duty.
-    fn plan(&mut self, instance: &Instance) -> Result<Option<Rows>, NoMemory>
+    pub(crate) fn plan(&mut self, instance: &Instance) -> Result<Option<Rows>, NoMemory>
         ensures plan { IfOk result (λ plan. plan ≡ greedy_plan instance.now) }
+        ensures legal { IfOk result (λ plan. IfSome plan (λ rows. IsTrue (are_legal_rows instance.now rows))) }
         ensures same { self.new ≡ self.old }
     {
         let rows = self.rows(instance)?;
@@ -84,7 +92,8 @@ impl Greedy {
 
     /// Advises for a node: prices at scale 1, and the greedy plan where it has a duty. A slot's price is the cost of an
     /// employee too few where fewer work there than needed of the duties that the cuts force, each with the least legal
-    /// list of its shift; minus the cost of an employee too many where more do; and else 0. Each cut's price is 0.
+    /// list of its shift; minus the cost of an employee too many where more do; and else 0. Each cut's price is 0. It advises no
+    /// split.
     pub fn advise(&mut self, instance: &Instance, ask: &Ask) -> Result<Advice, NoMemory>
         requires { length ask.now.cuts ≤ 2 ^ 33 }
         ensures advice { IfOk result (λ advice. advice ≡ greedy_advice instance.now ask.now.cuts) }
@@ -98,7 +107,11 @@ impl Greedy {
             cuts: CutPrices::new(cuts),
         };
         let plan = self.plan(instance)?;
-        Ok(Advice { prices, plan })
+        Ok(Advice {
+            prices,
+            plan,
+            split: None,
+        })
     }
 }
 
@@ -107,7 +120,7 @@ impl Adviser for Greedy {
 
     ghost last = { λ g. g.last };
 
-    /// Advises the prices of the duties that the cuts force, and the greedy plan where it has a duty.
+    /// Advises the prices of the duties that the cuts force, the greedy plan where it has a duty, and no split.
     fn advise(&mut self, instance: &Instance, ask: &Ask) -> Result<Advice, NoMemory>
         requires { length ask.now.cuts ≤ 2 ^ 33 }
         ensures advice { IfOk result (λ advice. advice ≡ greedy_advice instance.now ask.now.cuts) }

@@ -2,7 +2,7 @@
 ghost use Rattle.std.specs.Prelude.{◌≡◌};
 ghost use Rattle.advisers.specs.Hearing.{after, unheard};
 
-use crate::Told;
+use advice::Told;
 
 /// How often an adviser was told something, and what it was told last.
 #[derive(Clone, Copy, Debug, Drop)]

@@ -1,15 +1,17 @@
 //! Advisers of a search: what prices and which plan to try for a node.
 #![tactic(auto)]
 
-mod advice;
-mod adviser;
+mod bonuses;
+mod choosing;
 mod fixed;
 mod forced;
 mod greedy_adviser;
 mod heard;
 mod kept;
+mod rounds;
+mod stepping;
+mod subgradient;
 
-pub use advice::{Advice, Ask};
-pub use adviser::{Adviser, Told};
 pub use fixed::Fixed;
 pub use greedy_adviser::Greedy;
+pub use subgradient::Subgradient;

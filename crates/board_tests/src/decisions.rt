@@ -1,10 +1,10 @@
 //! What a worker makes of an advice.
 use crate::fixtures::{first_step, morning};
-use advisers::{Advice, Ask};
+use advice::{Advice, Ask};
 use break_rules::Breaks;
-use head_splits::{Class, Cut, CutPrices, Cuts, Prices, Side, SlotPrices};
+use head_splits::{Class, Cut, CutPrices, Cuts, Hint, Prices, Side, SlotPrices};
 use search_core::{Close, StepPosts};
-use shift_instance::Instance;
+use shift_instance::{Instance, Rows};
 use std::alloc::Global;
 use std::test::Fail;
 use worker_gate::step_of;
@@ -52,13 +52,21 @@ fn settled_step(alloc: Global, instance: &Instance) -> Result<StepPosts, Fail> {
         cuts: Cuts::new(vec![in alloc; cut]?),
         floor: 0,
         best: 8,
+        hint: Hint {
+            prices: None,
+            rows: Rows::new(Vec::new(alloc)),
+        },
     };
     let prices = Prices {
         q: 0,
         slots: SlotPrices::new(vec![in alloc; 2i64; 24]?),
         cuts: CutPrices::new(vec![in alloc; 0u64; 1]?),
     };
-    let advice = Advice { prices, plan: None };
+    let advice = Advice {
+        prices,
+        plan: None,
+        split: None,
+    };
     Ok(step_of(alloc, instance, 7, ask, advice)?)
 }
 

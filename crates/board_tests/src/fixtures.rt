@@ -3,11 +3,12 @@ ghost use Rattle.std.specs.Prelude.{◌≡◌, IfOk, length};
 ghost use Rattle.instance_json.specs.Canonical.{canonical_text};
 ghost use Rattle.search_core.specs.Steps.{Fits};
 
-use advisers::{Ask, Greedy};
-use head_splits::Cuts;
+use advice::Ask;
+use advisers::Greedy;
+use head_splits::{Cuts, Hint};
 use instance_json::{canonical, read};
 use search_core::StepPosts;
-use shift_instance::Instance;
+use shift_instance::{Instance, Rows};
 use std::alloc::Global;
 use std::process::Abort;
 use std::test::Fail;
@@ -37,6 +38,10 @@ pub fn first_step(alloc: Global, instance: &Instance) -> Result<StepPosts, Fail>
         cuts: Cuts::new(Vec::new(alloc)),
         floor: 0,
         best: 8,
+        hint: Hint {
+            prices: None,
+            rows: Rows::new(Vec::new(alloc)),
+        },
     };
     let advice = Greedy::new(alloc).advise(instance, &ask)?;
     Ok(step_of(alloc, instance, 0, ask, advice)?)

@@ -33,7 +33,7 @@ fn opened(
     }
 }
 
-/// Whether the first worker takes the first node, and gets its cuts and what is known of it.
+/// Whether the first worker takes the first node, and gets its cuts.
 fn takes_root(book: &mut Book<MemDisk>) -> bool
     requires empty { book.old.hands ≡ empty_hands }
     ensures log { book.new.log ≡ book.old.log }
@@ -44,7 +44,7 @@ fn takes_root(book: &mut Book<MemDisk>) -> bool
         best: 8,
     };
     let is_first = book.take(0) == first;
-    is_first && book.cuts(0).is_ok() && book.hint(0).is_ok()
+    is_first && book.cuts(0).is_ok()
 }
 
 /// What the first worker's commit of a step keeps; nothing where the commit fails.

@@ -11,3 +11,4 @@ pub mod CountedRows
 pub mod ShiftDuties
 pub mod Exchanges
 pub mod Reshifts
+pub mod Views

@@ -114,6 +114,14 @@ impl Draft {
         &self.rows
     }
 
+    /// The rows of the plan, in order, given back.
+    pub fn into_rows(self) -> Rows
+        ensures rows { result ≡ self.rows }
+        ensures legal { IsTrue (are_legal_rows self.instance self.rows) }
+    {
+        self.rows
+    }
+
     /// What the plan costs. It takes no memory.
     pub fn cost(&self) -> u64
         ensures cost { result ≡ cost self.now.instance (rota_of self.now.rows) }
@@ -163,7 +171,7 @@ impl Draft {
     }
 
     /// The allocator of the draft's memory.
-    pub(crate) fn allocator(&self) -> Global
+    pub fn allocator(&self) -> Global
         ensures legal { IsTrue (are_legal_rows self.now.instance self.now.rows) }
     {
         self.alloc

@@ -3,6 +3,7 @@
 
 mod applying;
 mod changes;
+mod copying;
 mod done;
 mod draft;
 mod judging;

@@ -97,7 +97,7 @@ fn judge_heads(instance: &Instance, draft: &Draft, from: u16, to: u16) -> Option
 }
 
 /// Adds the duty of a row as often as it counts.
-fn add_copies(alloc: Global, duties: &mut Vec<Duty>, row: &Row) -> Result<(), NoMemory>
+pub(crate) fn add_copies(alloc: Global, duties: &mut Vec<Duty>, row: &Row) -> Result<(), NoMemory>
     ensures { OnOk result (duties.new.items ≡ duties.old.items ++ replicate row.now.count (duty_of row.now)) }
 {
     for _ in 0..row.count {

@@ -2,14 +2,14 @@
 ghost use Rattle.std.specs.Prelude.{◌≡◌, length};
 ghost use Rattle.instance_json.specs.Canonical.{canonical_text};
 
-use crate::fixtures::{LIMIT, morning};
+use crate::fixtures::{LIMIT, greedy_seat, morning};
 use plan_base::{Disk, MemDisk};
 use search_book::{Book, OpenFault, Unopened};
 use shift_instance::Instance;
 use std::alloc::Global;
 use std::process::Abort;
 use std::test::Fail;
-use worker_gate::{RunEnd, run_worker};
+use worker_gate::{Open, RunEnd, run_seat};
 
 /// How many posts there are where a call of the disk failed: in the book that was being worked on, and in the book that its
 /// file opens to after a crash. Nothing stands where there is no book.
@@ -35,7 +35,8 @@ fn stopped(
     let disk = MemDisk::new(alloc, Vec::new(alloc), fails);
     match Book::open(alloc, instance, disk, 2, LIMIT) {
         Ok(mut book) => {
-            let end = run_worker(alloc, instance, &mut book);
+            let mut seat = greedy_seat(alloc)?;
+            let end = run_seat(alloc, instance, &mut book, &mut seat, &Open);
             let posts = book.posts();
             let disk = book.into_disk();
             assert!(rt; end == RunEnd::DiskFault && disk.calls() == call);

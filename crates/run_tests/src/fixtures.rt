@@ -1,12 +1,14 @@
-//! A small instance.
+//! A small instance, and a seat for a worker.
 ghost use Rattle.std.specs.Prelude.{◌≡◌, IfOk, length};
 ghost use Rattle.instance_json.specs.Canonical.{canonical_text};
 
+use advisers::Greedy;
 use instance_json::{canonical, read};
 use shift_instance::Instance;
 use std::alloc::Global;
 use std::process::Abort;
 use std::test::Fail;
+use worker_gate::Seat;
 
 /// The most bytes of a journal.
 pub const LIMIT: u32 = 1 << 26;
@@ -25,4 +27,16 @@ pub fn morning(rt: &impl Abort, alloc: Global, heads: &str) -> Result<Instance, 
     let head = canonical(alloc, &instance)?;
     assert!(rt; head.len() == 372);
     Ok(instance)
+}
+
+/// A seat with greedy advice.
+pub fn greedy_seat(alloc: Global) -> Result<Seat, Fail>
+    ensures told { IfOk result (λ s. s.told ≡ 0) }
+    ensures share { IfOk result (λ s. s.share ≡ 0) }
+{
+    Ok(Seat {
+        adviser: Box::new(alloc, Greedy::new(alloc))?,
+        told: 0,
+        share: 0,
+    })
 }

@@ -1,11 +1,11 @@
 //! A step for whose record a journal has no room.
-use crate::fixtures::morning;
+use crate::fixtures::{greedy_seat, morning};
 use plan_base::MemDisk;
 use search_book::Book;
 use std::alloc::Global;
 use std::process::Abort;
 use std::test::Fail;
-use worker_gate::{RunEnd, run_worker};
+use worker_gate::{Open, RunEnd, run_seat};
 
 /// How a run of one step ends on a new journal of at most `limit` bytes, and how many bytes there are then.
 fn ended(rt: &impl Abort, alloc: Global, limit: u32) -> Result<(RunEnd, usize), Fail> {
@@ -14,7 +14,8 @@ fn ended(rt: &impl Abort, alloc: Global, limit: u32) -> Result<(RunEnd, usize), 
     let disk = MemDisk::new(alloc, Vec::new(alloc), Vec::new(alloc));
     match Book::open(alloc, &instance, disk, 1, limit) {
         Ok(mut book) => {
-            let end = run_worker(alloc, &instance, &mut book);
+            let mut seat = greedy_seat(alloc)?;
+            let end = run_seat(alloc, &instance, &mut book, &mut seat, &Open);
             Ok((end, book.into_disk().bytes().len()))
         }
         Err(_) => Err("it isn't opened")?,

@@ -1,49 +1,39 @@
 -- From what the words are read as to the path of the journal that they name.
-use Rattle.std.proofs.Common.{◌≡◌, ◌∙◌, sym, ap, ℕ, Bool, true, false, List, [], Option, None, Some}
-use Rattle.std.specs.Prelude.{is_some}
-use Rattle.std.proofs.lemmas.Bool.{false≢true}
+use Rattle.std.proofs.Common.{◌≡◌, ◌∙◌, sym, ap, ℕ, Bool, List, [], Option, None, Some}
 use Rattle.std.proofs.lemmas.Option.{same_Some}
 use Rattle.solve_words.specs.Words.{from_number, over_journal, Asked, IsReadAs}
 use Rattle.shift_solve.specs.Words.{IsPathIn}
 
 -- the path of a search's journal
 path_of : Asked → List ℕ
-path_of (over_journal path workers steps table) = path
+path_of (over_journal path workers steps table local) = path
 path_of (from_number number steps) = []
 
--- words that ask for a search and say no number of workers name its journal
-pub journal_named : (words : List (List ℕ)) (path : List ℕ) (workers : Option ℕ) (steps : ℕ) (table : Bool) (found : Option (List ℕ))
-    → is_some workers ≡ false → IsReadAs words (Some (over_journal path workers steps table)) → found ≡ Some path → IsPathIn words found
+-- words that ask for a search name its journal
+pub journal_named : (words : List (List ℕ)) (path : List ℕ) (workers : Option ℕ) (steps : ℕ) (table local : Bool) (found : Option (List ℕ))
+    → IsReadAs words (Some (over_journal path workers steps table local)) → found ≡ Some path → IsPathIn words found
 unfolding path_of
-journal_named words path (Some n) steps table found none reads same = absurd (false≢true (sym none))
-journal_named words path None steps table found none reads same = λ other. (
-  λ names. same ∙ ap (λ (a : Asked). Some (path_of a)) (same_Some (over_journal path None steps table) (over_journal other None names.steps names.table) ((reads (over_journal other None names.steps names.table)).0 names.asks)),
+journal_named words path workers steps table local found reads same = λ other. (
+  λ names. same ∙ ap (λ (a : Asked). Some (path_of a)) (same_Some (over_journal path workers steps table local) (over_journal other names.workers names.steps names.table names.local) ((reads (over_journal other names.workers names.steps names.table names.local)).0 names.asks)),
   λ e. record {
+    workers = workers;
     steps = steps;
     table = table;
-    asks = (reads (over_journal other None steps table)).1 (ap (λ (p : List ℕ). Some (over_journal p None steps table)) (same_Some path other (sym same ∙ e)));
+    local = local;
+    asks = (reads (over_journal other workers steps table local)).1 (ap (λ (p : List ℕ). Some (over_journal p workers steps table local)) (same_Some path other (sym same ∙ e)));
   },
-)
-
--- those that say a number of workers name none
-pub several_unnamed : (words : List (List ℕ)) (path : List ℕ) (workers : Option ℕ) (steps : ℕ) (table : Bool) → is_some workers ≡ true → IsReadAs words (Some (over_journal path workers steps table))
-    → IsPathIn words None
-several_unnamed words path None steps table some reads = absurd (false≢true some)
-several_unnamed words path (Some n) steps table some reads = λ other. (
-  λ names. let e : Some (over_journal path (Some n) steps table) ≡ Some (over_journal other None names.steps names.table) = (reads (over_journal other None names.steps names.table)).0 names.asks in absurd (cc),
-  λ e. absurd (cc),
 )
 
 -- words that ask for a demonstration name none
 pub demonstration_unnamed : (words : List (List ℕ)) (number steps : ℕ) → IsReadAs words (Some (from_number number steps)) → IsPathIn words None
 demonstration_unnamed words number steps reads = λ other. (
-  λ names. let e : Some (from_number number steps) ≡ Some (over_journal other None names.steps names.table) = (reads (over_journal other None names.steps names.table)).0 names.asks in absurd (cc),
+  λ names. let e : Some (from_number number steps) ≡ Some (over_journal other names.workers names.steps names.table names.local) = (reads (over_journal other names.workers names.steps names.table names.local)).0 names.asks in absurd (cc),
   λ e. absurd (cc),
 )
 
--- and so do words that ask for nothing
+-- and so do words that are no command
 pub nothing_named : (words : List (List ℕ)) → IsReadAs words None → IsPathIn words None
 nothing_named words reads = λ other. (
-  λ names. let e : None ≡ Some (over_journal other None names.steps names.table) = (reads (over_journal other None names.steps names.table)).0 names.asks in absurd (cc),
+  λ names. let e : None ≡ Some (over_journal other names.workers names.steps names.table names.local) = (reads (over_journal other names.workers names.steps names.table names.local)).0 names.asks in absurd (cc),
   λ e. absurd (cc),
 )

@@ -1,6 +1,8 @@
 -- From a search over a book to what a run says of it.
 use Rattle.std.proofs.Common.{◌≡◌, inl, inr, ◌∙◌, sym, ap, subst, refl, ℕ, ◌+◌, ◌*◌, ◌<◌, ◌≤◌, List, [], ◌∷◌, ◌++◌, length, drop, arith}
-use Rattle.std.specs.Prelude.{◌⊎◌, Option, Some, None, OnSome, IfSome, IsSome, IsTrue, Bool, true, false, count_by}
+use Rattle.std.specs.Prelude.{◌⊎◌, Option, Some, None, OnSome, IfSome, IsSome, IsFalse, IsTrue, Bool, true, false, count_by}
+use Rattle.std.proofs.Math.Logic.{∥∥₁_elim}
+use Rattle.std.proofs.Props.{props}
 use Rattle.std.proofs.lemmas.Bool.{false≢true}
 use Rattle.std.specs.Io.KnownBytes.{Appends}
 use Rattle.plan_base.specs.Causes.{Rose}
@@ -12,10 +14,11 @@ use Rattle.shift_instance.specs.Problem.{Problem}
 use Rattle.shift_instance.specs.Valid.{IsValid}
 use Rattle.certificate.specs.Departing.{Spells}
 use Rattle.search_core.specs.declared.board.Origin.{Origin}
-use Rattle.search_core.specs.Board.{book_at}
+use Rattle.search_core.specs.Board.{book_at, leaves_open}
 use Rattle.search_core.specs.Book.{Book, book_of, is_finished}
-use Rattle.search_core.specs.Calls.{steps_enough}
+use Rattle.search_core.specs.Calls.{full_hands, steps_enough}
 use Rattle.search_core.specs.Core.{empty_hands}
+use Rattle.search_core.specs.Kept.{cuts_in}
 use Rattle.search_core.specs.Steps.{posts_of}
 use Rattle.std.proofs.Math.Seq.{drop-append_seam}
 use Rattle.search_core.proofs.Floors.{finished_best}
@@ -29,17 +32,18 @@ use Rattle.search_book.specs.Posts.{IsJournalOf}
 use Rattle.post_codec.specs.Batches.{joined}
 use Rattle.worker_gate.specs.declared.run.RunEnd.{RunEnd}
 use Rattle.worker_gate.specs.declared.run.RunEnd.TheVariants.{Finished, Spent, Full as FullEnd, DiskFault as DiskEnd, NoMemory as MemoryEnd}
-use Rattle.worker_gate.specs.Runs.{is_plan_or_prices}
+use Rattle.board_lock.specs.Turns.{is_plan, is_prices, AreTurns}
 use Rattle.shift_solve.specs.Report.{cert_of, output_of, IsUnbeaten}
 use Rattle.shift_solve.specs.Run.{OverDisk, IsFinished, IsSpent, IsFull, Reports, ReportsPart}
-use Rattle.shift_solve.specs.Search.{is_reported, Ends, GoesOn, IsLanded, IsReported, IsReportedPart, SearchEnds}
+use Rattle.shift_solve.specs.Search.{is_reported, Ends, GoesOn, IsLanded, IsReported, IsReportedPart, SearchEnds, Told}
+use Rattle.shift_solve.specs.Served.{AreTold, Served, ServedToEnd, ToldMet, Works}
 use Rattle.shift_solve.specs.Session.{met_of, Session, IsOnlyJournal}
-use Rattle.shift_solve.specs.Steps.{AreSteps, IsNextStep}
 use Rattle.shift_solve.specs.Streams.{SinkMet}
 use Rattle.shift_solve.specs.declared.status.Status.{Status}
-use Rattle.shift_solve.specs.declared.status.Status.TheVariants.{Optimal, Budget, Full, Usage, Input, ReadFault, WriteFault, DiskFault, NoMemory, Journal}
+use Rattle.shift_solve.specs.declared.status.Status.TheVariants.{Optimal, Budget, Full, Usage, Input, Workers, ReadFault, WriteFault, DiskFault, NoMemory, Journal}
 use Rattle.shift_solve.proofs.Accepting.{accepted, FewBreaks}
-use Rattle.shift_solve.proofs.Walked.{stopped, walk_of}
+use Rattle.shift_solve.proofs.Unfit.{unfit_open}
+use Rattle.shift_solve.proofs.Walked.{turned, OfStep, Turned}
 
 -- a fact of what there is implies another
 map_some : {A : Type 0} {P Q : A → Type 0} (o : Option A) → ((a : A) → P a → Q a) → IfSome o P → IfSome o Q
@@ -54,6 +58,11 @@ rose_before first before now le rose = omega (arith, le, rose)
 pub on_some : {P Q : Type 0} (o : Option (List ℕ)) → (P → Q) → OnSome o P → OnSome o Q
 on_some None f told = tt
 on_some (Some file) f told = f told
+
+-- and one that holds anyway holds of it
+pub whatever : {P : Type 0} (o : Option (List ℕ)) → P → OnSome o P
+whatever None holds = tt
+whatever (Some file) holds = holds
 
 -- an opened disk tells its content where it did before
 opened_tells : (limit : ℕ) (i : Problem) (posts : List Post) (used : ℕ) (after : Option (List ℕ)) (file : List ℕ) → IsOpenedFrom limit i posts used after file → IsSome after
@@ -166,83 +175,115 @@ module _ {D : Type 0} (reads : D → Option (List ℕ)) (images : D → List ℕ
 
   -- ---- how a search ends
 
-  landed_of : Known → (end : RunEnd) → Ends reads calls faults old new end → IsLanded end → new.log.in_flight ≡ []
-  landed_of k Finished e landed = subst (ShutOf new.log.limit (faults new.log.opened) (faults new.log.disk) new.log.in_flight) e.ends.0.running k.fault
-  landed_of k Spent e landed = subst (ShutOf new.log.limit (faults new.log.opened) (faults new.log.disk) new.log.in_flight) e.ends.0.running k.fault
-  landed_of k (FullEnd end limit) e landed = (subst (ShutOf new.log.limit (faults new.log.opened) (faults new.log.disk) new.log.in_flight) e.ends.0 k.fault).0
-  landed_of k DiskEnd e landed = absurd landed
-  landed_of k MemoryEnd e landed = subst (ShutOf new.log.limit (faults new.log.opened) (faults new.log.disk) new.log.in_flight) e.ends.0 k.fault
-
   -- the book of a board is its own
   book_same : Known → book_at (board_of reads calls faults new) ≡ new.log.book
   book_same k = book_is new.log.instance new.log.history new.log.book new.keeps.folds
-
-  finished_of : (k : Known) → Ends reads calls faults old new Finished → IsFinished (session_of k)
-  unfolding session_of
-  finished_of k e = record { landed = landed_of k Finished e tt; finished = subst (λ (b : Book). IsTrue (is_finished b)) (book_same k) e.ends.1 }
 
   added_of : (k : Known) → drop (length old.log.history) new.log.history ≡ joined new.log.batches
   added_of k =
       ap (λ (h : List Post). drop (length h) new.log.history) (opening_of k) ∙ ap (drop (length new.log.opening)) k.all ∙ drop-append_seam new.log.opening (joined new.log.batches)
 
-  -- the book of the board before is its own
-  first_same : Known → book_at (board_of reads calls faults old) ≡ old.log.book
-  first_same k = book_is old.log.instance old.log.history old.log.book old.keeps.folds
+  module _ (workers : ℕ) (told : ToldMet) where
+    landed_of : (commits : ℕ) → Known → (end : RunEnd) → Ends reads calls faults workers commits old new end → IsLanded end → new.log.in_flight ≡ []
+    landed_of commits k Finished e landed = subst (ShutOf new.log.limit (faults new.log.opened) (faults new.log.disk) new.log.in_flight) e.ends.0 k.fault
+    landed_of commits k Spent e landed = subst (ShutOf new.log.limit (faults new.log.opened) (faults new.log.disk) new.log.in_flight) e.ends.0.running k.fault
+    landed_of commits k (FullEnd end limit) e landed = (subst (ShutOf new.log.limit (faults new.log.opened) (faults new.log.disk) new.log.in_flight) e.ends.0 k.fault).0
+    landed_of commits k DiskEnd e landed = absurd landed
+    landed_of commits k MemoryEnd e landed = subst (ShutOf new.log.limit (faults new.log.opened) (faults new.log.disk) new.log.in_flight) e.ends.0 k.fault
 
-  -- the steps of a run lead from its first book to its last, and their posts are those that were added
-  made_of : (k : Known) (steps : List (List Post)) → AreSteps i (book_at (board_of reads calls faults old)) steps (book_at (board_of reads calls faults new)) → AreSteps i old.log.book steps new.log.book
-  made_of k steps made =
-      subst (λ (b : Book). AreSteps i b steps new.log.book) (first_same k)
-      (subst (λ (b : Book). AreSteps i (book_at (board_of reads calls faults old)) steps b) (book_same k) made)
+    finished_of : (commits : ℕ) (k : Known) → Ends reads calls faults workers commits old new Finished → IsFinished (session_of k)
+    unfolding session_of
+    finished_of commits k e = record { landed = landed_of commits k Finished e tt; finished = subst (λ (b : Book). IsTrue (is_finished b)) (book_same k) e.ends.2 }
 
-  all_of : (k : Known) (steps : List (List Post)) → new.log.history ≡ old.log.history ++ joined steps → joined steps ≡ joined new.log.batches
-  all_of k steps all = sym (drop-append_seam old.log.history (joined steps)) ∙ sym (ap (drop (length old.log.history)) all) ∙ added_of k
+    spent_of : (commits : ℕ) (k : Known) → Ends reads calls faults workers commits old new Spent → IsSpent old.budget (session_of k)
+    unfolding session_of
+    spent_of commits k e = record {
+      landed = landed_of commits k Spent e tt;
+      unfinished = subst (λ (b : Book). is_finished b ≡ false) (book_same k) e.ends.1;
+      few = subst (λ (j : Problem). old.budget < steps_enough j) k.begins.instance (e.few refl);
+    }
 
-  spent_of : (k : Known) → Ends reads calls faults old new Spent → IsSpent old.budget (session_of k)
-  unfolding session_of
-  spent_of k e =
-      let w = walk_of i (board_of reads calls faults old) (board_of reads calls faults new) k.begins.instance k.empty e.makes in
-      let taken : new.taken ≡ new.budget = e.ends.2 in
-      record {
-        landed = landed_of k Spent e tt;
-        unfinished = subst (λ (b : Book). is_finished b ≡ false) (book_same k) e.ends.1;
-        steps = w.steps;
-        made = made_of k w.steps w.made;
-        all = all_of k w.steps w.all;
-        count = w.count ∙ taken ∙ k.on.same.budget;
-        shown = subst (λ (l : List Post). old.budget ≤ count_by is_plan_or_prices l) (added_of k) (e.shown refl);
-        few = subst (λ (j : Problem). old.budget < steps_enough j) k.begins.instance (e.few refl);
-      }
+    works_of : (commits : ℕ) (k : Known) (end : RunEnd) → Ends reads calls faults workers commits old new end → Works workers commits old.budget (session_of k)
+    unfolding session_of
+    works_of commits k end e = record {
+      first = board_of reads calls faults old;
+      last = board_of reads calls faults new;
+      instance = k.begins.instance;
+      steps = refl;
+      fresh = e.fresh;
+      opening = opening_of k;
+      turns = e.turns;
+      posts = k.all;
+      shown = subst (λ (l : List Post). commits ≤ count_by is_prices l + workers * count_by is_plan l) (added_of k) e.shown;
+    }
 
-  full_of : (k : Known) (end limit : ℕ) → Ends reads calls faults old new (FullEnd end limit) → IsFull old.budget end limit (session_of k)
-  unfolding session_of
-  full_of k end limit e =
-      let past = e.ends.1 in
-      let s = stopped i (board_of reads calls faults old) (board_of reads calls faults new) end limit k.begins.instance k.empty e.makes in
-      let budget : new.budget ≡ old.budget = k.on.same.budget in
-      let left = s.left in
-      record {
-        landed = landed_of k (FullEnd end limit) e tt;
-        unfinished = subst (λ (b : Book). is_finished b ≡ false) (book_same k) s.unfinished;
-        steps = s.steps;
-        made = made_of k s.steps s.made;
-        all = all_of k s.steps s.all;
-        left = omega (arith, left, budget);
-        step = s.step;
-        next = subst (λ (b : Book). IsNextStep i b s.step) (book_same k) s.next;
-        posts = new.log.unfit;
-        posts_are = s.unfit ∙ ap (λ (b : Book). posts_of i b 0 s.step) (book_same k);
-        some = past.some;
-        at_most = past.few;
-        allowed = subst (λ (h : List Post). IsSome (book_of i (h ++ new.log.unfit))) k.all (subst (λ (j : Problem). IsSome (book_of j (new.log.history ++ new.log.unfit))) (is_of k) past.allowed);
-        used = s.used;
-        ends = past.ends;
-        most = past.limit ∙ limit_of k;
-        over = past.past;
-      }
+    -- a step of a worker for whose posts there was no room, over the book of the session
+    stepped_of : Known → OfStep workers (board_of reads calls faults new) → (s : OfStep workers (board_of reads calls faults new)) × (new.log.unfit ≡ posts_of i new.log.book s.worker s.step)
+        × IsFalse (leaves_open i new.log.book s.worker s.step) × (s.step.proved.cuts ≡ cuts_in new.log.book.nodes s.step.node)
+    stepped_of k s = (
+      s,
+      s.posts_are ∙ ap (λ (j : Problem). posts_of j (book_at (board_of reads calls faults new)) s.worker s.step) (is_of k) ∙ ap (λ (b : Book). posts_of i b s.worker s.step) (book_same k),
+      subst (λ (b : Book). IsFalse (leaves_open i b s.worker s.step)) (book_same k) (subst (λ (j : Problem). IsFalse (leaves_open j (book_at (board_of reads calls faults new)) s.worker s.step)) (is_of k) s.closes),
+      s.cuts ∙ ap (λ (b : Book). cuts_in b.nodes s.step.node) (book_same k),
+    )
 
-  rose_of : (k : Known) → Ends reads calls faults old new DiskEnd → Rose (faults entry) (faults new.log.disk)
-  rose_of k e = rose_before (faults entry) (faults new.log.opened) (faults new.log.disk) (let same = faults_of k in omega (arith, same, k.later)) (subst (ShutOf new.log.limit (faults new.log.opened) (faults new.log.disk) new.log.in_flight) e.ends k.fault)
+    full_of : (commits : ℕ) (k : Known) (end limit : ℕ) → Ends reads calls faults workers commits old new (FullEnd end limit) → IsFull workers end limit (session_of k)
+    unfolding session_of
+    full_of commits k end limit e =
+        let past = e.ends.1 in
+        let allowed : IsSome (book_of i ((new.log.opening ++ joined new.log.batches) ++ new.log.unfit)) =
+        subst (λ (h : List Post). IsSome (book_of i (h ++ new.log.unfit))) k.all (subst (λ (j : Problem). IsSome (book_of j (new.log.history ++ new.log.unfit))) (is_of k) past.allowed) in
+        let walked : AreTurns workers (board_of reads calls faults old) (board_of reads calls faults new) commits → Turned workers (board_of reads calls faults old) (board_of reads calls faults new) =
+        λ turns. turned workers (board_of reads calls faults old) (board_of reads calls faults new) commits e.fresh.empty k.begins.shut turns in
+        record {
+          landed = landed_of commits k (FullEnd end limit) e tt;
+          unfinished = ∥∥₁_elim e.turns (hlevel props) (λ turns.
+              let s = stepped_of k ((walked turns).full end limit e.ends.0) in
+              unfit_open i (new.log.opening ++ joined new.log.batches) new.log.unfit new.log.book s.0.worker s.0.step (ends_of k) s.1 past.some allowed);
+          posts = new.log.unfit;
+          unfit = ∥∥₁_elim e.turns (hlevel props) (λ turns.
+              let t = walked turns in
+              let s = stepped_of k (t.full end limit e.ends.0) in
+              ∣ record {
+                steps = t.steps;
+                all = sym (drop-append_seam old.log.history (joined t.steps)) ∙ sym (ap (drop (length old.log.history)) t.all) ∙ added_of k;
+                used = t.used;
+                worker = s.0.worker;
+                below = s.0.below;
+                step = s.0.step;
+                cuts = s.3;
+                closes = s.2;
+                posts_are = s.1;
+              } ∣₁);
+          some = past.some;
+          at_most = past.few;
+          allowed = allowed;
+          ends = past.ends;
+          most = past.limit ∙ limit_of k;
+          over = past.past;
+        }
+
+    rose_of : (commits : ℕ) (k : Known) → Ends reads calls faults workers commits old new DiskEnd → Rose (faults entry) (faults new.log.disk)
+    rose_of commits k e = rose_before (faults entry) (faults new.log.opened) (faults new.log.disk) (let same = faults_of k in omega (arith, same, k.later)) (subst (ShutOf new.log.limit (faults new.log.opened) (faults new.log.disk) new.log.in_flight) e.ends k.fault)
+
+    served_of : (k : Known) (end : RunEnd) → Told reads calls faults workers told old new end → Served workers old.budget told (session_of k)
+    unfolding session_of
+    served_of k end t = (t.0, works_of t.0 k end t.1, t.2)
+
+    -- a search to its end has empty hands
+    to_end_of : (k : Known) → Told reads calls faults workers told old new Finished → ServedToEnd workers old.budget told (session_of k)
+    unfolding session_of works_of
+    to_end_of k t =
+        let none : full_hands new.hands ≡ 0 = ap full_hands t.1.ends.1 in
+        (t.0, works_of t.0 k Finished t.1, λ going. (let each : t.0 + full_hands new.hands ≡ new.taken = t.1.exact going in omega (arith, none, each)), t.2)
+
+    -- a search that took all steps of its budget committed each
+    each_of : (k : Known) → Told reads calls faults workers told old new Spent → Works workers old.budget old.budget (session_of k) × AreTold workers old.budget told
+    unfolding session_of
+    each_of k t = (
+      subst (λ (n : ℕ). Works workers n old.budget (session_of k)) (t.1.spent refl) (works_of t.0 k Spent t.1),
+      subst (λ (n : ℕ). AreTold workers n told) (t.1.spent refl) t.2,
+    )
 
   -- ---- what is written
 
@@ -265,27 +306,29 @@ module _ {D : Type 0} (reads : D → Option (List ℕ)) (images : D → List ℕ
     unfolding session_of
     part_of k part = record { written = subst (λ (bytes : List ℕ). AppendsPart sink.held sink.held_after bytes) (output_same k) part.0; cause = part.1 }
 
-    unbeaten_of : (k : Known) → Ends reads calls faults old new Finished → IsUnbeaten i new.log.book.cost
-    unbeaten_of k e = λ rota legal. finished_best i new.log.book rota (fold_sound i (new.log.opening ++ joined new.log.batches) new.log.book (ends_of k)) (subst (λ (b : Book). is_finished b ≡ true) (book_same k) e.ends.1) legal
+    unbeaten_of : (workers commits : ℕ) (k : Known) → Ends reads calls faults workers commits old new Finished → IsUnbeaten i new.log.book.cost
+    unbeaten_of workers commits k e = λ rota legal. finished_best i new.log.book rota (fold_sound i (new.log.opening ++ joined new.log.batches) new.log.book (ends_of k)) (subst (λ (b : Book). is_finished b ≡ true) (book_same k) e.ends.2) legal
 
-    ended_of : (k : Known) (end : RunEnd) → Ends reads calls faults old new end → is_reported end ≡ true → IsFinished (session_of k) ⊎ (IsSpent old.budget (session_of k) ⊎ ((n : ℕ) × (limit : ℕ) × IsFull old.budget n limit (session_of k)))
-    ended_of k Finished e reported = inl (finished_of k e)
-    ended_of k Spent e reported = inr (inl (spent_of k e))
-    ended_of k (FullEnd n limit) e reported = inr (inr (n, limit, full_of k n limit e))
-    ended_of k DiskEnd e reported = absurd (false≢true reported)
-    ended_of k MemoryEnd e reported = absurd (false≢true reported)
+    module _ (workers : ℕ) (told : ToldMet) where
+      ended_of : (commits : ℕ) (k : Known) (end : RunEnd) → Ends reads calls faults workers commits old new end → is_reported end ≡ true → IsFinished (session_of k) ⊎ (IsSpent old.budget (session_of k) ⊎ ((n : ℕ) × (limit : ℕ) × IsFull workers n limit (session_of k)))
+      ended_of commits k Finished e reported = inl (finished_of workers told commits k e)
+      ended_of commits k Spent e reported = inr (inl (spent_of workers told commits k e))
+      ended_of commits k (FullEnd n limit) e reported = inr (inr (n, limit, full_of workers told commits k n limit e))
+      ended_of commits k DiskEnd e reported = absurd (false≢true reported)
+      ended_of commits k MemoryEnd e reported = absurd (false≢true reported)
 
-    -- what a search over a book says of the run
-    pub over_disk : (k : Known) (status : Status) → SearchEnds reads calls faults old new table sink.held sink.held_after sink.faults status
-        → OverDisk (met_of reads images images_since calls faults entry new.log.disk) sink i table old.budget true status
-    unfolding session_of
-    over_disk k Optimal e = (refl, session_of k, finished_of k e.0, reports_of k e.1, unbeaten_of k e.0)
-    over_disk k Budget e = (refl, session_of k, spent_of k e.0, reports_of k e.1)
-    over_disk k (Full end limit) e = (refl, session_of k, full_of k end limit e.0, reports_of k e.1)
-    over_disk k WriteFault e = (refl, session_of k, ended_of k e.0 e.1 e.2, part_of k e.3)
-    over_disk k DiskFault e = (rose_of k e, inr (refl, session_of k))
-    over_disk k NoMemory e = inr (refl, session_of k, landed_of k e.0 e.1 e.2)
-    over_disk k Usage e = absurd e
-    over_disk k (Input why) e = absurd e
-    over_disk k ReadFault e = absurd e
-    over_disk k (Journal why) e = absurd e
+      -- what a search over a book says of the run
+      pub over_disk : (k : Known) (status : Status) → SearchEnds reads calls faults workers told old new table sink.held sink.held_after sink.faults status
+          → OverDisk (met_of reads images images_since calls faults entry new.log.disk) sink i table old.budget workers told true status
+      unfolding session_of
+      over_disk k Optimal e = (refl, session_of k, finished_of workers told e.0.0 k e.0.1, to_end_of workers told k e.0, reports_of k e.1, unbeaten_of workers e.0.0 k e.0.1)
+      over_disk k Budget e = let each = each_of workers told k e.0 in (refl, session_of k, spent_of workers told e.0.0 k e.0.1, each.0, each.1, reports_of k e.1)
+      over_disk k (Full end limit) e = (refl, session_of k, full_of workers told e.0.0 k end limit e.0.1, served_of workers told k (FullEnd end limit) e.0, reports_of k e.1)
+      over_disk k WriteFault e = (refl, session_of k, ended_of e.1.0 k e.0 e.1.1 e.2, served_of workers told k e.0 e.1, part_of k e.3)
+      over_disk k DiskFault e = (rose_of workers told e.0 k e.1, inr (refl, session_of k, served_of workers told k DiskEnd e))
+      over_disk k NoMemory e = inr (refl, session_of k, landed_of workers told e.1.0 k e.0 e.1.1 e.2, served_of workers told k e.0 e.1)
+      over_disk k Usage e = absurd e
+      over_disk k (Input why) e = absurd e
+      over_disk k (Workers asked have) e = absurd e
+      over_disk k ReadFault e = absurd e
+      over_disk k (Journal why) e = absurd e

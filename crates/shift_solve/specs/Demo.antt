@@ -1,5 +1,5 @@
 -- A demonstration: a search without a document and without a journal's file, for the instance made from a number.
-use Rattle.std.specs.Prelude.{◌≡◌, ◌<◌, ◌≤◌, ℕ, Bool, IsTrue, List, [], ◌∷◌, ◌++◌, length, if◌then◌else◌, Option, None, Some, codes}
+use Rattle.std.specs.Prelude.{◌≡◌, ◌+◌, ◌<◌, ◌≤◌, ℕ, Bool, IsTrue, List, [], ◌∷◌, ◌++◌, length, if◌then◌else◌, Option, None, Some, codes}
 use Rattle.std.specs.Fmt.{decimal}
 use Rattle.std.specs.Io.KnownBytes.{Appends}
 use Rattle.plan_base.specs.Causes.{Rose}
@@ -14,12 +14,13 @@ use Rattle.search_core.specs.Book.{floor_of, is_finished, IsSound}
 use Rattle.search_core.specs.Calls.{steps_enough}
 use Rattle.search_book.specs.Posts.{IsJournalOf}
 use Rattle.worker_gate.specs.declared.run.RunEnd.{RunEnd}
-use Rattle.worker_gate.specs.declared.run.RunEnd.TheVariants.{Finished, Spent, Full as FullEnd}
+use Rattle.worker_gate.specs.declared.run.RunEnd.TheVariants.{Finished, Spent, Full as FullEnd, DiskFault as DiskEnd, NoMemory as MemoryEnd}
 use Rattle.worker_gate.specs.Runs.{committed, plans_and_prices_since, IsIdle, IsSameSearch, RunEnds, RunMakes}
 use Rattle.shift_solve.specs.declared.status.Status.{Status}
-use Rattle.shift_solve.specs.declared.status.Status.TheVariants.{Optimal, Budget, Full, Usage, Input, ReadFault, WriteFault, DiskFault, NoMemory, Journal}
+use Rattle.shift_solve.specs.declared.status.Status.TheVariants.{Optimal, Budget, Full, Usage, Input, Workers, ReadFault, WriteFault, DiskFault, NoMemory, Journal}
 use Rattle.shift_solve.specs.Report.{IsUnbeaten}
 use Rattle.shift_solve.specs.Search.{is_reported}
+use Rattle.shift_solve.specs.Served.{AreTold, ToldMet}
 use Rattle.shift_solve.specs.Streams.{SinkMet}
 
 -- ---- the line
@@ -51,9 +52,9 @@ pub record IsNew (i : Problem) (budget : ℕ) (v : BoardView) : Type 0 where
   pub idle : IsIdle v
   pub taken : v.taken ≡ 0
 
--- a search from its first board to its last: round by round it makes the steps of the greedy advice, which the last board counts. One
--- that took all steps of its budget has no fewer posts that are plans or prices, and so many steps don't finish each search of the
--- instance.
+-- A search by one worker from its first board to its last: round by round it commits the steps that it makes of its adviser's advice,
+-- which the last board counts. One that took all steps of its budget has no fewer posts that are plans or prices, and so many steps
+-- don't finish each search of the instance.
 pub record Searches (first last : BoardView) (end : RunEnd) : Type 0 where
   pub same : IsSameSearch first last
   pub makes : RunMakes first last end
@@ -72,19 +73,33 @@ pub record Demonstration (i : Problem) (budget : ℕ) (end : RunEnd) (file : Lis
 
 -- ---- statuses
 
--- what shows of a demonstration: its number and its budget of steps, its sink, and what the disk in memory reads that is handed back
--- (none where none is)
+-- what shows of a demonstration: its number and its budget of steps, how often the advisers were told something, its sink, and what the
+-- disk in memory reads that is handed back (none where none is)
 pub record DemoMet : Type 0 where
   pub number : ℕ
   pub budget : ℕ
+  pub told : ToldMet
   pub sink : SinkMet
   pub file : Option (List ℕ)
+
+-- how many of the steps of a search by one worker were committed: each, or all but the one for whose posts there was no room
+abbrev pub AreCommitted : RunEnd → ℕ → ℕ → Type 0
+AreCommitted Finished commits taken = taken ≡ commits
+AreCommitted Spent commits taken = taken ≡ commits
+AreCommitted (FullEnd end limit) commits taken = taken ≡ commits + 1
+AreCommitted DiskEnd commits taken = ⊥
+AreCommitted MemoryEnd commits taken = ⊥
+
+-- the adviser comes back, and was told so often as steps were committed
+abbrev pub IsTold : ToldMet → RunEnd → ℕ → Type 0
+IsTold told end taken = (commits : ℕ) × AreTold 1 commits told × AreCommitted end commits taken
 
 -- the search ended so; its disk is handed back, and its line was written
 pub record IsShown (met : DemoMet) (end : RunEnd) : Type 0 where
   pub file : List ℕ
   pub kept : met.file ≡ Some file
   pub demo : Demonstration (generated met.number) met.budget end file
+  pub told : IsTold met.told end demo.last.taken
   pub written : Appends met.sink.held met.sink.held_after (line_of met.number demo.last)
 
 -- the search ended, and its disk is handed back; the beginning of its line was written, and the sink had a fault
@@ -94,6 +109,7 @@ pub record IsCutShort (met : DemoMet) : Type 0 where
   pub file : List ℕ
   pub kept : met.file ≡ Some file
   pub demo : Demonstration (generated met.number) met.budget end file
+  pub told : IsTold met.told end demo.last.taken
   pub written : AppendsPart met.sink.held met.sink.held_after (line_of met.number demo.last)
   pub cause : Rose met.sink.faults.0 met.sink.faults.1
 
@@ -107,6 +123,7 @@ OverMemory met (Full end limit) = IsShown met (FullEnd end limit)
 OverMemory met WriteFault = IsCutShort met
 OverMemory met NoMemory = met.file ≡ None
 OverMemory met Usage = ⊥
+OverMemory met (Workers asked have) = ⊥
 OverMemory met (Input why) = ⊥
 OverMemory met ReadFault = ⊥
 OverMemory met DiskFault = ⊥

@@ -2,6 +2,7 @@ pub mod Demo
 pub mod Report
 pub mod Run
 pub mod Search
+pub mod Served
 pub mod Session
 pub mod Status
 pub mod Steps

@@ -1,5 +1,5 @@
 -- What a run of `solve` answers, and why.
-use Rattle.std.specs.Prelude.{◌≡◌, ◌⊎◌, ⊤, ℕ, ◌+◌, ◌<◌, ◌≤◌, Bool, true, false, IsTrue, IsFalse, List, [], ◌++◌, length, count_by, Option, None, Some, IsSome, IfSome, OnSome}
+use Rattle.std.specs.Prelude.{◌≡◌, ◌⊎◌, ⊤, ℕ, ◌+◌, ◌<◌, ◌≤◌, Bool, true, false, IsTrue, IsFalse, List, [], ◌++◌, length, Option, None, Some, IsSome, IfSome, OnSome}
 use Rattle.std.specs.Io.KnownBytes.{Appends}
 use Rattle.plan_base.specs.Causes.{Rose}
 use Rattle.plan_base.specs.Streams.{AppendsPart}
@@ -12,8 +12,9 @@ use Rattle.instance_input.specs.Unread.{IsReadAs, WhyUnread}
 use Rattle.certificate.specs.Accepted.{is_accepted}
 use Rattle.certificate.specs.Departing.{Spells}
 use Rattle.search_core.specs.Book.{book_of, is_finished, IsSound}
-use Rattle.search_core.specs.Board.{bytes_of}
+use Rattle.search_core.specs.Board.{bytes_of, leaves_open}
 use Rattle.search_core.specs.Calls.{steps_enough}
+use Rattle.search_core.specs.Kept.{cuts_in}
 use Rattle.search_core.specs.Steps.{posts_of}
 use Rattle.search_core.specs.declared.step_posts.StepPosts.{StepPosts}
 use Rattle.post_codec.specs.declared.post.Post.{Post}
@@ -22,17 +23,17 @@ use Rattle.search_book.specs.declared.open_fault.OpenFault.{OpenFault}
 use Rattle.search_book.specs.declared.open_fault.OpenFault.TheVariants.{DiskFault as OpeningsDisk, NotAJournal, OtherInstance, Damaged, Rejected, NoMemory as OpeningsMemory}
 use Rattle.search_book.specs.Opened.{HoldsBook, OpenCause}
 use Rattle.search_book.specs.Opening.{IsOldOrShort}
-use Rattle.worker_gate.specs.Runs.{is_plan_or_prices}
 use Rattle.shift_solve.specs.declared.status.Status.{Status}
-use Rattle.shift_solve.specs.declared.status.Status.TheVariants.{Optimal, Budget, Full, Usage, Input, ReadFault, WriteFault, DiskFault, NoMemory, Journal}
+use Rattle.shift_solve.specs.declared.status.Status.TheVariants.{Optimal, Budget, Full, Usage, Input, Workers, ReadFault, WriteFault, DiskFault, NoMemory, Journal}
 use Rattle.shift_solve.specs.Demo.{OverMemory}
 use Rattle.shift_solve.specs.Report.{cert_of, output_of, IsUnbeaten}
 use Rattle.shift_solve.specs.Session.{DiskMet, IsUncalled, Session, posts_in}
 use Rattle.shift_solve.specs.Status.{EndsBeforeReading}
-use Rattle.shift_solve.specs.Steps.{bytes_in, AreSteps, IsNextStep}
+use Rattle.shift_solve.specs.Served.{AreTold, AreUntold, Served, ServedToEnd, ToldMet, Works}
+use Rattle.shift_solve.specs.Steps.{bytes_in}
 use Rattle.shift_solve.specs.Streams.{SinkMet}
-use Rattle.shift_solve.specs.Words.{AreNoCommand, Command, IsCommand}
-use Rattle.solve_words.specs.Words.{from_number, Asks}
+use Rattle.shift_solve.specs.Words.{workers_for, AsksWorkers, Command, IsCommand}
+use Rattle.solve_words.specs.Words.{from_number, Asked, Asks}
 
 -- ---- how a search ends that wasn't cut off
 
@@ -41,39 +42,36 @@ pub record IsFinished {disk : DiskMet} {i : Problem} (session : Session disk i) 
   pub landed : session.in_flight ≡ []
   pub finished : IsTrue (is_finished session.last)
 
--- all steps of the budget were taken, and a node is open: so many steps don't finish each search of the instance, and the posts
--- that are plans or prices are no fewer
+-- all steps of the budget were taken, each was committed, and a node is open: so many steps don't finish each search of the instance
 pub record IsSpent (budget : ℕ) {disk : DiskMet} {i : Problem} (session : Session disk i) : Type 0 where
   pub landed : session.in_flight ≡ []
   pub unfinished : IsFalse (is_finished session.last)
-  -- the posts of each step: they are those of the session, and the steps are as many as the budget has
-  pub steps : List (List Post)
-  pub made : AreSteps i session.first steps session.last
-  pub all : joined steps ≡ joined session.batches
-  pub count : length steps ≡ budget
-  pub shown : budget ≤ count_by is_plan_or_prices (joined session.batches)
   pub few : budget < steps_enough i
 
--- A node is open, and there was no room for the posts of the step that comes next, four at most, which the book allows: with
--- their record the file's journal would have ended there, past its limit.
-pub record IsFull (budget end limit : ℕ) {disk : DiskMet} {i : Problem} (session : Session disk i) : Type 0 where
+-- These are the posts of a step of one of the workers, over the book that the session left: it would have closed its node, for whose
+-- cuts its prices are. The posts of the session are those of the steps that were committed, each step's a record, and the bytes of
+-- its journal are those at the opening and those of these records.
+pub record IsUnfit (workers : ℕ) {disk : DiskMet} {i : Problem} (session : Session disk i) (posts : List Post) : Type 0 where
+  pub steps : List (List Post)
+  pub all : joined steps ≡ joined session.batches
+  pub used : session.used_after ≡ session.used + bytes_in steps
+  pub worker : ℕ
+  pub below : worker < workers
+  pub step : StepPosts
+  pub cuts : step.proved.cuts ≡ cuts_in session.last.nodes step.node
+  pub closes : IsFalse (leaves_open i session.last worker step)
+  pub posts_are : posts ≡ posts_of i session.last worker step
+
+-- A node is open, and there was no room for the posts of a step, four at most, which the book allows: with their record the file's
+-- journal would have ended there, past its limit.
+pub record IsFull (workers end limit : ℕ) {disk : DiskMet} {i : Problem} (session : Session disk i) : Type 0 where
   pub landed : session.in_flight ≡ []
   pub unfinished : IsFalse (is_finished session.last)
-  -- the posts of each step that was committed: they are those of the session, and the steps are fewer than the budget has
-  pub steps : List (List Post)
-  pub made : AreSteps i session.first steps session.last
-  pub all : joined steps ≡ joined session.batches
-  pub left : length steps < budget
-  -- the step that comes next, and its posts
-  pub step : StepPosts
-  pub next : IsNextStep i session.last step
   pub posts : List Post
-  pub posts_are : posts ≡ posts_of i session.last 0 step
+  pub unfit : ∥ IsUnfit workers session posts ∥₁
   pub some : 0 < length posts
   pub at_most : length posts ≤ 4
   pub allowed : IsSome (book_of i (posts_in session ++ posts))
-  -- the bytes of the journal: those at the opening, and those of the record of each committed step
-  pub used : session.used_after ≡ session.used + bytes_in steps
   pub ends : end ≡ session.used_after + bytes_of posts
   pub most : limit ≡ JOURNAL_MAX
   pub over : limit < end
@@ -118,31 +116,33 @@ pub record IsRefused (disk : DiskMet) (i : Problem) (why : OpenFault) : Type 0 w
 
 -- ---- statuses
 
--- how a run ends that has read an instance, whether the table is asked for, the budget of steps, whether it opened a book, and what
--- the book says
-abbrev pub OverDisk : DiskMet → SinkMet → Problem → Bool → ℕ → Bool → Status → Type 0
-OverDisk disk sink i table budget opened Optimal = (opened ≡ true) × (s : Session disk i) × IsFinished s × Reports sink table s × IsUnbeaten i s.last.cost
-OverDisk disk sink i table budget opened Budget = (opened ≡ true) × (s : Session disk i) × IsSpent budget s × Reports sink table s
-OverDisk disk sink i table budget opened (Full end limit) = (opened ≡ true) × (s : Session disk i) × IsFull budget end limit s × Reports sink table s
-OverDisk disk sink i table budget opened WriteFault = (opened ≡ true) × (s : Session disk i)
-    × (IsFinished s ⊎ (IsSpent budget s ⊎ ((end : ℕ) × (limit : ℕ) × IsFull budget end limit s))) × ReportsPart sink table s
-OverDisk disk sink i table budget opened DiskFault = Rose disk.faults.0 disk.faults.1
-    × (((opened ≡ false) × IsLeft disk i) ⊎ ((opened ≡ true) × Session disk i))
-OverDisk disk sink i table budget opened NoMemory =
-    ((opened ≡ false) × IsLeft disk i × ((disk.file_after ≡ disk.file) ⊎ ((disk.file ≡ Some []) × (disk.file_after ≡ Some (fresh (canonical_text i))))))
-    ⊎ ((opened ≡ true) × (s : Session disk i) × (s.in_flight ≡ []))
-OverDisk disk sink i table budget opened (Journal why) = (opened ≡ false) × IsRefused disk i why × IsLeft disk i
-OverDisk disk sink i table budget opened Usage = ⊥
-OverDisk disk sink i table budget opened (Input why) = ⊥
-OverDisk disk sink i table budget opened ReadFault = ⊥
+-- how a run ends that has read an instance, by so many workers: whether the table is asked for, the budget of steps, how often the
+-- advisers were told something, whether it opened a book, and what the book says
+abbrev pub OverDisk : DiskMet → SinkMet → Problem → Bool → ℕ → ℕ → ToldMet → Bool → Status → Type 0
+OverDisk disk sink i table budget workers told opened Optimal = (opened ≡ true) × (s : Session disk i) × IsFinished s × ServedToEnd workers budget told s × Reports sink table s × IsUnbeaten i s.last.cost
+OverDisk disk sink i table budget workers told opened Budget = (opened ≡ true) × (s : Session disk i) × IsSpent budget s × Works workers budget budget s × AreTold workers budget told × Reports sink table s
+OverDisk disk sink i table budget workers told opened (Full end limit) = (opened ≡ true) × (s : Session disk i) × IsFull workers end limit s × Served workers budget told s × Reports sink table s
+OverDisk disk sink i table budget workers told opened WriteFault = (opened ≡ true) × (s : Session disk i)
+    × (IsFinished s ⊎ (IsSpent budget s ⊎ ((end : ℕ) × (limit : ℕ) × IsFull workers end limit s))) × Served workers budget told s × ReportsPart sink table s
+OverDisk disk sink i table budget workers told opened DiskFault = Rose disk.faults.0 disk.faults.1
+    × (((opened ≡ false) × IsLeft disk i × AreUntold workers told) ⊎ ((opened ≡ true) × (s : Session disk i) × Served workers budget told s))
+OverDisk disk sink i table budget workers told opened NoMemory =
+    ((opened ≡ false) × IsLeft disk i × AreUntold workers told × ((disk.file_after ≡ disk.file) ⊎ ((disk.file ≡ Some []) × (disk.file_after ≡ Some (fresh (canonical_text i))))))
+    ⊎ ((opened ≡ true) × (s : Session disk i) × (s.in_flight ≡ []) × Served workers budget told s)
+OverDisk disk sink i table budget workers told opened (Journal why) = (opened ≡ false) × IsRefused disk i why × IsLeft disk i × AreUntold workers told
+OverDisk disk sink i table budget workers told opened Usage = ⊥
+OverDisk disk sink i table budget workers told opened (Input why) = ⊥
+OverDisk disk sink i table budget workers told opened (Workers asked have) = ⊥
+OverDisk disk sink i table budget workers told opened ReadFault = ⊥
 
 -- what a run meets: its words, what the source has left (none where it doesn't tell) and its counts of faults before and after the
--- run, what shows of its sink and of its disk, whether it opened a book there, and what the disk in memory reads that is handed back:
--- none only where no such disk is, as one always tells its content
+-- run, how often its advisers were told something, what shows of its sink and of its disk, whether it opened a book there, and what the
+-- disk in memory reads that is handed back (none where none is)
 pub record Met : Type 1 where
   pub words : List (List ℕ)
   pub left : Option (List ℕ)
   pub read_faults : ℕ × ℕ
+  pub told : ToldMet
   pub sink : SinkMet
   pub disk : DiskMet
   pub opened : Bool
@@ -157,15 +157,16 @@ pub record IsUnopened (met : Met) : Type 0 where
 pub record EndsOver (met : Met) (command : Command) (status : Status) : Type 0 where
   pub i : Problem
   pub document : IsReadAs met.left i
-  pub ends : OverDisk met.disk met.sink i command.table command.steps met.opened status
+  pub ends : OverDisk met.disk met.sink i command.table command.steps command.workers met.told met.opened status
   pub demo : met.demo ≡ None
 
 -- when each status of a command's search comes, and what it says
 abbrev pub Searched : Met → Command → Status → Type 0
 Searched met command Usage = ⊥
-Searched met command (Input why) = IsUnopened met × WhyUnread met.left met.read_faults.0 met.read_faults.1 (DocumentRefused why)
-Searched met command ReadFault = IsUnopened met × Rose met.read_faults.0 met.read_faults.1
-Searched met command NoMemory = (IsUnopened met × IsUncalled met.disk) ⊎ EndsOver met command NoMemory
+Searched met command (Workers asked have) = ⊥
+Searched met command (Input why) = IsUnopened met × AreUntold command.workers met.told × WhyUnread met.left met.read_faults.0 met.read_faults.1 (DocumentRefused why)
+Searched met command ReadFault = IsUnopened met × AreUntold command.workers met.told × Rose met.read_faults.0 met.read_faults.1
+Searched met command NoMemory = (IsUnopened met × AreUntold command.workers met.told × IsUncalled met.disk) ⊎ EndsOver met command NoMemory
 Searched met command Optimal = EndsOver met command Optimal
 Searched met command Budget = EndsOver met command Budget
 Searched met command (Full end limit) = EndsOver met command (Full end limit)
@@ -173,10 +174,11 @@ Searched met command WriteFault = EndsOver met command WriteFault
 Searched met command DiskFault = EndsOver met command DiskFault
 Searched met command (Journal why) = EndsOver met command (Journal why)
 
--- the words ask for a search, which ended so
+-- the words ask for a search, for which there were advisers enough, and which ended so
 pub record EndsSearch (met : Met) (status : Status) : Type 0 where
   pub command : Command
   pub words : IsCommand met.words command
+  pub enough : command.workers ≤ workers_for met.told.before
   pub ends : Searched met command status
 
 -- the words ask for a demonstration, which ended so; no book was opened on the disk
@@ -185,11 +187,19 @@ pub record EndsDemo (met : Met) (status : Status) : Type 0 where
   pub steps : ℕ
   pub words : Asks met.words (from_number number steps)
   pub opened : met.opened ≡ false
-  pub ends : OverMemory (record { number = number; budget = steps; sink = met.sink; file = met.demo }) status
+  pub enough : 1 ≤ workers_for met.told.before
+  pub ends : OverMemory (record { number = number; budget = steps; told = met.told; sink = met.sink; file = met.demo }) status
+
+-- the words ask for a search by so many workers, or for a demonstration by one, and that is more than there are advisers for
+pub record AsksTooMany (met : Met) (asked have : ℕ) : Type 0 where
+  pub words : AsksWorkers met.words asked
+  pub all : have ≡ workers_for met.told.before
+  pub more : have < asked
 
 -- when each status comes, and what it says
 abbrev pub Explains : Met → Status → Type 0
-Explains met Usage = IsUnopened met × AreNoCommand met.words
+Explains met Usage = IsUnopened met × (met.told.after ≡ []) × ((asked : Asked) → Asks met.words asked → ⊥)
+Explains met (Workers asked have) = IsUnopened met × (met.told.after ≡ []) × AsksTooMany met asked have
 Explains met (Input why) = EndsSearch met (Input why)
 Explains met ReadFault = EndsSearch met ReadFault
 Explains met DiskFault = EndsSearch met DiskFault
@@ -198,9 +208,9 @@ Explains met Optimal = EndsSearch met Optimal ⊎ EndsDemo met Optimal
 Explains met Budget = EndsSearch met Budget ⊎ EndsDemo met Budget
 Explains met (Full end limit) = EndsSearch met (Full end limit) ⊎ EndsDemo met (Full end limit)
 Explains met WriteFault = EndsSearch met WriteFault ⊎ EndsDemo met WriteFault
-Explains met NoMemory = (IsUnopened met × IsUncalled met.disk) ⊎ (EndsSearch met NoMemory ⊎ EndsDemo met NoMemory)
+Explains met NoMemory = (IsUnopened met × (met.told.after ≡ []) × IsUncalled met.disk) ⊎ (EndsSearch met NoMemory ⊎ EndsDemo met NoMemory)
 
--- the source wasn't touched: the words are no command, or ask for a demonstration
+-- the source wasn't touched: the words are no command or ask for too many workers, or for a demonstration
 abbrev pub IsUnread : List (List ℕ) → Status → Type 0
 IsUnread words status = (EndsBeforeReading status) ⊎ ((number : ℕ) × (steps : ℕ) × Asks words (from_number number steps))
 

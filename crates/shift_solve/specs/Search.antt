@@ -1,18 +1,21 @@
 -- What a run does to the book that it opened, step by step.
-use Rattle.std.specs.Prelude.{◌≡◌, ⊤, ℕ, ◌<◌, ◌≤◌, Bool, true, false, List, Option, None}
+use Rattle.std.specs.Prelude.{◌≡◌, ⊤, ℕ, ◌+◌, ◌*◌, ◌<◌, ◌≤◌, Bool, true, false, List, Option, None}
 use Rattle.std.specs.Io.KnownBytes.{Appends}
 use Rattle.plan_base.specs.Causes.{Rose}
 use Rattle.plan_base.specs.Streams.{AppendsPart}
 use Rattle.certificate.specs.Departing.{Spells}
-use Rattle.search_core.specs.Calls.{steps_enough}
+use Rattle.search_core.specs.Calls.{full_hands, steps_enough, IsFresh}
 use Rattle.search_core.specs.Core.{empty_hands, IsFront}
 use Rattle.search_book.specs.Search.{SearchView, board_of}
 use Rattle.worker_gate.specs.declared.run.RunEnd.{RunEnd}
 use Rattle.worker_gate.specs.declared.run.RunEnd.TheVariants.{Finished, Spent, Full as FullEnd, DiskFault as DiskEnd, NoMemory as MemoryEnd}
-use Rattle.worker_gate.specs.Runs.{plans_and_prices_since, IsSameSearch, RunEnds, RunMakes}
+use Rattle.board_lock.specs.Turns.{plans_since, prices_since, AreTurns}
+use Rattle.worker_gate.specs.Runs.{IsSameSearch}
+use Rattle.worker_gate.specs.Workers.{WorkersEnd}
 use Rattle.shift_solve.specs.declared.status.Status.{Status}
-use Rattle.shift_solve.specs.declared.status.Status.TheVariants.{Optimal, Budget, Full, Usage, Input, ReadFault, WriteFault, DiskFault, NoMemory, Journal}
+use Rattle.shift_solve.specs.declared.status.Status.TheVariants.{Optimal, Budget, Full, Usage, Input, Workers, ReadFault, WriteFault, DiskFault, NoMemory, Journal}
 use Rattle.shift_solve.specs.Report.{cert_of, output_of}
+use Rattle.shift_solve.specs.Served.{AreTold, ToldMet}
 
 -- a book from which no node was taken yet
 pub record IsBegun {D : Type 0} (book : SearchView D) : Type 0 where
@@ -26,13 +29,21 @@ pub record GoesOn {D : Type 0} (reads : D → Option (List ℕ)) (calls faults :
   pub same : IsSameSearch (board_of reads calls faults old) (board_of reads calls faults new)
   pub begins : IsFront old.log.history new.log.history
 
--- how a search over a book ended, and what it made of it round by round; one that took all its steps had too few of them for
--- each search of the instance, and made no fewer posts that are plans or prices
-pub record Ends {D : Type 0} (reads : D → Option (List ℕ)) (calls faults : D → ℕ) (old new : SearchView D) (end : RunEnd) : Type 0 where
-  pub ends : RunEnds (board_of reads calls faults new) end
-  pub makes : RunMakes (board_of reads calls faults old) (board_of reads calls faults new) end
-  pub shown : end ≡ Spent → old.budget ≤ plans_and_prices_since old.log.history new.log.history
+-- How a search by workers over a book ended that was just opened: turns of theirs made it of what it was, with so many commits that answered Ok. Each of
+-- these posted prices or a plan, or another worker's plan had closed its node. Where no worker gave up, each step was committed whose
+-- node is in no hand. A search that took all its steps committed each, and had too few of them for each search of the instance.
+pub record Ends {D : Type 0} (reads : D → Option (List ℕ)) (calls faults : D → ℕ) (workers commits : ℕ) (old new : SearchView D) (end : RunEnd) : Type 0 where
+  pub fresh : IsFresh (board_of reads calls faults old)
+  pub ends : WorkersEnd (board_of reads calls faults old) (board_of reads calls faults new) end
+  pub turns : ∥ AreTurns workers (board_of reads calls faults old) (board_of reads calls faults new) commits ∥₁
+  pub shown : commits ≤ prices_since old.log.history new.log.history + workers * plans_since old.log.history new.log.history
+  pub spent : end ≡ Spent → commits ≡ old.budget
+  pub exact : new.halted ≡ false → commits + full_hands new.hands ≡ new.taken
   pub few : end ≡ Spent → old.budget < steps_enough old.log.instance
+
+-- so a search ended, and so often its advisers were told something
+abbrev pub Told : {D : Type 0} → (D → Option (List ℕ)) → (D → ℕ) → (D → ℕ) → ℕ → ToldMet → SearchView D → SearchView D → RunEnd → Type 0
+Told reads calls faults workers told old new end = (commits : ℕ) × Ends reads calls faults workers commits old new end × AreTold workers commits told
 
 -- whether a search came to an end of which a report is written
 abbrev pub is_reported : RunEnd → Bool
@@ -76,19 +87,21 @@ Unwritten book table held holds faults Budget = ⊥
 Unwritten book table held holds faults (Full end limit) = ⊥
 Unwritten book table held holds faults Usage = ⊥
 Unwritten book table held holds faults (Input why) = ⊥
+Unwritten book table held holds faults (Workers asked have) = ⊥
 Unwritten book table held holds faults ReadFault = ⊥
 Unwritten book table held holds faults DiskFault = ⊥
 Unwritten book table held holds faults (Journal why) = ⊥
 
--- how a search over a book and its report end
-abbrev pub SearchEnds : {D : Type 0} → (D → Option (List ℕ)) → (D → ℕ) → (D → ℕ) → SearchView D → SearchView D → Bool → Option (List ℕ) → Option (List ℕ) → ℕ × ℕ → Status → Type 0
-SearchEnds reads calls faults old new table held holds writes Optimal = Ends reads calls faults old new Finished × IsReported new table held holds
-SearchEnds reads calls faults old new table held holds writes Budget = Ends reads calls faults old new Spent × IsReported new table held holds
-SearchEnds reads calls faults old new table held holds writes (Full end limit) = Ends reads calls faults old new (FullEnd end limit) × IsReported new table held holds
-SearchEnds reads calls faults old new table held holds writes WriteFault = (end : RunEnd) × Ends reads calls faults old new end × (is_reported end ≡ true) × IsReportedPart new table held holds writes
-SearchEnds reads calls faults old new table held holds writes DiskFault = Ends reads calls faults old new DiskEnd
-SearchEnds reads calls faults old new table held holds writes NoMemory = (end : RunEnd) × Ends reads calls faults old new end × IsLanded end
-SearchEnds reads calls faults old new table held holds writes Usage = ⊥
-SearchEnds reads calls faults old new table held holds writes (Input why) = ⊥
-SearchEnds reads calls faults old new table held holds writes ReadFault = ⊥
-SearchEnds reads calls faults old new table held holds writes (Journal why) = ⊥
+-- how a search by workers over a book and its report end, and how often the advisers were told something
+abbrev pub SearchEnds : {D : Type 0} → (D → Option (List ℕ)) → (D → ℕ) → (D → ℕ) → ℕ → ToldMet → SearchView D → SearchView D → Bool → Option (List ℕ) → Option (List ℕ) → ℕ × ℕ → Status → Type 0
+SearchEnds reads calls faults workers told old new table held holds writes Optimal = Told reads calls faults workers told old new Finished × IsReported new table held holds
+SearchEnds reads calls faults workers told old new table held holds writes Budget = Told reads calls faults workers told old new Spent × IsReported new table held holds
+SearchEnds reads calls faults workers told old new table held holds writes (Full end limit) = Told reads calls faults workers told old new (FullEnd end limit) × IsReported new table held holds
+SearchEnds reads calls faults workers told old new table held holds writes WriteFault = (end : RunEnd) × Told reads calls faults workers told old new end × (is_reported end ≡ true) × IsReportedPart new table held holds writes
+SearchEnds reads calls faults workers told old new table held holds writes DiskFault = Told reads calls faults workers told old new DiskEnd
+SearchEnds reads calls faults workers told old new table held holds writes NoMemory = (end : RunEnd) × Told reads calls faults workers told old new end × IsLanded end
+SearchEnds reads calls faults workers told old new table held holds writes Usage = ⊥
+SearchEnds reads calls faults workers told old new table held holds writes (Input why) = ⊥
+SearchEnds reads calls faults workers told old new table held holds writes (Workers asked have) = ⊥
+SearchEnds reads calls faults workers told old new table held holds writes ReadFault = ⊥
+SearchEnds reads calls faults workers told old new table held holds writes (Journal why) = ⊥

@@ -1,32 +1,56 @@
 -- What a run makes of its words.
-use Rattle.std.specs.Prelude.{◌≡◌, ◌↔◌, ℕ, Bool, List, Option, Some, None, IsSome}
-use Rattle.solve_words.specs.Words.{from_number, over_journal, Asked, Asks}
+use Rattle.std.specs.Prelude.{◌≡◌, ◌⊎◌, ◌↔◌, ℕ, Bool, true, List, Option, Some, length, min, unwrap_or}
+use Rattle.solve_words.specs.Words.{from_number, over_journal, Asks}
 
--- what the words ask for: a search over the journal on that path, of so many steps, and whether the table of its plan is wanted
+-- what the words ask for: a search over the journal on that path, by so many workers, of so many steps, and whether the table of its
+-- plan is wanted
 pub record Command : Type 0 where
   pub journal : List ℕ
+  pub workers : ℕ
   pub steps : ℕ
   pub table : Bool
 
--- the words ask for that search, and say no number of workers
+-- how many workers search where the words say no number
+abbrev pub workers_unsaid : ℕ
+workers_unsaid = 4
+
+-- for how many workers there are advisers: each wants one, and there are at most sixteen workers
+abbrev pub workers_for : List ℕ → ℕ
+workers_for advisers = min 16 (length advisers)
+
+-- the words ask for that search, with a local search of plans or without; where they say no number of workers, four search
 pub record IsCommand (words : List (List ℕ)) (command : Command) : Type 0 where
-  pub asks : Asks words (over_journal command.journal None command.steps command.table)
+  pub workers : Option ℕ
+  pub local : Bool
+  pub asks : Asks words (over_journal command.journal workers command.steps command.table local)
+  pub all : command.workers ≡ unwrap_or workers workers_unsaid
 
--- a search by a number of workers
-abbrev pub IsByWorkers : Asked → Type 0
-IsByWorkers (over_journal path workers steps table) = IsSome workers
-IsByWorkers (from_number number steps) = ⊥
+-- the words ask for so many workers: those of a search, or the one of a demonstration
+abbrev pub AsksWorkers : List (List ℕ) → ℕ → Type 0
+AsksWorkers words asked =
+    ((command : Command) × IsCommand words command × (command.workers ≡ asked))
+    ⊎ ((number : ℕ) × (steps : ℕ) × Asks words (from_number number steps) × (asked ≡ 1))
 
--- the words ask for nothing, or for a search by a number of workers
-abbrev pub AreNoCommand : List (List ℕ) → Type 0
-AreNoCommand words = (asked : Asked) → Asks words asked → IsByWorkers asked
-
--- the words ask for a search over the journal at that path, and say no number of workers
+-- the words ask for a search over the journal at that path
 pub record NamesJournal (words : List (List ℕ)) (path : List ℕ) : Type 0 where
+  pub workers : Option ℕ
   pub steps : ℕ
   pub table : Bool
-  pub asks : Asks words (over_journal path None steps table)
+  pub local : Bool
+  pub asks : Asks words (over_journal path workers steps table local)
 
 -- that, and nothing else, is the path of the journal that the words name
 abbrev pub IsPathIn : List (List ℕ) → Option (List ℕ) → Type 0
 IsPathIn words found = (path : List ℕ) → NamesJournal words path ↔ (found ≡ Some path)
+
+-- the words ask for a search over a journal, with a local search of plans
+pub record AsksLocal (words : List (List ℕ)) : Type 0 where
+  pub journal : List ℕ
+  pub workers : Option ℕ
+  pub steps : ℕ
+  pub table : Bool
+  pub asks : Asks words (over_journal journal workers steps table true)
+
+-- that is wanted where the words ask for it, and by no other words
+abbrev pub IsLocalIn : List (List ℕ) → Bool → Type 0
+IsLocalIn words wanted = AsksLocal words ↔ (wanted ≡ true)

@@ -9,16 +9,33 @@ mod run;
 #[cfg(test)]
 mod run_tests;
 mod search;
+mod seats;
 mod status;
 mod words;
 
+use advice::Adviser;
+use advisers::{Greedy, Subgradient};
 pub use demo::demo_line;
+use descents::Descent;
 use plan_base::{FileDisk, StdSink, StdSource};
 pub use run::{Ended, solve_run};
 pub use status::{Status, status_line};
+use std::alloc::AllocError;
 use std::process::ExitCode;
+use std::sync::Wait;
+use std::thread::Threads;
 use std::{env, io};
-pub use words::journal_path;
+pub use words::{journal_path, wants_local};
+use worker_gate::Open;
+
+/// How many advisers there are: one for each worker that a run may have.
+const ADVISERS: usize = 16;
+
+/// The most moves by which the first adviser makes the greedy plan cheaper, where the words ask for a local search.
+const MOVES: u16 = 1000;
+
+/// The scale of the prices that all but the first adviser look for.
+const SCALE: u16 = 100;
 
 /// The words of the command line, without the program's name. Words that aren't UTF-8 are no command.
 fn command_words(rt: &HostRuntime) -> Result<Vec<String>, Status> {
@@ -32,17 +49,35 @@ fn command_words(rt: &HostRuntime) -> Result<Vec<String>, Status> {
         .map_err(|_| Status::NoMemory)
 }
 
-/// The run of these words over the standard streams, and over a disk on the JOURNAL word's path.
-fn solve(rt: HostRuntime, words: &[String]) -> Status {
-    let path = match journal_path(rt.alloc(), words) {
-        Ok(Some(path)) => path,
-        Ok(None) => String::new(rt.alloc()),
-        Err(_) => return Status::NoMemory,
+/// The run of these words over the standard streams, and over a disk on the JOURNAL word's path, with an adviser for each worker that
+/// a run may have: the first gives greedy advice, with a plan made cheaper by moves where the words ask for a local search, and each
+/// other looks for prices by the subgradient method.
+fn solve<R: Threads + Wait + Sync>(
+    host: HostRuntime,
+    rt: &R,
+    words: &[String],
+) -> Result<Status, AllocError> {
+    let alloc = host.alloc();
+    let path = match journal_path(alloc, words)? {
+        Some(path) => path,
+        None => String::new(alloc),
     };
-    let mut input = StdSource::new(rt);
-    let mut out = StdSink::new(rt);
-    let disk = FileDisk::new(rt, path);
-    solve_run(rt.alloc(), words, &mut input, &mut out, disk).status
+    let mut advisers: Vec<Box<dyn Adviser + Send>> = Vec::with_capacity(alloc, ADVISERS)?;
+    if wants_local(alloc, words)? {
+        advisers.push(Box::new(alloc, Descent::new(alloc, MOVES))?)?;
+    } else {
+        advisers.push(Box::new(alloc, Greedy::new(alloc))?)?;
+    }
+    for _ in 1..ADVISERS {
+        advisers.push(Box::new(alloc, Subgradient::new(alloc, SCALE))?)?;
+    }
+    let mut input = StdSource::new(host);
+    let mut out = StdSink::new(host);
+    let disk = FileDisk::new(host, path);
+    let ended = solve_run(
+        rt, alloc, words, &mut input, &mut out, disk, advisers, &Open,
+    );
+    Ok(ended.status)
 }
 
 /// Says a status on standard error, unless it is that of an optimal plan.
@@ -57,7 +92,7 @@ fn tell(rt: &HostRuntime, status: &Status) {
 
 fn main(rt: HostRuntime) -> ExitCode {
     let status = match command_words(&rt) {
-        Ok(words) => solve(rt, words.as_slice()),
+        Ok(words) => solve(rt, &rt, words.as_slice()).unwrap_or(Status::NoMemory),
         Err(status) => status,
     };
     tell(&rt, &status);

@@ -1,25 +1,43 @@
 //! What a run does with the book that it has opened.
 
-ghost use Rattle.std.specs.Prelude.{◌≡◌, OnOk, IfErr};
-ghost use Rattle.shift_solve.specs.Search.{is_reported, status_at, Ends, GoesOn, IsBegun, IsReported, SearchEnds, Unwritten};
+ghost use Rattle.std.specs.Prelude.{◌≡◌, ◌<◌, ◌≤◌, ◌^◌, All, map, vec_len, OnOk, IfErr};
+ghost use Rattle.shift_solve.specs.Search.{is_reported, status_at, GoesOn, IsBegun, IsReported, SearchEnds, Told, Unwritten};
 ghost use Rattle.shift_solve.specs.Status.{EndsUnwritten};
 
 use crate::report::output_of;
 use crate::status::Status;
+use advice::Adviser;
 use plan_base::{Disk, Failed, Sink, write_all};
 use search_book::Book;
+use search_core::keeps_sound;
 use shift_instance::Instance;
 use std::alloc::Global;
-use worker_gate::{RunEnd, run_worker};
+use std::sync::Wait;
+use std::thread::Threads;
+use worker_gate::{Gate, RunEnd, Seat, run_workers};
 
-/// Runs the search over a book from which no node was taken yet.
-fn run_search<D: Disk>(alloc: Global, instance: &Instance, book: &mut Book<D>) -> RunEnd
-    requires same { book.old.log.instance ≡ instance.now }
-    requires begun { IsBegun book.old }
-    ensures goes_on { GoesOn D.reads D.calls D.faults book.old book.new }
-    ensures ends { Ends D.reads D.calls D.faults book.old book.new result }
+/// Runs a worker for each seat over a book from which no node was taken yet.
+fn run_search<D: Disk + Send, G: Gate + Sync, R: Threads + Wait + Sync>(
+    rt: &R,
+    alloc: Global,
+    instance: &Instance,
+    book: Book<D>,
+    seats: Vec<Seat>,
+    gate: &G,
+) -> (Book<D>, Vec<Seat>, RunEnd)
+    requires same { book.log.instance ≡ instance.now }
+    requires begun { IsBegun book }
+    requires budget { book.budget < 2 ^ 63 }
+    requires some { 0 < vec_len seats }
+    requires sixteen { vec_len seats ≤ 16 }
+    requires new { All (λ s. (s.told ≡ 0) × (s.share ≡ 0)) seats.items }
+    ensures goes_on { GoesOn D.reads D.calls D.faults book result.0 }
+    ensures ends { Told D.reads D.calls D.faults (vec_len seats) (record { before = map (λ s. told (s.adviser.vtable, s.adviser.value)) seats.items; after = map (λ s. told (s.adviser.vtable, s.adviser.value)) result.1.items }) book result.0 result.2 }
+    ensures seats { vec_len result.1 ≡ vec_len seats }
 {
-    run_worker(alloc, instance, book)
+    // what every board keeps, and this one as it is opened
+    keeps_sound(&book);
+    run_workers(rt, alloc, instance, book, seats, gate)
 }
 
 /// Whether a search came to an end of which a report is written.
@@ -71,26 +89,37 @@ fn write_report<K: Sink, D: Disk>(
 }
 
 /// Runs the search over the book that was opened, and writes the report of the book as it is then. Where the disk failed or
-/// there was no memory, nothing is written.
-pub(crate) fn search<K: Sink, D: Disk>(
+/// there was no memory, nothing is written. The book and the seats come back.
+pub(crate) fn search<K: Sink, D: Disk + Send, G: Gate + Sync, R: Threads + Wait + Sync>(
+    rt: &R,
     alloc: Global,
     instance: &Instance,
-    book: &mut Book<D>,
+    book: Book<D>,
+    seats: Vec<Seat>,
+    gate: &G,
     table: bool,
     out: &mut K,
-) -> Status
-    requires same { book.old.log.instance ≡ instance.now }
-    requires begun { IsBegun book.old }
-    ensures goes_on { GoesOn D.reads D.calls D.faults book.old book.new }
-    ensures status { SearchEnds D.reads D.calls D.faults book.old book.new table (K.held out.old) (K.held out.new) (K.faults out.old, K.faults out.new) result }
-    ensures unwritten { EndsUnwritten result → out.new ≡ out.old }
+) -> (Book<D>, Vec<Seat>, Status)
+    requires same { book.log.instance ≡ instance.now }
+    requires begun { IsBegun book }
+    requires budget { book.budget < 2 ^ 63 }
+    requires some { 0 < vec_len seats }
+    requires sixteen { vec_len seats ≤ 16 }
+    requires new { All (λ s. (s.told ≡ 0) × (s.share ≡ 0)) seats.items }
+    ensures goes_on { GoesOn D.reads D.calls D.faults book result.0 }
+    ensures status { SearchEnds D.reads D.calls D.faults (vec_len seats)
+        (record { before = map (λ s. told (s.adviser.vtable, s.adviser.value)) seats.items; after = map (λ s. told (s.adviser.vtable, s.adviser.value)) result.1.items })
+        book result.0 table (K.held out.old) (K.held out.new) (K.faults out.old, K.faults out.new) result.2 }
+    ensures seats { vec_len result.1 ≡ vec_len seats }
+    ensures unwritten { EndsUnwritten result.2 → out.new ≡ out.old }
 {
-    let end = run_search(alloc, instance, book);
+    let (book, seats, end) = run_search(rt, alloc, instance, book, seats, gate);
     if !is_reported(end) {
-        return status_at(end);
+        return (book, seats, status_at(end));
     }
-    match write_report(alloc, instance, book, table, out) {
+    let status = match write_report(alloc, instance, &book, table, out) {
         Ok(()) => status_at(end),
         Err(status) => status,
-    }
+    };
+    (book, seats, status)
 }

@@ -9,7 +9,7 @@ use std::alloc::{AllocError, Global};
 
 /// The words of the command line, as they are shown to whoever gave others.
 const USAGE: &str =
-    "usage: solve JOURNAL [--workers W] [--steps B] [--table] or solve --demo N [--steps B]";
+    "usage: solve JOURNAL [--workers W] [--steps B] [--table] [--local] or solve --demo N [--steps B]";
 
 /// How a run of `solve` ends.
 #[derive(Debug, Drop)]
@@ -21,8 +21,10 @@ pub enum Status {
     /// The report or the line was written, and the journal had no room for the posts of a step: with them the file would have
     /// ended at `end`, which is past `limit`. Both are lengths in bytes.
     Full { end: u64, limit: u32 },
-    /// The words are no command (`solve_words::command_of`), or ask for a search by a number of workers.
+    /// The words are no command (`solve_words::command_of`).
     Usage,
+    /// More workers were asked for than sixteen, or than there are advisers: `have` is the lesser of these.
+    Workers { asked: u32, have: u32 },
     /// The document that was read is refused. Never holds `NoMemory`.
     Input(ReadRefusal),
     /// A read of the document failed.
@@ -49,6 +51,7 @@ impl Status {
             Status::Full { end: _, limit: _ } => 11,
             Status::Usage => 2,
             Status::Input(_) => 3,
+            Status::Workers { asked: _, have: _ } => 4,
             Status::ReadFault => 5,
             Status::WriteFault => 6,
             Status::DiskFault => 7,
@@ -69,6 +72,9 @@ pub fn status_line(alloc: Global, status: &Status) -> Result<String, AllocError>
             format!(in alloc; "stopped: journal full, {end} of {limit} bytes")
         }
         Status::Usage => String::from_str(alloc, USAGE),
+        Status::Workers { asked, have } => {
+            format!(in alloc; "workers asked {asked}, advisers {have}")
+        }
         Status::Input(why) => format!(in alloc; "instance refused: {why}"),
         Status::ReadFault => String::from_str(alloc, "read fault"),
         Status::WriteFault => String::from_str(alloc, "write fault"),

@@ -6,8 +6,8 @@ use Rattle.clap.specs.Kinds.{Kinds, or_else}
 use Rattle.clap.specs.Simple.{built, entered, matches_of}
 use Rattle.clap.specs.Walk.{finished, has_row, Row, settled, Text, Walk, with_default}
 use Rattle.solve_words.specs.Options.{options_app}
-use Rattle.solve_words.specs.Words.{demo, journal, Part, Setting, steps, table, workers}
-use Rattle.solve_words.proofs.Rows.{held_at, option_rules, rows_for, rule_for, setting_rule, shape}
+use Rattle.solve_words.specs.Words.{demo, Flag, journal, local, Part, Setting, steps, table, workers}
+use Rattle.solve_words.proofs.Rows.{bare_flag, held_at, option_rules, wish_rule, rows_for, rule_for, setting_rule, shape}
 use Rattle.solve_words.proofs.Walks.{at_part, end_of, no_faults, walk_at}
 
 -- before the first word
@@ -50,8 +50,8 @@ check_passes : (rows : List Row) (sub : Bool) → check_fault shape rows sub ≡
 check_passes rows true = refl
 check_passes rows false = refl
 
-table_default : (rows : List Row) → default_fault rows (rule_for table) ≡ []
-table_default rows = elim (has_row (codes "table") rows) as (λ b. (if b || false then [] else or_else [] []) ≡ []) [ true ↦ refl | false ↦ refl ]
+flag_passes : (wish : Flag) (rows : List Row) → default_fault rows (wish_rule wish) ≡ []
+flag_passes wish rows = elim (has_row (bare_flag wish) rows) as (λ b. (if b || false then [] else or_else [] []) ≡ []) [ true ↦ refl | false ↦ refl ]
 
 defaults_pass : (rows : List Row) → defaults_fault rows option_rules ≡ []
 unfolding defaults_fault
@@ -60,8 +60,9 @@ defaults_pass rows =
     let two = with_default one (setting_rule workers) in
     let three = with_default two (setting_rule steps) in
     let four = with_default three (setting_rule demo) in
+    let five = with_default four (wish_rule table) in
     ap₂ or_else (passes (journal []) rows)
-    (ap₂ or_else (setting_passes workers one) (ap₂ or_else (setting_passes steps two) (ap₂ or_else (setting_passes demo three) (ap₂ or_else (table_default four) refl))))
+    (ap₂ or_else (setting_passes workers one) (ap₂ or_else (setting_passes steps two) (ap₂ or_else (setting_passes demo three) (ap₂ or_else (flag_passes table four) (ap₂ or_else (flag_passes local five) refl)))))
   where
     passes : (part : Part) (rs : List Row) → default_fault rs (rule_for (journal [])) ≡ []
     passes part rs = elim (has_row (codes "JOURNAL") rs) as (λ b. (if b || true then [] else or_else [] []) ≡ []) [ true ↦ refl | false ↦ refl ]

@@ -12,13 +12,14 @@ use Rattle.clap.specs.Faults.{fault_of}
 use Rattle.clap.specs.Kinds.{HasKind, IsAmong, Kinds}
 use Rattle.clap.specs.Values.{kind_of}
 use Rattle.clap.specs.Simple.{matches_of}
-use Rattle.clap.specs.Walk.{one_of, Text}
+use Rattle.clap.specs.Walk.{has_row, one_of, Text}
 use Rattle.solve_words.specs.Options.{has_separator, options_app}
-use Rattle.solve_words.specs.Words.{asked_in, budget_in, demo, demonstration_of, digits_in, from_number, is_journal, is_number, journal, number, number_in, over_journal, path_in, Part, search_on, Setting, steps, table, workers, workers_in, AreSpelled, Asked, Give, Given, IsFoundIn, IsGivenBy, IsReadAs, IsSpelled}
+use Rattle.solve_words.specs.Words.{asked_in, budget_in, demo, demonstration_of, digits_in, flag, from_number, is_journal, is_number, journal, local, number, number_in, over_journal, path_in, Part, search_on, Setting, steps, table, workers, workers_in, AreSpelled, Asked, Flag, Give, Given, IsFoundIn, IsGivenBy, IsReadAs, IsSpelled}
 use Rattle.solve_words.proofs.Classes.{first_apart, path_bare, IsBare}
 use Rattle.solve_words.proofs.Digits.{digit_small}
 use Rattle.solve_words.proofs.Ends.{fault_parts, matches_are, no_fault}
-use Rattle.solve_words.proofs.Giving.{is_wished, rows_give, rows_said, said_by, table_text}
+use Rattle.solve_words.proofs.Rows.{bare_flag, rows_for}
+use Rattle.solve_words.proofs.Giving.{flag_text, is_wished, rows_give, rows_said, said_by, wish_text}
 use Rattle.solve_words.proofs.Singles.{none_single}
 use Rattle.solve_words.proofs.Spelled.{given_single, taken_from, ArePlain, IsPlain}
 use Rattle.solve_words.proofs.Walks.{at_part, read_from}
@@ -78,33 +79,34 @@ record ArePlainIn (given : Given) : Type 0 where
   steps_are : PlainIn given.steps
   demo_is : PlainIn given.demo
 
-search_plain : (path : Text) (w s : Option Text) (t : Bool) (asked : Asked)
-    → search_on path (record { journal = Some path; workers = w; steps = s; demo = None; table = t }) ≡ Some asked → ArePlainIn (record { journal = Some path; workers = w; steps = s; demo = None; table = t })
-search_plain path w s t asked e = elim (cases_Bool (is_journal path)) [
+search_plain : (path : Text) (w s : Option Text) (t l : Bool) (asked : Asked)
+    → search_on path (record { journal = Some path; workers = w; steps = s; demo = None; table = t; local = l }) ≡ Some asked → ArePlainIn (record { journal = Some path; workers = w; steps = s; demo = None; table = t; local = l })
+search_plain path w s t l asked e = elim (cases_Bool (is_journal path)) [
   | inl is ↦
-      let next : Option ℕ → Option Asked = λ count. option_map (λ budget. over_journal path count budget t) (budget_in s) in
-      let same : search_on path (record { journal = Some path; workers = w; steps = s; demo = None; table = t }) ≡ option_and_then next (workers_in w) = rw is refl in
+      let next : Option ℕ → Option Asked = λ count. option_map (λ budget. over_journal path count budget t l) (budget_in s) in
+      let same : search_on path (record { journal = Some path; workers = w; steps = s; demo = None; table = t; local = l }) ≡ option_and_then next (workers_in w) = rw is refl in
       let crew = and_then_some next (workers_in w) asked (sym same ∙ e) in
-      let budget = map_some (λ budget. over_journal path crew.0 budget t) (budget_in s) asked crew.2 in
+      let budget = map_some (λ budget. over_journal path crew.0 budget t l) (budget_in s) asked crew.2 in
       record { journal_is = path_bare path is; workers_are = workers_plain w crew.0 crew.1; steps_are = budget_plain s budget.0 budget.1; demo_is = tt }
-  | inr not ↦ absurd (false≢true (ap is_some (let none : search_on path (record { journal = Some path; workers = w; steps = s; demo = None; table = t }) ≡ None = rw not refl in sym none ∙ e)))
+  | inr not ↦ absurd (false≢true (ap is_some (let none : search_on path (record { journal = Some path; workers = w; steps = s; demo = None; table = t; local = l }) ≡ None = rw not refl in sym none ∙ e)))
 ]
 
-demo_plain : (digits : Text) (w s : Option Text) (t : Bool) (asked : Asked)
-    → demonstration_of digits (record { journal = None; workers = w; steps = s; demo = Some digits; table = t }) ≡ Some asked → ArePlainIn (record { journal = None; workers = w; steps = s; demo = Some digits; table = t })
-demo_plain digits (Some crew) s t asked e = absurd (false≢true (ap is_some e))
-demo_plain digits None s true asked e = absurd (false≢true (ap is_some e))
-demo_plain digits None s false asked e =
+demo_plain : (digits : Text) (w s : Option Text) (t l : Bool) (asked : Asked)
+    → demonstration_of digits (record { journal = None; workers = w; steps = s; demo = Some digits; table = t; local = l }) ≡ Some asked → ArePlainIn (record { journal = None; workers = w; steps = s; demo = Some digits; table = t; local = l })
+demo_plain digits (Some crew) s t l asked e = absurd (false≢true (ap is_some e))
+demo_plain digits None s true l asked e = absurd (false≢true (ap is_some e))
+demo_plain digits None s false true asked e = absurd (false≢true (ap is_some e))
+demo_plain digits None s false false asked e =
     let next : ℕ → Option Asked = λ n. option_map (λ budget. from_number n budget) (budget_in s) in
     let n = and_then_some next (number_in demo digits) asked e in
     let budget = map_some (λ budget. from_number n.0 budget) (budget_in s) asked n.2 in
     record { journal_is = tt; workers_are = tt; steps_are = budget_plain s budget.0 budget.1; demo_is = number_bare demo digits n.0 n.1 }
 
-asked_plain : (j w s d : Option Text) (t : Bool) (asked : Asked) → asked_in (record { journal = j; workers = w; steps = s; demo = d; table = t }) ≡ Some asked → ArePlainIn (record { journal = j; workers = w; steps = s; demo = d; table = t })
-asked_plain (Some path) w s None t asked e = search_plain path w s t asked e
-asked_plain None w s (Some digits) t asked e = demo_plain digits w s t asked e
-asked_plain (Some path) w s (Some digits) t asked e = absurd (false≢true (ap is_some e))
-asked_plain None w s None t asked e = absurd (false≢true (ap is_some e))
+asked_plain : (j w s d : Option Text) (t l : Bool) (asked : Asked) → asked_in (record { journal = j; workers = w; steps = s; demo = d; table = t; local = l }) ≡ Some asked → ArePlainIn (record { journal = j; workers = w; steps = s; demo = d; table = t; local = l })
+asked_plain (Some path) w s None t l asked e = search_plain path w s t l asked e
+asked_plain None w s (Some digits) t l asked e = demo_plain digits w s t l asked e
+asked_plain (Some path) w s (Some digits) t l asked e = absurd (false≢true (ap is_some e))
+asked_plain None w s None t l asked e = absurd (false≢true (ap is_some e))
 
 -- ---- and so have the parts that give it
 
@@ -118,7 +120,7 @@ all_plain (journal path ∷ parts) j w s d = (j.0, all_plain parts j.1 w s d)
 all_plain (number workers digits ∷ parts) j w s d = (w.0, all_plain parts j w.1 s d)
 all_plain (number steps digits ∷ parts) j w s d = (s.0, all_plain parts j w s.1 d)
 all_plain (number demo digits ∷ parts) j w s d = (d.0, all_plain parts j w s d.1)
-all_plain (table ∷ parts) j w s d = (tt, all_plain parts j w s d)
+all_plain (flag wish ∷ parts) j w s d = (tt, all_plain parts j w s d)
 
 list_plain : (o : Option Text) → PlainIn o → AllPlain (option_to_list o)
 list_plain None plain = tt
@@ -134,7 +136,7 @@ parts_plain parts given give plain = all_plain parts
 -- ---- words that give something
 
 given_plain : (words : List Text) (given : Given) (asked : Asked) → (by : IsGivenBy words given) → asked_in given ≡ Some asked → ArePlain by.0
-given_plain words given asked by asks = parts_plain by.0 given by.2 (asked_plain given.journal given.workers given.steps given.demo given.table asked asks)
+given_plain words given asked by asks = parts_plain by.0 given by.2 (asked_plain given.journal given.workers given.steps given.demo given.table given.local asked asks)
 
 -- the parser takes them, and its rows say what they give
 pub given_found : (words : List Text) (given : Given) (asked : Asked) → IsGivenBy words given → asked_in given ≡ Some asked → (fault_of options_app words ≡ []) × (said_by (matches_of options_app words) ≡ given)
@@ -155,7 +157,8 @@ separate (part ∷ parts) words plain spelled = ap has_separator spelled.4 ∙ f
     first_separate (number workers digits) first rest bare (inr is) none = ap (λ (ws : List Text). has_separator (ws ++ rest)) is ∙ none
     first_separate (number steps digits) first rest bare (inr is) none = ap (λ (ws : List Text). has_separator (ws ++ rest)) is ∙ none
     first_separate (number demo digits) first rest bare (inr is) none = ap (λ (ws : List Text). has_separator (ws ++ rest)) is ∙ none
-    first_separate table first rest bare is none = ap (λ (ws : List Text). has_separator (ws ++ rest)) is ∙ none
+    first_separate (flag table) first rest bare is none = ap (λ (ws : List Text). has_separator (ws ++ rest)) is ∙ none
+    first_separate (flag local) first rest bare is none = ap (λ (ws : List Text). has_separator (ws ++ rest)) is ∙ none
 
 pub given_separate : (words : List Text) (given : Given) (asked : Asked) → IsGivenBy words given → asked_in given ≡ Some asked → has_separator words ≡ false
 given_separate words given asked by asks = separate by.0 words (given_plain words given asked by asks) by.1
@@ -167,17 +170,18 @@ pub has_fault : (kinds : Kinds) (e : Error) → HasKind kinds e → kind_of e �
 has_fault kinds e (inl memory) other none = other memory
 has_fault kinds e (inr among) other none = subst (IsAmong (kind_of e)) none among
 
--- a wish for a table is what its row says
-pub flag_found : (words : List Text) → has_separator words ≡ false → fault_of options_app words ≡ [] → (b : Bool) (o : Option Text) → o ≡ one_of (codes "table") (matches_of options_app words)
-    → (o ≡ Some (codes "true") → b ≡ true) → (o ≡ Some (codes "false") → b ≡ false) → b ≡ is_wished (one_of (codes "table") (matches_of options_app words))
-flag_found words plain e b o is wished other =
+-- a flag is there where its row says so
+told : (b has : Bool) (o : Option Text) → o ≡ Some (wish_text has) → (o ≡ Some (codes "true") → b ≡ true) → (o ≡ Some (codes "false") → b ≡ false) → b ≡ is_wished o
+told b true o is wished other = wished is ∙ sym (ap is_wished is)
+told b false o is wished other = other is ∙ sym (ap is_wished is)
+
+pub flag_found : (wish : Flag) (words : List Text) → has_separator words ≡ false → fault_of options_app words ≡ [] → (b : Bool) (o : Option Text) → o ≡ one_of (bare_flag wish) (matches_of options_app words)
+    → (o ≡ Some (codes "true") → b ≡ true) → (o ≡ Some (codes "false") → b ≡ false) → b ≡ is_wished (one_of (bare_flag wish) (matches_of options_app words))
+flag_found wish words plain e b o is wished other =
     let p = fault_parts words e in
     let f = read_from words (at_part [] None false) (record { may = tt; single = none_single; plain = plain; fault = p.0; settle = p.1 }) in
-    let rows = matches_are words f.parts f.held in
-    elim (table_text f.parts) [
-      | inl t ↦ let told = ap (one_of (codes "table")) rows ∙ t in wished (is ∙ told) ∙ sym (ap is_wished told)
-      | inr t ↦ let told = ap (one_of (codes "table")) rows ∙ t in other (is ∙ told) ∙ sym (ap is_wished told)
-    ]
+    let says = is ∙ ap (one_of (bare_flag wish)) (matches_are words f.parts f.held) ∙ flag_text wish f.parts in
+    told b (has_row (bare_flag wish) (rows_for f.parts)) o says wished other ∙ ap is_wished is
 
 none_given : {A : Type 0} (given : Given) → None ≡ Some given → A
 none_given given e = absurd (false≢true (ap is_some e))

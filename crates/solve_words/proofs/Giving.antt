@@ -1,15 +1,15 @@
 -- What the rows of parts give.
 use Rattle.std.proofs.Common.{◌≡◌, ◌∙◌, inl, inr, sym, ap, subst, refl, ℕ, ◌+◌, ◌≤◌, Bool, true, false, List, [], ◌∷◌, ◌++◌, codes, length, Option, Some, None, fold, arith}
-use Rattle.std.specs.Prelude.{◌⊎◌, cond, count_by, find, if◌then◌else◌, option_and_then, slice_get}
+use Rattle.std.specs.Prelude.{◌||◌, cond, count_by, find, if◌then◌else◌, is_some, option_and_then, slice_get}
 use Rattle.std.specs.List.{flat_map}
 use Rattle.std.specs.Option.{option_to_list}
 use Rattle.std.specs.Str.{bytes_eq}
-use Rattle.std.proofs.lemmas.Bool.{cases_Bool, cases_eq, false≢true, true≢false}
+use Rattle.std.proofs.lemmas.Bool.{cases_Bool, cases_eq, false≢true, or_parts, true≢false}
 use Rattle.std.proofs.lemmas.List.Recursion.{is_count_by}
 use Rattle.clap.specs.declared.parser.matches.ValueSource.TheVariants.{DefaultValue}
-use Rattle.clap.specs.Walk.{first_of, has_row, more_values, one_of, reading_by, Row, Text, with_default}
-use Rattle.solve_words.specs.Words.{demo, digits_in, is_table, journal, number, path_in, Part, Setting, steps, table, workers, Give, Given}
-use Rattle.solve_words.proofs.Rows.{at_none, bare_name, option_rules, rows_for, rule_for, setting_rule}
+use Rattle.clap.specs.Walk.{first_of, has_row, more_values, one_of, reading_by, Row, row_text, Text, with_default}
+use Rattle.solve_words.specs.Words.{demo, digits_in, flag, Flag, is_flag, journal, local, number, path_in, Part, Setting, steps, table, workers, Give, Given}
+use Rattle.solve_words.proofs.Rows.{at_none, bare_flag, bare_name, id_of, option_rules, wish_rule, row_for, rows_for, rule_for, setting_rule}
 use Rattle.solve_words.proofs.Singles.{no_row, no_times, times, Single}
 
 -- the first of some texts
@@ -30,7 +30,8 @@ first_path (journal path ∷ parts) = refl
 first_path (number workers digits ∷ parts) = first_path parts
 first_path (number steps digits ∷ parts) = first_path parts
 first_path (number demo digits ∷ parts) = first_path parts
-first_path (table ∷ parts) = first_path parts
+first_path (flag table ∷ parts) = first_path parts
+first_path (flag local ∷ parts) = first_path parts
 
 first_digits : (setting : Setting) (parts : List Part) → first_of (bare_name setting) (rows_for parts) ≡ head_of (flat_map (digits_in setting) parts)
 first_digits workers [] = refl
@@ -38,19 +39,22 @@ first_digits workers (journal path ∷ parts) = first_digits workers parts
 first_digits workers (number workers digits ∷ parts) = refl
 first_digits workers (number steps digits ∷ parts) = first_digits workers parts
 first_digits workers (number demo digits ∷ parts) = first_digits workers parts
-first_digits workers (table ∷ parts) = first_digits workers parts
+first_digits workers (flag table ∷ parts) = first_digits workers parts
+first_digits workers (flag local ∷ parts) = first_digits workers parts
 first_digits steps [] = refl
 first_digits steps (journal path ∷ parts) = first_digits steps parts
 first_digits steps (number workers digits ∷ parts) = first_digits steps parts
 first_digits steps (number steps digits ∷ parts) = refl
 first_digits steps (number demo digits ∷ parts) = first_digits steps parts
-first_digits steps (table ∷ parts) = first_digits steps parts
+first_digits steps (flag table ∷ parts) = first_digits steps parts
+first_digits steps (flag local ∷ parts) = first_digits steps parts
 first_digits demo [] = refl
 first_digits demo (journal path ∷ parts) = first_digits demo parts
 first_digits demo (number workers digits ∷ parts) = first_digits demo parts
 first_digits demo (number steps digits ∷ parts) = first_digits demo parts
 first_digits demo (number demo digits ∷ parts) = refl
-first_digits demo (table ∷ parts) = first_digits demo parts
+first_digits demo (flag table ∷ parts) = first_digits demo parts
+first_digits demo (flag local ∷ parts) = first_digits demo parts
 
 -- how many parts there are of each kind
 pub path_times : (parts : List Part) → length (flat_map path_in parts) ≡ times (codes "JOURNAL") parts
@@ -59,7 +63,8 @@ path_times (journal path ∷ parts) = let rest = path_times parts in omega (arit
 path_times (number workers digits ∷ parts) = path_times parts
 path_times (number steps digits ∷ parts) = path_times parts
 path_times (number demo digits ∷ parts) = path_times parts
-path_times (table ∷ parts) = path_times parts
+path_times (flag table ∷ parts) = path_times parts
+path_times (flag local ∷ parts) = path_times parts
 
 pub digit_times : (setting : Setting) (parts : List Part) → length (flat_map (digits_in setting) parts) ≡ times (bare_name setting) parts
 digit_times workers [] = refl
@@ -67,29 +72,43 @@ digit_times workers (journal path ∷ parts) = digit_times workers parts
 digit_times workers (number workers digits ∷ parts) = let rest = digit_times workers parts in omega (arith, rest)
 digit_times workers (number steps digits ∷ parts) = digit_times workers parts
 digit_times workers (number demo digits ∷ parts) = digit_times workers parts
-digit_times workers (table ∷ parts) = digit_times workers parts
+digit_times workers (flag table ∷ parts) = digit_times workers parts
+digit_times workers (flag local ∷ parts) = digit_times workers parts
 digit_times steps [] = refl
 digit_times steps (journal path ∷ parts) = digit_times steps parts
 digit_times steps (number workers digits ∷ parts) = digit_times steps parts
 digit_times steps (number steps digits ∷ parts) = let rest = digit_times steps parts in omega (arith, rest)
 digit_times steps (number demo digits ∷ parts) = digit_times steps parts
-digit_times steps (table ∷ parts) = digit_times steps parts
+digit_times steps (flag table ∷ parts) = digit_times steps parts
+digit_times steps (flag local ∷ parts) = digit_times steps parts
 digit_times demo [] = refl
 digit_times demo (journal path ∷ parts) = digit_times demo parts
 digit_times demo (number workers digits ∷ parts) = digit_times demo parts
 digit_times demo (number steps digits ∷ parts) = digit_times demo parts
 digit_times demo (number demo digits ∷ parts) = let rest = digit_times demo parts in omega (arith, rest)
-digit_times demo (table ∷ parts) = digit_times demo parts
+digit_times demo (flag table ∷ parts) = digit_times demo parts
+digit_times demo (flag local ∷ parts) = digit_times demo parts
 
-table_step : (part : Part) (parts : List Part) → times (codes "table") (part ∷ parts) ≡ cond (is_table part) (1 + times (codes "table") parts) (times (codes "table") parts)
-table_step (journal path) parts = refl
-table_step (number workers digits) parts = refl
-table_step (number steps digits) parts = refl
-table_step (number demo digits) parts = refl
-table_step table parts = refl
+-- a part has the id of a flag where it is that flag
+named_flag : (wish : Flag) (part : Part) → bytes_eq (id_of part) (bare_flag wish) ≡ is_flag wish part
+named_flag table (journal path) = refl
+named_flag table (number workers digits) = refl
+named_flag table (number steps digits) = refl
+named_flag table (number demo digits) = refl
+named_flag table (flag table) = refl
+named_flag table (flag local) = refl
+named_flag local (journal path) = refl
+named_flag local (number workers digits) = refl
+named_flag local (number steps digits) = refl
+named_flag local (number demo digits) = refl
+named_flag local (flag table) = refl
+named_flag local (flag local) = refl
 
-pub table_times : (parts : List Part) → count_by is_table parts ≡ times (codes "table") parts
-table_times parts = sym (is_count_by (times (codes "table")) is_table refl table_step parts)
+flag_step : (wish : Flag) (part : Part) (parts : List Part) → times (bare_flag wish) (part ∷ parts) ≡ cond (is_flag wish part) (1 + times (bare_flag wish) parts) (times (bare_flag wish) parts)
+flag_step wish part parts = ap (λ (b : Bool). cond b (1 + times (bare_flag wish) parts) (times (bare_flag wish) parts)) (named_flag wish part)
+
+pub flag_times : (wish : Flag) (parts : List Part) → count_by (is_flag wish) parts ≡ times (bare_flag wish) parts
+flag_times wish parts = sym (is_count_by (times (bare_flag wish)) (is_flag wish) refl (flag_step wish) parts)
 
 -- ---- what the rows say
 
@@ -97,7 +116,7 @@ abbrev pub is_wished : Option Text → Bool
 is_wished None = false
 is_wished (Some text) = bytes_eq text (codes "true")
 
--- what rows say, of which the last may be that of a table that isn't wished for
+-- what rows say, of which the last may be those of flags that aren't there
 abbrev pub said_by : List Row → Given
 said_by rows = record {
   journal = first_of (codes "JOURNAL") rows;
@@ -105,12 +124,87 @@ said_by rows = record {
   steps = first_of (codes "steps") rows;
   demo = first_of (codes "demo") rows;
   table = is_wished (one_of (codes "table") rows);
+  local = is_wished (one_of (codes "local") rows);
 }
 
--- ---- the row of a table that isn't wished for
+-- ---- the first row of an id
 
-abbrev unwished : Row
-unwished = record { id = codes "table"; values = codes "false" ∷ []; count = None; source = Some DefaultValue; reading = reading_by (rule_for table) }
+abbrev row_at : Text → List Row → Option Row
+row_at id rows = find (λ r. bytes_eq r.id id) rows
+
+-- a row of another id behind the others changes nothing
+row_behind : (id : Text) (row : Row) → bytes_eq row.id id ≡ false → (rows : List Row) → row_at id (rows ++ row ∷ []) ≡ row_at id rows
+row_behind id row other [] = rw other refl
+row_behind id row other (r ∷ rs) = let rest = row_behind id row other rs in elim (bytes_eq r.id id) as (λ b. cond b (Some r) (row_at id (rs ++ row ∷ [])) ≡ cond b (Some r) (row_at id rs)) [
+  | true ↦ refl
+  | false ↦ rest
+]
+
+-- one of an id that has none yet is its first
+row_last : (id : Text) (row : Row) → bytes_eq row.id id ≡ true → (rows : List Row) → has_row id rows ≡ false → row_at id (rows ++ row ∷ []) ≡ Some row
+row_last id row own [] none = rw own refl
+row_last id row own (r ∷ rs) none =
+    let e = or_parts (bytes_eq r.id id) (has_row id rs) none in
+    rw e.0 (row_last id row own rs e.1)
+
+row_there : (id : Text) (rows : List Row) → has_row id rows ≡ is_some (row_at id rows)
+row_there id [] = refl
+row_there id (r ∷ rs) = let rest = row_there id rs in elim (bytes_eq r.id id) as (λ b. (b || has_row id rs) ≡ is_some (cond b (Some r) (row_at id rs))) [
+  | true ↦ refl
+  | false ↦ rest
+]
+
+-- ---- the row of a flag that isn't there
+
+abbrev unwished : Flag → Row
+unwished wish = record { id = bare_flag wish; values = codes "false" ∷ []; count = None; source = Some DefaultValue; reading = reading_by (wish_rule wish) }
+
+kept : (wish : Flag) (rows : List Row) → has_row (bare_flag wish) rows ≡ true → with_default rows (wish_rule wish) ≡ rows
+kept wish rows some = rw some refl
+
+defaulted : (wish : Flag) (rows : List Row) → has_row (bare_flag wish) rows ≡ false → with_default rows (wish_rule wish) ≡ rows ++ unwished wish ∷ []
+defaulted wish rows none = rw none (at_none (bare_flag wish) (more_values DefaultValue (codes "false" ∷ [])) (unwished wish ∷ []) rows none)
+
+-- it is read for its id alone
+other_default : (wish : Flag) (id : Text) → bytes_eq (bare_flag wish) id ≡ false → (rows : List Row) → row_at id (with_default rows (wish_rule wish)) ≡ row_at id rows
+other_default wish id other rows = elim (cases_Bool (has_row (bare_flag wish) rows)) [
+  | inl e ↦ ap (row_at id) (kept wish rows e)
+  | inr e ↦ ap (row_at id) (defaulted wish rows e) ∙ row_behind id (unwished wish) other rows
+]
+
+abbrev pub wish_text : Bool → Text
+wish_text true = codes "true"
+wish_text false = codes "false"
+
+own_id : (wish : Flag) → bytes_eq (bare_flag wish) (bare_flag wish) ≡ true
+own_id table = refl
+own_id local = refl
+
+-- where every row of the flag says so, its row says whether there was one
+own_default : (wish : Flag) (rows : List Row) → (has_row (bare_flag wish) rows ≡ true → one_of (bare_flag wish) rows ≡ Some (codes "true"))
+    → one_of (bare_flag wish) (with_default rows (wish_rule wish)) ≡ Some (wish_text (has_row (bare_flag wish) rows))
+own_default wish rows says = elim (cases_Bool (has_row (bare_flag wish) rows)) [
+  | inl e ↦ ap (one_of (bare_flag wish)) (kept wish rows e) ∙ says e ∙ ap (λ (b : Bool). Some (wish_text b)) (sym e)
+  | inr e ↦
+      ap (one_of (bare_flag wish)) (defaulted wish rows e)
+      ∙ ap (option_and_then row_text) (row_last (bare_flag wish) (unwished wish) (own_id wish) rows e)
+      ∙ ap (λ (b : Bool). Some (wish_text b)) (sym e)
+]
+
+-- the rows of parts say so
+flag_row : (wish : Flag) (part : Part) → is_flag wish part ≡ true → row_text (row_for part) ≡ Some (codes "true")
+flag_row wish (journal path) e = absurd (false≢true e)
+flag_row wish (number setting digits) e = absurd (false≢true e)
+flag_row wish (flag other) e = refl
+
+wished_row : (wish : Flag) (parts : List Part) → has_row (bare_flag wish) (rows_for parts) ≡ true → one_of (bare_flag wish) (rows_for parts) ≡ Some (codes "true")
+wished_row wish [] e = absurd (false≢true e)
+wished_row wish (part ∷ parts) e = elim (cases_Bool (bytes_eq (id_of part) (bare_flag wish))) [
+  | inl is ↦ rw is (flag_row wish part (sym (named_flag wish part) ∙ is))
+  | inr not ↦ rw not (wished_row wish parts (rw not at e))
+]
+
+-- ---- the rows at the end
 
 -- no other option has a default
 path_default : (rows : List Row) → with_default rows (rule_for (journal [])) ≡ rows
@@ -121,38 +215,38 @@ setting_default workers rows = elim (has_row (codes "workers") rows) as (λ b. (
 setting_default steps rows = elim (has_row (codes "steps") rows) as (λ b. (if b then rows else rows) ≡ rows) [ true ↦ refl | false ↦ refl ]
 setting_default demo rows = elim (has_row (codes "demo") rows) as (λ b. (if b then rows else rows) ≡ rows) [ true ↦ refl | false ↦ refl ]
 
-finished_is : (rows : List Row) → fold with_default rows option_rules ≡ with_default rows (rule_for table)
+abbrev with_flags : List Row → List Row
+with_flags rows = with_default (with_default rows (wish_rule table)) (wish_rule local)
+
+finished_is : (rows : List Row) → fold with_default rows option_rules ≡ with_flags rows
 finished_is rows =
-    ap (λ (r : List Row). with_default (with_default (with_default (with_default r (setting_rule workers)) (setting_rule steps)) (setting_rule demo)) (rule_for table)) (path_default rows)
-    ∙ ap (λ (r : List Row). with_default (with_default (with_default r (setting_rule steps)) (setting_rule demo)) (rule_for table)) (setting_default workers rows)
-    ∙ ap (λ (r : List Row). with_default (with_default r (setting_rule demo)) (rule_for table)) (setting_default steps rows)
-    ∙ ap (λ (r : List Row). with_default r (rule_for table)) (setting_default demo rows)
+    ap (λ (r : List Row). with_flags (with_default (with_default (with_default r (setting_rule workers)) (setting_rule steps)) (setting_rule demo))) (path_default rows)
+    ∙ ap (λ (r : List Row). with_flags (with_default (with_default r (setting_rule steps)) (setting_rule demo))) (setting_default workers rows)
+    ∙ ap (λ (r : List Row). with_flags (with_default r (setting_rule demo))) (setting_default steps rows)
+    ∙ ap with_flags (setting_default demo rows)
 
--- the row at the end is read for its id alone
-first_more : (id : Text) → bytes_eq (codes "table") id ≡ false → (rows : List Row) → first_of id (rows ++ unwished ∷ []) ≡ first_of id rows
-first_more id other [] = rw other refl
-first_more id other (r ∷ rs) = let rest = first_more id other rs in elim (bytes_eq r.id id) as (λ b. option_and_then (λ (x : Row). slice_get x.values 0) (cond b (Some r) (find (λ x. bytes_eq x.id id) (rs ++ unwished ∷ []))) ≡ option_and_then (λ (x : Row). slice_get x.values 0) (cond b (Some r) (find (λ x. bytes_eq x.id id) rs))) [
-  | true ↦ refl
-  | false ↦ rest
-]
+other_first : (id : Text) → bytes_eq (codes "table") id ≡ false → bytes_eq (codes "local") id ≡ false → (rows : List Row) → first_of id (fold with_default rows option_rules) ≡ first_of id rows
+other_first id t l rows =
+    ap (first_of id) (finished_is rows)
+    ∙ ap (option_and_then (λ (r : Row). slice_get r.values 0)) (other_default local id l (with_default rows (wish_rule table)) ∙ other_default table id t rows)
 
-wished_row : (parts : List Part) → has_row (codes "table") (rows_for parts) ≡ true → one_of (codes "table") (rows_for parts) ≡ Some (codes "true")
-wished_row [] e = absurd (false≢true e)
-wished_row (journal path ∷ parts) e = wished_row parts e
-wished_row (number workers digits ∷ parts) e = wished_row parts e
-wished_row (number steps digits ∷ parts) e = wished_row parts e
-wished_row (number demo digits ∷ parts) e = wished_row parts e
-wished_row (table ∷ parts) e = refl
+-- what the row of a flag says, of whatever parts
+pub flag_text : (wish : Flag) (parts : List Part) → one_of (bare_flag wish) (fold with_default (rows_for parts) option_rules) ≡ Some (wish_text (has_row (bare_flag wish) (rows_for parts)))
+flag_text table parts =
+    let rows = rows_for parts in
+    ap (one_of (codes "table")) (finished_is rows)
+    ∙ ap (option_and_then row_text) (other_default local (codes "table") refl (with_default rows (wish_rule table)))
+    ∙ own_default table rows (wished_row table parts)
+flag_text local parts =
+    let rows = rows_for parts in
+    let first = with_default rows (wish_rule table) in
+    let same : row_at (codes "local") first ≡ row_at (codes "local") rows = other_default table (codes "local") refl rows in
+    let has : has_row (codes "local") first ≡ has_row (codes "local") rows = row_there (codes "local") first ∙ ap is_some same ∙ sym (row_there (codes "local") rows) in
+    ap (one_of (codes "local")) (finished_is rows)
+    ∙ own_default local first (λ e. ap (option_and_then row_text) same ∙ wished_row local parts (sym has ∙ e))
+    ∙ ap (λ (b : Bool). Some (wish_text b)) has
 
-unwished_row : (parts : List Part) → has_row (codes "table") (rows_for parts) ≡ false → one_of (codes "table") (rows_for parts ++ unwished ∷ []) ≡ Some (codes "false")
-unwished_row [] e = refl
-unwished_row (journal path ∷ parts) e = unwished_row parts e
-unwished_row (number workers digits ∷ parts) e = unwished_row parts e
-unwished_row (number steps digits ∷ parts) e = unwished_row parts e
-unwished_row (number demo digits ∷ parts) e = unwished_row parts e
-unwished_row (table ∷ parts) e = absurd (true≢false e)
-
--- ---- the first of each kind, and whether there is a table
+-- ---- the first of each kind, and which flags there are
 
 abbrev pub heads : List Part → Given
 heads parts = record {
@@ -161,61 +255,49 @@ heads parts = record {
   steps = head_of (flat_map (digits_in steps) parts);
   demo = head_of (flat_map (digits_in demo) parts);
   table = has_row (codes "table") (rows_for parts);
+  local = has_row (codes "local") (rows_for parts);
 }
 
-pub same_given : (a b : Given) → a.journal ≡ b.journal → a.workers ≡ b.workers → a.steps ≡ b.steps → a.demo ≡ b.demo → a.table ≡ b.table → a ≡ b
-same_given a b j w s d t =
+pub same_given : (a b : Given) → a.journal ≡ b.journal → a.workers ≡ b.workers → a.steps ≡ b.steps → a.demo ≡ b.demo → a.table ≡ b.table → a.local ≡ b.local → a ≡ b
+same_given a b j w s d t l =
     ap (λ x. record a { journal = x }) j
     ∙ ap (λ x. record a { journal = b.journal; workers = x }) w
     ∙ ap (λ x. record a { journal = b.journal; workers = b.workers; steps = x }) s
     ∙ ap (λ x. record a { journal = b.journal; workers = b.workers; steps = b.steps; demo = x }) d
-    ∙ ap (λ x. record b { table = x }) t
+    ∙ ap (λ x. record b { table = x; local = a.local }) t
+    ∙ ap (λ x. record b { local = x }) l
 
-with_table : (parts : List Part) → has_row (codes "table") (rows_for parts) ≡ true → said_by (rows_for parts) ≡ heads parts
-with_table parts e = same_given (said_by (rows_for parts)) (heads parts) (first_path parts) (first_digits workers parts) (first_digits steps parts) (first_digits demo parts)
-    (ap is_wished (wished_row parts e) ∙ sym e)
-
-without_table : (parts : List Part) → has_row (codes "table") (rows_for parts) ≡ false → said_by (rows_for parts ++ unwished ∷ []) ≡ heads parts
-without_table parts e = same_given (said_by (rows_for parts ++ unwished ∷ [])) (heads parts)
-    (first_more (codes "JOURNAL") refl (rows_for parts) ∙ first_path parts)
-    (first_more (codes "workers") refl (rows_for parts) ∙ first_digits workers parts)
-    (first_more (codes "steps") refl (rows_for parts) ∙ first_digits steps parts)
-    (first_more (codes "demo") refl (rows_for parts) ∙ first_digits demo parts)
-    (ap is_wished (unwished_row parts e) ∙ sym e)
-
-defaulted : (rows : List Row) → has_row (codes "table") rows ≡ false → with_default rows (rule_for table) ≡ rows ++ unwished ∷ []
-defaulted rows none = rw none (at_none (codes "table") (more_values DefaultValue (codes "false" ∷ [])) (unwished ∷ []) rows none)
-
-kept : (rows : List Row) → has_row (codes "table") rows ≡ true → with_default rows (rule_for table) ≡ rows
-kept rows some = rw some refl
+wish_said : (b : Bool) → is_wished (Some (wish_text b)) ≡ b
+wish_said true = refl
+wish_said false = refl
 
 finished_said : (parts : List Part) → said_by (fold with_default (rows_for parts) option_rules) ≡ heads parts
-finished_said parts = ap said_by (finished_is (rows_for parts)) ∙ elim (cases_Bool (has_row (codes "table") (rows_for parts))) [
-  | inl e ↦ ap said_by (kept (rows_for parts) e) ∙ with_table parts e
-  | inr e ↦ ap said_by (defaulted (rows_for parts) e) ∙ without_table parts e
-]
-
--- what the row of a table says, of whatever parts
-pub table_text : (parts : List Part) → (one_of (codes "table") (fold with_default (rows_for parts) option_rules) ≡ Some (codes "true")) ⊎ (one_of (codes "table") (fold with_default (rows_for parts) option_rules) ≡ Some (codes "false"))
-table_text parts = elim (cases_Bool (has_row (codes "table") (rows_for parts))) [
-  | inl e ↦ inl (ap (one_of (codes "table")) (finished_is (rows_for parts) ∙ kept (rows_for parts) e) ∙ wished_row parts e)
-  | inr e ↦ inr (ap (one_of (codes "table")) (finished_is (rows_for parts) ∙ defaulted (rows_for parts) e) ∙ unwished_row parts e)
-]
+finished_said parts = same_given (said_by (fold with_default (rows_for parts) option_rules)) (heads parts)
+    (other_first (codes "JOURNAL") refl refl (rows_for parts) ∙ first_path parts)
+    (other_first (codes "workers") refl refl (rows_for parts) ∙ first_digits workers parts)
+    (other_first (codes "steps") refl refl (rows_for parts) ∙ first_digits steps parts)
+    (other_first (codes "demo") refl refl (rows_for parts) ∙ first_digits demo parts)
+    (ap is_wished (flag_text table parts) ∙ wish_said (has_row (codes "table") (rows_for parts)))
+    (ap is_wished (flag_text local parts) ∙ wish_said (has_row (codes "local") (rows_for parts)))
 
 head_option : (o : Option Text) → head_of (option_to_list o) ≡ o
 head_option None = refl
 head_option (Some x) = refl
 
--- one table, or none
-table_count : (b : Bool) (n : ℕ) → n ≤ 1 → (b ≡ false → n ≡ 0) → (n ≡ 0 → b ≡ false) → n ≡ (if b then 1 else 0)
-table_count true n few none some = elim (cases_eq n 0) [ inl e ↦ absurd (true≢false (some e)) | inr ne ↦ omega (arith, few, ne) ]
-table_count false n few none some = none refl
+-- one flag, or none
+wish_count : (b : Bool) (n : ℕ) → n ≤ 1 → (b ≡ false → n ≡ 0) → (n ≡ 0 → b ≡ false) → n ≡ (if b then 1 else 0)
+wish_count true n few none some = elim (cases_eq n 0) [ inl e ↦ absurd (true≢false (some e)) | inr ne ↦ omega (arith, few, ne) ]
+wish_count false n few none some = none refl
 
-table_same : (b t : Bool) (n : ℕ) → (b ≡ false → n ≡ 0) → (n ≡ 0 → b ≡ false) → n ≡ (if t then 1 else 0) → b ≡ t
-table_same true true n none some e = refl
-table_same false false n none some e = refl
-table_same true false n none some e = some e
-table_same false true n none some e = let zero_n : n ≡ 0 = none refl in absurd (omega (arith, zero_n, e))
+wish_same : (b t : Bool) (n : ℕ) → (b ≡ false → n ≡ 0) → (n ≡ 0 → b ≡ false) → n ≡ (if t then 1 else 0) → b ≡ t
+wish_same true true n none some e = refl
+wish_same false false n none some e = refl
+wish_same true false n none some e = some e
+wish_same false true n none some e = let zero_n : n ≡ 0 = none refl in absurd (omega (arith, zero_n, e))
+
+flag_given : (wish : Flag) (parts : List Part) (given : Bool) → count_by (is_flag wish) parts ≡ (if given then 1 else 0) → has_row (bare_flag wish) (rows_for parts) ≡ given
+flag_given wish parts given e =
+    wish_same (has_row (bare_flag wish) (rows_for parts)) given (times (bare_flag wish) parts) (no_times (bare_flag wish) parts) (no_row (bare_flag wish) parts) (sym (flag_times wish parts) ∙ e)
 
 -- parts that give something give what their rows say
 pub rows_said : (parts : List Part) (given : Given) → Give parts given → said_by (fold with_default (rows_for parts) option_rules) ≡ given
@@ -225,7 +307,13 @@ rows_said parts given give =
     (ap head_of give.of_workers ∙ head_option given.workers)
     (ap head_of give.of_steps ∙ head_option given.steps)
     (ap head_of give.of_demo ∙ head_option given.demo)
-    (table_same (has_row (codes "table") (rows_for parts)) given.table (times (codes "table") parts) (no_times (codes "table") parts) (no_row (codes "table") parts) (sym (table_times parts) ∙ give.of_table))
+    (flag_given table parts given.table give.of_table)
+    (flag_given local parts given.local give.of_local)
+
+flag_single : (wish : Flag) (parts : List Part) → Single parts → count_by (is_flag wish) parts ≡ (if has_row (bare_flag wish) (rows_for parts) then 1 else 0)
+flag_single wish parts single =
+    flag_times wish parts
+    ∙ wish_count (has_row (bare_flag wish) (rows_for parts)) (times (bare_flag wish) parts) (single (bare_flag wish)) (no_times (bare_flag wish) parts) (no_row (bare_flag wish) parts)
 
 -- parts of which each kind stands at most once give what their rows say
 pub rows_give : (parts : List Part) → Single parts → Give parts (said_by (fold with_default (rows_for parts) option_rules))
@@ -234,5 +322,6 @@ rows_give parts single = subst (Give parts) (sym (finished_said parts)) (record 
   of_workers = head_list (flat_map (digits_in workers) parts) (let few = single (codes "workers") in let n = digit_times workers parts in omega (arith, few, n));
   of_steps = head_list (flat_map (digits_in steps) parts) (let few = single (codes "steps") in let n = digit_times steps parts in omega (arith, few, n));
   of_demo = head_list (flat_map (digits_in demo) parts) (let few = single (codes "demo") in let n = digit_times demo parts in omega (arith, few, n));
-  of_table = table_times parts ∙ table_count (has_row (codes "table") (rows_for parts)) (times (codes "table") parts) (single (codes "table")) (no_times (codes "table") parts) (no_row (codes "table") parts);
+  of_table = flag_single table parts single;
+  of_local = flag_single local parts single;
 })

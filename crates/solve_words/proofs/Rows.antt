@@ -13,8 +13,8 @@ use Rattle.clap.specs.Kinds.{Kinds, or_else}
 use Rattle.clap.specs.Simple.{built, filled, Shape, with_index}
 use Rattle.clap.specs.Walk.{at_row, has_row, Held, more_values, reading_by, Row, Rule, settled, Text, used, with_values, without}
 use Rattle.clap.specs.Words.{new_rule}
-use Rattle.solve_words.specs.Options.{option_rule, options_app, table_rule}
-use Rattle.solve_words.specs.Words.{demo, journal, number, Part, Setting, steps, table, workers}
+use Rattle.solve_words.specs.Options.{flag_rule, option_rule, options_app}
+use Rattle.solve_words.specs.Words.{demo, flag, Flag, journal, local, number, Part, Setting, steps, table, workers}
 
 -- ---- the options
 
@@ -34,26 +34,34 @@ setting_rule workers = with_index 2 (filled (option_rule (codes "workers")))
 setting_rule steps = with_index 2 (filled (option_rule (codes "steps")))
 setting_rule demo = with_index 2 (filled (option_rule (codes "demo")))
 
+abbrev pub bare_flag : Flag → Text
+bare_flag table = codes "table"
+bare_flag local = codes "local"
+
+-- the option of a flag
+abbrev pub wish_rule : Flag → Rule
+wish_rule wish = with_index 2 (filled (flag_rule (bare_flag wish)))
+
 -- a part's option, its id, the values that its use gives, and those that are kept
 abbrev pub rule_for : Part → Rule
 rule_for (journal path) = with_index 1 (filled (new_rule (codes "JOURNAL")))
 rule_for (number setting digits) = setting_rule setting
-rule_for table = with_index 2 (filled table_rule)
+rule_for (flag wish) = wish_rule wish
 
 abbrev pub id_of : Part → Text
 id_of (journal path) = codes "JOURNAL"
 id_of (number setting digits) = bare_name setting
-id_of table = codes "table"
+id_of (flag wish) = bare_flag wish
 
 abbrev pub given_by : Part → List Text
 given_by (journal path) = path ∷ []
 given_by (number setting digits) = digits ∷ []
-given_by table = []
+given_by (flag wish) = []
 
 abbrev pub kept_of : Part → List Text
 kept_of (journal path) = path ∷ []
 kept_of (number setting digits) = digits ∷ []
-kept_of table = codes "true" ∷ []
+kept_of (flag wish) = codes "true" ∷ []
 
 abbrev pub row_for : Part → Row
 row_for part = record { id = id_of part; values = kept_of part; count = None; source = Some CommandLine; reading = reading_by (rule_for part) }
@@ -81,7 +89,7 @@ used_fresh (journal path) rows none = with_fresh (codes "JOURNAL") (reading_by (
 used_fresh (number workers digits) rows none = with_fresh (codes "workers") (reading_by (setting_rule workers)) (digits ∷ []) rows none
 used_fresh (number steps digits) rows none = with_fresh (codes "steps") (reading_by (setting_rule steps)) (digits ∷ []) rows none
 used_fresh (number demo digits) rows none = with_fresh (codes "demo") (reading_by (setting_rule demo)) (digits ∷ []) rows none
-used_fresh table rows none = with_fresh (codes "table") (reading_by (rule_for table)) (codes "true" ∷ []) rows none
+used_fresh (flag wish) rows none = with_fresh (bare_flag wish) (reading_by (wish_rule wish)) (codes "true" ∷ []) rows none
 
 -- whether its id has a row is all that a use of a part is refused for
 pub use_fresh : (part : Part) (rows : List Row) → has_row (id_of part) rows ≡ false → use_fault false (rule_for part) (given_by part) rows ≡ []
@@ -89,7 +97,7 @@ use_fresh (journal path) rows none = rw none refl
 use_fresh (number workers digits) rows none = rw none refl
 use_fresh (number steps digits) rows none = rw none refl
 use_fresh (number demo digits) rows none = rw none refl
-use_fresh table rows none = rw none refl
+use_fresh (flag wish) rows none = rw none refl
 
 abbrev is_nil : Kinds → Bool
 is_nil [] = true
@@ -104,14 +112,14 @@ use_new (journal path) rows e = repeat_none (has_row (codes "JOURNAL") rows) [] 
 use_new (number workers digits) rows e = repeat_none (has_row (codes "workers") rows) [] e
 use_new (number steps digits) rows e = repeat_none (has_row (codes "steps") rows) [] e
 use_new (number demo digits) rows e = repeat_none (has_row (codes "demo") rows) [] e
-use_new table rows e = repeat_none (has_row (codes "table") rows) [] e
+use_new (flag wish) rows e = repeat_none (has_row (bare_flag wish) rows) [] e
 
 -- ---- what is held between words: rows of the parts so far, and maybe the last part, which has no row yet
 
 abbrev pub waits_for_row : Part → Bool
 waits_for_row (journal path) = true
 waits_for_row (number setting digits) = true
-waits_for_row table = false
+waits_for_row (flag wish) = false
 
 abbrev pub pending_for : Option Part → Option (Text × List Text)
 pending_for None = None
@@ -135,7 +143,7 @@ settle_new before (Some (journal path)) may e = use_new (journal path) (rows_for
 settle_new before (Some (number workers digits)) may e = use_new (number workers digits) (rows_for before) e
 settle_new before (Some (number steps digits)) may e = use_new (number steps digits) (rows_for before) e
 settle_new before (Some (number demo digits)) may e = use_new (number demo digits) (rows_for before) e
-settle_new before (Some table) may e = absurd (false≢true may)
+settle_new before (Some (flag wish)) may e = absurd (false≢true may)
 
 pub settle_passes : (before : List Part) (last : Option Part) → MayWait last → IsNewLast before last → settle_fault option_rules false (held_at before last) ≡ []
 settle_passes before None may new = refl
@@ -143,7 +151,7 @@ settle_passes before (Some (journal path)) may new = use_fresh (journal path) (r
 settle_passes before (Some (number workers digits)) may new = use_fresh (number workers digits) (rows_for before) new
 settle_passes before (Some (number steps digits)) may new = use_fresh (number steps digits) (rows_for before) new
 settle_passes before (Some (number demo digits)) may new = use_fresh (number demo digits) (rows_for before) new
-settle_passes before (Some table) may new = absurd (false≢true may)
+settle_passes before (Some (flag wish)) may new = absurd (false≢true may)
 
 pub row_more : (before : List Part) (part : Part) → has_row (id_of part) (rows_for before) ≡ false → used (rule_for part) (given_by part) (rows_for before) ≡ rows_for (before ++ part ∷ [])
 row_more before part new = used_fresh part (rows_for before) new ∙ sym (map-append row_for before (part ∷ []))
@@ -155,4 +163,4 @@ settled_at before (Some (journal path)) may new = ap (λ (rows : List Row). reco
 settled_at before (Some (number workers digits)) may new = ap (λ (rows : List Row). record { rows = rows; pending = None; skip = 0 }) (row_more before (number workers digits) new)
 settled_at before (Some (number steps digits)) may new = ap (λ (rows : List Row). record { rows = rows; pending = None; skip = 0 }) (row_more before (number steps digits) new)
 settled_at before (Some (number demo digits)) may new = ap (λ (rows : List Row). record { rows = rows; pending = None; skip = 0 }) (row_more before (number demo digits) new)
-settled_at before (Some table) may new = absurd (false≢true may)
+settled_at before (Some (flag wish)) may new = absurd (false≢true may)

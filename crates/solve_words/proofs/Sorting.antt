@@ -1,4 +1,5 @@
--- Every word is the name of an option, one with its number, the wish for a table, no flag at all, or a flag that is refused.
+-- Every word is the name of an option, one with its number, the wish for a table or a local search, no flag at all, or a flag that is
+-- refused.
 use Rattle.std.proofs.Common.{◌≡◌, ◌≢◌, ◌∙◌, inl, inr, sym, ap, subst, refl, ℕ, zero, suc, ◌<◌, Bool, true, false, List, [], ◌∷◌, ◌++◌, length, codes, Option, Some, None, arith}
 use Rattle.std.specs.Prelude.{◌⊎◌, ◌==◌, if◌then◌else◌, IfSome, slice_get}
 use Rattle.std.specs.Option.{option_map_or}
@@ -12,8 +13,8 @@ use Rattle.clap.specs.Lexer.{long_of, name_and_value, short_of}
 use Rattle.clap.specs.Walk.{arg_by_long, idle, option, positional, Row, Rule, Text, Waiting}
 use Rattle.clap.proofs.CutLemmas.{Lacks}
 use Rattle.clap.proofs.LexerLemmas.{name_and_value-at, name_and_value-without}
-use Rattle.solve_words.specs.Words.{demo, name_of, Setting, steps, workers}
-use Rattle.solve_words.proofs.Rows.{bare_name, option_rules, shape}
+use Rattle.solve_words.specs.Words.{demo, Flag, local, name_of, name_of_flag, Setting, steps, table, workers}
+use Rattle.solve_words.proofs.Rows.{bare_flag, bare_name, option_rules, shape}
 use Rattle.std.proofs.lemmas.Bool.Decides.{nat_tests}
 use Rattle.solve_words.proofs.Classes.{first_apart, held_of, IsBare}
 
@@ -25,7 +26,7 @@ pub data Sort (word : Text) : Type 0 where
   separator : word ≡ codes "--" → Sort word
   named : (setting : Setting) → word ≡ name_of setting → Sort word
   assigned : (setting : Setting) (digits : Text) → word ≡ name_of setting ++ (codes "=" ++ digits) → Sort word
-  wished : word ≡ codes "--table" → Sort word
+  wished : (wish : Flag) → word ≡ name_of_flag wish → Sort word
   bare : IsBare word → Sort word
   strange : IsStrange word → Sort word
 
@@ -61,7 +62,7 @@ cut c (x ∷ xs) = elim (cases_Bool (x == c)) [
 
 data Named (name : Text) : Type 0 where
   setting : (s : Setting) → name ≡ bare_name s → Named name
-  table_name : name ≡ codes "table" → Named name
+  flag_name : (wish : Flag) → name ≡ bare_flag wish → Named name
   unknown : arg_by_long option_rules name ≡ None → Named name
 
 is_named : (known name : Text) → bytes_eq known name ≡ true → name ≡ known
@@ -75,8 +76,11 @@ names name = elim (cases_Bool (bytes_eq (codes "workers") name)) [
     | inr s ↦ elim (cases_Bool (bytes_eq (codes "demo") name)) [
       | inl e ↦ setting demo (is_named (codes "demo") name e)
       | inr d ↦ elim (cases_Bool (bytes_eq (codes "table") name)) [
-        | inl e ↦ table_name (is_named (codes "table") name e)
-        | inr t ↦ unknown (rw (w, s, d, t) refl)
+        | inl e ↦ flag_name table (is_named (codes "table") name e)
+        | inr t ↦ elim (cases_Bool (bytes_eq (codes "local") name)) [
+          | inl e ↦ flag_name local (is_named (codes "local") name e)
+          | inr l ↦ unknown (rw (w, s, d, t, l) refl)
+        ]
       ]
     ]
   ]
@@ -100,8 +104,9 @@ module _ (z : ℕ) (zs : Text) where
         (long_fault_is waiting rows pending p e ∙ ap (λ (a : Option Rule). long_fault option_rules false a p.1 (held_of rows pending)) none);
   }
 
-  strange_table : (v : Text) → name_and_value (z ∷ zs) ≡ (codes "table", Some v) → IsStrange (45 ∷ 45 ∷ z ∷ zs)
-  strange_table v e = record { fault = λ waiting rows pending. some_kind kind.TooManyValues [] _ (long_fault_is waiting rows pending (codes "table", Some v) e) }
+  strange_flag : (wish : Flag) (v : Text) → name_and_value (z ∷ zs) ≡ (bare_flag wish, Some v) → IsStrange (45 ∷ 45 ∷ z ∷ zs)
+  strange_flag table v e = record { fault = λ waiting rows pending. some_kind kind.TooManyValues [] _ (long_fault_is waiting rows pending (codes "table", Some v) e) }
+  strange_flag local v e = record { fault = λ waiting rows pending. some_kind kind.TooManyValues [] _ (long_fault_is waiting rows pending (codes "local", Some v) e) }
 
   -- without a value
   sort_name : Lacks 61 (z ∷ zs) → Sort (45 ∷ 45 ∷ z ∷ zs)
@@ -109,7 +114,7 @@ module _ (z : ℕ) (zs : Text) where
       let e = name_and_value-without (z ∷ zs) lacks in
       elim (names (z ∷ zs)) [
         | setting s is ↦ named s (ap (λ (l : Text). 45 ∷ 45 ∷ l) is ∙ long_name s)
-        | table_name is ↦ wished (ap (λ (l : Text). 45 ∷ 45 ∷ l) is)
+        | flag_name wish is ↦ wished wish (ap (λ (l : Text). 45 ∷ 45 ∷ l) is ∙ long_flag wish)
         | unknown none ↦ strange (strange_name (z ∷ zs, None) e none)
       ]
     where
@@ -118,13 +123,17 @@ module _ (z : ℕ) (zs : Text) where
       long_name steps = refl
       long_name demo = refl
 
+      long_flag : (wish : Flag) → 45 ∷ 45 ∷ bare_flag wish ≡ name_of_flag wish
+      long_flag table = refl
+      long_flag local = refl
+
   -- with one
   sort_value : IsCut 61 (z ∷ zs) → Sort (45 ∷ 45 ∷ z ∷ zs)
   sort_value found =
       let e : name_and_value (z ∷ zs) ≡ (found.name, Some found.rest) = ap name_and_value found.is ∙ name_and_value-at found.name found.rest found.lacks in
       elim (names found.name) [
         | setting s is ↦ assigned s found.rest (ap (λ (l : Text). 45 ∷ 45 ∷ l) (found.is ∙ ap (λ (l : Text). l ++ 61 ∷ found.rest) is) ∙ long_value s)
-        | table_name is ↦ strange (strange_table found.rest (e ∙ ap (λ (l : Text). (l, Some found.rest)) is))
+        | flag_name wish is ↦ strange (strange_flag wish found.rest (e ∙ ap (λ (l : Text). (l, Some found.rest)) is))
         | unknown none ↦ strange (strange_name (found.name, Some found.rest) e none)
       ]
     where

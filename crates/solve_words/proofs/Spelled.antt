@@ -9,19 +9,19 @@ use Rattle.std.proofs.lemmas.List.{append-nil, append_assoc}
 use Rattle.clap.specs.Faults.{react_fault, settle_fault, turn_fault, use_fault, walk_fault}
 use Rattle.clap.specs.Kinds.{Kinds, or_else}
 use Rattle.clap.specs.Walk.{has_row, Held, reacted, settled, Text, Walk, walked}
-use Rattle.solve_words.specs.Words.{demo, journal, name_of, number, Part, Setting, steps, table, workers, AreSpelled, Give, Given, IsSpelled}
-use Rattle.solve_words.proofs.Rows.{bare_name, given_by, held_at, id_of, option_rules, rows_for, rule_for, settle_passes, settled_at, shape, use_fresh, IsNewLast, MayWait, row_more}
+use Rattle.solve_words.specs.Words.{demo, flag, journal, local, name_of, name_of_flag, number, Part, Setting, steps, table, workers, AreSpelled, Flag, Give, Given, IsSpelled}
+use Rattle.solve_words.proofs.Rows.{bare_flag, bare_name, given_by, held_at, id_of, option_rules, rows_for, rule_for, settle_passes, settled_at, shape, use_fresh, IsNewLast, MayWait, row_more}
 use Rattle.solve_words.proofs.Classes.{number_fault, number_walked, path_fault, path_walked, IsBare}
-use Rattle.solve_words.proofs.Giving.{digit_times, path_times, table_times}
+use Rattle.solve_words.proofs.Giving.{digit_times, flag_times, path_times}
 use Rattle.solve_words.proofs.Singles.{no_row, times, times-append, Single}
-use Rattle.solve_words.proofs.Steps.{assign_fault, assign_walked, calm, held_for, hungry, name_fault, name_walked, table_fault, table_walked}
+use Rattle.solve_words.proofs.Steps.{assign_fault, assign_walked, calm, held_for, flag_fault, flag_walked, hungry, name_fault, name_walked}
 use Rattle.solve_words.proofs.Walks.{end_of, reacted_at}
 
 -- a part whose text is no flag
 abbrev pub IsPlain : Part → Type 0
 IsPlain (journal path) = IsBare path
 IsPlain (number setting digits) = IsBare digits
-IsPlain table = Unit {0}
+IsPlain (flag wish) = Unit {0}
 
 abbrev pub ArePlain : List Part → Type 0
 ArePlain [] = Unit {0}
@@ -55,7 +55,8 @@ own_time (journal path) = refl
 own_time (number workers digits) = refl
 own_time (number steps digits) = refl
 own_time (number demo digits) = refl
-own_time table = refl
+own_time (flag table) = refl
+own_time (flag local) = refl
 
 -- the last part has no row among the others, and neither has the part behind it
 new_last : (before : List Part) (last : Option Part) (parts : List Part) → Single ((before ++ option_to_list last) ++ parts) → IsNewLast before last
@@ -76,6 +77,10 @@ other_kind : (setting : Setting) (digits : Text) → times (codes "JOURNAL") (nu
 other_kind workers digits = refl
 other_kind steps digits = refl
 other_kind demo digits = refl
+
+no_path_flag : (wish : Flag) → times (codes "JOURNAL") (flag wish ∷ []) ≡ 0
+no_path_flag table = refl
+no_path_flag local = refl
 
 module _ (before : List Part) (last : Option Part) (may : MayWait last) (parts : List Part) (rest : List Text) where
   abbrev all_of : List Part
@@ -170,11 +175,11 @@ part_taken (number setting digits) parts taken first rest before last met may ba
     subst (λ (ws : List Text). Taken (all ++ part ∷ parts) (calm (held_at before last) met) (ws ++ rest)) (sym is)
     (use_taken before last may parts rest met part (name_of setting ++ (codes "=" ++ digits)) single (assign_fault setting digits (held_at before last) met) (assign_walked setting digits (held_at before last) met)
     (used_up taken all part parts rest met plain spelled single (no_path_more all part met (other_kind setting digits) path_met)))
-part_taken table parts taken first rest before last met may bare plain is spelled single path_met =
+part_taken (flag wish) parts taken first rest before last met may bare plain is spelled single path_met =
     let all = before ++ option_to_list last in
-    subst (λ (ws : List Text). Taken (all ++ table ∷ parts) (calm (held_at before last) met) (ws ++ rest)) (sym is)
-    (use_taken before last may parts rest met table (codes "--table") single (table_fault (held_at before last) met) (table_walked (held_at before last) met)
-    (used_up taken all table parts rest met plain spelled single (no_path_more all table met refl path_met)))
+    subst (λ (ws : List Text). Taken (all ++ flag wish ∷ parts) (calm (held_at before last) met) (ws ++ rest)) (sym is)
+    (use_taken before last may parts rest met (flag wish) (name_of_flag wish) single (flag_fault wish (held_at before last) met) (flag_walked wish (held_at before last) met)
+    (used_up taken all (flag wish) parts rest met plain spelled single (no_path_more all (flag wish) met (no_path_flag wish) path_met)))
 
 none_fault : (w : Walk) → walk_fault shape [] w [] ≡ []
 unfolding walk_fault
@@ -200,19 +205,19 @@ few_in : (o : Option Text) → length (option_to_list o) ≤ 1
 few_in None = omega arith
 few_in (Some x) = omega arith
 
-few_tables : (t : Bool) → (if t then 1 else 0) ≤ 1
-few_tables true = omega arith
-few_tables false = omega arith
+few_wishes : (t : Bool) → (if t then 1 else 0) ≤ 1
+few_wishes true = omega arith
+few_wishes false = omega arith
 
 -- no part has another id
-no_other : (id : Text) → bytes_eq (codes "JOURNAL") id ≡ false → bytes_eq (codes "workers") id ≡ false → bytes_eq (codes "steps") id ≡ false → bytes_eq (codes "demo") id ≡ false → bytes_eq (codes "table") id ≡ false
-    → (parts : List Part) → times id parts ≡ 0
-no_other id j w s d t [] = refl
-no_other id j w s d t (journal path ∷ parts) = rw j (no_other id j w s d t parts)
-no_other id j w s d t (number workers digits ∷ parts) = rw w (no_other id j w s d t parts)
-no_other id j w s d t (number steps digits ∷ parts) = rw s (no_other id j w s d t parts)
-no_other id j w s d t (number demo digits ∷ parts) = rw d (no_other id j w s d t parts)
-no_other id j w s d t (table ∷ parts) = rw t (no_other id j w s d t parts)
+no_other : (id : Text) → bytes_eq (codes "JOURNAL") id ≡ false → bytes_eq (codes "workers") id ≡ false → bytes_eq (codes "steps") id ≡ false → bytes_eq (codes "demo") id ≡ false
+    → ((wish : Flag) → bytes_eq (bare_flag wish) id ≡ false) → (parts : List Part) → times id parts ≡ 0
+no_other id j w s d f [] = refl
+no_other id j w s d f (journal path ∷ parts) = rw j (no_other id j w s d f parts)
+no_other id j w s d f (number workers digits ∷ parts) = rw w (no_other id j w s d f parts)
+no_other id j w s d f (number steps digits ∷ parts) = rw s (no_other id j w s d f parts)
+no_other id j w s d f (number demo digits ∷ parts) = rw d (no_other id j w s d f parts)
+no_other id j w s d f (flag wish ∷ parts) = rw (f wish) (no_other id j w s d f parts)
 
 pub given_single : (parts : List Part) (given : Given) → Give parts given → Single parts
 given_single parts given give id =
@@ -225,8 +230,11 @@ given_single parts given give id =
           | inr s ↦ elim (cases_Bool (bytes_eq (codes "demo") id)) [
             | inl e ↦ at (codes "demo") e (let n = digit_times demo parts in let l = ap length give.of_demo in let few = few_in given.demo in omega (arith, n, l, few))
             | inr d ↦ elim (cases_Bool (bytes_eq (codes "table") id)) [
-              | inl e ↦ at (codes "table") e (let n = table_times parts in let l = give.of_table in let few = few_tables given.table in omega (arith, n, l, few))
-              | inr t ↦ let none = no_other id j w s d t parts in omega (arith, none)
+              | inl e ↦ at (codes "table") e (let n = flag_times table parts in let l = give.of_table in let few = few_wishes given.table in omega (arith, n, l, few))
+              | inr t ↦ elim (cases_Bool (bytes_eq (codes "local") id)) [
+                | inl e ↦ at (codes "local") e (let n = flag_times local parts in let l = give.of_local in let few = few_wishes given.local in omega (arith, n, l, few))
+                | inr l ↦ let none = no_other id j w s d (no_flag t l) parts in omega (arith, none)
+              ]
             ]
           ]
         ]
@@ -235,3 +243,7 @@ given_single parts given give id =
   where
     at : (known : Text) → bytes_eq known id ≡ true → times known parts ≤ 1 → times id parts ≤ 1
     at known e few = subst (λ (i : Text). times i parts ≤ 1) ((bytes_eq-Decides known id).0 e) few
+
+    no_flag : bytes_eq (codes "table") id ≡ false → bytes_eq (codes "local") id ≡ false → (wish : Flag) → bytes_eq (bare_flag wish) id ≡ false
+    no_flag t l table = t
+    no_flag t l local = l

@@ -4,8 +4,8 @@ use Rattle.std.specs.Prelude.{if◌then◌else◌}
 use Rattle.clap.specs.Faults.{react_fault, settle_fault, turn_fault}
 use Rattle.clap.specs.Kinds.{or_else}
 use Rattle.clap.specs.Walk.{Held, idle, option, reacted, settled, Text, Walk, walked}
-use Rattle.solve_words.specs.Words.{demo, name_of, Part, Setting, steps, table, workers}
-use Rattle.solve_words.proofs.Rows.{bare_name, option_rules, rows_for, rule_for, setting_rule, shape}
+use Rattle.solve_words.specs.Words.{demo, Flag, local, name_of, name_of_flag, Part, Setting, steps, table, workers}
+use Rattle.solve_words.proofs.Rows.{bare_name, option_rules, wish_rule, rows_for, setting_rule, shape}
 
 -- between two parts: the parts that have rows, the one that waits for its, and whether a path was met
 abbrev pub place : Bool → ℕ
@@ -51,11 +51,13 @@ assign_fault workers digits held met = refl
 assign_fault steps digits held met = refl
 assign_fault demo digits held met = refl
 
--- ---- the wish for a table
+-- ---- a flag
 
-pub table_walked : (held : Held) (met : Bool) → walked option_rules [] (calm held met) (codes "--table") ≡ calm (reacted option_rules (rule_for table) [] held) met
+pub flag_walked : (wish : Flag) (held : Held) (met : Bool) → walked option_rules [] (calm held met) (name_of_flag wish) ≡ calm (reacted option_rules (wish_rule wish) [] held) met
 unfolding walked
-table_walked held met = refl
+flag_walked table held met = refl
+flag_walked local held met = refl
 
-pub table_fault : (held : Held) (met : Bool) → turn_fault shape [] (calm held met) (codes "--table") ≡ or_else (react_fault option_rules false (rule_for table) [] held) []
-table_fault held met = refl
+pub flag_fault : (wish : Flag) (held : Held) (met : Bool) → turn_fault shape [] (calm held met) (name_of_flag wish) ≡ or_else (react_fault option_rules false (wish_rule wish) [] held) []
+flag_fault table held met = refl
+flag_fault local held met = refl

@@ -8,13 +8,13 @@ use Rattle.clap.specs.declared.error.kind.ErrorKind.TheVariants as kind
 use Rattle.clap.specs.Faults.{react_fault, settle_fault, turn_fault, use_fault, walk_fault}
 use Rattle.clap.specs.Kinds.{Kinds, or_else}
 use Rattle.clap.specs.Walk.{Held, idle, option, reacted, Row, settled, Text, used, Walk, walked}
-use Rattle.solve_words.specs.Words.{demo, journal, name_of, number, Part, Setting, steps, table, workers, AreSpelled, IsSpelled}
+use Rattle.solve_words.specs.Words.{demo, flag, Flag, journal, local, name_of, name_of_flag, number, Part, Setting, steps, table, workers, AreSpelled, IsSpelled}
 use Rattle.solve_words.specs.Options.{has_separator}
-use Rattle.solve_words.proofs.Rows.{bare_name, given_by, held_at, option_rules, pending_for, rows_for, rule_for, setting_rule, settle_new, settled_at, shape, use_new, IsNewLast, MayWait, row_more}
+use Rattle.solve_words.proofs.Rows.{bare_name, given_by, held_at, option_rules, wish_rule, pending_for, rows_for, rule_for, setting_rule, settle_new, settled_at, shape, use_new, IsNewLast, MayWait, row_more}
 use Rattle.solve_words.proofs.Classes.{number_walked, path_fault, path_walked, second_path_fault}
 use Rattle.solve_words.proofs.Sorting.{assigned, bare, named, separator, sort_of, strange, wished, Sort}
 use Rattle.solve_words.proofs.Singles.{one_more, Single}
-use Rattle.solve_words.proofs.Steps.{assign_fault, assign_walked, calm, held_for, hungry, name_fault, name_walked, table_fault, table_walked}
+use Rattle.solve_words.proofs.Steps.{assign_fault, assign_walked, calm, held_for, flag_fault, flag_walked, hungry, name_fault, name_walked}
 
 -- ---- faults one behind another
 
@@ -145,8 +145,9 @@ hungry_assign workers digits held setting met = refl
 hungry_assign steps digits held setting met = refl
 hungry_assign demo digits held setting met = refl
 
-hungry_table : (held : Held) (setting : Setting) (met : Bool) → turn_fault shape [] (hungry held setting met) (codes "--table") ≡ or_else (react_fault option_rules false (rule_for table) [] held) []
-hungry_table held setting met = refl
+hungry_flag : (wish : Flag) (held : Held) (setting : Setting) (met : Bool) → turn_fault shape [] (hungry held setting met) (name_of_flag wish) ≡ or_else (react_fault option_rules false (wish_rule wish) [] held) []
+hungry_flag table held setting met = refl
+hungry_flag local held setting met = refl
 
 module _ (word : Text) (words : List Text) (read : (state : State) → BeforeAt state words → FoundAt state words) where
   -- ---- behind the name of an option
@@ -173,10 +174,10 @@ module _ (word : Text) (words : List Text) (read : (state : State) → BeforeAt 
       none_wanted before setting (use_fault false (setting_rule other) (digits ∷ []) (settled option_rules (held_for before setting)).rows)
       (no_faults (react_fault option_rules false (setting_rule other) (digits ∷ []) (held_for before setting)) []
       (sym (ap (turn_fault shape [] (hungry (held_for before setting) setting met)) is ∙ hungry_assign other digits (held_for before setting) setting met) ∙ turn_of before None _ word words b)).0
-  number_read before setting met (wished is) b =
-      none_wanted before setting (use_fault false (rule_for table) [] (settled option_rules (held_for before setting)).rows)
-      (no_faults (react_fault option_rules false (rule_for table) [] (held_for before setting)) []
-      (sym (ap (turn_fault shape [] (hungry (held_for before setting) setting met)) is ∙ hungry_table (held_for before setting) setting met) ∙ turn_of before None _ word words b)).0
+  number_read before setting met (wished wish is) b =
+      none_wanted before setting (use_fault false (wish_rule wish) [] (settled option_rules (held_for before setting)).rows)
+      (no_faults (react_fault option_rules false (wish_rule wish) [] (held_for before setting)) []
+      (sym (ap (turn_fault shape [] (hungry (held_for before setting) setting met)) is ∙ hungry_flag wish (held_for before setting) setting met) ∙ turn_of before None _ word words b)).0
   number_read before setting met (separator is) b = no_separator is b.plain
   number_read before setting met (strange is) b =
       absurd (is.fault (option (bare_name setting)) (rows_for before) (Some (bare_name setting, [])) (no_faults _ _ (turn_of before None (hungry (held_for before setting) setting met) word words b)).0)
@@ -218,11 +219,11 @@ module _ (word : Text) (words : List Text) (read : (state : State) → BeforeAt 
       let w = calm h met in
       part_used before last met (number setting digits) (inr (ap (λ (x : Text). x ∷ []) is)) (ap (walked option_rules [] w) is ∙ assign_walked setting digits h met)
       (no_faults (react_fault option_rules false (setting_rule setting) (digits ∷ []) h) [] (sym (ap (turn_fault shape [] w) is ∙ assign_fault setting digits h met) ∙ turn_of before last w word words b)).0 b
-  part_read before last met (wished is) b =
+  part_read before last met (wished wish is) b =
       let h = held_at before last in
       let w = calm h met in
-      part_used before last met table (ap (λ (x : Text). x ∷ []) is) (ap (walked option_rules [] w) is ∙ table_walked h met)
-      (no_faults (react_fault option_rules false (rule_for table) [] h) [] (sym (ap (turn_fault shape [] w) is ∙ table_fault h met) ∙ turn_of before last w word words b)).0 b
+      part_used before last met (flag wish) (ap (λ (x : Text). x ∷ []) is) (ap (walked option_rules [] w) is ∙ flag_walked wish h met)
+      (no_faults (react_fault option_rules false (wish_rule wish) [] h) [] (sym (ap (turn_fault shape [] w) is ∙ flag_fault wish h met) ∙ turn_of before last w word words b)).0 b
   part_read before last false (bare is) b =
       let w = calm (held_at before last) false in
       let all = before ++ option_to_list last in

@@ -10,17 +10,23 @@ use Rattle.clap.specs.Simple.{on_top}
 abbrev pub option_rule : List ℕ → Rule
 option_rule name = record (new_rule name) { long = Some name }
 
--- the option without one
-abbrev pub table_rule : Rule
-table_rule = record (new_rule (codes "table")) { long = Some (codes "table"); action = Some SetTrue }
+-- an option without one
+abbrev pub flag_rule : List ℕ → Rule
+flag_rule name = record (new_rule name) { long = Some name; action = Some SetTrue }
 
 -- no program's name comes first, and no help is offered
 abbrev pub bare_app : App
 bare_app = on_top (λ s. record s { no_binary_name = true; disable_help_flag = true }) (new_app (codes "solve"))
 
--- the positional argument and the four options
+abbrev pub with_options : App → App
+with_options app = with_rule (with_rule (with_rule app (option_rule (codes "workers"))) (option_rule (codes "steps"))) (option_rule (codes "demo"))
+
+abbrev pub with_flags : App → App
+with_flags app = with_rule (with_rule app (flag_rule (codes "table"))) (flag_rule (codes "local"))
+
+-- the positional argument, the three options with a number and the two flags
 abbrev pub options_app : App
-options_app = with_rule (with_rule (with_rule (with_rule (with_rule bare_app (new_rule (codes "JOURNAL"))) (option_rule (codes "workers"))) (option_rule (codes "steps"))) (option_rule (codes "demo"))) table_rule
+options_app = with_flags (with_options (with_rule bare_app (new_rule (codes "JOURNAL"))))
 
 -- whether a word is `--`, and whether one of the words is
 abbrev pub is_separator : List ℕ → Bool

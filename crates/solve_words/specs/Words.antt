@@ -13,11 +13,16 @@ pub data Setting : Type 0 where
   steps : Setting
   demo : Setting
 
--- what may stand behind `solve`: the path of a journal, an option with the digits of its number, and the wish for a table
+-- the flags, which are options without a number: the wish for a table of the plan, and the wish for a local search of plans
+pub data Flag : Type 0 where
+  table : Flag
+  local : Flag
+
+-- what may stand behind `solve`: the path of a journal, an option with the digits of its number, and a flag
 pub data Part : Type 0 where
   journal : List ℕ → Part
   number : Setting → List ℕ → Part
-  table : Part
+  flag : Flag → Part
 
 -- the name of an option
 abbrev pub name_of : Setting → List ℕ
@@ -25,12 +30,17 @@ name_of workers = codes "--workers"
 name_of steps = codes "--steps"
 name_of demo = codes "--demo"
 
+-- the name of a flag
+abbrev pub name_of_flag : Flag → List ℕ
+name_of_flag table = codes "--table"
+name_of_flag local = codes "--local"
+
 -- a part is these words; the digits of an option are its next word, or stand behind `=` in the same one
 abbrev pub IsSpelled : Part → List (List ℕ) → Type 0
 IsSpelled (journal path) words = words ≡ path ∷ []
 IsSpelled (number setting digits) words =
     (words ≡ name_of setting ∷ digits ∷ []) ⊎ (words ≡ (name_of setting ++ (codes "=" ++ digits)) ∷ [])
-IsSpelled table words = words ≡ codes "--table" ∷ []
+IsSpelled (flag wish) words = words ≡ name_of_flag wish ∷ []
 
 -- parts, one behind another, are these words
 abbrev pub AreSpelled : List Part → List (List ℕ) → Type 0
@@ -43,7 +53,7 @@ AreSpelled (part ∷ parts) words = (first : List (List ℕ)) × (rest : List (L
 abbrev pub path_in : Part → List (List ℕ)
 path_in (journal path) = path ∷ []
 path_in (number setting digits) = []
-path_in table = []
+path_in (flag wish) = []
 
 abbrev pub is_same : Setting → Setting → Bool
 is_same workers workers = true
@@ -55,21 +65,27 @@ is_same _ _ = false
 abbrev pub digits_in : Setting → Part → List (List ℕ)
 digits_in setting (journal path) = []
 digits_in setting (number other digits) = if is_same setting other then digits ∷ [] else []
-digits_in setting table = []
+digits_in setting (flag wish) = []
 
--- whether a part is the wish for a table
-abbrev pub is_table : Part → Bool
-is_table (journal path) = false
-is_table (number setting digits) = false
-is_table table = true
+abbrev pub is_same_flag : Flag → Flag → Bool
+is_same_flag table table = true
+is_same_flag local local = true
+is_same_flag _ _ = false
 
--- what a command line gives: a path, the digits of each option, and whether a table is wished for
+-- whether a part is that flag
+abbrev pub is_flag : Flag → Part → Bool
+is_flag wish (journal path) = false
+is_flag wish (number setting digits) = false
+is_flag wish (flag other) = is_same_flag wish other
+
+-- what a command line gives: a path, the digits of each option, and whether each flag is there
 pub record Given : Type 0 where
   pub journal : Option (List ℕ)
   pub workers : Option (List ℕ)
   pub steps : Option (List ℕ)
   pub demo : Option (List ℕ)
   pub table : Bool
+  pub local : Bool
 
 -- parts give that: each kind of part is among them at most once
 pub record Give (parts : List Part) (given : Given) : Type 0 where
@@ -77,7 +93,8 @@ pub record Give (parts : List Part) (given : Given) : Type 0 where
   pub of_workers : flat_map (digits_in workers) parts ≡ option_to_list given.workers
   pub of_steps : flat_map (digits_in steps) parts ≡ option_to_list given.steps
   pub of_demo : flat_map (digits_in demo) parts ≡ option_to_list given.demo
-  pub of_table : count_by is_table parts ≡ (if given.table then 1 else 0)
+  pub of_table : count_by (is_flag table) parts ≡ (if given.table then 1 else 0)
+  pub of_local : count_by (is_flag local) parts ≡ (if given.local then 1 else 0)
 
 -- words give that: they are the words of parts, in any order, each kind of part at most once
 abbrev pub IsGivenBy : List (List ℕ) → Given → Type 0
@@ -112,11 +129,11 @@ number_within low high word = if is_number word && (nat_le low (digits_value 10 
 abbrev pub number_in : Setting → List ℕ → Option ℕ
 number_in setting = number_within (least setting) (most setting)
 
--- what the words ask for: a search over the journal at a path, by so many workers where that is said, of so many steps, and with the
--- table of its plan or without; or a demonstration, which is a search without a journal, of so many steps, for the instance made
--- from a number
+-- what the words ask for: a search over the journal at a path, by so many workers where that is said, of so many steps, with the
+-- table of its plan or without, and with a local search of plans or without; or a demonstration, which is a search without a
+-- journal, of so many steps, for the instance made from a number
 pub data Asked : Type 0 where
-  over_journal : List ℕ → Option ℕ → ℕ → Bool → Asked
+  over_journal : List ℕ → Option ℕ → ℕ → Bool → Bool → Asked
   from_number : ℕ → ℕ → Asked
 
 -- the budget of steps: a thousand where none is given
@@ -132,12 +149,12 @@ workers_in (Some digits) = option_map (λ n. Some n) (number_in workers digits)
 -- a search over the journal at a path
 abbrev pub search_on : List ℕ → Given → Option Asked
 search_on path given = if is_journal path
-    then option_and_then (λ count. option_map (λ budget. over_journal path count budget given.table) (budget_in given.steps)) (workers_in given.workers)
+    then option_and_then (λ count. option_map (λ budget. over_journal path count budget given.table given.local) (budget_in given.steps)) (workers_in given.workers)
     else None
 
--- a demonstration has neither workers nor a table
+-- a demonstration has neither workers nor a flag
 abbrev pub demonstration_of : List ℕ → Given → Option Asked
-demonstration_of digits given = if is_some given.workers || given.table then None
+demonstration_of digits given = if is_some given.workers || (given.table || given.local) then None
     else option_and_then (λ n. option_map (λ budget. from_number n budget) (budget_in given.steps)) (number_in demo digits)
 
 -- exactly one of a journal and a demonstration is asked for

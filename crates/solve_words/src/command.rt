@@ -24,13 +24,14 @@ const DEMO_MOST: u64 = 999_999;
 /// What the words of a command line ask for.
 #[derive(Clone, Copy, Debug, Drop)]
 pub enum Command<'a> {
-    /// A search over the journal at a path, by so many workers where the words say how many, of at most so many steps, and with
-    /// the table of its plan or without.
+    /// A search over the journal at a path, by so many workers where the words say how many, of at most so many steps, with the
+    /// table of its plan or without, and with a local search of plans or without.
     Search {
         journal: &'a str,
         workers: Option<u16>,
         steps: u64,
         table: bool,
+        local: bool,
     },
     /// A search without a journal, of at most so many steps, for the instance that is made from a number.
     Demo {
@@ -90,19 +91,21 @@ fn search_on<'a>(journal: &'a str, texts: &Texts<'a>) -> Option<Command<'a>>
     let workers = workers_in(texts.workers)?;
     let steps = budget_in(texts.steps)?;
     let table = texts.table;
+    let local = texts.local;
     Some(Command::Search {
         journal,
         workers,
         steps,
         table,
+        local,
     })
 }
 
-/// The demonstration of a number, which has neither workers nor a table.
+/// The demonstration of a number, which has neither workers nor a flag.
 fn demonstration_of<'a>(digits: &str, texts: &Texts<'a>) -> Option<Command<'a>>
     ensures { option_map asked result ≡ demonstration_of digits.now (given texts.now) }
 {
-    if texts.workers.is_some() || texts.table {
+    if texts.workers.is_some() || texts.table || texts.local {
         return None;
     }
     let number = demo_in(digits)?;
@@ -123,10 +126,10 @@ fn asked_in<'a>(texts: &Texts<'a>) -> Option<Command<'a>>
 
 /// What the words of a command line ask for, and none where they are no command. Want of memory is the one refusal.
 ///
-/// The words are `solve JOURNAL [--workers W] [--steps B] [--table]` or `solve --demo N [--steps B]`: `solve` comes first, and
-/// the rest in any order, each at most once. The number of an option is the next word, or stands behind `=` in the option's word.
-/// A number is one to ten decimal digits. W is from 1 to 9,999, B at most 4,000,000,000 and 1,000 where it isn't given, and N at
-/// most 999,999. JOURNAL isn't empty and doesn't begin with `-`.
+/// The words are `solve JOURNAL [--workers W] [--steps B] [--table] [--local]` or `solve --demo N [--steps B]`: `solve` comes
+/// first, and the rest in any order, each at most once. The number of an option is the next word, or stands behind `=` in the
+/// option's word. A number is one to ten decimal digits. W is from 1 to 9,999, B at most 4,000,000,000 and 1,000 where it isn't
+/// given, and N at most 999,999. JOURNAL isn't empty and doesn't begin with `-`.
 pub fn command_of<'a>(alloc: Global, words: &'a [String]) -> Result<Option<Command<'a>>, AllocError>
     ensures { IfOk result (λ command. IsReadAs (map string_bytes words.now) (option_map asked command)) }
 {

@@ -15,7 +15,7 @@ fn words_of(alloc: Global, line: &str) -> Result<Vec<String>, AllocError> {
 
 #[test]
 fn a_search_is_asked_for(rt: HostRuntime) -> Result<(), Fail> {
-    let words = words_of(rt.alloc(), "solve --steps=3 --workers 2 J --table")?;
+    let words = words_of(rt.alloc(), "solve --steps=3 --local --workers 2 J --table")?;
     let command = command_of(rt.alloc(), words.as_slice())?.ok_or("no command")?;
     assert!(rt;
         matches!(
@@ -25,6 +25,7 @@ fn a_search_is_asked_for(rt: HostRuntime) -> Result<(), Fail> {
                 workers: Some(2),
                 steps: 3,
                 table: true,
+                local: true,
             }
         )
     );

@@ -11,8 +11,8 @@ use clap::error::ErrorKind;
 use clap::{Arg, ArgAction, Command};
 use std::alloc::{AllocError, Global};
 
-/// The texts of a command line behind `solve`: the path of the journal, the digits of each option, and whether the table is
-/// wished for.
+/// The texts of a command line behind `solve`: the path of the journal, the digits of each option, and whether each flag
+/// is there.
 #[derive(Clone, Copy, Drop)]
 pub(crate) struct Texts<'a> {
     pub journal: Option<&'a str>,
@@ -20,6 +20,7 @@ pub(crate) struct Texts<'a> {
     pub steps: Option<&'a str>,
     pub demo: Option<&'a str>,
     pub table: bool,
+    pub local: bool,
 }
 
 /// The options behind `solve`.
@@ -33,6 +34,9 @@ fn options<'a>(alloc: Global) -> Result<Command<'a>, AllocError>
     let table = Arg::new(alloc, "table")
         .long("table")
         .action(ArgAction::SetTrue);
+    let local = Arg::new(alloc, "local")
+        .long("local")
+        .action(ArgAction::SetTrue);
     Command::new(alloc, "solve")
         .no_binary_name(true)
         .disable_help_flag(true)
@@ -40,7 +44,8 @@ fn options<'a>(alloc: Global) -> Result<Command<'a>, AllocError>
         .arg(workers)?
         .arg(steps)?
         .arg(demo)?
-        .arg(table)
+        .arg(table)?
+        .arg(local)
 }
 
 /// Whether a word is `--`.
@@ -75,6 +80,7 @@ pub(crate) fn texts_in<'a>(
             steps: matches.get_str("steps"),
             demo: matches.get_str("demo"),
             table: matches.get_flag("table"),
+            local: matches.get_flag("local"),
         })),
         Err(fault) if fault.kind() == ErrorKind::OutOfMemory => Err(AllocError),
         Err(_) => Ok(None),

@@ -1,6 +1,6 @@
--- Which prices count.
-use Rattle.std.proofs.Common.{◌≡◌, ℕ, ◌+◌, ◌/◌, ◌<◌, ◌≤◌, arith, inl, inr, true, cond, List, length, sym, ap, ◌∙◌, subst, Some, None}
-use Rattle.std.proofs.lemmas.Bool.{cases_Bool}
+-- Which prices and which splits count.
+use Rattle.std.proofs.Common.{◌≡◌, ℕ, ◌+◌, ◌/◌, ◌<◌, ◌≤◌, ◌&&◌, arith, inl, inr, true, cond, List, length, nat_le, nat_lt, sym, ap, ◌∙◌, subst, Option, Some, None}
+use Rattle.std.proofs.lemmas.Bool.{and_parts, cases_Bool, leb-true, ltb-true}
 use Rattle.std.specs.Prelude.{IsTrue, IsSomeAnd}
 use Rattle.break_rules.specs.Causes.{first_cause}
 use Rattle.shift_instance.specs.Problem.{Problem}
@@ -11,6 +11,7 @@ use Rattle.head_splits.specs.Bound.{are_prices}
 use Rattle.head_splits.specs.Cuts.{low, high}
 use Rattle.head_splits.specs.Settled.{is_live_class}
 use Rattle.head_splits.proofs.Splits.{split_law}
+use Rattle.advice.specs.declared.advice.Splitting.{Splitting}
 use Rattle.dual_bound.specs.Fixing.{IsFixing}
 use Rattle.dual_bound.specs.declared.settling.Fixing.TheVariants.{Open}
 use Rattle.dual_bound.specs.declared.PriceFault.{PriceFault}
@@ -18,7 +19,7 @@ use Rattle.dual_bound.specs.declared.PriceFault.TheVariants.{NoMemory}
 use Rattle.dual_bound.specs.Faults.{price_causes, Answers}
 use Rattle.dual_bound.specs.Proved.{Proving, IsProved}
 use Rattle.dual_bound.proofs.Causes.{faultless}
-use Rattle.worker_gate.specs.Decision.{lawful_prices, zero_prices}
+use Rattle.worker_gate.specs.Decision.{is_split, lawful_prices, lawful_split, zero_prices}
 
 pub lawful : (i : Problem) (cuts : List Cut) (prices : Prices) (p : Proving) → p.instance ≡ i → p.cuts ≡ cuts → p.prices ≡ prices → IsProved p → p.prices ≡ lawful_prices i cuts prices
 unfolding lawful_prices
@@ -49,3 +50,24 @@ open_fits i cuts class m f =
     let law = subst (λ o. IsSomeAnd o (λ c. IsTrue (is_live_class i c) × (low cuts c < high i cuts c))) f.1 (split_law i cuts f.0) in
     let h = half (low cuts class) (high i cuts class) m law.1 f.2 in
     (law.0, h.0, h.1)
+
+-- a lawful split is one of the node
+abbrev pub FitsSplit : Problem → List Cut → Splitting → Type 0
+FitsSplit i cuts s = IsTrue (is_live_class i s.class) × (low cuts s.class ≤ s.m) × (s.m < high i cuts s.class)
+
+is_split_fits : (i : Problem) (cuts : List Cut) (s : Splitting) → is_split i cuts s ≡ true → FitsSplit i cuts s
+is_split_fits i cuts s e =
+    let both = and_parts (is_live_class i s.class && nat_le (low cuts s.class) s.m) (nat_lt s.m (high i cuts s.class)) e in
+    let first = and_parts (is_live_class i s.class) (nat_le (low cuts s.class) s.m) both.0 in
+    (first.0, leb-true (low cuts s.class) s.m first.1, ltb-true s.m (high i cuts s.class) both.1)
+
+pub split_fits : (i : Problem) (cuts : List Cut) (advised : Option Splitting) (s : Splitting) → lawful_split i cuts advised ≡ Some s → FitsSplit i cuts s
+split_fits i cuts None s e = absurd (some_or_none (sym e))
+split_fits i cuts (Some a) s e =
+    elim (cases_Bool (is_split i cuts a)) [
+      | inl hit ↦
+          let both : Some a ≡ Some s = sym (ap (λ t. cond t (Some a) None) hit) ∙ e in
+          let same : a ≡ s = cc (both) in
+          subst (FitsSplit i cuts) same (is_split_fits i cuts a hit)
+      | inr miss ↦ absurd (some_or_none (sym e ∙ ap (λ t. cond t (Some a) None) miss))
+    ]

@@ -1,5 +1,5 @@
 -- What becomes of a step that isn't committed.
-use Rattle.std.proofs.Common.{◌≡◌, ◌⊎◌, inl, inr, ℕ, List, refl, sym, ap, ◌∙◌, subst, Option}
+use Rattle.std.proofs.Common.{◌≡◌, inl, inr, ℕ, List, refl, sym, ap, ◌∙◌, subst, Option}
 use Rattle.std.specs.Prelude.{slice_get, IsSome}
 use Rattle.head_splits.specs.declared.Cut.{Cut}
 use Rattle.search_core.specs.declared.step_posts.StepPosts.{StepPosts}

@@ -4,8 +4,7 @@ use Rattle.std.specs.Prelude.{◌⊎◌, MatchOption}
 use Rattle.std.proofs.lemmas.Bool.{and_parts}
 use Rattle.shift_instance.specs.Problem.{Problem}
 use Rattle.post_codec.specs.declared.post.Post.{Post}
-use Rattle.advisers.specs.declared.advice.Advice.{Advice}
-use Rattle.advisers.specs.Advised.{greedy_advice}
+use Rattle.advice.specs.declared.advice.Advice.{Advice}
 use Rattle.search_core.specs.declared.board.Kept.{Kept}
 use Rattle.search_core.specs.declared.board.Shutting.TheVariants.{Full as ShutByFull}
 use Rattle.search_core.specs.declared.board.Taken.TheVariants.{Node as TakenNode}
@@ -20,7 +19,7 @@ use Rattle.search_core.specs.Steps.{Fits}
 use Rattle.worker_gate.specs.declared.run.RunEnd.{RunEnd}
 use Rattle.worker_gate.specs.declared.run.RunEnd.TheVariants.{Finished, Spent, Full, DiskFault, NoMemory}
 use Rattle.worker_gate.specs.Decision.{cost_to_reach, IsDecision}
-use Rattle.worker_gate.specs.Runs.{ask_for, committed, is_whole, plans_and_prices_since, AreRounds, EndMakes, IsCutOff, IsEnded, IsIdle, IsRound, IsRun, IsSameSearch, MakesStep, RunEnds, RunMakes}
+use Rattle.worker_gate.specs.Runs.{committed, is_whole, plans_and_prices_since, AreRounds, EndMakes, IsCutOff, IsEnded, IsIdle, IsRound, IsRun, IsSameSearch, MakesStep, RunEnds, RunMakes}
 use Rattle.worker_gate.specs.Runs.AreRounds.{none, one_more}
 use Rattle.worker_gate.proofs.Closing.{closes}
 use Rattle.worker_gate.proofs.Rounds.{begins, counts, few_rounds, fewer_rounds, not_spent, rounds_made, Made}
@@ -47,14 +46,20 @@ module _ (old held : BoardView) (k floor best : ℕ) (idle : IsIdle old) (t : Ta
   pub in_hand : hand held.hands 0 ≡ Some k
   in_hand = ap (λ (l : List (Option ℕ)). hand l 0) held_hands
 
-  pub holds_step : (advice : Advice) (step : StepPosts) → IsDecision old.instance k (ask_for old k floor best) advice step → HoldsStep 0 step held
+  -- a decision for the node in the hand is one for the node that was taken
+  pub decides_before : (i : Problem) (advice : Advice) (step : StepPosts) → old.instance ≡ i → IsDecision i k (cuts_in (book_at held).nodes k) floor best advice step → IsDecision old.instance k (cuts_in (book_at old).nodes k) floor best advice step
+  decides_before i advice step same d =
+      let here : IsDecision i k (cuts_in (book_at old).nodes k) floor best advice step = subst (λ (b : Book). IsDecision i k (cuts_in b.nodes k) floor best advice step) held_book d in
+      subst (λ (j : Problem). IsDecision j k (cuts_in (book_at old).nodes k) floor best advice step) (sym same) here
+
+  pub holds_step : (advice : Advice) (step : StepPosts) → IsDecision old.instance k (cuts_in (book_at old).nodes k) floor best advice step → HoldsStep 0 step held
   holds_step advice step d = record {
     running = held_shut;
     held = in_hand ∙ ap Some (sym d.node);
-    cuts = d.cuts ∙ ap (λ n. cuts_in (book_at old).nodes n) (sym d.node) ∙ ap (λ (b : Book). cuts_in b.nodes step.node) (sym held_book);
+    cuts = d.for_cuts ∙ ap (λ n. cuts_in (book_at old).nodes n) (sym d.node) ∙ ap (λ (b : Book). cuts_in b.nodes step.node) (sym held_book);
   }
 
-  pub closes_step : (advice : Advice) (step : StepPosts) → IsDecision old.instance k (ask_for old k floor best) advice step → Fits old.instance step → step.close ≡ ByPrice → leaves_open held.instance (book_at held) 0 step ≡ false
+  pub closes_step : (advice : Advice) (step : StepPosts) → IsDecision old.instance k (cuts_in (book_at old).nodes k) floor best advice step → Fits old.instance step → step.close ≡ ByPrice → leaves_open held.instance (book_at held) 0 step ≡ false
   closes_step advice step d fits is =
       let b : Book = book_at old in
       let opened : is_node_and b k (is_open b) ≡ true = (and_parts _ _ t.1.free).0 in
@@ -62,7 +67,7 @@ module _ (old held : BoardView) (k floor best : ℕ) (idle : IsIdle old) (t : Ta
       let reach_cost : cost_to_reach b.cost step.plan ≤ max floor step.proved.bound = subst (λ n. cost_to_reach n step.plan ≤ max floor step.proved.bound) t.3 reach in
       let reach_floor : cost_to_reach b.cost step.plan ≤ max (floor_of_node b k) step.proved.bound = subst (λ n. cost_to_reach b.cost step.plan ≤ max n step.proved.bound) t.2 reach_cost in
       let at_node : cost_to_reach b.cost step.plan ≤ max (floor_of_node b step.node) step.proved.bound = subst (λ n. cost_to_reach b.cost step.plan ≤ max (floor_of_node b n) step.proved.bound) (sym d.node) reach_floor in
-      let cuts : step.proved.cuts ≡ cuts_in b.nodes step.node = d.cuts ∙ ap (λ n. cuts_in b.nodes n) (sym d.node) in
+      let cuts : step.proved.cuts ≡ cuts_in b.nodes step.node = d.for_cuts ∙ ap (λ n. cuts_in b.nodes n) (sym d.node) in
       ap (λ (j : Problem). leaves_open j (book_at held) 0 step) held_same.instance
       ∙ ap (λ (c : Book). leaves_open old.instance c 0 step) held_book
       ∙ closes old.instance b 0 step is fits d.cost d.bound cuts (subst (λ n. is_node_and b n (is_open b) ≡ true) (sym d.node) opened) at_node
@@ -81,11 +86,11 @@ module _ (old held : BoardView) (k floor best : ℕ) (idle : IsIdle old) (t : Ta
     makes = (held, k, floor, best, t, c);
   }
 
-  module _ (step : StepPosts) (decides : IsDecision old.instance k (ask_for old k floor best) (greedy_advice old.instance (cuts_in (book_at old).nodes k)) step) where
+  module _ (advice : Advice) (step : StepPosts) (decides : IsDecision old.instance k (cuts_in (book_at old).nodes k) floor best advice step) where
     step_made : MakesStep old held step
-    step_made = record { node = k; floor = floor; best = best; takes = t; decides = decides }
+    step_made = record { node = k; floor = floor; best = best; takes = t; advice = advice; decides = decides }
 
-    cut_off : (new : BoardView) (how : RunEnd) → IsSoundBoard new → IsCutOff step held new how → IsEnded old new how
+    pub cut_off : (new : BoardView) (how : RunEnd) → IsSoundBoard new → IsCutOff step held new how → IsEnded old new how
     cut_off new Finished sound c = absurd c
     cut_off new Spent sound c = absurd c
     cut_off new (Full end limit) sound c =
@@ -102,9 +107,8 @@ module _ (old held : BoardView) (k floor best : ℕ) (idle : IsIdle old) (t : Ta
     }
     cut_off new NoMemory sound c = gave_up new c
 
-    pub round_ends : (new : BoardView) (end : Option RunEnd) → IsSoundBoard new → MatchOption end ((kept : Kept) × Commits 0 step held new kept) (IsCutOff step held new) → MatchOption end (IsRound old new) (IsEnded old new)
-    round_ends new None sound m = record { held = held; step = step; makes = step_made; kept = m.0; commits = m.1; book = sound.book; folds = sound.folds }
-    round_ends new (Some how) sound m = cut_off new how sound m
+    pub round_made : (new : BoardView) (kept : Kept) → IsSoundBoard new → Commits 0 step held new kept → IsRound old new
+    round_made new kept sound m = record { held = held; step = step; makes = step_made; kept = kept; commits = m; book = sound.book; folds = sound.folds }
 
 -- a board after a round
 round_idle : (old new : BoardView) → IsIdle old → IsRound old new → IsIdle new
@@ -170,6 +174,16 @@ fewer_left old mid new (Some how) fresh run e =
     let there : mid.budget ≡ run.last.budget = ap (λ (v : BoardView). v.budget) run.end.0 in
     let same : mid.budget ≡ old.budget = run.same.budget in
     let e : 0 < 1 + old.budget - mid.taken = omega arith in e
+
+-- ---- how many steps a run committed
+
+pub whole_commits : (how : RunEnd) (taken : ℕ) → is_whole how ≡ true → taken ≡ committed how taken
+whole_commits how taken whole = sym (ap (λ (t : Bool). cond t taken (taken - 1)) whole)
+
+pub cut_commits : (how : RunEnd) (before taken : ℕ) → is_whole how ≡ false → taken ≡ before + 1 → before ≡ committed how taken
+cut_commits how before taken cut more =
+    let less : before ≡ taken - 1 = omega arith in
+    less ∙ sym (ap (λ (t : Bool). cond t taken (taken - 1)) cut)
 
 -- ---- what the end of a run leaves
 

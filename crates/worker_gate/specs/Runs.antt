@@ -2,8 +2,7 @@
 use Rattle.std.specs.Prelude.{◌≡◌, ℕ, ◌+◌, ◌-◌, Bool, true, false, IsTrue, IsFalse, List, Option, Some, None, length, drop, count_by, MatchOption, if◌then◌else◌}
 use Rattle.post_codec.specs.declared.post.Post.{Post}
 use Rattle.post_codec.specs.declared.post.Post.TheVariants.{Plan, Priced, Split, Settled}
-use Rattle.advisers.specs.declared.advice.Ask.{Ask}
-use Rattle.advisers.specs.Advised.{greedy_advice}
+use Rattle.advice.specs.declared.advice.Advice.{Advice}
 use Rattle.search_core.specs.declared.board.CommitFault.TheVariants.{DiskFault as CommitsDisk, Full as CommitsFull}
 use Rattle.search_core.specs.declared.board.Kept.{Kept}
 use Rattle.search_core.specs.declared.board.Shutting.TheVariants.{DiskFault as ShutByDiskFault, Full as ShutByFull}
@@ -17,17 +16,14 @@ use Rattle.worker_gate.specs.declared.run.RunEnd.{RunEnd}
 use Rattle.worker_gate.specs.declared.run.RunEnd.TheVariants.{Finished, Spent, Full, DiskFault, NoMemory}
 use Rattle.worker_gate.specs.Decision.{IsDecision}
 
--- what a worker asks for a node that it has taken
-abbrev pub ask_for : BoardView → ℕ → ℕ → ℕ → Ask
-ask_for v node floor best = record { cuts = cuts_in (book_at v).nodes node; floor = floor; best = best }
-
--- what worker 0 does in a round up to its commit: it takes a node, and makes the step of the greedy advice for it
+-- what worker 0 does in a round up to its commit: it takes a node, and makes the step of some advice for it
 pub record MakesStep (old held : BoardView) (step : StepPosts) : Type 0 where
   pub node : ℕ
   pub floor : ℕ
   pub best : ℕ
   pub takes : TakeMakes (TakenNode node floor best) 0 old held
-  pub decides : IsDecision old.instance node (ask_for old node floor best) (greedy_advice old.instance (cuts_in (book_at old).nodes node)) step
+  pub advice : Advice
+  pub decides : IsDecision old.instance node (cuts_in (book_at old).nodes node) floor best advice step
 
 -- one round of worker 0: it commits the step that it makes for a node
 pub record IsRound (old new : BoardView) : Type 0 where

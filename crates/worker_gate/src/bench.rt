@@ -7,7 +7,7 @@ use crate::gate::Gate;
 use crate::seat::Place;
 use crate::turns::BoardLock;
 use crate::worker::work;
-use advisers::Adviser;
+use advice::Adviser;
 use search_core::Board;
 use shift_instance::Instance;
 use std::alloc::Global;

@@ -7,7 +7,8 @@ ghost use Rattle.search_core.specs.Steps.{Fits, FitsClose};
 ghost use Rattle.search_core.specs.declared.step_posts.Close.TheVariants.{ByPrice};
 ghost use Rattle.worker_gate.specs.Decision.{cost_to_reach, lawful_plan, lawful_prices, zero_prices, IsDecision, IsGivenClose};
 
-use advisers::{Advice, Ask};
+use crate::splitting::lawful_split;
+use advice::{Advice, Ask, Splitting};
 use break_rules::NoMemory;
 use dual_bound::{Fixing, PriceFault, Proved, prove, settle};
 use head_splits::{CutPrices, Cuts, Prices, SlotPrices};
@@ -104,22 +105,33 @@ fn cost_to_reach(best: u64, plan: &Option<Costed>) -> u64
     }
 }
 
-/// The split or the settled plan that these cuts have.
-pub(crate) fn close_of(alloc: Global, instance: &Instance, cuts: Cuts) -> Result<Close, NoMemory>
-    ensures given { IfOk result (λ close. IsGivenClose instance.now cuts close) }
+/// The settled plan that these cuts have, or else a split: the advised one where it is lawful, and else the one that settling the
+/// cuts gives.
+pub(crate) fn close_of(
+    alloc: Global,
+    instance: &Instance,
+    cuts: Cuts,
+    advised: Option<Splitting>,
+) -> Result<Close, NoMemory>
+    ensures given { IfOk result (λ close. IsGivenClose instance.now cuts advised close) }
     ensures fits { IfOk result (λ close. FitsClose instance.now cuts close) }
     ensures other { IfOk result (λ close. close ≢ ByPrice) }
 {
+    let split = lawful_split(alloc, instance, &cuts, advised)?;
     match settle(alloc, instance, cuts)? {
-        Fixing::Open { class, m } => Ok(Close::Split { class, m }),
         Fixing::Done(node) => Ok(Close::Settled(node)),
+        Fixing::Open { class, m } => match split {
+            Some(Splitting { class, m }) => Ok(Close::Split { class, m }),
+            None => Ok(Close::Split { class, m }),
+        },
     }
 }
 
 /// The step that a worker makes of an advice for a node. The advised prices count where they are a price set for the
 /// node's cuts, and else price 0 everywhere. The advised plan counts where it is legal. The step closes the node by its
-/// price where the greater of the node's floor and the bound reaches the cost of the best rota or of the plan, and else by
-/// a split or as settled.
+/// price where the greater of the node's floor and the bound reaches the cost of the best rota or of the plan. Else it closes a
+/// settled node as settled, and splits any other: as advised where the class is live and the node's cuts leave the number open
+/// there, and else as settling the cuts gives.
 pub fn step_of(
     alloc: Global,
     instance: &Instance,
@@ -128,17 +140,26 @@ pub fn step_of(
     advice: Advice,
 ) -> Result<StepPosts, NoMemory>
     requires { length ask.cuts ≤ 2 ^ 33 }
-    ensures decision { IfOk result (λ step. IsDecision instance.now node ask advice step) }
+    ensures decision { IfOk result (λ step. IsDecision instance.now node ask.cuts ask.floor ask.best advice step) }
     ensures fits { IfOk result (λ step. Fits instance.now step) }
 {
-    let Ask { cuts, floor, best } = ask;
-    let Advice { prices, plan } = advice;
+    let Ask {
+        cuts,
+        floor,
+        best,
+        hint: _,
+    } = ask;
+    let Advice {
+        prices,
+        plan,
+        split,
+    } = advice;
     let plan = cost_plan(instance, plan);
     let proved = prove_lawful(alloc, instance, &cuts, prices)?;
     let close = if cost_to_reach(best, &plan) <= floor.max(proved.bound()) {
         Close::ByPrice
     } else {
-        close_of(alloc, instance, cuts)?
+        close_of(alloc, instance, cuts, split)?
     };
     Ok(StepPosts {
         node,

@@ -7,11 +7,11 @@ ghost use Rattle.search_core.specs.Steps.{Fits};
 ghost use Rattle.board_lock.specs.Roots.{root_at};
 ghost use Rattle.worker_gate.specs.Workers.{KnowsBoard, WorkersEnd};
 
-use crate::RunEnd;
 use crate::seat::Place;
 use crate::turns::{Left, Rest, Work, commit_in, work_of};
 use crate::worker::{closed_again, decide};
-use advisers::{Adviser, Told};
+use crate::{Gate, RunEnd};
+use advice::Adviser;
 use board_lock::Held;
 use search_core::{Board, Kept, Shutting, StepPosts, Taken};
 use shift_instance::Instance;
@@ -97,6 +97,7 @@ fn finish<B: Board, L: Ledger>(
         seat,
         share,
         number,
+        steps: _,
     } = place;
     let Work {
         node,
@@ -110,13 +111,7 @@ fn finish<B: Board, L: Ledger>(
     let Ok(kept) = commit_alone(alloc, instance, held, *number, step, share) else {
         return;
     };
-    seat.adviser.learn(&Told {
-        node,
-        floor: kept.floor,
-        best: kept.best,
-    });
-    seat.told += 1;
-    seat.share += 1;
+    seat.tell(node, kept);
 }
 
 /// Finishes the node in a hand, or lets go of it where there is no memory for its cuts. Unless the board is shut, the hand is empty
@@ -197,12 +192,13 @@ pub(crate) fn empty_all<B: Board, L: Ledger>(
     }
 }
 
-/// Goes on with the first seat until nothing is taken any more, and tells how the run ends. Unless the board is shut, all hands are
-/// empty before and afterwards.
-pub(crate) fn go_on<B: Board, L: Ledger>(
+/// Goes on with the first seat, as its worker did, until nothing is taken any more, and tells how the run ends. Unless the board is
+/// shut, all hands are empty before and afterwards.
+pub(crate) fn go_on<B: Board, L: Ledger, G: Gate>(
     alloc: Global,
     instance: &Instance,
     held: &mut Held<B, L>,
+    gate: &G,
     place: &mut Place<B, L>,
 ) -> RunEnd
     requires knows { KnowsBoard B.seen instance.now place.old.number (root_at held.old.opened held.old.workers) }
@@ -219,6 +215,8 @@ pub(crate) fn go_on<B: Board, L: Ledger>(
         }
         match held.take(0) {
             Taken::Node { node, floor, best } => {
+                place.steps = place.steps.saturating_add(1);
+                gate.enter(0, place.steps);
                 finish_node(alloc, instance, held, place, node, floor, best);
             }
             Taken::Finished => return RunEnd::Finished,

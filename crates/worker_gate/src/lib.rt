@@ -1,6 +1,7 @@
 //! What a worker makes of an advice, and the run of workers over a board.
 #![tactic(auto)]
 
+mod asking;
 mod bench;
 mod decision;
 mod gate;
@@ -9,12 +10,13 @@ mod run;
 mod running;
 mod seat;
 mod seating;
+mod splitting;
 mod turns;
 mod worker;
 mod workers;
 
 pub use decision::step_of;
 pub use gate::{Gate, Open};
-pub use run::{RunEnd, run_worker};
+pub use run::{RunEnd, run_seat};
 pub use seat::Seat;
 pub use workers::run_workers;

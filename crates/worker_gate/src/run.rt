@@ -1,22 +1,21 @@
-//! The run of one worker over a board.
-ghost use Rattle.std.specs.Prelude.{◌≡◌, ◌≢◌, ◌≤◌, ℕ, false, IfOk, IfErr, MatchOption, None, Some, IsFalse};
-ghost use Rattle.shift_instance.specs.Problem.{Problem};
-ghost use Rattle.advisers.specs.Advised.{greedy_advice};
-ghost use Rattle.search_core.specs.Board.{book_at, leaves_open, yields, BoardView, Commits, HoldsStep, TakeMakes};
+//! The run of one worker alone over a board.
+ghost use Rattle.std.specs.Prelude.{◌≡◌, ◌≢◌, ◌+◌, ◌<◌, ◌≤◌, ◌^◌, false, IfErr, IfOk, IsFalse, IsTrue, MatchOption, None, OnErr, OnOk, Some};
+ghost use Rattle.advice.specs.declared.advice.Advice.{Advice};
+ghost use Rattle.search_core.specs.Board.{book_at, leaves_open, yields, Commits, HoldsStep, TakeMakes};
 ghost use Rattle.search_core.specs.Calls.{steps_enough};
 ghost use Rattle.search_core.specs.Core.{empty_hands, hand, IsFront};
 ghost use Rattle.search_core.specs.Kept.{cuts_in};
 ghost use Rattle.search_core.specs.Steps.{Fits};
-ghost use Rattle.search_core.specs.declared.board.Kept.{Kept};
 ghost use Rattle.search_core.specs.declared.board.Taken.TheVariants.{Node as TakenAnswer};
 ghost use Rattle.worker_gate.specs.Decision.{IsDecision};
-ghost use Rattle.worker_gate.specs.declared.run.RunEnd.{RunEnd};
-ghost use Rattle.worker_gate.specs.Runs.{ask_for, committed, plans_and_prices_since, IsCutOff, IsEnded, IsIdle, IsRound, IsSameSearch, RunEnds, RunMakes};
+ghost use Rattle.worker_gate.specs.Runs.{committed, is_whole, plans_and_prices_since, IsCutOff, IsEnded, IsIdle, IsRound, IsSameSearch, RunEnds, RunMakes};
 
-use crate::step_of;
-use advisers::{Ask, Greedy};
+use crate::asking::ask_of;
+use crate::worker::decide;
+use crate::{Gate, Seat};
+use advice::Adviser;
 use break_rules::NoMemory;
-use search_core::{Board, Close, CommitFault, StepPosts, Taken, keeps_sound};
+use search_core::{Board, Close, CommitFault, Kept, StepPosts, Taken, keeps_sound};
 use shift_instance::Instance;
 use std::alloc::Global;
 
@@ -50,7 +49,11 @@ struct TakenNode {
 fn take_node<B: Board>(board: &mut B) -> Result<TakenNode, RunEnd>
     requires idle { IsIdle (B.seen board.old) }
     ensures takes { IfOk result (λ t. TakeMakes (TakenAnswer t.node t.floor t.best) 0 (B.seen board.old) (B.seen board.new)) }
+    ensures left { OnOk result ((B.seen board.old).taken < (B.seen board.old).budget) }
+    ensures more { OnOk result ((B.seen board.new).taken ≡ (B.seen board.old).taken + 1) }
     ensures ends { IfErr result (IsEnded (B.seen board.old) (B.seen board.new)) }
+    ensures whole { IfErr result (λ end. IsTrue (is_whole end)) }
+    ensures same { OnErr result ((B.seen board.new).taken ≡ (B.seen board.old).taken) }
 {
     match board.take(WORKER) {
         Taken::Node { node, floor, best } => Ok(TakenNode { node, floor, best }),
@@ -65,24 +68,25 @@ fn take_node<B: Board>(board: &mut B) -> Result<TakenNode, RunEnd>
     }
 }
 
-/// The step for a node that the worker has taken.
-fn decide<B: Board>(
+/// The step that the worker makes of what its adviser advises for the node that it has taken.
+fn decide_taken<B: Board>(
     alloc: Global,
     instance: &Instance,
-    adviser: &mut Greedy,
+    seat: &mut Seat,
     board: &B,
     taken: TakenNode,
 ) -> Result<StepPosts, NoMemory>
     requires held { hand (B.seen board.now).hands 0 ≡ Some taken.node }
-    ensures decision { IfOk result (λ step. (i : Problem) (v : BoardView) → i ≡ instance.now → v.instance ≡ i → book_at v ≡ book_at (B.seen board.now)
-        → IsDecision i taken.node (ask_for v taken.node taken.floor taken.best) (greedy_advice i (cuts_in (book_at v).nodes taken.node)) step) }
+    ensures decision { IfOk result (λ step. (advice : Advice) × IsDecision instance.now taken.node (cuts_in (book_at (B.seen board.now)).nodes taken.node) taken.floor taken.best advice step) }
     ensures fits { IfOk result (λ step. Fits instance.now step) }
+    ensures adviser { told seat.new.adviser ≡ told seat.old.adviser }
+    ensures told { seat.new.told ≡ seat.old.told }
+    ensures share { seat.new.share ≡ seat.old.share }
 {
     let TakenNode { node, floor, best } = taken;
-    let cuts = board.cuts(WORKER)?;
-    let ask = Ask { cuts, floor, best };
-    let advice = adviser.advise(instance, &ask)?;
-    step_of(alloc, instance, node, ask, advice)
+    let ask = ask_of(board, WORKER, floor, best)?;
+    let step = decide(alloc, instance, seat, node, ask)?;
+    Ok(step)
 }
 
 /// Lets go of the worker's node for want of memory.
@@ -95,17 +99,20 @@ fn give_up<B: Board>(board: &mut B) -> RunEnd
 }
 
 /// Commits a step for the worker's node, or says how the run ends.
-fn commit_step<B: Board>(board: &mut B, step: StepPosts) -> Option<RunEnd>
+fn commit_step<B: Board>(board: &mut B, step: StepPosts) -> Result<Kept, RunEnd>
     requires fits { Fits (B.seen board.old).instance step }
     requires holds { HoldsStep 0 step (B.seen board.old) }
     requires closes { step.close ≡ Close.ByPrice → IsFalse (leaves_open (B.seen board.old).instance (book_at (B.seen board.old)) 0 step) }
-    ensures { MatchOption result ((kept : Kept) × Commits 0 step (B.seen board.old) (B.seen board.new) kept) (IsCutOff step (B.seen board.old) (B.seen board.new)) }
+    ensures commits { IfOk result (Commits 0 step (B.seen board.old) (B.seen board.new)) }
+    ensures cut_off { IfErr result (IsCutOff step (B.seen board.old) (B.seen board.new)) }
+    ensures cut { IfErr result (λ end. IsFalse (is_whole end)) }
+    ensures taken { (B.seen board.new).taken ≡ (B.seen board.old).taken }
 {
     match board.commit(WORKER, step) {
-        Ok(_) => None,
-        Err(CommitFault::DiskFault) => Some(RunEnd::DiskFault),
-        Err(CommitFault::Full { end, limit }) => Some(RunEnd::Full { end, limit }),
-        Err(CommitFault::NoMemory) => Some(give_up(board)),
+        Ok(kept) => Ok(kept),
+        Err(CommitFault::DiskFault) => Err(RunEnd::DiskFault),
+        Err(CommitFault::Full { end, limit }) => Err(RunEnd::Full { end, limit }),
+        Err(CommitFault::NoMemory) => Err(give_up(board)),
         // nothing shut the board
         Err(CommitFault::Shut) => unreachable!(),
         // the worker holds the step's node
@@ -117,37 +124,65 @@ fn commit_step<B: Board>(board: &mut B, step: StepPosts) -> Option<RunEnd>
     }
 }
 
-/// One round, or how the run ends in it.
-fn round<B: Board>(
+/// One round, or how the run ends in it. The seat counts the steps that were committed.
+fn round<B: Board, G: Gate>(
     alloc: Global,
     instance: &Instance,
-    adviser: &mut Greedy,
     board: &mut B,
+    seat: &mut Seat,
+    gate: &G,
 ) -> Option<RunEnd>
     requires instance { (B.seen board.old).instance ≡ instance.now }
     requires idle { IsIdle (B.seen board.old) }
-    ensures { MatchOption result (IsRound (B.seen board.old) (B.seen board.new)) (IsEnded (B.seen board.old) (B.seen board.new)) }
+    requires budget { (B.seen board.old).budget < 2 ^ 63 }
+    requires share { seat.old.share ≡ (B.seen board.old).taken }
+    requires each { seat.old.told ≡ seat.old.share }
+    ensures round { MatchOption result (IsRound (B.seen board.old) (B.seen board.new)) (IsEnded (B.seen board.old) (B.seen board.new)) }
+    ensures share { MatchOption result (seat.new.share ≡ (B.seen board.new).taken) (λ end. seat.new.share ≡ committed end (B.seen board.new).taken) }
+    ensures each { seat.new.told ≡ seat.new.share }
+    ensures told { told seat.old.adviser < 2 ^ 63 + seat.old.told
+        → told seat.new.adviser + seat.old.told ≡ told seat.old.adviser + seat.new.told }
 {
     let taken = match take_node(board) {
         Ok(taken) => taken,
         Err(end) => return Some(end),
     };
-    let Ok(step) = decide(alloc, instance, adviser, board, taken) else {
+    gate.enter(WORKER, seat.share + 1);
+    let Ok(step) = decide_taken(alloc, instance, seat, board, taken) else {
         return Some(give_up(board));
     };
-    let end = commit_step(board, step);
+    let kept = commit_step(board, step);
     keeps_sound(&*board);
-    end
+    match kept {
+        Ok(kept) => {
+            seat.tell(taken.node, kept);
+            None
+        }
+        Err(end) => Some(end),
+    }
 }
 
-/// Runs worker 0 over a board, with the greedy adviser. Round by round it takes a node, and commits the step that it makes of
-/// the advice for it, until no node is open, no step of the budget is left, a commit fails, or no memory is left.
-pub fn run_worker<B: Board>(alloc: Global, instance: &Instance, board: &mut B) -> RunEnd
+/// Runs worker 0 alone over a board. Round by round it takes a node, passes the gate, and commits the step that it makes of what
+/// its seat's adviser advises for it; once a commit answered `Ok`, it tells the adviser. The run ends where no node is open, no
+/// step of the budget is left, a commit fails, or no memory is left.
+///
+/// The seat counts the steps that were committed: all that the board says were taken, and all but the last where the run was cut
+/// off.
+pub fn run_seat<B: Board, G: Gate>(
+    alloc: Global,
+    instance: &Instance,
+    board: &mut B,
+    seat: &mut Seat,
+    gate: &G,
+) -> RunEnd
     requires instance { (B.seen board.old).instance ≡ instance.now }
     requires fresh { (B.seen board.old).taken ≡ 0 }
     requires running { (B.seen board.old).shut ≡ None }
     requires going { (B.seen board.old).halted ≡ false }
     requires empty { (B.seen board.old).hands ≡ empty_hands }
+    requires budget { (B.seen board.old).budget < 2 ^ 63 }
+    requires told { seat.old.told ≡ 0 }
+    requires share { seat.old.share ≡ 0 }
     ensures same { IsSameSearch (B.seen board.old) (B.seen board.new) }
     ensures begins { IsFront (B.seen board.old).history (B.seen board.new).history }
     ensures end { RunEnds (B.seen board.new) result }
@@ -155,12 +190,14 @@ pub fn run_worker<B: Board>(alloc: Global, instance: &Instance, board: &mut B) -
     ensures posts { committed result (B.seen board.new).taken ≤ plans_and_prices_since (B.seen board.old).history (B.seen board.new).history }
     ensures few { (B.seen board.new).taken ≤ steps_enough (B.seen board.old).instance }
     ensures enough { steps_enough (B.seen board.old).instance ≤ (B.seen board.old).budget → result ≢ RunEnd.Spent }
+    ensures share { seat.new.share ≡ committed result (B.seen board.new).taken }
+    ensures each { seat.new.told ≡ seat.new.share }
+    ensures told { told seat.old.adviser < 2 ^ 63 → told seat.new.adviser ≡ told seat.old.adviser + seat.new.told }
 {
     keeps_sound(&*board);
-    let mut adviser = Greedy::new(alloc);
     let mut end = None;
     while end.is_none() {
-        end = round(alloc, instance, &mut adviser, board);
+        end = round(alloc, instance, board, seat, gate);
     }
     match end {
         Some(end) => end,

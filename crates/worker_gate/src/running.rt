@@ -11,7 +11,7 @@ use crate::last::{empty_all, go_on};
 use crate::seat::Place;
 use crate::seating::{seat_all, unseat_all};
 use crate::{Gate, RunEnd, Seat};
-use advisers::Adviser;
+use advice::Adviser;
 use board_lock::{Held, Lock};
 use search_core::Board;
 use shift_instance::Instance;
@@ -21,10 +21,11 @@ use std::sync::ledger::{Blank, Ledger};
 use std::thread::Threads;
 
 /// Once all workers have ended: empties each hand, goes on with the first seat, and tells how the run ends.
-fn finish_all<B: Board, L: Ledger>(
+fn finish_all<B: Board, L: Ledger, G: Gate>(
     alloc: Global,
     instance: &Instance,
     held: &mut Held<B, L>,
+    gate: &G,
     bench: &mut Vec<Place<B, L>>,
 ) -> RunEnd
     requires some { 0 < vec_len bench.old }
@@ -39,7 +40,7 @@ fn finish_all<B: Board, L: Ledger>(
         → told (slice_index_or bench.new.items i d).seat.adviser + (slice_index_or bench.old.items i d).seat.told ≡ told (slice_index_or bench.old.items i d).seat.adviser + (slice_index_or bench.new.items i d).seat.told }
 {
     empty_all(alloc, instance, held, bench.as_mut_slice());
-    go_on(alloc, instance, held, &mut bench[0])
+    go_on(alloc, instance, held, gate, &mut bench[0])
 }
 
 /// What `run_workers` does, for the ledger that the blank stands for.
@@ -90,7 +91,7 @@ pub(crate) fn run_in<
     work_bench(rt, alloc, instance, &lock, gate, &mut bench);
     let mut held = lock.enter(rt, &mut first);
     lock.retire(first);
-    let end = finish_all(alloc, instance, &mut held, &mut bench);
+    let end = finish_all(alloc, instance, &mut held, gate, &mut bench);
     unseat_all(&mut bench, &mut seats, &mut all);
     let board = held.into_board(&mut all);
     (board, seats, end)

@@ -1,9 +1,10 @@
 //! A seat of a worker, and the place from which it works.
-ghost use Rattle.std.specs.Prelude.{◌≡◌, ◌<◌};
+ghost use Rattle.std.specs.Prelude.{◌≡◌, ◌+◌, ◌-◌, ◌<◌, ◌^◌, min};
 
-use advisers::Adviser;
+use advice::{Adviser, Told};
 use atomic_table::Badge;
 use board_lock::{BoardRoot, View};
+use search_core::Kept;
 use std::sync::ledger::{Ledger, Share};
 
 /// A seat for a worker, with its adviser.
@@ -17,6 +18,25 @@ pub struct Seat {
     pub share: u64,
 }
 
+impl Seat {
+    /// Tells the adviser what a commit made of its step for that node, and counts it.
+    pub(crate) fn tell(&mut self, node: u32, kept: Kept)
+        requires told { self.old.told < 2 ^ 63 }
+        requires share { self.old.share < 2 ^ 63 }
+        ensures counted { self.new.told ≡ self.old.told + 1 }
+        ensures share { self.new.share ≡ self.old.share + 1 }
+        ensures told { told self.new.adviser ≡ min (told self.old.adviser + 1) (2 ^ 64 - 1) }
+    {
+        self.adviser.learn(&Told {
+            node,
+            floor: kept.floor,
+            best: kept.best,
+        });
+        self.told += 1;
+        self.share += 1;
+    }
+}
+
 /// A seat with what its worker needs: a seat at the lock of the board, a share of the ledger of commits, and its number.
 #[derive(Drop)]
 pub(crate) struct Place<B, L: Ledger> {
@@ -24,6 +44,8 @@ pub(crate) struct Place<B, L: Ledger> {
     pub(crate) seat: Seat,
     pub(crate) share: Share<L>,
     pub(crate) number: u32,
+    /// How many nodes the worker has taken in the run, which is what the gate is told.
+    pub(crate) steps: u64,
     ghost told: { seat.told ≡ share.amount },
     ghost shared: { seat.share ≡ share.amount },
     ghost one_part: { share.parts ≡ 1 },

@@ -36,6 +36,7 @@ fn seat_one<B: Board, L: Ledger>(
         seat,
         share,
         number,
+        steps: 0,
     }
 }
 
@@ -91,6 +92,7 @@ pub(crate) fn unseat_all<B: Board, L: Ledger>(
             seat,
             share,
             number: _,
+            steps: _,
         } = bench.remove(0);
         all.merge(share);
         seats.push_reserved(seat);

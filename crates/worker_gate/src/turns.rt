@@ -8,7 +8,8 @@ ghost use Rattle.board_lock.specs.Passes.{root_of, IsOutside};
 ghost use Rattle.board_lock.specs.Roots.{root_at};
 ghost use Rattle.worker_gate.specs.Workers.{IsLeft, LeavesStep};
 
-use advisers::Ask;
+use crate::asking::ask_of;
+use advice::Ask;
 use board_lock::{BoardRoot, Held, Lock, Pass};
 use search_core::{Board, CommitFault, Kept, StepPosts, Taken};
 use std::sync::Wait;
@@ -66,12 +67,8 @@ pub(crate) fn work_of<B: Board, L: Ledger>(
     ensures same { OnOk result (B.seen held.new.board ≡ B.seen held.old.board) }
     ensures let_go { OnErr result (B.seen held.new.board ≡ yields worker (B.seen held.old.board)) }
 {
-    match held.board.cuts(worker) {
-        Ok(cuts) => Ok(Work {
-            node,
-            ask: Ask { cuts, floor, best },
-            taken,
-        }),
+    match ask_of(&held.board, worker, floor, best) {
+        Ok(ask) => Ok(Work { node, ask, taken }),
         Err(_) => {
             held.yield_node(worker);
             Err(Rest::End)

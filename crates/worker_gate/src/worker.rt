@@ -1,15 +1,17 @@
 //! A worker's rounds.
 ghost use Rattle.std.specs.Prelude.{◌≡◌, ◌≢◌, ◌+◌, ◌<◌, ◌≤◌, ◌^◌, IfOk, OnErr, OnOk, length};
+ghost use Rattle.advice.specs.declared.advice.Advice.{Advice};
 ghost use Rattle.search_core.specs.Steps.{Fits};
 ghost use Rattle.search_core.specs.declared.step_posts.Close.TheVariants.{ByPrice};
 ghost use Rattle.board_lock.specs.Passes.{root_of, IsOutside, RestsAt};
+ghost use Rattle.worker_gate.specs.Decision.{IsDecision};
 ghost use Rattle.worker_gate.specs.Workers.{KnowsBoard};
 
 use crate::decision::{close_of, copy_of, step_of};
 use crate::gate::Gate;
 use crate::seat::{Place, Seat};
 use crate::turns::{BoardLock, BoardPass, Left, Rest, Work, commit_turn, take_turn, yield_turn};
-use advisers::{Adviser, Ask, Told};
+use advice::{Adviser, Ask};
 use atomic_table::Badge;
 use break_rules::NoMemory;
 use search_core::{Board, Kept, StepPosts};
@@ -28,6 +30,7 @@ pub(crate) fn decide(
     ask: Ask,
 ) -> Result<StepPosts, NoMemory>
     requires few { length ask.cuts ≤ 2 ^ 24 }
+    ensures decision { IfOk result (λ step. (advice : Advice) × IsDecision instance.now node ask.cuts ask.floor ask.best advice step) }
     ensures node { IfOk result (λ step. step.node ≡ node) }
     ensures cuts { IfOk result (λ step. step.proved.cuts ≡ ask.cuts) }
     ensures fits { IfOk result (λ step. Fits instance.now step) }
@@ -36,7 +39,8 @@ pub(crate) fn decide(
     ensures share { seat.new.share ≡ seat.old.share }
 {
     let advice = seat.adviser.advise(instance, &ask)?;
-    step_of(alloc, instance, node, ask, advice)
+    let step = step_of(alloc, instance, node, ask, advice)?;
+    Ok(step)
 }
 
 /// The step again, closed by the split or the settled plan that its cuts have.
@@ -58,7 +62,7 @@ pub(crate) fn closed_again(
         close: _,
     } = step;
     let cuts = copy_of(proved.cuts())?;
-    let close = close_of(alloc, instance, cuts)?;
+    let close = close_of(alloc, instance, cuts, None)?;
     Ok(StepPosts {
         node,
         plan,
@@ -137,14 +141,13 @@ fn commit_closing<B: Board, L: Ledger, R: Wait>(
     }
 }
 
-/// One round of a worker, and whether it goes on. `steps` counts the nodes that it has taken.
+/// One round of a worker, and whether it goes on.
 fn round<B: Board, L: Ledger, G: Gate, R: Wait>(
     rt: &R,
     alloc: Global,
     instance: &Instance,
     lock: &BoardLock<B, L>,
     gate: &G,
-    steps: &mut u64,
     pass: &mut BoardPass<B, L>,
     place: &mut Place<B, L>,
 ) -> bool
@@ -161,6 +164,7 @@ fn round<B: Board, L: Ledger, G: Gate, R: Wait>(
         seat,
         share,
         number,
+        steps,
     } = place;
     let Work { node, ask, taken } = match take_turn(rt, lock, pass, *number) {
         Ok(work) => work,
@@ -177,13 +181,7 @@ fn round<B: Board, L: Ledger, G: Gate, R: Wait>(
     };
     match commit_closing(rt, alloc, instance, lock, pass, *number, step, share) {
         Ok(kept) => {
-            seat.adviser.learn(&Told {
-                node,
-                floor: kept.floor,
-                best: kept.best,
-            });
-            seat.told += 1;
-            seat.share += 1;
+            seat.tell(node, kept);
             true
         }
         Err(Rest::Again) => true,
@@ -207,11 +205,8 @@ pub(crate) fn work<B: Board, L: Ledger, G: Gate, R: Wait>(
 {
     let badge = mem::replace(&mut place.badge, Badge::blank());
     let mut pass = badge.into_seat();
-    let mut steps = 0u64;
     for _ in rt.forever() {
-        if !round(
-            rt, alloc, instance, lock, gate, &mut steps, &mut pass, place,
-        ) {
+        if !round(rt, alloc, instance, lock, gate, &mut pass, place) {
             break;
         }
     }

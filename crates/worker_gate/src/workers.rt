@@ -9,7 +9,7 @@ ghost use Rattle.worker_gate.specs.Workers.{WorkersEnd};
 
 use crate::running::run_in;
 use crate::{Gate, RunEnd, Seat};
-use advisers::Adviser;
+use advice::Adviser;
 use search_core::{Board, keeps_sound};
 use shift_instance::Instance;
 use std::alloc::Global;

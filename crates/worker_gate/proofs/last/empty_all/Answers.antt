@@ -1,4 +1,4 @@
-use Rattle.std.proofs.Common.{◌≡◌, ◌<◌, ◌+◌, ◌^◌, ℕ, None, length, slice_index_or, slice_set, arith, ap, ◌∙◌, sym, subst}
+use Rattle.std.proofs.Common.{◌≡◌, ◌<◌, ◌+◌, ◌^◌, None, length, slice_index_or, slice_set, arith, ap, ◌∙◌, sym, subst}
 use Rattle.search_core.specs.Core.{hand}
 use Rattle.board_lock.specs.Roots.{root_at}
 use Rattle.worker_gate.specs.Workers.{KnowsBoard}

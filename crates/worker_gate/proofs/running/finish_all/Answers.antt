@@ -1,4 +1,4 @@
-use Rattle.std.proofs.Common.{◌≡◌, ◌<◌, ◌∙◌, arith, ap, length}
+use Rattle.std.proofs.Common.{◌∙◌, arith, ap, length}
 use Rattle.worker_gate.proofs.Moved.{written}
 use Rattle.worker_gate.proofs.Telling.{first_then}
 use Rattle.worker_gate.proofs.running.finish_all.Goals as goal

@@ -1,4 +1,4 @@
-use Rattle.std.proofs.Common.{◌≡◌, ◌<◌, ◌^◌, ◌∙◌, arith, refl, sym, ap, subst, length, sum_by, vec_len}
+use Rattle.std.proofs.Common.{◌<◌, ◌^◌, ◌∙◌, arith, refl, sym, ap, subst, length, sum_by, vec_len}
 use Rattle.std.proofs.lemmas.List.{length-map}
 use Rattle.board_lock.specs.Passes.{root_of}
 use Rattle.board_lock.proofs.Turned.{no_turns}

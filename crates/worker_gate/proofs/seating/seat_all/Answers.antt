@@ -1,4 +1,4 @@
-use Rattle.std.proofs.Common.{◌≡◌, ◌<◌, ◌∙◌, arith, subst}
+use Rattle.std.proofs.Common.{◌≡◌, ◌∙◌, arith, subst}
 use Rattle.board_lock.specs.Passes.{root_of, RestsAt}
 use Rattle.worker_gate.proofs.Moved.{all_more, all_rest, all_placed, moved_on}
 use Rattle.worker_gate.proofs.seating.seat_all.Goals as goal

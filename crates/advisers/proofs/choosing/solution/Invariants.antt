@@ -1,0 +1,13 @@
+use Rattle.std.proofs.Common.{◌≡◌, ◌<◌, ◌≤◌, ◌*◌, All, length}
+use Rattle.std.specs.List.{flat_map}
+use Rattle.shift_instance.specs.Problem.{below, shift_list}
+use Rattle.shift_instance.specs.Rota.{rota_of}
+use Rattle.advisers.specs.Solutions.{duties_of}
+use Rattle.advisers.proofs.choosing.solution.Given as goal
+
+abbrev pub invariant-loop-shift : goal.invariant-loop-shift
+invariant-loop-shift l = record {
+  rota : rota_of l.rows.items ≡ flat_map (duties_of l.instance l.cuts l.prices) (below l.shift);
+  known : All (λ r. r.shift < length (shift_list l.instance)) l.rows.items;
+  few : length l.rows.items ≤ l.shift * 7;
+}

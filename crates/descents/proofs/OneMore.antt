@@ -1,0 +1,181 @@
+-- What one duty more costs.
+use Rattle.std.proofs.Common.{◌≡◌, ◌⊎◌, inl, inr, ℕ, zero, suc, ◌+◌, ◌-◌, ◌*◌, ◌<◌, ◌≤◌, ℤ, pos, neg_ℤ, ◌+ℤ◌, ◌-ℤ◌, ◌*ℤ◌, ◌≤ℤ◌, Bool, true, false, cond, List, [], ◌∷◌, ◌++◌, length, Option, Some, None, refl, sym, ap, ◌∙◌, subst, arith, count_by, sum_by}
+use Rattle.std.proofs.lemmas.Int.{ints}
+use Rattle.std.proofs.lemmas.Bool.{lt-ltb, le-ltb, cases_Bool, cases_lt}
+use Rattle.std.proofs.lemmas.List.Sums.{sum_by-cons}
+use Rattle.std.proofs.lemmas.List.FromFn.{get_or-map-range_with_len}
+use Rattle.break_rules.specs.declared.Break.{Break}
+use Rattle.break_rules.specs.Sums.{int_sum_by}
+use Rattle.break_rules.proofs.Lists.{Has, from_below}
+use Rattle.break_rules.proofs.Sums.{int_sum_by-cons, int_sum_by-same, int_sum_by-add, mul-suc, mul-zero}
+use Rattle.shift_instance.specs.declared.Duty.{Duty}
+use Rattle.shift_instance.specs.Problem.{Problem, slots, need_at, shift_list, below}
+use Rattle.shift_instance.specs.Rota.{works, cover, slot_cost, is_used, shifts_used, cost, is_list_of}
+use Rattle.shift_instance.specs.Valid.{IsValid}
+use Rattle.shift_instance.specs.Worth.{price_of, earned, worth, IsBest}
+use Rattle.rota_cost.specs.Counted.{duties_of}
+use Rattle.rota_cost.proofs.Duties.{with_pushed, used_same, used_more}
+use Rattle.greedy.specs.Greedy.{best_list, duty, earned_with, marginal_price, marginal_prices}
+use Rattle.greedy.specs.Sizes.{IsWithin}
+use Rattle.greedy.proofs.BestLists.{worth_none, best_found, found_small}
+use Rattle.greedy.proofs.Rounding.{prices_small}
+use Rattle.local_moves.specs.Moves.{fee}
+use Rattle.local_moves.proofs.Reshifts.{used_by_count, unused_by_count}
+
+times_one : (v : ℤ) → v *ℤ pos 1 ≡ v
+times_one v = mul-suc v 0 ∙ ap (λ z. v +ℤ z) (mul-zero v) ∙ omega (arith, ints)
+
+-- what one duty more in a slot costs less is the slot's marginal price
+slot_stays : (i : Problem) (t c : ℕ) → pos (slot_cost i t (c + 0)) +ℤ marginal_price i t c *ℤ pos 0 ≡ pos (slot_cost i t c)
+slot_stays i t c = let e : c + 0 ≡ c = omega arith in ap (λ n. pos (slot_cost i t n) +ℤ marginal_price i t c *ℤ pos 0) e ∙ none (marginal_price i t c) (slot_cost i t c)
+  where
+    none : (p : ℤ) (n : ℕ) → pos n +ℤ p *ℤ pos 0 ≡ pos n
+    none p n = ap (λ z. pos n +ℤ z) (mul-zero p) ∙ omega (arith, ints)
+
+slot_falls : (i : Problem) (t c : ℕ) → pos (slot_cost i t (c + 1)) +ℤ marginal_price i t c *ℤ pos 1 ≡ pos (slot_cost i t c)
+slot_falls i t c =
+    elim (cases_lt c (need_at i t)) [
+      | inl l ↦
+          let a : c + 1 - need_at i t ≡ 0 = omega arith in
+          let b : c - need_at i t ≡ 0 = omega arith in
+          let d : need_at i t - c ≡ need_at i t - (c + 1) + 1 = omega arith in
+          ap (λ b. pos (slot_cost i t (c + 1)) +ℤ cond b (pos i.shortage) (neg_ℤ (pos i.excess)) *ℤ pos 1) (lt-ltb c (need_at i t) l)
+          ∙ short i.excess i.shortage (c + 1 - need_at i t) (c - need_at i t) (need_at i t - (c + 1)) (need_at i t - c) a b d
+      | inr g ↦
+          let a : c + 1 - need_at i t ≡ c - need_at i t + 1 = omega arith in
+          let b : need_at i t - (c + 1) ≡ 0 = omega arith in
+          let d : need_at i t - c ≡ 0 = omega arith in
+          ap (λ b. pos (slot_cost i t (c + 1)) +ℤ cond b (pos i.shortage) (neg_ℤ (pos i.excess)) *ℤ pos 1) (le-ltb c (need_at i t) g)
+          ∙ long i.excess i.shortage (c + 1 - need_at i t) (c - need_at i t) (need_at i t - (c + 1)) (need_at i t - c) a b d
+    ]
+  where
+    short : (e s x y u v : ℕ) → x ≡ 0 → y ≡ 0 → v ≡ u + 1 → pos (e * x + s * u) +ℤ pos s *ℤ pos 1 ≡ pos (e * y + s * v)
+    short e s x y u v p q r =
+        let a : e * x ≡ 0 = ap (λ n. e * n) p ∙ omega arith in
+        let b : e * y ≡ 0 = ap (λ n. e * n) q ∙ omega arith in
+        let d : s * v ≡ s * u + s = ap (λ n. s * n) r ∙ omega arith in
+        ap (λ z. pos (e * x + s * u) +ℤ z) (times_one (pos s)) ∙ omega (arith, ints)
+
+    long : (e s x y u v : ℕ) → x ≡ y + 1 → u ≡ 0 → v ≡ 0 → pos (e * x + s * u) +ℤ neg_ℤ (pos e) *ℤ pos 1 ≡ pos (e * y + s * v)
+    long e s x y u v p q r =
+        let a : e * x ≡ e * y + e = ap (λ n. e * n) p ∙ omega arith in
+        let b : s * u ≡ 0 = ap (λ n. s * n) q ∙ omega arith in
+        let d : s * v ≡ 0 = ap (λ n. s * n) r ∙ omega arith in
+        ap (λ z. pos (e * x + s * u) +ℤ z) (times_one (neg_ℤ (pos e))) ∙ omega (arith, ints)
+
+price_at : (i : Problem) (rota : List Duty) (t : ℕ) → t < slots i → price_of (marginal_prices i rota) t ≡ marginal_price i t (cover i rota t)
+unfolding marginal_prices
+price_at i rota t h = get_or-map-range_with_len (λ t. marginal_price i t (cover i rota t)) 0 (slots i) t t (pos 0) h (omega arith)
+
+pos_sum : (f : ℕ → ℕ) (xs : List ℕ) → int_sum_by (λ x. pos (f x)) xs ≡ pos (sum_by f xs)
+pos_sum f [] = refl
+pos_sum f (x ∷ xs) = int_sum_by-cons (λ x. pos (f x)) x xs ∙ ap (λ z. pos (f x) +ℤ z) (pos_sum f xs) ∙ ap pos (sym (sum_by-cons f x xs))
+
+-- a slot in a plan with one duty more
+slot_with : (i : Problem) (rota : List Duty) (d : Duty) (t : ℕ) → t < slots i
+    → pos (slot_cost i t (cover i (rota ++ d ∷ []) t)) +ℤ cond (works i d t) (price_of (marginal_prices i rota) t) (pos 0) ≡ pos (slot_cost i t (cover i rota t))
+slot_with i rota d t h =
+    let c = cover i rota t in
+    let more : cover i (rota ++ d ∷ []) t ≡ c + cond (works i d t) 1 0 = (with_pushed rota d).each (λ x. works i x t) in
+    let price : price_of (marginal_prices i rota) t ≡ marginal_price i t c = price_at i rota t h in
+    elim (cases_Bool (works i d t)) [
+      | inl y ↦
+          ap (λ z. pos (slot_cost i t (cover i (rota ++ d ∷ []) t)) +ℤ z) (ap (λ b. cond b (price_of (marginal_prices i rota) t) (pos 0)) y ∙ price ∙ sym (times_one (marginal_price i t c)))
+          ∙ ap (λ n. pos (slot_cost i t n) +ℤ marginal_price i t c *ℤ pos 1) (more ∙ ap (λ b. c + cond b 1 0) y)
+          ∙ slot_falls i t c
+      | inr n ↦
+          ap (λ z. pos (slot_cost i t (cover i (rota ++ d ∷ []) t)) +ℤ z) (ap (λ b. cond b (price_of (marginal_prices i rota) t) (pos 0)) n ∙ sym (mul-zero (marginal_price i t c)))
+          ∙ ap (λ n. pos (slot_cost i t n) +ℤ marginal_price i t c *ℤ pos 0) (more ∙ ap (λ b. c + cond b 1 0) n)
+          ∙ slot_stays i t c
+    ]
+
+slots_with : (i : Problem) (rota : List Duty) (d : Duty)
+    → pos (sum_by (λ t. slot_cost i t (cover i (rota ++ d ∷ []) t)) (below (slots i))) +ℤ earned i (marginal_prices i rota) d ≡ pos (sum_by (λ t. slot_cost i t (cover i rota t)) (below (slots i)))
+slots_with i rota d =
+    let after : ℕ → ℕ = λ t. slot_cost i t (cover i (rota ++ d ∷ []) t) in
+    let worth : ℕ → ℤ = λ t. cond (works i d t) (price_of (marginal_prices i rota) t) (pos 0) in
+    let xs = below (slots i) in
+    ap (λ z. z +ℤ int_sum_by worth xs) (sym (pos_sum after xs))
+    ∙ sym (int_sum_by-add (λ t. pos (after t)) worth xs)
+    ∙ int_sum_by-same (λ t. pos (after t) +ℤ worth t) (λ t. pos (slot_cost i t (cover i rota t))) xs (λ t m. slot_with i rota d t (from_below (slots i) t m))
+    ∙ pos_sum (λ t. slot_cost i t (cover i rota t)) xs
+
+weighed : (a b g u v : ℕ) (z : ℤ) (f : ℕ) → pos a +ℤ z ≡ pos b → g * v ≡ g * u + f → pos (a + g * v) +ℤ z ≡ pos (b + g * u + f)
+weighed a b g u v z f e h = omega (arith, ints)
+
+-- a plan with one duty more costs its fee more and its marginal prices less
+pub cost_with : (i : Problem) (rota : List Duty) (d : Duty) → d.shift < length (shift_list i) → pos (cost i (rota ++ d ∷ [])) +ℤ earned i (marginal_prices i rota) d ≡ pos (cost i rota + fee i rota d.shift)
+cost_with i rota d hs =
+    let next = rota ++ d ∷ [] in
+    let used = is_used rota d.shift in
+    weighed (sum_by (λ t. slot_cost i t (cover i next t)) (below (slots i))) (sum_by (λ t. slot_cost i t (cover i rota t)) (below (slots i)))
+    i.shift (shifts_used i rota) (shifts_used i next) (earned i (marginal_prices i rota) d) (fee i rota d.shift) (slots_with i rota d)
+    (elim (cases_zero (duties_of rota d.shift)) [
+      | inl none ↦
+          let more : shifts_used i next ≡ shifts_used i rota + 1 = used_more i rota d next (with_pushed rota d) hs none in
+          let f : fee i rota d.shift ≡ i.shift = ap (λ b. cond b 0 i.shift) (unused_by_count rota d.shift none) in
+          let m : i.shift * shifts_used i next ≡ i.shift * shifts_used i rota + i.shift = ap (λ n. i.shift * n) more ∙ omega arith in
+          omega (arith, f, m)
+      | inr some ↦
+          let same : shifts_used i next ≡ shifts_used i rota = used_same i rota d next (with_pushed rota d) (above (duties_of rota d.shift) some) in
+          let f : fee i rota d.shift ≡ 0 = ap (λ b. cond b 0 i.shift) (used_by_count rota d.shift some) in
+          let m : i.shift * shifts_used i next ≡ i.shift * shifts_used i rota = ap (λ n. i.shift * n) same in
+          omega (arith, f, m)
+    ])
+  where
+    cases_zero : (n : ℕ) → (n ≡ 0) ⊎ (n ≡ 0 → ⊥)
+    cases_zero zero = inl refl
+    cases_zero (suc n) = inr (λ e. absurd (omega (arith, e)))
+
+    above : (n : ℕ) → (n ≡ 0 → ⊥) → 0 < n
+    above zero h = absurd (h refl)
+    above (suc n) h = omega arith
+
+-- the cost with a list that earns most is the least
+pub least_with : (i : Problem) (rota : List Duty) (s day : ℕ) (list other : List Break) (value : ℤ) → s < length (shift_list i) → IsBest i s day (marginal_prices i rota) [] list value → is_list_of i s other ≡ true
+    → cost i (rota ++ duty s day list ∷ []) ≤ cost i (rota ++ duty s day other ∷ [])
+least_with i rota s day list other value hs b legal =
+    let own : value ≡ earned_with i (marginal_prices i rota) s day list = b.is_worth ∙ worth_none i (marginal_prices i rota) (duty s day list) in
+    let most : worth i (marginal_prices i rota) [] (duty s day other) ≤ℤ value = b.greatest other legal in
+    let e : worth i (marginal_prices i rota) [] (duty s day other) ≡ earned_with i (marginal_prices i rota) s day other = worth_none i (marginal_prices i rota) (duty s day other) in
+    less (cost i (rota ++ duty s day list ∷ [])) (cost i (rota ++ duty s day other ∷ [])) (cost i rota + fee i rota s) (earned_with i (marginal_prices i rota) s day list) (earned_with i (marginal_prices i rota) s day other) (worth i (marginal_prices i rota) [] (duty s day other)) value
+    (cost_with i rota (duty s day list) hs) (cost_with i rota (duty s day other) hs) own most e
+  where
+    less : (a b c : ℕ) (v w x y : ℤ) → pos a +ℤ v ≡ pos c → pos b +ℤ w ≡ pos c → y ≡ v → x ≤ℤ y → x ≡ w → a ≤ b
+    less a b c v w x y p q e h f = omega (arith, ints)
+
+-- the cost by the value of its list
+pub cost_of_value : (i : Problem) (rota : List Duty) (s day : ℕ) (list : List Break) (value : ℤ) → s < length (shift_list i) → IsBest i s day (marginal_prices i rota) [] list value
+    → pos (cost i (rota ++ duty s day list ∷ [])) +ℤ value ≡ pos (cost i rota + fee i rota s)
+cost_of_value i rota s day list value hs b =
+    ap (λ z. pos (cost i (rota ++ duty s day list ∷ [])) +ℤ z) (b.is_worth ∙ worth_none i (marginal_prices i rota) (duty s day list))
+    ∙ cost_with i rota (duty s day list) hs
+
+-- all that is known of a best list at marginal prices
+pub record IsBestDuty (i : Problem) (rota : List Duty) (s day : ℕ) (list : List Break) (value : ℤ) : Type 0 where
+  pub first : best_list i (marginal_prices i rota) s day ≡ Some list
+  pub legal : is_list_of i s list ≡ true
+  pub small : IsWithin (2016 * 1000000) value
+  pub most : value ≤ℤ pos (cost i rota + fee i rota s)
+  pub exact : pos (cost i (rota ++ duty s day list ∷ [])) +ℤ value ≡ pos (cost i rota + fee i rota s)
+  pub least : (other : List Break) → is_list_of i s other ≡ true → cost i (rota ++ duty s day list ∷ []) ≤ cost i (rota ++ duty s day other ∷ [])
+
+pub best_duty_is : (i : Problem) (rota : List Duty) (s day : ℕ) (prices : List ℤ) (list : List Break) (value : ℤ) → IsValid i → s < length (shift_list i) → prices ≡ marginal_prices i rota → IsBest i s day prices [] list value → IsBestDuty i rota s day list value
+best_duty_is i rota s day prices list value valid hs e h =
+    let b : IsBest i s day (marginal_prices i rota) [] list value = subst (λ (ps : List ℤ). IsBest i s day ps [] list value) e h in
+    let exact : pos (cost i (rota ++ duty s day list ∷ [])) +ℤ value ≡ pos (cost i rota + fee i rota s) = cost_of_value i rota s day list value hs b in
+    record {
+      first = (best_found i (marginal_prices i rota) s day list value b).0;
+      legal = b.legal;
+      small = found_small i (marginal_prices i rota) s day list value (prices_small i rota (marginal_prices i rota) valid refl) b;
+      most = at_most (cost i (rota ++ duty s day list ∷ [])) (cost i rota + fee i rota s) value exact;
+      exact = exact;
+      least = λ other legal. least_with i rota s day list other value hs b legal;
+    }
+  where
+    at_most : (a c : ℕ) (v : ℤ) → pos a +ℤ v ≡ pos c → v ≤ℤ pos c
+    at_most a c v h = omega (arith, ints)
+
+-- the cost that comes of a value
+pub same_cost_with : (a b c : ℕ) (v w : ℤ) → pos a +ℤ v ≡ pos c → pos b +ℤ w ≡ pos c → w ≡ v → b ≡ a
+same_cost_with a b c v w h g e = omega (arith, ints)

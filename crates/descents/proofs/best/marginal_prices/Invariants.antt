@@ -1,0 +1,8 @@
+use Rattle.std.proofs.Common.{◌≡◌, map}
+use Rattle.shift_instance.specs.Problem.{below}
+use Rattle.shift_instance.specs.Rota.{cover, rota_of}
+use Rattle.greedy.specs.Greedy.{marginal_price}
+use Rattle.descents.proofs.best.marginal_prices.Given as goal
+
+abbrev pub invariant-loop-t : goal.invariant-loop-t
+invariant-loop-t l = l.prices.items ≡ map (λ t. marginal_price l.instance t (cover l.instance (rota_of l.draft.rows) t)) (below l.t)

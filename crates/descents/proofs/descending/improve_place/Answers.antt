@@ -1,0 +1,39 @@
+use Rattle.std.proofs.Common.{◌∙◌, ◌/◌, ◌%◌, List, length}
+use Rattle.std.specs.Bool.{OnFalse}
+use Rattle.std.proofs.lemmas.Result.{IfOk-weaker}
+use Rattle.break_rules.specs.declared.Break.{Break}
+use Rattle.shift_instance.specs.Rota.{rota_of}
+use Rattle.local_moves.specs.declared.moves.Move.TheVariants.{Add, Reshift}
+use Rattle.descents.specs.declared.descending.Part.TheVariants.{Rows}
+use Rattle.descents.specs.Descending.{IsNoGain, IsOptimalAt}
+use Rattle.descents.proofs.Tries.{false_weaker, optimal_at_rows, optimal_at_shifts, optimal_at_days}
+use Rattle.descents.proofs.descending.improve_place.Goals as goal
+
+pub returns-in-Rows-clause-none : goal.returns-in-Rows-clause-none
+returns-in-Rows-clause-none c =
+    let i = c.args.instance.now in
+    let rows = c.args.draft.now.rows in
+    IfOk-weaker c.improve_row.result (λ b. OnFalse b (IsOptimalAt i rows Rows c.args.place)) (λ b. OnFalse b (IsOptimalAt i rows c.args.part c.args.place))
+    (λ b h. false_weaker b (IsOptimalAt i rows Rows c.args.place) (IsOptimalAt i rows c.args.part c.args.place) (optimal_at_rows i rows c.args.part c.args.place c.in-Rows.is) h)
+    c.improve_row.ensures.none
+
+pub returns-in-Shifts-clause-none : goal.returns-in-Shifts-clause-none
+returns-in-Shifts-clause-none c =
+    let i = c.args.instance.now in
+    let rows = c.args.draft.now.rows in
+    let k = c.args.place in
+    let n = length c.shifts-shifts.result.now in
+    IfOk-weaker c.improve_reshift.result (λ b. OnFalse b (IsNoGain i (rota_of rows) (Reshift (k / n) (k % n)))) (λ b. OnFalse b (IsOptimalAt i rows c.args.part k))
+    (λ b h. false_weaker b (IsNoGain i (rota_of rows) (Reshift (k / n) (k % n))) (IsOptimalAt i rows c.args.part k) (optimal_at_shifts i rows c.args.part k n c.in-Shifts.is c.shifts-shifts.ensures.count) h)
+    c.improve_reshift.ensures.none
+
+pub returns-in-Days-clause-none : goal.returns-in-Days-clause-none
+returns-in-Days-clause-none c =
+    let i = c.args.instance.now in
+    let rows = c.args.draft.now.rows in
+    let k = c.args.place in
+    let n = c.from-days.result in
+    IfOk-weaker c.improve_day.result (λ b. OnFalse b ((list : List Break) → IsNoGain i (rota_of rows) (Add (k / n) (k % n) list))) (λ b. OnFalse b (IsOptimalAt i rows c.args.part k))
+    (λ b h. false_weaker b ((list : List Break) → IsNoGain i (rota_of rows) (Add (k / n) (k % n) list)) (IsOptimalAt i rows c.args.part k)
+    (optimal_at_days i rows c.args.part k n c.in-Days.is (c.from-days.ensures ∙ c.days.ensures.days)) h)
+    c.improve_day.ensures.none

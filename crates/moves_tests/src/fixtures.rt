@@ -1,0 +1,54 @@
+//! A small day, and drafts of plans for it.
+ghost use Rattle.std.specs.Prelude.{◌≡◌, IfOk, OnOk};
+
+use break_rules::{Break, Breaks, NoMemory};
+use instance_json::read;
+use local_moves::{Draft, Move, MoveFault};
+use rota_cost::cost_rows;
+use shift_instance::{Instance, Rows};
+use std::alloc::Global;
+use std::test::Fail;
+
+/// Hour slots of one day. Two employees are needed from 8 to 16 o'clock, but one from 11 to 13. A shift has at most two
+/// duties on a day. Excess costs 1, shortage 2 and a shift 3. The one shift has 8 hours from 8 o'clock on, with one break
+/// of an hour after 2 to 5 hours.
+pub const DAY: &str =
+    "{\"slot_minutes\":60,\"days\":1,\"need\":[0,0,0,0,0,0,0,0,2,2,2,1,1,2,2,2,0,0,0,0,0,0,0,0],\"max_heads\":2,\"weights\":{\"excess\":1,\"shortage\":2,\"shift\":3},\"types\":[{\"name\":\"M\",\"start_min\":8,\"start_max\":8,\"len_min\":8,\"len_max\":8,\"breaks\":{\"lead\":2,\"tail\":2,\"work_min\":2,\"work_max\":5,\"long_work\":5,\"long_rest\":1,\"size_min\":1,\"size_max\":1,\"totals\":[[8,1]],\"lunches\":[],\"resettle\":0}}]}";
+
+/// The same with a second shift, of 9 hours, and with 4 hours or more before and behind a break.
+pub const LATE: &str =
+    "{\"slot_minutes\":60,\"days\":1,\"need\":[0,0,0,0,0,0,0,0,2,2,2,1,1,2,2,2,0,0,0,0,0,0,0,0],\"max_heads\":2,\"weights\":{\"excess\":1,\"shortage\":2,\"shift\":3},\"types\":[{\"name\":\"M\",\"start_min\":8,\"start_max\":8,\"len_min\":8,\"len_max\":9,\"breaks\":{\"lead\":4,\"tail\":4,\"work_min\":2,\"work_max\":5,\"long_work\":5,\"long_rest\":1,\"size_min\":1,\"size_max\":1,\"totals\":[[8,1]],\"lunches\":[],\"resettle\":0}}]}";
+
+/// The instance of a document.
+pub fn instance_of(alloc: Global, text: &str) -> Result<Instance, Fail> {
+    Ok(read(alloc, text.as_bytes())?)
+}
+
+/// A break of one hour.
+pub fn pause(alloc: Global, start: u16) -> Result<Breaks, NoMemory> {
+    Ok(Breaks::new(vec![in alloc; Break { start, len: 1 }]?))
+}
+
+/// The draft of the plan without duties.
+pub fn empty(alloc: Global, instance: &Instance) -> Result<Draft, Fail>
+    ensures { IfOk result (λ d. d.instance ≡ instance.now) }
+{
+    let rows = Rows::new(Vec::new(alloc));
+    let costed = cost_rows(instance, rows).ok().ok_or("refused")?;
+    Ok(Draft::new(alloc, instance, costed.into_rows())?)
+}
+
+/// Adds a duty of the first shift with a break after so many hours, and gives what the plan costs then.
+pub fn add(instance: &Instance, draft: &mut Draft, start: u16) -> Result<u64, MoveFault>
+    requires { draft.old.instance ≡ instance.now }
+    ensures { draft.new.instance ≡ draft.old.instance }
+{
+    let breaks = pause(draft.allocator(), start)?;
+    let step = Move::Add {
+        shift: 0,
+        day: 0,
+        breaks,
+    };
+    let _done = draft.apply(instance, &step)?;
+    Ok(draft.cost())
+}

@@ -1,0 +1,45 @@
+//! A small instance, and seats for workers.
+ghost use Rattle.std.specs.Prelude.{◌≡◌, ◌+◌, All, IfOk, OnOk, length, vec_len};
+ghost use Rattle.instance_json.specs.Canonical.{canonical_text};
+
+use advice::Adviser;
+use instance_json::{canonical, read};
+use shift_instance::Instance;
+use std::alloc::Global;
+use std::test::Fail;
+use worker_gate::Seat;
+
+/// The most bytes of a journal.
+pub const LIMIT: u32 = 1 << 26;
+
+/// Hour slots of one day, of which 8 to 11 need an employee; at most HEADS duties of a shift; the costs 1 of excess, 2 of
+/// shortage and 3 of a shift used; and one shift, of 4 hours from 8 on. Without a duty it costs 8, and with one 3.
+const MORNING: &str =
+    "{\"slot_minutes\":60,\"days\":1,\"need\":[0,0,0,0,0,0,0,0,1,1,1,1,0,0,0,0,0,0,0,0,0,0,0,0],\"max_heads\":HEADS,\"weights\":{\"excess\":1,\"shortage\":2,\"shift\":3},\"types\":[{\"name\":\"M\",\"start_min\":8,\"start_max\":8,\"len_min\":4,\"len_max\":4,\"breaks\":null}]}";
+
+/// The morning with at most `heads` duties of its shift, which is a digit. A journal of it begins with 385 bytes.
+pub fn morning(alloc: Global, heads: &str) -> Result<Instance, Fail>
+    ensures { IfOk result (λ i. length (canonical_text i) ≡ 372) }
+{
+    let text = MORNING.replacen(alloc, "HEADS", heads, 1)?;
+    let instance = read(alloc, text.as_bytes())?;
+    let head = canonical(alloc, &instance)?;
+    match head.len() {
+        372 => Ok(instance),
+        _ => Err("the document has another length")?,
+    }
+}
+
+/// One more seat, with this adviser.
+pub fn add_seat(seats: &mut Vec<Seat>, adviser: Box<dyn Adviser + Send>) -> Result<(), Fail>
+    requires { All (λ s. (s.told ≡ 0) × (s.share ≡ 0)) seats.old.items }
+    ensures new { OnOk result (All (λ s. (s.told ≡ 0) × (s.share ≡ 0)) seats.new.items) }
+    ensures len { OnOk result (vec_len seats.new ≡ vec_len seats.old + 1) }
+{
+    seats.push(Seat {
+        adviser,
+        told: 0,
+        share: 0,
+    })?;
+    Ok(())
+}
