@@ -25,7 +25,7 @@ STEPS = "20"
 def command(journal, document):
     """A run of the program over that journal, in a process of its own."""
     with open(document, "rb") as source:
-        return subprocess.Popen([PROGRAM, "solve", journal, "--steps", STEPS], stdin=source, stdout=subprocess.PIPE, stderr=subprocess.PIPE)
+        return subprocess.Popen([PROGRAM, "solve", journal, "--workers", "1", "--steps", STEPS], stdin=source, stdout=subprocess.PIPE, stderr=subprocess.PIPE)
 
 
 def held(path):

@@ -21,7 +21,7 @@ def run(example, folder):
     report_name = os.path.join(folder, "report")
     with open(os.path.join(EXAMPLES, example), "rb") as source, open(report_name, "wb") as report:
         begin = time.perf_counter()
-        child = subprocess.Popen([PROGRAM, "solve", journal, "--steps", "1"], stdin=source, stdout=report, stderr=subprocess.DEVNULL)
+        child = subprocess.Popen([PROGRAM, "solve", journal, "--workers", "1", "--steps", "1"], stdin=source, stdout=report, stderr=subprocess.DEVNULL)
         _, _, usage = os.wait4(child.pid, 0)
         seconds = time.perf_counter() - begin
     with open(report_name) as report:

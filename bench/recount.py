@@ -56,7 +56,7 @@ def main():
         show("a thousand rows", document, report)
         solved = os.path.join(folder, "solved")
         with open(document, "rb") as source, open(solved, "wb") as out:
-            subprocess.run([program("shift_solve"), "solve", os.path.join(folder, "j"), "--steps", "1"], stdin=source, stdout=out, stderr=subprocess.DEVNULL)
+            subprocess.run([program("shift_solve"), "solve", os.path.join(folder, "j"), "--workers", "1", "--steps", "1"], stdin=source, stdout=out, stderr=subprocess.DEVNULL)
         show("the week as solved", document, solved)
 
 

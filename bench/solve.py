@@ -22,7 +22,7 @@ def run(document, folder):
         os.remove(journal)
     with open(document, "rb") as source, open(os.path.join(folder, "report"), "wb") as report:
         begin = time.perf_counter()
-        child = subprocess.Popen([PROGRAM, "solve", journal, "--steps", "1"], stdin=source, stdout=report, stderr=subprocess.DEVNULL)
+        child = subprocess.Popen([PROGRAM, "solve", journal, "--workers", "1", "--steps", "1"], stdin=source, stdout=report, stderr=subprocess.DEVNULL)
         _, status, usage = os.wait4(child.pid, 0)
         seconds = time.perf_counter() - begin
     with open(os.path.join(folder, "report")) as report:

@@ -36,11 +36,11 @@ def search(example, steps, folder):
     verdict = os.path.join(folder, "search.verdict")
     if os.path.exists(journal):
         os.remove(journal)
-    show("%s, %d steps" % (example, steps), timed([SOLVE, "solve", journal, "--steps", str(steps)], instance, report))
+    show("%s, %d steps" % (example, steps), timed([SOLVE, "solve", journal, "--workers", "1", "--steps", str(steps)], instance, report))
     with open(report, "rb") as text:
         head = [next(text, b"").decode().strip() for _ in range(4)]
     print("    %s; journal %d bytes, report %d bytes" % (", ".join(head[1:]), os.path.getsize(journal), os.path.getsize(report)))
-    show("  its journal opened, 0 steps", timed([SOLVE, "solve", journal, "--steps", "0"], instance, os.path.join(folder, "again.report")))
+    show("  its journal opened, 0 steps", timed([SOLVE, "solve", journal, "--workers", "1", "--steps", "0"], instance, os.path.join(folder, "again.report")))
     show("  its report checked", timed([CHECK, "check", instance, report], instance, verdict))
     with open(verdict) as line:
         print("    " + line.read().strip())
