@@ -227,26 +227,28 @@ module _ {D : Type 0} (reads : D → Option (List ℕ)) (images : D → List ℕ
       s.cuts ∙ ap (λ (b : Book). cuts_in b.nodes s.step.node) (book_same k),
     )
 
-    full_of : (commits : ℕ) (k : Known) (end limit : ℕ) → Ends reads calls faults workers commits old new (FullEnd end limit) → IsFull workers end limit (session_of k)
+    full_of : (commits : ℕ) (k : Known) (end limit : ℕ) → Ends reads calls faults workers commits old new (FullEnd end limit) → IsFull workers old.budget end limit (session_of k)
     unfolding session_of
     full_of commits k end limit e =
         let past = e.ends.1 in
         let allowed : IsSome (book_of i ((new.log.opening ++ joined new.log.batches) ++ new.log.unfit)) =
         subst (λ (h : List Post). IsSome (book_of i (h ++ new.log.unfit))) k.all (subst (λ (j : Problem). IsSome (book_of j (new.log.history ++ new.log.unfit))) (is_of k) past.allowed) in
-        let walked : AreTurns workers (board_of reads calls faults old) (board_of reads calls faults new) commits → Turned workers (board_of reads calls faults old) (board_of reads calls faults new) =
-        λ turns. turned workers (board_of reads calls faults old) (board_of reads calls faults new) commits e.fresh.empty k.begins.shut turns in
+        let walked : AreTurns workers (board_of reads calls faults old) (board_of reads calls faults new) commits → Turned workers (board_of reads calls faults old) (board_of reads calls faults new) commits =
+        λ turns. turned workers (board_of reads calls faults old) (board_of reads calls faults new) commits e.fresh k.begins.shut turns in
         record {
           landed = landed_of commits k (FullEnd end limit) e tt;
           unfinished = ∥∥₁_elim e.turns (hlevel props) (λ turns.
-              let s = stepped_of k ((walked turns).full end limit e.ends.0) in
+              let s = stepped_of k ((walked turns).full end limit e.ends.0).0 in
               unfit_open i (new.log.opening ++ joined new.log.batches) new.log.unfit new.log.book s.0.worker s.0.step (ends_of k) s.1 past.some allowed);
           posts = new.log.unfit;
           unfit = ∥∥₁_elim e.turns (hlevel props) (λ turns.
               let t = walked turns in
-              let s = stepped_of k (t.full end limit e.ends.0) in
+              let full = t.full end limit e.ends.0 in
+              let s = stepped_of k full.0 in
               ∣ record {
                 steps = t.steps;
                 all = sym (drop-append_seam old.log.history (joined t.steps)) ∙ sym (ap (drop (length old.log.history)) t.all) ∙ added_of k;
+                left = let count = t.count in omega (arith, count, full.1);
                 used = t.used;
                 worker = s.0.worker;
                 below = s.0.below;
@@ -310,7 +312,7 @@ module _ {D : Type 0} (reads : D → Option (List ℕ)) (images : D → List ℕ
     unbeaten_of workers commits k e = λ rota legal. finished_best i new.log.book rota (fold_sound i (new.log.opening ++ joined new.log.batches) new.log.book (ends_of k)) (subst (λ (b : Book). is_finished b ≡ true) (book_same k) e.ends.2) legal
 
     module _ (workers : ℕ) (told : ToldMet) where
-      ended_of : (commits : ℕ) (k : Known) (end : RunEnd) → Ends reads calls faults workers commits old new end → is_reported end ≡ true → IsFinished (session_of k) ⊎ (IsSpent old.budget (session_of k) ⊎ ((n : ℕ) × (limit : ℕ) × IsFull workers n limit (session_of k)))
+      ended_of : (commits : ℕ) (k : Known) (end : RunEnd) → Ends reads calls faults workers commits old new end → is_reported end ≡ true → IsFinished (session_of k) ⊎ (IsSpent old.budget (session_of k) ⊎ ((n : ℕ) × (limit : ℕ) × IsFull workers old.budget n limit (session_of k)))
       ended_of commits k Finished e reported = inl (finished_of workers told commits k e)
       ended_of commits k Spent e reported = inr (inl (spent_of workers told commits k e))
       ended_of commits k (FullEnd n limit) e reported = inr (inr (n, limit, full_of workers told commits k n limit e))

@@ -49,11 +49,12 @@ pub record IsSpent (budget : ℕ) {disk : DiskMet} {i : Problem} (session : Sess
   pub few : budget < steps_enough i
 
 -- These are the posts of a step of one of the workers, over the book that the session left: it would have closed its node, for whose
--- cuts its prices are. The posts of the session are those of the steps that were committed, each step's a record, and the bytes of
--- its journal are those at the opening and those of these records.
-pub record IsUnfit (workers : ℕ) {disk : DiskMet} {i : Problem} (session : Session disk i) (posts : List Post) : Type 0 where
+-- cuts its prices are. The posts of the session are those of the steps that were committed, each step's a record; these are fewer
+-- than the budget has, and the bytes of its journal are those at the opening and those of these records.
+pub record IsUnfit (workers budget : ℕ) {disk : DiskMet} {i : Problem} (session : Session disk i) (posts : List Post) : Type 0 where
   pub steps : List (List Post)
   pub all : joined steps ≡ joined session.batches
+  pub left : length steps < budget
   pub used : session.used_after ≡ session.used + bytes_in steps
   pub worker : ℕ
   pub below : worker < workers
@@ -64,11 +65,11 @@ pub record IsUnfit (workers : ℕ) {disk : DiskMet} {i : Problem} (session : Ses
 
 -- A node is open, and there was no room for the posts of a step, four at most, which the book allows: with their record the file's
 -- journal would have ended there, past its limit.
-pub record IsFull (workers end limit : ℕ) {disk : DiskMet} {i : Problem} (session : Session disk i) : Type 0 where
+pub record IsFull (workers budget end limit : ℕ) {disk : DiskMet} {i : Problem} (session : Session disk i) : Type 0 where
   pub landed : session.in_flight ≡ []
   pub unfinished : IsFalse (is_finished session.last)
   pub posts : List Post
-  pub unfit : ∥ IsUnfit workers session posts ∥₁
+  pub unfit : ∥ IsUnfit workers budget session posts ∥₁
   pub some : 0 < length posts
   pub at_most : length posts ≤ 4
   pub allowed : IsSome (book_of i (posts_in session ++ posts))
@@ -121,9 +122,9 @@ pub record IsRefused (disk : DiskMet) (i : Problem) (why : OpenFault) : Type 0 w
 abbrev pub OverDisk : DiskMet → SinkMet → Problem → Bool → ℕ → ℕ → ToldMet → Bool → Status → Type 0
 OverDisk disk sink i table budget workers told opened Optimal = (opened ≡ true) × (s : Session disk i) × IsFinished s × ServedToEnd workers budget told s × Reports sink table s × IsUnbeaten i s.last.cost
 OverDisk disk sink i table budget workers told opened Budget = (opened ≡ true) × (s : Session disk i) × IsSpent budget s × Works workers budget budget s × AreTold workers budget told × Reports sink table s
-OverDisk disk sink i table budget workers told opened (Full end limit) = (opened ≡ true) × (s : Session disk i) × IsFull workers end limit s × Served workers budget told s × Reports sink table s
+OverDisk disk sink i table budget workers told opened (Full end limit) = (opened ≡ true) × (s : Session disk i) × IsFull workers budget end limit s × Served workers budget told s × Reports sink table s
 OverDisk disk sink i table budget workers told opened WriteFault = (opened ≡ true) × (s : Session disk i)
-    × (IsFinished s ⊎ (IsSpent budget s ⊎ ((end : ℕ) × (limit : ℕ) × IsFull workers end limit s))) × Served workers budget told s × ReportsPart sink table s
+    × (IsFinished s ⊎ (IsSpent budget s ⊎ ((end : ℕ) × (limit : ℕ) × IsFull workers budget end limit s))) × Served workers budget told s × ReportsPart sink table s
 OverDisk disk sink i table budget workers told opened DiskFault = Rose disk.faults.0 disk.faults.1
     × (((opened ≡ false) × IsLeft disk i × AreUntold workers told) ⊎ ((opened ≡ true) × (s : Session disk i) × Served workers budget told s))
 OverDisk disk sink i table budget workers told opened NoMemory =
