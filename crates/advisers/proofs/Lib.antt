@@ -4,3 +4,5 @@ pub mod Searching
 pub mod Passing
 pub mod Choices
 pub mod PriceSteps
+pub mod Scaling
+pub mod NoWorse

@@ -8,10 +8,12 @@ mod forced;
 mod greedy_adviser;
 mod heard;
 mod kept;
+mod laws;
 mod rounds;
 mod stepping;
 mod subgradient;
 
 pub use fixed::Fixed;
 pub use greedy_adviser::Greedy;
+pub use laws::subgradient_is_no_worse;
 pub use subgradient::Subgradient;
