@@ -103,7 +103,7 @@ fn searched<R: Abort + Threads + Wait + Sync>(rt: &R, alloc: Global, asked: &[u3
     let disk = MemDisk::new(alloc, Vec::new(alloc), Vec::new(alloc));
     match Book::open(alloc, &instance, disk, steps, LIMIT) {
         Ok(book) => {
-            let (_, seats, _) = run_workers(rt, alloc, &instance, book, seats, &Open);
+            let (_book, seats, _end) = run_workers(rt, alloc, &instance, book, seats, &Open);
             let mut commits = 0u64;
             for seat in &seats {
                 commits = commits.saturating_add(seat.share);
