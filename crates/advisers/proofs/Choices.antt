@@ -1,105 +1,24 @@
 -- The solution that prices choose, found shift by shift and day by day.
-use Rattle.std.proofs.Common.{◌≡◌, inl, inr, ℕ, ◌+◌, ◌*◌, ◌^◌, ◌≤◌, ℤ, pos, ◌≤ℤ◌, ◌<ℤ◌, Bool, true, false, cond, not, ◌||◌, List, [], ◌∷◌, ◌++◌, length, replicate, append-nil, Option, Some, None, refl, sym, ap, ◌∙◌, subst, arith}
-use Rattle.std.specs.Prelude.{int_lt, slice_get, MatchOption}
+use Rattle.std.proofs.Common.{◌≡◌, ℕ, ◌+◌, ◌*◌, ℤ, pos, Bool, true, false, cond, ◌||◌, List, [], ◌∷◌, ◌++◌, length, replicate, append-nil, Option, Some, None, refl, sym, ap, ◌∙◌, subst}
+use Rattle.std.specs.Prelude.{int_lt, MatchOption}
 use Rattle.std.specs.Option.{option_map_or}
-use Rattle.std.specs.List.{list_any, find, flat_map, zip}
-use Rattle.std.proofs.lemmas.Int.{ints}
-use Rattle.std.proofs.lemmas.Bool.{cases_Bool, false≢true}
+use Rattle.std.specs.List.{find, flat_map}
+use Rattle.std.proofs.lemmas.Bool.{false≢true}
 use Rattle.std.proofs.lemmas.Grind.{flat_map-append}
 use Rattle.break_rules.specs.declared.Break.{Break}
 use Rattle.break_rules.specs.Sums.{int_sum_by}
-use Rattle.break_rules.proofs.Lists.{Has, any_some, any_none}
-use Rattle.break_rules.proofs.Ordered.{Sorted, IsLess}
 use Rattle.shift_instance.specs.declared.Duty.{Duty}
 use Rattle.shift_instance.specs.declared.Row.{Row}
 use Rattle.shift_instance.specs.Problem.{Problem, shift_list, below}
-use Rattle.shift_instance.specs.Rota.{duty_of, is_list_of, lists_of, rota_of}
-use Rattle.shift_instance.specs.Valid.{IsValid}
-use Rattle.shift_instance.specs.Worth.{worth, IsBest}
-use Rattle.shift_instance.proofs.Rotas.{Has-lists_of, from_lists_of}
-use Rattle.patterns.specs.declared.Pattern.{Pattern}
+use Rattle.shift_instance.specs.Rota.{duty_of, lists_of, rota_of}
 use Rattle.head_splits.specs.declared.Cut.{Cut}
 use Rattle.head_splits.specs.declared.Prices.{Prices}
 use Rattle.head_splits.specs.Cuts.{low, high, whole_class}
-use Rattle.head_splits.specs.Bound.{are_prices, best_value, entries_of, free_day_value, is_forced, is_nil}
-use Rattle.head_splits.proofs.Best.{reduced_is_worth}
-use Rattle.dual_bound.proofs.Values.{value_of_best, nil_without}
+use Rattle.head_splits.specs.Bound.{best_value, free_day_value, is_forced, is_nil}
 use Rattle.greedy.specs.Greedy.{duty}
-use Rattle.shift_instance.proofs.AllDuties.{Sorted-lists_of}
-use Rattle.advisers.specs.Chosen.{IsBestOn}
-use Rattle.advisers.specs.Solutions.{best_list, duties_of, duties_on, is_chosen, is_greatest, number_of, number_on, solution, value_with}
+use Rattle.dual_bound.specs.BestLists.{best_list, is_greatest, IsBestOn}
+use Rattle.advisers.specs.Solutions.{duties_of, duties_on, is_chosen, number_of, number_on, solution}
 use Rattle.advisers.proofs.Forcing.{flat_more_alone}
-
--- in a list that is in order, an element that passes is found where none before it passes
-find_least : {X : Type 0} (R : X → X → Type 0) (p : X → Bool) (xs : List X) (x : X) → Sorted R xs → Has xs x → p x ≡ true → ((y : X) → Has xs y → p y ≡ true → R y x → ⊥) → find p xs ≡ Some x
-find_least R p [] x s m t least = absurd m
-find_least R p (y ∷ ys) x s m t least =
-    elim m [
-      | inl e ↦ ap (λ b. cond b (Some y) (find p ys)) (ap p e ∙ t) ∙ ap (λ z. Some z) e
-      | inr r ↦ elim (cases_Bool (p y)) [
-        | inl h ↦ absurd (least y (inl refl) h (s.0 x r))
-        | inr f ↦ ap (λ b. cond b (Some y) (find p ys)) f ∙ find_least R p ys x s.1 r t (λ z n. least z (inr n))
-      ]
-    ]
-
-not_true : (b : Bool) → not b ≡ true → b ≡ false
-not_true true h = absurd (false≢true h)
-not_true false h = refl
-
-lt_true : (a b : ℤ) → int_lt a b ≡ true → a <ℤ b
-lt_true a b h = grind (arith, ints)
-
-lt_false : (a b : ℤ) → int_lt a b ≡ false → b ≤ℤ a
-lt_false a b h = grind (arith, ints)
-
--- a list that is the least of greatest worth is the best list
-best_found : (i : Problem) (cuts : List Cut) (prices : Prices) (s day : ℕ) (list : List Break) (value : ℤ) → IsBest i s day prices.slots (entries_of (zip cuts prices.cuts) s day) list value → best_list i cuts prices s day ≡ Some list
-unfolding best_list
-best_found i cuts prices s day list value b =
-    let f : List Break → ℤ = value_with i cuts prices s day in
-    let lists = lists_of i s in
-    let worths : List Break → ℤ = λ l. worth i prices.slots (entries_of (zip cuts prices.cuts) s day) (duty s day l) in
-    let same_worth : (l : List Break) → worths l ≡ f l = λ l. sym (reduced_is_worth i cuts prices (duty s day l)) in
-    let is : value ≡ f list = b.is_worth ∙ same_worth list in
-    find_least IsLess (is_greatest i cuts prices s day) lists list (Sorted-lists_of (slice_get (shift_list i) s)) (Has-lists_of i s list b.legal)
-    (elim (cases_Bool (list_any (λ other. int_lt (f list) (f other)) lists)) [
-      | inl t ↦
-          let other = any_some (λ other. int_lt (f list) (f other)) lists t in
-          let more : f list <ℤ f other.0 = lt_true (f list) (f other.0) other.2 in
-          let most : worths other.0 ≤ℤ value = b.greatest other.0 (from_lists_of i s other.0 other.1) in
-          absurd (beyond (f list) (f other.0) (worths other.0) value more most (same_worth other.0) is)
-      | inr e ↦ ap not e
-    ])
-    (λ y m g less.
-    let none : list_any (λ other. int_lt (f y) (f other)) lists ≡ false = not_true (list_any (λ other. int_lt (f y) (f other)) lists) g in
-    let up : f list ≤ℤ f y = lt_false (f y) (f list) (any_none (λ other. int_lt (f y) (f other)) lists list none (Has-lists_of i s list b.legal)) in
-    let legal = from_lists_of i s y m in
-    let most : worths y ≤ℤ value = b.greatest y legal in
-    false≢true (sym (b.least y legal (level (f list) (f y) (worths y) value up most (same_worth y) is)) ∙ less))
-  where
-    beyond : (a b w v : ℤ) → a <ℤ b → w ≤ℤ v → w ≡ b → v ≡ a → ⊥
-    beyond a b w v h m e f = omega (arith, ints)
-
-    level : (a b w v : ℤ) → a ≤ℤ b → w ≤ℤ v → w ≡ b → v ≡ a → w ≡ v
-    level a b w v h m e f = omega (arith, ints)
-
--- what the search for it finds
-module _ (i : Problem) (cuts : List Cut) (prices : Prices) (s day : ℕ) (slots : List ℤ) (entries : List (List Break × ℤ)) (valid : IsValid i) (h : are_prices i cuts prices ≡ true) (few : length cuts ≤ 2 ^ 33)
-    (same_slots : slots ≡ prices.slots) (same_entries : entries ≡ entries_of (zip cuts prices.cuts) s day) where
-  pub best_on : (found : Option (Pattern × ℤ)) (p : Pattern) (value : ℤ) (A : Type 0) → found ≡ Some (p, value) → MatchOption found A (λ q. IsBest i s day slots entries q.0.list q.1) → IsBestOn i cuts prices s day p.list value
-  best_on found p value A is matches =
-      let best : IsBest i s day prices.slots (entries_of (zip cuts prices.cuts) s day) p.list value =
-      subst (λ (xs : List ℤ). IsBest i s day xs (entries_of (zip cuts prices.cuts) s day) p.list value) same_slots
-      (subst (λ (es : List (List Break × ℤ)). IsBest i s day slots es p.list value) same_entries
-      (subst (λ (o : Option (Pattern × ℤ)). MatchOption o A (λ q. IsBest i s day slots entries q.0.list q.1)) is matches)) in
-      record {
-        best = best_found i cuts prices s day p.list value best;
-        valued = value_of_best i cuts prices s day p.list value valid h few best;
-      }
-
-pub none_on : (i : Problem) (s : ℕ) (found : Option (Pattern × ℤ)) (B : Pattern × ℤ → Type 0) → found ≡ None → MatchOption found ((list : List Break) → is_list_of i s list ≡ false) B → is_nil (lists_of i s) ≡ true
-none_on i s found B is matches =
-    nil_without i s (subst (λ (o : Option (Pattern × ℤ)). MatchOption o ((list : List Break) → is_list_of i s list ≡ false) B) is matches)
 
 -- ---- rows
 rota_more : (rows : List Row) (row : Row) → rota_of (rows ++ row ∷ []) ≡ rota_of rows ++ replicate row.count (duty_of row)

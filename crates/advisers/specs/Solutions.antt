@@ -1,30 +1,17 @@
 -- The solution that prices choose: how many duties of each shift stand on each day, and with which breaks. Source: the inner problem of Lagrangian
 -- relaxation, as in Held and Karp 1971, for the bound of this project's profile.
-use Rattle.std.specs.Prelude.{ℕ, ◌*◌, ℤ, pos, Bool, ◌||◌, not, int_lt, List, [], replicate, length, Option, if◌then◌else◌}
+use Rattle.std.specs.Prelude.{ℕ, ◌*◌, ℤ, pos, Bool, ◌||◌, int_lt, List, [], replicate, length, if◌then◌else◌}
 use Rattle.std.specs.Option.{option_map_or}
-use Rattle.std.specs.List.{list_any, find, flat_map}
-use Rattle.break_rules.specs.declared.Break.{Break}
+use Rattle.std.specs.List.{flat_map}
 use Rattle.break_rules.specs.Sums.{int_sum_by}
 use Rattle.shift_instance.specs.declared.Duty.{Duty}
 use Rattle.shift_instance.specs.Problem.{Problem, shift_list, below}
-use Rattle.shift_instance.specs.Rota.{lists_of}
 use Rattle.head_splits.specs.declared.Cut.{Cut}
 use Rattle.head_splits.specs.declared.Prices.{Prices}
 use Rattle.head_splits.specs.Cuts.{low, high, whole_class}
-use Rattle.head_splits.specs.Bound.{best_value, free_day_value, is_forced, reduced}
+use Rattle.head_splits.specs.Bound.{best_value, free_day_value, is_forced}
+use Rattle.dual_bound.specs.BestLists.{best_list}
 use Rattle.greedy.specs.Greedy.{duty}
-
--- the reduced value of a duty of a shift on a day with a break list
-abbrev pub value_with : Problem → List Cut → Prices → ℕ → ℕ → List Break → ℤ
-value_with i cuts prices s day list = reduced i cuts prices (duty s day list)
-
--- whether no legal list of a shift has a greater reduced value on a day than this one
-abbrev pub is_greatest : Problem → List Cut → Prices → ℕ → ℕ → List Break → Bool
-is_greatest i cuts prices s day list = not (list_any (λ other. int_lt (value_with i cuts prices s day list) (value_with i cuts prices s day other)) (lists_of i s))
-
--- the best list of a shift on a day, where a list is legal: the least of those of greatest reduced value (the lists stand in order)
-unfoldable pub best_list : Problem → List Cut → Prices → ℕ → ℕ → Option (List Break)
-best_list i cuts prices s day = find (is_greatest i cuts prices s day) (lists_of i s)
 
 -- how many duties a used shift has on a day: as many as the cuts allow where the greatest reduced value is above 0, else as few
 abbrev pub number_of : ℤ → ℕ → ℕ → ℕ

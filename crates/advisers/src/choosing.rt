@@ -1,68 +1,19 @@
 //! The solution that prices choose.
-ghost use Rattle.std.specs.Prelude.{◌≡◌, ◌<◌, ◌≤◌, ◌*◌, ◌^◌, ◌||◌, ◌++◌, [], nat_lt, int_lt, IfOk, OnOk, IsTrue, MatchOption, All, length, pos, ◌*ℤ◌, if◌then◌else◌};
+ghost use Rattle.std.specs.Prelude.{◌≡◌, ◌<◌, ◌≤◌, ◌*◌, ◌^◌, ◌||◌, ◌++◌, [], nat_lt, int_lt, IfOk, OnOk, IsTrue, All, length, pos, ◌*ℤ◌, if◌then◌else◌};
 ghost use Rattle.std.specs.Int.{int_max};
 ghost use Rattle.std.specs.Int.RustNames.{unsigned_abs};
 ghost use Rattle.shift_instance.specs.Problem.{shift_list};
-ghost use Rattle.shift_instance.specs.Rota.{lists_of, rota_of};
+ghost use Rattle.shift_instance.specs.Rota.{rota_of};
 ghost use Rattle.shift_instance.specs.Valid.{IsValid};
-ghost use Rattle.head_splits.specs.Cuts.{low, high, whole_class};
-ghost use Rattle.head_splits.specs.Bound.{are_prices, is_nil};
-ghost use Rattle.advisers.specs.Chosen.{AreRows, IsBestOn};
+ghost use Rattle.head_splits.specs.Bound.{are_prices};
+ghost use Rattle.advisers.specs.Chosen.{AreRows};
 ghost use Rattle.advisers.specs.Solutions.{duties_of, number_of, solution};
 
-use crate::bonuses::entries;
-use break_rules::{Breaks, NoMemory};
-use head_splits::{Class, Cuts, Prices, range};
-use patterns::Pattern;
-use pricing::best_pattern;
+use break_rules::NoMemory;
+use dual_bound::best_of_day;
+use head_splits::{Cuts, Prices, whole_range};
 use shift_instance::{Instance, Row};
 use std::alloc::Global;
-
-/// A legal break list, with the reduced value of a duty with it.
-#[derive(Drop)]
-struct Best {
-    list: Breaks,
-    value: i128,
-}
-
-/// The best list of a shift on a day, and `None` where no list is legal.
-fn best_of(
-    alloc: Global,
-    instance: &Instance,
-    cuts: &Cuts,
-    prices: &Prices,
-    shift: u16,
-    day: u8,
-) -> Result<Option<Best>, NoMemory>
-    requires valid { IsValid instance.now }
-    requires shift { shift < length (shift_list instance.now) }
-    requires few { length cuts.now ≤ 2 ^ 33 }
-    requires passes { IsTrue (are_prices instance.now cuts.now prices.now) }
-    ensures { IfOk result (λ found. MatchOption found (IsTrue (is_nil (lists_of instance.now shift))) (λ b. IsBestOn instance.now cuts.now prices.now shift day b.list b.value)) }
-{
-    let slots = prices.slots.as_slice();
-    let entries = entries(alloc, cuts.as_slice(), prices.cuts.as_slice(), shift, day)?;
-    match best_pattern(alloc, instance, shift, day, slots, entries.as_slice())? {
-        Some((pattern, value)) => {
-            let Pattern { list, .. } = pattern;
-            Ok(Some(Best { list, value }))
-        }
-        None => Ok(None),
-    }
-}
-
-/// The range that cuts leave to the number of all duties of a shift on a day.
-fn whole_range(alloc: Global, instance: &Instance, cuts: &Cuts, shift: u16, day: u8) -> (u16, u16)
-    ensures low { result.0 ≡ low cuts.now (whole_class shift day) }
-    ensures high { result.1 ≡ high instance.now cuts.now (whole_class shift day) }
-{
-    let class = Class {
-        shift,
-        day,
-        prefix: Breaks::new(Vec::new(alloc)),
-    };
-    range(instance, cuts, &class)
-}
 
 /// How many duties of a value a used shift has on a day.
 fn number_of(value: i128, least: u16, most: u16) -> u16
@@ -121,18 +72,18 @@ fn shift_rows(
     let mut is_forced = false;
     let mut free = 0;
     for day in 0..instance.days() {
-        let best = match best_of(alloc, instance, cuts, prices, shift, day)? {
+        let (list, value) = match best_of_day(alloc, instance, cuts, prices, shift, day)? {
             Some(best) => best,
             None => return Ok(Vec::new(alloc)),
         };
-        let (least, most) = whole_range(alloc, instance, cuts, shift, day);
+        let (least, most) = whole_range(instance, cuts, shift, day);
         is_forced = needs_duty(is_forced, least);
-        free += free_value(best.value, most);
+        free += free_value(value, most);
         rows.push(Row {
             shift,
             day,
-            breaks: best.list,
-            count: number_of(best.value, least, most),
+            breaks: list,
+            count: number_of(value, least, most),
         })?;
     }
     let paid = u64::from(prices.q) * u64::from(cost);

@@ -1,30 +1,15 @@
 //! The duties that cuts force, and the prices of slots for them.
 ghost use Rattle.std.specs.Prelude.{◌≡◌, ◌<◌, ◌≤◌, ◌++◌, ◌+◌, ◌^◌, IfOk, OnOk, Some, length, replicate, slice_get};
-ghost use Rattle.std.specs.Option.{option_copied};
 ghost use Rattle.shift_instance.specs.Problem.{shift_list, slots};
 ghost use Rattle.shift_instance.specs.Rota.{cover, lists_of};
-ghost use Rattle.head_splits.specs.Cuts.{low, whole_class};
 ghost use Rattle.greedy.specs.Greedy.{duty};
 ghost use Rattle.advisers.specs.Forced.{balance_price, forced_on, forced_of, forced_prices, forced_rota};
 
 use break_rules::{Breaks, NoMemory, least};
-use head_splits::{Class, Cuts, range};
+use head_splits::{Cuts, whole_range};
 use rota_cost::Cover;
 use shift_instance::{Duty, Instance};
 use std::alloc::Global;
-
-/// How many duties of a shift cuts force on a day.
-fn forced(alloc: Global, instance: &Instance, cuts: &Cuts, shift: u16, day: u8) -> u16
-    ensures { result ≡ low cuts.now (whole_class shift day) }
-{
-    let class = Class {
-        shift,
-        day,
-        prefix: Breaks::new(Vec::new(alloc)),
-    };
-    let (low, _) = range(instance, cuts, &class);
-    low
-}
 
 /// The least legal list of a shift, along its kept graph where there is one, and `None` where no list is legal.
 fn least_of(alloc: Global, instance: &Instance, shift: u16) -> Result<Option<Breaks>, NoMemory>
@@ -68,7 +53,7 @@ fn add_day(
     ensures duties { OnOk result (cover.new.duties ≡ cover.old.duties ++ forced_on instance.now cuts.now shift day) }
     ensures few { length cover.new.duties ≤ length cover.old.duties + 2 ^ 16 }
 {
-    let often = forced(alloc, instance, cuts, shift, day);
+    let (often, _) = whole_range(instance, cuts, shift, day);
     if often == 0 {
         return Ok(());
     }

@@ -1,7 +1,6 @@
 //! Advisers of a search: what prices and which plan to try for a node.
 #![tactic(auto)]
 
-mod bonuses;
 mod choosing;
 mod fixed;
 mod forced;

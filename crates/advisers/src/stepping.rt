@@ -7,13 +7,12 @@ ghost use Rattle.shift_instance.specs.Problem.{below, shift_list, slots};
 ghost use Rattle.shift_instance.specs.Rota.{cover, duty_of, rota_of, works};
 ghost use Rattle.shift_instance.specs.Worth.{price_of};
 ghost use Rattle.head_splits.specs.Bound.{are_prices};
-ghost use Rattle.head_splits.specs.Cuts.{class_count, holds};
 ghost use Rattle.advisers.specs.Chosen.{AreRows};
 ghost use Rattle.advisers.specs.Subgradient.{brought_into, next_cut_price, next_prices, next_slot_price, stepped};
 
 use crate::choosing::solution;
 use break_rules::NoMemory;
-use head_splits::{CUT_PRICE_MAX, Class, Cut, CutPrices, Cuts, Prices, Side, SlotPrices};
+use head_splits::{CUT_PRICE_MAX, Cut, CutPrices, Cuts, Prices, Side, SlotPrices, duties_in_class};
 use patterns::works;
 use shift_instance::{Instance, Row};
 use std::alloc::Global;
@@ -115,30 +114,6 @@ fn next_slot_prices(
     Ok(next)
 }
 
-/// Whether a class holds the duties of a row.
-fn holds(class: &Class, row: &Row) -> bool
-    ensures { result ≡ holds class.now (duty_of row.now) }
-{
-    row.shift == class.shift
-        && row.day == class.day
-        && row.breaks.as_slice().starts_with(class.prefix.as_slice())
-}
-
-/// How many duties of the rows a class holds.
-fn class_count(rows: &[Row], class: &Class) -> u64
-    requires { length rows.now ≤ 7168 }
-    ensures count { result ≡ class_count (rota_of rows.now) class.now }
-    ensures few { result ≤ 65535 * length rows.now }
-{
-    let mut sum = 0;
-    for row in rows {
-        if holds(class, row) {
-            sum += u64::from(row.count);
-        }
-    }
-    sum
-}
-
 /// A cut's price after a step, before it is brought into its range from above.
 fn stepped(side: Side, step: u16, m: u16, count: u64, price: u64) -> u64
     requires count { count ≤ 2 ^ 29 }
@@ -162,7 +137,8 @@ fn next_cut_price(step: u16, rows: &[Row], cut: &Cut, price: u64) -> u64
     if cut.class.prefix.as_slice().is_empty() {
         return price;
     }
-    stepped(cut.side, step, cut.m, class_count(rows, &cut.class), price).min(CUT_PRICE_MAX)
+    let count = duties_in_class(rows, &cut.class) as u64;
+    stepped(cut.side, step, cut.m, count, price).min(CUT_PRICE_MAX)
 }
 
 /// The next prices of the cuts.

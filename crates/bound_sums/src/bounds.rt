@@ -48,7 +48,7 @@ fn shift_term<V: DayValues>(
     ensures small { IfOk result (λ z. unsigned_abs z ≤ 2 ^ 94) }
 {
     match values.of_shift(alloc, instance, cuts, prices, shift)? {
-        Some(days) => Ok(term(alloc, instance, cuts, prices, shift, &days)),
+        Some(days) => Ok(term(instance, cuts, prices, shift, &days)),
         None => Ok(0),
     }
 }

@@ -1,29 +1,12 @@
 //! What a shift adds to the total of a price set.
-ghost use Rattle.std.specs.Prelude.{◌≡◌, ◌≤◌, ◌<◌, ◌^◌, ◌||◌, nat_lt, length, pos, ◌*ℤ◌, ◌-ℤ◌, if◌then◌else◌};
+ghost use Rattle.std.specs.Prelude.{◌≡◌, ◌≤◌, ◌<◌, ◌^◌, ◌||◌, nat_lt, pos, ◌*ℤ◌, ◌-ℤ◌, if◌then◌else◌};
 ghost use Rattle.std.specs.Int.{int_max, int_min};
 ghost use Rattle.std.specs.Int.RustNames.{unsigned_abs};
-ghost use Rattle.shift_instance.specs.Problem.{shift_list};
-ghost use Rattle.head_splits.specs.Cuts.{low, high, whole_class};
 ghost use Rattle.head_splits.specs.Bound.{term};
 ghost use Rattle.bound_sums.specs.Values.{AreValues};
 
-use break_rules::Breaks;
-use head_splits::{Class, Cuts, Prices, range};
+use head_splits::{Cuts, Prices, whole_range};
 use shift_instance::Instance;
-use std::alloc::Global;
-
-/// The range that cuts leave to the number of all duties of a shift on a day.
-fn whole_range(alloc: Global, instance: &Instance, cuts: &Cuts, shift: u16, day: u8) -> (u16, u16)
-    ensures low { result.0 ≡ low cuts.now (whole_class shift day) }
-    ensures high { result.1 ≡ high instance.now cuts.now (whole_class shift day) }
-{
-    let class = Class {
-        shift,
-        day,
-        prefix: Breaks::new(Vec::new(alloc)),
-    };
-    range(instance, cuts, &class)
-}
 
 /// What so many duties of one value are worth.
 fn times(value: i128, count: u16) -> i128
@@ -75,7 +58,6 @@ fn term_of(paid: u64, is_forced: bool, ranged: i128, free: i128) -> i128
 
 /// The term of a shift with a legal list, by the values of its days: the greatest reduced values of its duties on each.
 pub(crate) fn term(
-    alloc: Global,
     instance: &Instance,
     cuts: &Cuts,
     prices: &Prices,
@@ -92,7 +74,7 @@ pub(crate) fn term(
     let mut free = 0;
     for day in 0..instance.days() {
         let value = values[usize::from(day)];
-        let (low, high) = whole_range(alloc, instance, cuts, shift, day);
+        let (low, high) = whole_range(instance, cuts, shift, day);
         is_forced = needs_duty(is_forced, low);
         ranged += ranged_value(value, low, high);
         free += free_value(value, high);

@@ -3,3 +3,4 @@ pub mod Values
 pub mod PlanFloor
 pub mod Splitting
 pub mod Entries
+pub mod BestLists

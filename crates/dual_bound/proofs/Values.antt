@@ -1,7 +1,6 @@
 -- The value of a duty.
 use Rattle.std.proofs.Common.{◌≡◌, inl, ℕ, zero, suc, ◌+◌, ◌*◌, ◌^◌, ◌≤◌, ℤ, pos, Bool, true, false, cond, List, [], ◌∷◌, length, refl, sym, ◌∙◌, subst, arith}
-use Rattle.std.specs.Prelude.{Option, Some, None, MatchOption}
-use Rattle.std.specs.Option.{option_map}
+use Rattle.std.specs.Prelude.{Option, Some, MatchOption}
 use Rattle.std.specs.Int.RustNames.{unsigned_abs}
 use Rattle.std.specs.List.{zip, range_with_len}
 use Rattle.std.proofs.lemmas.Bool.{false≢true}
@@ -18,7 +17,6 @@ use Rattle.shift_instance.proofs.Rotas.{Has-lists_of, from_lists_of}
 use Rattle.head_splits.specs.declared.Cut.{Cut}
 use Rattle.head_splits.specs.declared.Prices.{Prices}
 use Rattle.head_splits.specs.Bound.{is_nil, entries_of, are_prices}
-use Rattle.patterns.specs.declared.Pattern.{Pattern}
 use Rattle.head_splits.proofs.Best.{best_is_value}
 use Rattle.bound_sums.specs.Values.{IsValue}
 use Rattle.break_rules.proofs.Sizes.{abs_add}
@@ -71,20 +69,6 @@ value_of_best i cuts prices s day list v valid h few best =
       is = best_is_value i cuts prices s day list v best;
       small = subst (λ (z : ℤ). unsigned_abs z ≤ 2 ^ 74) (sym best.is_worth) (worth_small i cuts prices d valid h few);
     }
-
--- what the search finds as a value
-pub found_value : (i : Problem) (cuts : List Cut) (prices : Prices) (s day : ℕ) (slots : List ℤ) (entries : List (List Break × ℤ)) (found : Option (Pattern × ℤ)) (r : Option ℤ)
-    → IsValid i → are_prices i cuts prices ≡ true → length cuts ≤ 2 ^ 33 → slots ≡ prices.slots → entries ≡ entries_of (zip cuts prices.cuts) s day
-    → MatchOption found ((list : List Break) → is_list_of i s list ≡ false) (λ p. IsBest i s day slots entries p.0.list p.1)
-    → r ≡ option_map (λ p. p.1) found
-    → MatchOption r (is_nil (lists_of i s) ≡ true) (IsValue i cuts prices s day)
-found_value i cuts prices s day slots entries None r valid h few same_slots same_entries best is =
-    subst (λ (o : Option ℤ). MatchOption o (is_nil (lists_of i s) ≡ true) (IsValue i cuts prices s day)) (sym is) (nil_without i s best)
-found_value i cuts prices s day slots entries (Some p) r valid h few same_slots same_entries best is =
-    subst (λ (o : Option ℤ). MatchOption o (is_nil (lists_of i s) ≡ true) (IsValue i cuts prices s day)) (sym is)
-    (value_of_best i cuts prices s day p.0.list p.1 valid h few
-    (subst (λ (xs : List ℤ). IsBest i s day xs (entries_of (zip cuts prices.cuts) s day) p.0.list p.1) same_slots
-    (subst (λ (es : List (List Break × ℤ)). IsBest i s day slots es p.0.list p.1) same_entries best)))
 
 pub at_some : {A : Type 0} (o : Option A) (x : A) (P : Type 0) (Q : A → Type 0) → o ≡ Some x → MatchOption o P Q → Q x
 at_some o x P Q is h = subst (λ (o : Option _). MatchOption o P Q) is h

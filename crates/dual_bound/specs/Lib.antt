@@ -2,3 +2,4 @@ pub mod Faults
 pub mod Proved
 pub mod Settling
 pub mod Fixing
+pub mod BestLists

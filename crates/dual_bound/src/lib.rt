@@ -1,12 +1,14 @@
 //! The bound that a price set gives on the cost of the legal rotas below some cuts.
 #![tactic(auto)]
 
+mod best_lists;
 mod faults;
 mod laws;
 mod proving;
 mod settling;
 mod terms;
 
+pub use best_lists::best_of_day;
 pub use laws::faultless_prices;
 pub use proving::{Proved, prove};
 pub use settling::{Fixing, SettledNode, settle};

@@ -1,66 +1,21 @@
 //! The values of the duties of shifts, by pricing.
-ghost use Rattle.std.specs.Prelude.{◌≡◌, ℕ, ◌≤◌, ◌<◌, ◌^◌, ◌&&◌, ◌==◌, not, IfOk, OnOk, ◌∷◌, [], ◌++◌, MatchOption, IsTrue, length, slice_index};
-ghost use Rattle.std.specs.List.{zip};
+ghost use Rattle.std.specs.Prelude.{◌≡◌, ◌≤◌, ◌<◌, ◌^◌, IfOk, MatchOption, IsTrue, length};
 ghost use Rattle.std.specs.Option.{option_map};
 ghost use Rattle.shift_instance.specs.Problem.{shift_list};
 ghost use Rattle.shift_instance.specs.Rota.{lists_of};
 ghost use Rattle.shift_instance.specs.Valid.{IsValid};
-ghost use Rattle.head_splits.specs.Bound.{are_prices, entries_of, is_nil};
-ghost use Rattle.bound_sums.specs.Values.{AreValues, IsValue};
+ghost use Rattle.head_splits.specs.Bound.{are_prices, is_nil};
+ghost use Rattle.bound_sums.specs.Values.{IsValue};
 
-use bound_sums::{DayValues, signed_price};
+use crate::best_lists::best_of_day;
+use bound_sums::DayValues;
 use break_rules::{Breaks, NoMemory};
-use head_splits::{Cut, Cuts, Prices};
-use patterns::Pattern;
-use pricing::best_pattern;
+use head_splits::{Cuts, Prices};
 use shift_instance::Instance;
 use std::alloc::Global;
 
-/// Whether a cut bounds duties of a shift on a day that begin with some break.
-fn is_entry(cut: &Cut, shift: u16, day: u8) -> bool
-    ensures { result ≡ (not (is_nil cut.now.class.prefix) && (shift == cut.now.class.shift) && (day == cut.now.class.day)) }
-{
-    !cut.class.prefix.as_slice().is_empty() && shift == cut.class.shift && day == cut.class.day
-}
-
-/// Adds a cut's prefix with its signed price, where the cut is one of a shift on a day.
-fn add_entry(
-    entries: &mut Vec<(Breaks, i64)>,
-    cut: &Cut,
-    price: u64,
-    shift: u16,
-    day: u8,
-) -> Result<(), NoMemory>
-    requires { price ≤ 1000000000000 }
-    ensures { OnOk result (entries.new.items ≡ entries.old.items ++ entries_of ((cut.now, price) ∷ []) shift day) }
-{
-    if is_entry(cut, shift, day) {
-        entries.push((cut.class.prefix.clone()?, signed_price(cut.side, price)))?;
-    }
-    Ok(())
-}
-
-/// The prefixes of the cuts of a shift on a day, each with its signed price.
-fn entries(
-    alloc: Global,
-    cuts: &[Cut],
-    prices: &[u64],
-    shift: u16,
-    day: u8,
-) -> Result<Vec<(Breaks, i64)>, NoMemory>
-    requires count { length prices.now ≡ length cuts.now }
-    requires small { (k : ℕ) → slice_index prices.now k ≤ 1000000000000 }
-    ensures { IfOk result (λ entries. entries.items ≡ entries_of (zip cuts.now prices.now) shift day) }
-{
-    let mut entries = Vec::new(alloc);
-    for (k, cut) in cuts.iter().enumerate() {
-        add_entry(&mut entries, cut, prices[k], shift, day)?;
-    }
-    Ok(entries)
-}
-
 /// The value of what was found.
-fn value_of(found: Option<(Pattern, i128)>) -> Option<i128>
+fn value_of(found: Option<(Breaks, i128)>) -> Option<i128>
     ensures { result ≡ option_map (λ p. p.1) found }
 {
     match found {
@@ -84,9 +39,7 @@ fn best_value(
     requires passes { IsTrue (are_prices instance.now cuts.now prices.now) }
     ensures { IfOk result (λ found. MatchOption found (IsTrue (is_nil (lists_of instance.now shift))) (IsValue instance.now cuts.now prices.now shift day)) }
 {
-    let slots = prices.slots.as_slice();
-    let entries = entries(alloc, cuts.as_slice(), prices.cuts.as_slice(), shift, day)?;
-    let found = best_pattern(alloc, instance, shift, day, slots, entries.as_slice())?;
+    let found = best_of_day(alloc, instance, cuts, prices, shift, day)?;
     Ok(value_of(found))
 }
 

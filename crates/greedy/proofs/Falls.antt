@@ -28,11 +28,11 @@ use Rattle.shift_instance.proofs.Shifts.{some_at, Has_at, shift_within}
 use Rattle.greedy.specs.Greedy.{duty, best_duty, marginal_price, marginal_prices, used_list, value_on, counts, gain, next_shift, new_duties, greedy_after, greedy_rota}
 use Rattle.greedy.proofs.Rounds.{best_earns, counts_parts, count_new, count_one, from_new_duties, next_gains, lt_true, next_cases, round_grows, round_some, round_none}
 
-times_one : (v : ℤ) → v *ℤ pos 1 ≡ v
+pub times_one : (v : ℤ) → v *ℤ pos 1 ≡ v
 times_one v = mul-suc v 0 ∙ ap (λ z. v +ℤ z) (mul-zero v) ∙ omega (arith, ints)
 
--- what one duty more in a slot costs less is the slot's marginal price
-slot_falls : (i : Problem) (t c k : ℕ) → k ≤ 1 → pos (slot_cost i t (c + k)) +ℤ marginal_price i t c *ℤ pos k ≡ pos (slot_cost i t c)
+-- what one duty more in a slot, or none, costs less is the slot's marginal price
+pub slot_falls : (i : Problem) (t c k : ℕ) → k ≤ 1 → pos (slot_cost i t (c + k)) +ℤ marginal_price i t c *ℤ pos k ≡ pos (slot_cost i t c)
 slot_falls i t c zero h = let e : c + 0 ≡ c = omega arith in ap (λ n. pos (slot_cost i t n) +ℤ marginal_price i t c *ℤ pos 0) e ∙ none (marginal_price i t c) (slot_cost i t c)
   where
     none : (p : ℤ) (n : ℕ) → pos n +ℤ p *ℤ pos 0 ≡ pos n
@@ -97,7 +97,7 @@ one_day i s a b t l m x valid e ha hb wa wb =
 best_value : (i : Problem) (rota : List Duty) (s day : ℕ) → counts i rota s day ≡ true → earned i (marginal_prices i rota) (best_duty i (marginal_prices i rota) s day) ≡ value_on i rota s day
 best_value i rota s day h = best_earns i (marginal_prices i rota) s day (counts_parts i rota s day h).1
 
-price_at : (i : Problem) (rota : List Duty) (t : ℕ) → t < slots i → price_of (marginal_prices i rota) t ≡ marginal_price i t (cover i rota t)
+pub price_at : (i : Problem) (rota : List Duty) (t : ℕ) → t < slots i → price_of (marginal_prices i rota) t ≡ marginal_price i t (cover i rota t)
 unfolding marginal_prices
 price_at i rota t h = get_or-map-range_with_len (λ t. marginal_price i t (cover i rota t)) 0 (slots i) t t (pos 0) h (omega arith)
 
@@ -113,7 +113,7 @@ at_most_one q n one =
       | inr f ↦ let none : count_by q (below n) ≡ 0 = count_by_none q (below n) (λ y m. any_none q (below n) y f m) in omega arith
     ]
 
-pos_sum : (f : ℕ → ℕ) (xs : List ℕ) → int_sum_by (λ x. pos (f x)) xs ≡ pos (sum_by f xs)
+pub pos_sum : (f : ℕ → ℕ) (xs : List ℕ) → int_sum_by (λ x. pos (f x)) xs ≡ pos (sum_by f xs)
 pos_sum f [] = refl
 pos_sum f (x ∷ xs) = int_sum_by-cons (λ x. pos (f x)) x xs ∙ ap (λ z. pos (f x) +ℤ z) (pos_sum f xs) ∙ ap pos (sym (sum_by-cons f x xs))
 

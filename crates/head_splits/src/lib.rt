@@ -13,9 +13,9 @@ mod table;
 use break_rules::Breaks;
 pub use cuts::Cuts;
 pub use hint::Hint;
-pub use meeting::meets;
+pub use meeting::{duties_in_class, meets};
 pub use price_lists::{CutPrices, SlotPrices};
-pub use ranges::range;
+pub use ranges::{range, whole_range};
 pub use settling::settled;
 use shift_instance::Rows;
 

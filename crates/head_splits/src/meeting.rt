@@ -17,8 +17,8 @@ fn holds(class: &Class, row: &Row) -> bool
         && row.breaks.as_slice().starts_with(class.prefix.as_slice())
 }
 
-/// How many duties of the rows a class holds.
-fn count(rows: &[Row], class: &Class) -> u128
+/// How many duties a class holds of those that rows stand for. The rows needn't be legal. It takes no memory.
+pub fn duties_in_class(rows: &[Row], class: &Class) -> u128
     ensures count { result ≡ class_count (rota_of rows.now) class.now }
     ensures few { result ≤ 65535 * length rows.now }
 {
@@ -45,7 +45,7 @@ fn keeps_to(side: Side, m: u16, number: u128) -> bool
 fn meets_cut(rows: &[Row], cut: &Cut) -> bool
     ensures { result ≡ meets_cut (rota_of rows.now) cut.now }
 {
-    keeps_to(cut.side, cut.m, count(rows, &cut.class))
+    keeps_to(cut.side, cut.m, duties_in_class(rows, &cut.class))
 }
 
 /// Whether the rota that rows stand for meets all cuts: each class has at most, or at least, as many duties as its cut

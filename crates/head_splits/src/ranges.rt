@@ -1,6 +1,6 @@
 //! The range that cuts leave to the number of a class's duties.
 ghost use Rattle.std.specs.Prelude.{◌≡◌};
-ghost use Rattle.head_splits.specs.Cuts.{same_class, raised, lowered, low, least_high, high};
+ghost use Rattle.head_splits.specs.Cuts.{same_class, raised, lowered, low, least_high, high, whole_class};
 ghost use Rattle.head_splits.specs.Settled.{class_of};
 
 use crate::{Class, Cut, Cuts, Side};
@@ -65,4 +65,13 @@ pub fn range(instance: &Instance, cuts: &Cuts, class: &Class) -> (u16, u16)
         class.day,
         class.prefix.as_slice(),
     )
+}
+
+/// The least and the greatest number of all duties of a shift on a day that cuts leave: the range of the class whose prefix
+/// is empty. It takes no memory.
+pub fn whole_range(instance: &Instance, cuts: &Cuts, shift: u16, day: u8) -> (u16, u16)
+    ensures low { result.0 ≡ low cuts.now (whole_class shift day) }
+    ensures high { result.1 ≡ high instance.now cuts.now (whole_class shift day) }
+{
+    range_below(instance.heads(), cuts.as_slice(), shift, day, &[])
 }

@@ -15,7 +15,7 @@ use Rattle.bound_sums.proofs.Sizes.{fits, added, added_small}
 use Rattle.shift_instance.proofs.Ranges.{int_sum_below_more, any_below_more}
 use Rattle.dual_bound.proofs.Values.{at_some}
 use Rattle.bound_sums.proofs.ShiftTerms.{free_worth}
-use Rattle.advisers.specs.Chosen.{IsBestOn}
+use Rattle.dual_bound.specs.BestLists.{IsBestOn}
 use Rattle.advisers.specs.Solutions.{duties_on, number_of}
 use Rattle.advisers.proofs.Choices.{at_none, duties_are, kept_holds, no_rows, rows_more}
 use Rattle.advisers.proofs.choosing.shift_rows.Goals as goal
@@ -27,8 +27,8 @@ loop-day-preserved c =
     let prices = c.args.prices.now in
     let s = c.args.shift in
     let day = c.loop-day.day in
-    let v = c.in-Some.best.value in
-    let best : IsBestOn i cuts prices s day c.in-Some.best.list v = at_some c.in_ok-best.field-0 c.in-Some.best _ _ c.in-Some.is c.in_ok-best.ensures in
+    let v = c.in-Some.best.1 in
+    let best : IsBestOn i cuts prices s day c.in-Some.best.0 v = at_some c.in_ok-best.field-0 c.in-Some.best _ _ c.in-Some.is c.in_ok-best.ensures.best in
     let value : IsValue i cuts prices s day v = best.valued in
     let read : to_z w128 (of_z w128 v) ≡ v = to_z-of_z w128 v (fits v (2 ^ 74) value.small (omega arith)) in
     let days : i.days ≤ 7 = c.weights-cost.ensures.valid.days in
@@ -42,14 +42,14 @@ loop-day-preserved c =
     let of_free : c.free_value-free.result ≡ g day =
     c.free_value-free.ensures.value ∙ ap (λ (z : ℤ). int_max (pos 0) (z *ℤ pos most)) read ∙ free_worth i cuts prices s day v least most value c.whole_range-least.ensures.low c.whole_range-least.ensures.high in
     let fit_free = fits c.free_value-free.result (2 ^ 90) c.free_value-free.ensures.small (omega arith) in
-    let row : Row = record { shift = s; day = day; breaks = c.in-Some.best.list; count = c.number_of.result } in
+    let row : Row = record { shift = s; day = day; breaks = c.in-Some.best.0; count = c.number_of.result } in
     record {
       forced = c.needs_duty-is_forced.ensures ∙ ap (λ (n : ℕ). c.loop-day.is_forced || nat_lt 0 n) c.whole_range-least.ensures.low
           ∙ ap (λ (b : Bool). b || needs day) c.loop-day.invariant.forced ∙ sym (any_below_more needs day);
       worth = added _ c.free_value-free.result (g day) day (2 ^ 90) fit_free of_free c.free_value-free.ensures.small c.loop-day.invariant.small limit
           ∙ ap (λ (z : ℤ). z +ℤ g day) c.loop-day.invariant.worth ∙ sym (int_sum_below_more g day);
       small = added_small _ c.free_value-free.result (g day) day (2 ^ 90) fit_free of_free c.free_value-free.ensures.small c.loop-day.invariant.small limit;
-      rota = ap rota_of c.in_ok-push.ensures.items ∙ rows_more i cuts prices s day c.number_of.result least most c.in-Some.best.list v c.loop-day.rows.items c.loop-day.invariant.rota best
+      rota = ap rota_of c.in_ok-push.ensures.items ∙ rows_more i cuts prices s day c.number_of.result least most c.in-Some.best.0 v c.loop-day.rows.items c.loop-day.invariant.rota best
           (c.number_of.ensures ∙ ap (λ (z : ℤ). number_of z least most) read) c.whole_range-least.ensures.low c.whole_range-least.ensures.high;
       known = All-same (λ (r : Row). r.shift < length (shift_list i)) c.push.new.self.items (c.loop-day.rows.items ++ row ∷ []) c.in_ok-push.ensures.items
           (All-push (λ (r : Row). r.shift < length (shift_list i)) c.loop-day.rows.items row c.loop-day.invariant.known c.requires.shift);
@@ -58,7 +58,7 @@ loop-day-preserved c =
 
 pub returns-in-None-clause-duties : goal.returns-in-None-clause-duties
 returns-in-None-clause-duties c =
-    no_rows c.args.instance.now c.args.cuts.now c.args.prices.now c.args.shift c.new.result.items (at_none c.in_ok-best.field-0 _ _ c.in-None.is c.in_ok-best.ensures) c.new.ensures.items
+    no_rows c.args.instance.now c.args.cuts.now c.args.prices.now c.args.shift c.new.result.items (at_none c.in_ok-best.field-0 _ _ c.in-None.is c.in_ok-best.ensures.best) c.new.ensures.items
 
 pub returns-clause-duties : goal.returns-clause-duties
 returns-clause-duties c =

@@ -3,14 +3,13 @@ use mir.Syntax.{w128}
 use Rattle.std.specs.Int.RustNames.{unsigned_abs}
 use Rattle.std.proofs.lemmas.Int.{to_z-of_z}
 use Rattle.break_rules.specs.declared.Break.{Break}
-use Rattle.dual_bound.proofs.Entries.{same_entries}
 use Rattle.head_splits.proofs.Priced.{priced}
 use Rattle.bound_sums.proofs.Priced.{cut_small, slots_small}
-use Rattle.dual_bound.proofs.Entries.{entry_small, entries_few, all_from_has}
+use Rattle.dual_bound.proofs.Entries.{entry_small, entries_few, all_from_has, same_entries}
 use Rattle.bound_sums.proofs.Sizes.{fits}
-use Rattle.advisers.specs.Chosen.{IsBestOn}
-use Rattle.advisers.proofs.Choices.{best_on, none_on}
-use Rattle.advisers.proofs.choosing.best_of.Goals as goal
+use Rattle.dual_bound.specs.BestLists.{IsBestOn}
+use Rattle.dual_bound.proofs.BestLists.{best_on, none_on}
+use Rattle.dual_bound.proofs.best_lists.best_of_day.Goals as goal
 
 pub entries-requires-clause-small : goal.entries-requires-clause-small
 entries-requires-clause-small c k =
@@ -41,7 +40,7 @@ returns-in-Some c =
     let b : IsBestOn i c.args.cuts.now c.args.prices.now c.args.shift c.args.day c.in-Some.pattern.list v =
     best_on i c.args.cuts.now c.args.prices.now c.args.shift c.args.day c.as_slice-slots.result.now c.as_slice-3.result.now c.requires.valid c.requires.passes c.requires.few c.as_slice-slots.ensures e
     c.in_ok-pattern.field-0 c.in-Some.pattern v _ c.in-Some.is c.in_ok-pattern.ensures.best in
-    subst (λ (z : ℤ). IsBestOn i c.args.cuts.now c.args.prices.now c.args.shift c.args.day c.in-Some.pattern.list z) (sym (to_z-of_z w128 v (fits v (2 ^ 74) b.valued.small (omega arith)))) b
+    record { best = subst (λ (z : ℤ). IsBestOn i c.args.cuts.now c.args.prices.now c.args.shift c.args.day c.in-Some.pattern.list z) (sym (to_z-of_z w128 v (fits v (2 ^ 74) b.valued.small (omega arith)))) b }
 
 pub returns : goal.returns
-returns c = none_on c.args.instance.now c.args.shift c.in_ok-pattern.field-0 _ c.in-None.is c.in_ok-pattern.ensures.best
+returns c = record { best = none_on c.args.instance.now c.args.shift c.in_ok-pattern.field-0 _ c.in-None.is c.in_ok-pattern.ensures.best }

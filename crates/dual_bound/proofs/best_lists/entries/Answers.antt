@@ -1,5 +1,5 @@
 use Rattle.dual_bound.proofs.Entries.{entries_next}
-use Rattle.advisers.proofs.bonuses.entries.Goals as goal
+use Rattle.dual_bound.proofs.best_lists.entries.Goals as goal
 
 pub loop-k-preserved : goal.loop-k-preserved
 loop-k-preserved c =

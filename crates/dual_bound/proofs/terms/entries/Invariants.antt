@@ -1,8 +1,0 @@
-use Rattle.std.proofs.Common.{◌≡◌, ◌++◌}
-use Rattle.std.specs.List.{zip}
-use Rattle.head_splits.specs.Bound.{entries_of}
-use Rattle.bound_sums.proofs.Pairs.{pairs_from}
-use Rattle.dual_bound.proofs.terms.entries.Given as goal
-
-abbrev pub invariant-loop-k : goal.invariant-loop-k
-invariant-loop-k l = l.entries.items ++ entries_of (pairs_from l.cuts l.prices l.k) l.shift l.day ≡ entries_of (zip l.cuts l.prices) l.shift l.day
