@@ -1,5 +1,5 @@
 //! What a worker makes of an advice.
-use crate::fixtures::{first_step, morning};
+use crate::fixtures::first_step;
 use advice::{Advice, Ask};
 use break_rules::Breaks;
 use head_splits::{Class, Cut, CutPrices, Cuts, Hint, Prices, Side, SlotPrices};
@@ -8,6 +8,7 @@ use shift_instance::{Instance, Rows};
 use std::alloc::Global;
 use std::test::Fail;
 use worker_gate::step_of;
+use workers_tests::fixtures::morning;
 
 /// The bound of a step and what its plan costs, or 0.
 fn numbers(step: &StepPosts) -> (u64, u64) {
@@ -21,7 +22,7 @@ fn numbers(step: &StepPosts) -> (u64, u64) {
 // One duty may come. The bound 8 + (3 - 8) is what the plan costs.
 #[test]
 fn root_is_closed_by_price(rt: HostRuntime) -> Result<(), Fail> {
-    let instance = morning(&rt, rt.alloc(), "1")?;
+    let instance = morning(rt.alloc(), "1")?;
     let step = first_step(rt.alloc(), &instance)?;
     assert!(rt; numbers(&step) == (3, 3) && matches!(step.close, Close::ByPrice));
     Ok(())
@@ -30,7 +31,7 @@ fn root_is_closed_by_price(rt: HostRuntime) -> Result<(), Fail> {
 // Two duties may come, and the total is 8 + (3 - 16).
 #[test]
 fn root_is_split(rt: HostRuntime) -> Result<(), Fail> {
-    let instance = morning(&rt, rt.alloc(), "2")?;
+    let instance = morning(rt.alloc(), "2")?;
     let step = first_step(rt.alloc(), &instance)?;
     assert!(rt; numbers(&step) == (0, 3) && matches!(step.close, Close::Split { m: 1, .. }));
     Ok(())
@@ -72,7 +73,7 @@ fn settled_step(alloc: Global, instance: &Instance) -> Result<StepPosts, Fail> {
 
 #[test]
 fn unlawful_prices_are_left(rt: HostRuntime) -> Result<(), Fail> {
-    let instance = morning(&rt, rt.alloc(), "1")?;
+    let instance = morning(rt.alloc(), "1")?;
     let step = settled_step(rt.alloc(), &instance)?;
     assert!(rt; step.node == 7 && step.proved.prices().q == 1 && numbers(&step) == (0, 0));
     assert!(rt; matches!(step.close, Close::Settled(_)));

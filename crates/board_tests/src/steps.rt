@@ -1,17 +1,17 @@
 //! Steps that are committed on a book.
-ghost use Rattle.std.specs.Prelude.{◌≡◌, ◌≤◌, ◌^◌, IfOk, IfSome, length};
+ghost use Rattle.std.specs.Prelude.{◌≡◌, ◌≤◌, ◌^◌, IfOk, length};
 ghost use Rattle.instance_json.specs.Canonical.{canonical_text};
 ghost use Rattle.search_core.specs.Core.{empty_hands};
 ghost use Rattle.search_core.specs.Steps.{Fits};
 
-use crate::fixtures::{first_step, morning};
+use crate::fixtures::first_step;
 use plan_base::{Disk, MemDisk};
 use search_book::{Book, sent};
-use search_core::{CommitFault, Kept, StepPosts, Taken};
+use search_core::{Kept, StepPosts, Taken};
 use shift_instance::Instance;
 use std::alloc::Global;
-use std::process::Abort;
 use std::test::Fail;
+use workers_tests::fixtures::morning;
 
 /// The book of an instance on a new disk, with a journal of at most `limit` bytes.
 fn opened(
@@ -58,7 +58,7 @@ fn kept(book: &mut Book<MemDisk>, step: StepPosts) -> Option<Kept>
 #[test]
 fn a_step_is_committed(rt: HostRuntime) -> Result<(), Fail> {
     let alloc = rt.alloc();
-    let instance = morning(&rt, alloc, "1")?;
+    let instance = morning(alloc, "1")?;
     let step = first_step(alloc, &instance)?;
     let disk = MemDisk::new(alloc, Vec::new(alloc), Vec::new(alloc));
     let mut book = opened(alloc, &instance, disk, 622)?;
@@ -74,42 +74,5 @@ fn a_step_is_committed(rt: HostRuntime) -> Result<(), Fail> {
     assert!(rt; is_taken && is_kept && is_told && book.finished());
     let disk = sent(book).into_disk();
     assert!(rt; disk.bytes().len() == 622 && disk.calls() == 8);
-    Ok(())
-}
-
-/// Where the journal would end with the record of a step of the first worker, and its limit, where it has no room for that.
-fn refused(book: &mut Book<MemDisk>, step: StepPosts) -> Option<(u64, u32)>
-    requires { Fits book.old.log.instance step }
-    ensures { IfSome result (λ _. book.new.log.instance ≡ book.old.log.instance) }
-{
-    match book.commit(0, step) {
-        Err(CommitFault::Full { end, limit }) => Some((end, limit)),
-        _ => None,
-    }
-}
-
-/// Whether a step of the first worker is refused since the book is shut.
-fn is_shut(book: &mut Book<MemDisk>, step: StepPosts) -> bool
-    requires { Fits book.old.log.instance step }
-{
-    matches!(book.commit(0, step), Err(CommitFault::Shut))
-}
-
-// With the record the journal would end at 622 bytes. The hand is kept.
-#[test]
-fn a_full_journal_shuts_its_book(rt: HostRuntime) -> Result<(), Fail> {
-    let alloc = rt.alloc();
-    let instance = morning(&rt, alloc, "1")?;
-    let step = first_step(alloc, &instance)?;
-    let again = first_step(alloc, &instance)?;
-    let disk = MemDisk::new(alloc, Vec::new(alloc), Vec::new(alloc));
-    let mut book = opened(alloc, &instance, disk, 500)?;
-    assert!(rt; takes_root(&mut book));
-    let Some(full) = refused(&mut book, step) else {
-        return Err("it isn't refused".into());
-    };
-    let is_held = book.held(0) == Some(0) && book.batches() == 0;
-    assert!(rt; full == (622, 500) && is_held && is_shut(&mut book, again));
-    assert!(rt; book.into_disk().bytes().len() == 385);
     Ok(())
 }

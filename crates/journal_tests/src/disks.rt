@@ -21,17 +21,6 @@ fn the_images_differ_where_bytes_were_written_since_the_last_sync(
 }
 
 #[test]
-fn a_sync_that_fails_leaves_what_was_written_open(rt: HostRuntime) -> Result<(), Fail> {
-    let alloc = rt.alloc();
-    let fails = vec![in alloc; 2u64; 1]?;
-    let mut disk = MemDisk::new(alloc, Vec::new(alloc), fails);
-    disk.write_at(0, &[5, 6])?;
-    assert_eq!(rt; disk.sync(), Err(Failed));
-    assert_eq!(rt; disk.image(Some(0))?.bytes(), [0, 0].as_slice());
-    Ok(())
-}
-
-#[test]
 fn a_file_is_written_and_read_again(rt: HostRuntime) -> Result<(), Fail> {
     let alloc = rt.alloc();
     let path = "written_and_read_again.tmp";

@@ -1,7 +1,5 @@
 //! Sources and sinks, and what is read from them and written to them.
-use plan_base::{
-    FileSource, MemSink, MemSource, ReadEnd, Sink, Source, StdSink, StdSource, read_all, write_all,
-};
+use plan_base::{FileSource, MemSource, Sink, Source, StdSink, StdSource, read_all, write_all};
 use std::fmt::Display;
 use std::io;
 use std::test::Fail;
@@ -13,37 +11,6 @@ fn a_source_is_read_to_its_end_within_the_limit(rt: HostRuntime) -> Result<(), F
     let mut source = MemSource::new(alloc, bytes, Vec::new(alloc), 7000);
     let read = read_all(alloc, &mut source, 40000)?;
     assert_eq!(rt; read.len(), 40000);
-    Ok(())
-}
-
-#[test]
-fn a_source_beyond_the_limit_is_too_long(rt: HostRuntime) -> Result<(), Fail> {
-    let alloc = rt.alloc();
-    let bytes = vec![in alloc; 7u8; 6]?;
-    let mut source = MemSource::new(alloc, bytes, Vec::new(alloc), 4);
-    let end = read_all(alloc, &mut source, 5).err();
-    assert_eq!(rt; end, Some(ReadEnd::TooLong));
-    Ok(())
-}
-
-#[test]
-fn a_failing_read_is_told(rt: HostRuntime) -> Result<(), Fail> {
-    let alloc = rt.alloc();
-    let bytes = vec![in alloc; 7u8; 5]?;
-    let fails = vec![in alloc; 2u64; 1]?;
-    let mut source = MemSource::new(alloc, bytes, fails, 4);
-    let end = read_all(alloc, &mut source, 5).err();
-    assert_eq!(rt; end, Some(ReadEnd::ReadFault));
-    Ok(())
-}
-
-#[test]
-fn a_sink_that_fails_has_taken_the_first_bytes(rt: HostRuntime) -> Result<(), Fail> {
-    let alloc = rt.alloc();
-    let fails = vec![in alloc; 3u64; 1]?;
-    let mut sink = MemSink::new(alloc, fails, 2);
-    assert!(rt; write_all(&mut sink, &[1, 2, 3, 4, 5]).is_err());
-    assert_eq!(rt; sink.bytes(), [1, 2, 3, 4].as_slice());
     Ok(())
 }
 

@@ -2,14 +2,15 @@
 ghost use Rattle.std.specs.Prelude.{◌≡◌, length};
 ghost use Rattle.instance_json.specs.Canonical.{canonical_text};
 
-use crate::fixtures::{LIMIT, greedy_seat, morning};
+use advisers::Greedy;
 use plan_base::{Disk, MemDisk};
-use search_book::{Book, OpenFault, Unopened};
+use search_book::{Book, OpenFault};
 use shift_instance::Instance;
 use std::alloc::Global;
 use std::process::Abort;
 use std::test::Fail;
-use worker_gate::{Open, RunEnd, run_seat};
+use worker_gate::{Open, run_seat};
+use workers_tests::fixtures::{LIMIT, morning, seat_with};
 
 /// How many posts there are where a call of the disk failed: in the book that was being worked on, and in the book that its
 /// file opens to after a crash. Nothing stands where there is no book.
@@ -22,30 +23,19 @@ struct Found {
     lost: Option<u64>,
 }
 
-/// The disk of a run of two steps that ended at the call of this number, which failed, and how many posts the book had then.
-fn stopped(
-    rt: &impl Abort,
-    alloc: Global,
-    instance: &Instance,
-    call: u64,
-) -> Result<(MemDisk, Option<u64>), Fail>
+/// The disk of a run of two steps whose call of this number failed, and how many posts the book had at its end.
+fn stopped(alloc: Global, instance: &Instance, call: u64) -> Result<(MemDisk, Option<u64>), Fail>
     requires { length (canonical_text instance.now) ≡ 372 }
 {
-    let fails = vec![in alloc; call; 1]?;
-    let disk = MemDisk::new(alloc, Vec::new(alloc), fails);
+    let mut seat = seat_with(Box::new(alloc, Greedy::new(alloc))?);
+    let disk = MemDisk::new(alloc, Vec::new(alloc), vec![in alloc; call; 1]?);
     match Book::open(alloc, instance, disk, 2, LIMIT) {
         Ok(mut book) => {
-            let mut seat = greedy_seat(alloc)?;
-            let end = run_seat(alloc, instance, &mut book, &mut seat, &Open);
+            run_seat(alloc, instance, &mut book, &mut seat, &Open);
             let posts = book.posts();
-            let disk = book.into_disk();
-            assert!(rt; end == RunEnd::DiskFault && disk.calls() == call);
-            Ok((disk, Some(posts)))
+            Ok((book.into_disk(), Some(posts)))
         }
-        Err(Unopened { fault, disk }) => {
-            assert!(rt; matches!(fault, OpenFault::DiskFault) && disk.calls() == call);
-            Ok((disk, None))
-        }
+        Err(unopened) => Ok((unopened.disk, None)),
     }
 }
 
@@ -61,10 +51,11 @@ fn posts_on(alloc: Global, instance: &Instance, disk: MemDisk) -> Result<Option<
     }
 }
 
-/// What there is after a crash at a call that failed, where that other byte is `fill`.
+/// What there is after a crash at a call that failed, which was the last one, where that other byte is `fill`.
 fn found_after(rt: &impl Abort, alloc: Global, call: u64, fill: u8) -> Result<Found, Fail> {
-    let instance = morning(rt, alloc, "2")?;
-    let (disk, told) = stopped(rt, alloc, &instance, call)?;
+    let instance = morning(alloc, "2")?;
+    let (disk, told) = stopped(alloc, &instance, call)?;
+    assert!(rt; disk.calls() == call);
     let written = posts_on(alloc, &instance, disk.image(None)?)?;
     let lost = posts_on(alloc, &instance, disk.image(Some(fill))?)?;
     Ok(Found {

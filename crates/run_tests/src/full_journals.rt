@@ -1,20 +1,21 @@
 //! A step for whose record a journal has no room.
-use crate::fixtures::{greedy_seat, morning};
+use advisers::Greedy;
 use plan_base::MemDisk;
 use search_book::Book;
 use std::alloc::Global;
 use std::process::Abort;
 use std::test::Fail;
 use worker_gate::{Open, RunEnd, run_seat};
+use workers_tests::fixtures::{morning, seat_with};
 
 /// How a run of one step ends on a new journal of at most `limit` bytes, and how many bytes there are then.
 fn ended(rt: &impl Abort, alloc: Global, limit: u32) -> Result<(RunEnd, usize), Fail> {
-    let instance = morning(rt, alloc, "2")?;
     assert!(rt; 385 <= limit && limit < 1000);
+    let instance = morning(alloc, "2")?;
+    let mut seat = seat_with(Box::new(alloc, Greedy::new(alloc))?);
     let disk = MemDisk::new(alloc, Vec::new(alloc), Vec::new(alloc));
     match Book::open(alloc, &instance, disk, 1, limit) {
         Ok(mut book) => {
-            let mut seat = greedy_seat(alloc)?;
             let end = run_seat(alloc, &instance, &mut book, &mut seat, &Open);
             Ok((end, book.into_disk().bytes().len()))
         }

@@ -4,6 +4,4 @@
 #[cfg(test)]
 mod crashes;
 #[cfg(test)]
-mod fixtures;
-#[cfg(test)]
 mod full_journals;

@@ -43,3 +43,15 @@ pub fn add_seat(seats: &mut Vec<Seat>, adviser: Box<dyn Adviser + Send>) -> Resu
     })?;
     Ok(())
 }
+
+/// A new seat, with this adviser.
+pub fn seat_with(adviser: Box<dyn Adviser + Send>) -> Seat
+    ensures told { result.told ≡ 0 }
+    ensures share { result.share ≡ 0 }
+{
+    Seat {
+        adviser,
+        told: 0,
+        share: 0,
+    }
+}

@@ -2,17 +2,16 @@
 ghost use Rattle.std.specs.Prelude.{◌≡◌, length};
 ghost use Rattle.instance_json.specs.Canonical.{canonical_text};
 
-use crate::fixtures::{LIMIT, add_seat, morning};
+use crate::fixtures::{LIMIT, add_seat, morning, seat_with};
 use advisers::Greedy;
 use plan_base::MemDisk;
 use search_book::Book;
 use shift_instance::Instance;
 use std::alloc::Global;
-use std::process::Abort;
 use std::sync::atomic::{AtomicU64, Ordering};
 use std::test::Fail;
 use std::thread::yield_now;
-use worker_gate::{Gate, Open, RunEnd, Seat, run_seat, run_workers};
+use worker_gate::{Gate, Open, RunEnd, run_seat, run_workers};
 
 /// How often a worker that is held looks whether the other has entered.
 const TURNS: u32 = 20_000_000;
@@ -40,21 +39,16 @@ impl Gate for Meeting {
     }
 }
 
-/// A disk with the journal of a first step, which splits the root and leaves both parts open.
-fn parted(rt: &impl Abort, alloc: Global, instance: &Instance) -> Result<MemDisk, Fail>
+/// The bytes of the journal of a first step, which splits the root and leaves both parts open.
+fn parted(alloc: Global, instance: &Instance) -> Result<Vec<u8>, Fail>
     requires { length (canonical_text instance.now) ≡ 372 }
 {
+    let mut seat = seat_with(Box::new(alloc, Greedy::new(alloc))?);
     let disk = MemDisk::new(alloc, Vec::new(alloc), Vec::new(alloc));
     match Book::open(alloc, instance, disk, 1, LIMIT) {
         Ok(mut book) => {
-            let mut seat = Seat {
-                adviser: Box::new(alloc, Greedy::new(alloc))?,
-                told: 0,
-                share: 0,
-            };
-            let end = run_seat(alloc, instance, &mut book, &mut seat, &Open);
-            assert!(rt; end == RunEnd::Spent);
-            Ok(book.into_disk())
+            run_seat(alloc, instance, &mut book, &mut seat, &Open);
+            Ok(Vec::from_slice(alloc, book.into_disk().bytes())?)
         }
         Err(_) => Err("it isn't opened")?,
     }
@@ -65,8 +59,7 @@ fn parted(rt: &impl Abort, alloc: Global, instance: &Instance) -> Result<MemDisk
 fn two_workers_meet_at_the_gate(rt: HostRuntime) -> Result<(), Fail> {
     let alloc = rt.alloc();
     let instance = morning(alloc, "2")?;
-    let bytes = Vec::from_slice(alloc, parted(&rt, alloc, &instance)?.bytes())?;
-    let disk = MemDisk::new(alloc, bytes, Vec::new(alloc));
+    let bytes = parted(alloc, &instance)?;
     let mut seats = Vec::new(alloc);
     add_seat(&mut seats, Box::new(alloc, Greedy::new(alloc))?)?;
     add_seat(&mut seats, Box::new(alloc, Greedy::new(alloc))?)?;
@@ -74,6 +67,7 @@ fn two_workers_meet_at_the_gate(rt: HostRuntime) -> Result<(), Fail> {
         entered: AtomicU64::new(0),
         missed: AtomicU64::new(0),
     };
+    let disk = MemDisk::new(alloc, bytes, Vec::new(alloc));
     match Book::open(alloc, &instance, disk, 100, LIMIT) {
         Ok(book) => {
             let (_book, _seats, end) = run_workers(&rt, alloc, &instance, book, seats, &gate);
