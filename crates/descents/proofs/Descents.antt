@@ -242,7 +242,7 @@ row_of_duty rows d some =
     place (y ∷ ys) r (inl e) = (0, omega arith, ap (λ z. Some z) e)
     place (y ∷ ys) r (inr m) = let k = place ys r m in (suc k.0, (let l : k.0 < length ys = k.1 in omega arith), k.2)
 
-some_by_test : (n : ℕ) → (n == 0) ≡ false → 0 < n
+pub some_by_test : (n : ℕ) → (n == 0) ≡ false → 0 < n
 some_by_test zero h = absurd (false≢true (sym h))
 some_by_test (suc n) h = omega arith
 

@@ -1,3 +1,4 @@
 pub mod OneMore
 pub mod Descents
 pub mod Tries
+pub mod Evener

@@ -1,15 +1,13 @@
 -- What one duty more costs.
-use Rattle.std.proofs.Common.{◌≡◌, ◌⊎◌, inl, inr, ℕ, zero, suc, ◌+◌, ◌-◌, ◌*◌, ◌<◌, ◌≤◌, ℤ, pos, neg_ℤ, ◌+ℤ◌, ◌-ℤ◌, ◌*ℤ◌, ◌≤ℤ◌, Bool, true, false, cond, List, [], ◌∷◌, ◌++◌, length, Option, Some, None, refl, sym, ap, ◌∙◌, subst, arith, count_by, sum_by}
+use Rattle.std.proofs.Common.{◌≡◌, ◌⊎◌, inl, inr, ℕ, zero, suc, ◌+◌, ◌-◌, ◌*◌, ◌<◌, ◌≤◌, ℤ, pos, ◌+ℤ◌, ◌*ℤ◌, ◌≤ℤ◌, true, cond, List, [], ◌∷◌, ◌++◌, length, Some, refl, sym, ap, ◌∙◌, subst, arith, sum_by}
 use Rattle.std.proofs.lemmas.Int.{ints}
-use Rattle.std.proofs.lemmas.Bool.{lt-ltb, le-ltb, cases_Bool, cases_lt}
-use Rattle.std.proofs.lemmas.List.Sums.{sum_by-cons}
-use Rattle.std.proofs.lemmas.List.FromFn.{get_or-map-range_with_len}
+use Rattle.std.proofs.lemmas.Bool.{cases_Bool}
 use Rattle.break_rules.specs.declared.Break.{Break}
 use Rattle.break_rules.specs.Sums.{int_sum_by}
-use Rattle.break_rules.proofs.Lists.{Has, from_below}
-use Rattle.break_rules.proofs.Sums.{int_sum_by-cons, int_sum_by-same, int_sum_by-add, mul-suc, mul-zero}
+use Rattle.break_rules.proofs.Lists.{from_below}
+use Rattle.break_rules.proofs.Sums.{int_sum_by-same, int_sum_by-add, mul-zero}
 use Rattle.shift_instance.specs.declared.Duty.{Duty}
-use Rattle.shift_instance.specs.Problem.{Problem, slots, need_at, shift_list, below}
+use Rattle.shift_instance.specs.Problem.{Problem, slots, shift_list, below}
 use Rattle.shift_instance.specs.Rota.{works, cover, slot_cost, is_used, shifts_used, cost, is_list_of}
 use Rattle.shift_instance.specs.Valid.{IsValid}
 use Rattle.shift_instance.specs.Worth.{price_of, earned, worth, IsBest}
@@ -18,58 +16,10 @@ use Rattle.rota_cost.proofs.Duties.{with_pushed, used_same, used_more}
 use Rattle.greedy.specs.Greedy.{best_list, duty, earned_with, marginal_price, marginal_prices}
 use Rattle.greedy.specs.Sizes.{IsWithin}
 use Rattle.greedy.proofs.BestLists.{worth_none, best_found, found_small}
+use Rattle.greedy.proofs.Falls.{times_one, slot_falls, price_at, pos_sum}
 use Rattle.greedy.proofs.Rounding.{prices_small}
 use Rattle.local_moves.specs.Moves.{fee}
 use Rattle.local_moves.proofs.Reshifts.{used_by_count, unused_by_count}
-
-times_one : (v : ℤ) → v *ℤ pos 1 ≡ v
-times_one v = mul-suc v 0 ∙ ap (λ z. v +ℤ z) (mul-zero v) ∙ omega (arith, ints)
-
--- what one duty more in a slot costs less is the slot's marginal price
-slot_stays : (i : Problem) (t c : ℕ) → pos (slot_cost i t (c + 0)) +ℤ marginal_price i t c *ℤ pos 0 ≡ pos (slot_cost i t c)
-slot_stays i t c = let e : c + 0 ≡ c = omega arith in ap (λ n. pos (slot_cost i t n) +ℤ marginal_price i t c *ℤ pos 0) e ∙ none (marginal_price i t c) (slot_cost i t c)
-  where
-    none : (p : ℤ) (n : ℕ) → pos n +ℤ p *ℤ pos 0 ≡ pos n
-    none p n = ap (λ z. pos n +ℤ z) (mul-zero p) ∙ omega (arith, ints)
-
-slot_falls : (i : Problem) (t c : ℕ) → pos (slot_cost i t (c + 1)) +ℤ marginal_price i t c *ℤ pos 1 ≡ pos (slot_cost i t c)
-slot_falls i t c =
-    elim (cases_lt c (need_at i t)) [
-      | inl l ↦
-          let a : c + 1 - need_at i t ≡ 0 = omega arith in
-          let b : c - need_at i t ≡ 0 = omega arith in
-          let d : need_at i t - c ≡ need_at i t - (c + 1) + 1 = omega arith in
-          ap (λ b. pos (slot_cost i t (c + 1)) +ℤ cond b (pos i.shortage) (neg_ℤ (pos i.excess)) *ℤ pos 1) (lt-ltb c (need_at i t) l)
-          ∙ short i.excess i.shortage (c + 1 - need_at i t) (c - need_at i t) (need_at i t - (c + 1)) (need_at i t - c) a b d
-      | inr g ↦
-          let a : c + 1 - need_at i t ≡ c - need_at i t + 1 = omega arith in
-          let b : need_at i t - (c + 1) ≡ 0 = omega arith in
-          let d : need_at i t - c ≡ 0 = omega arith in
-          ap (λ b. pos (slot_cost i t (c + 1)) +ℤ cond b (pos i.shortage) (neg_ℤ (pos i.excess)) *ℤ pos 1) (le-ltb c (need_at i t) g)
-          ∙ long i.excess i.shortage (c + 1 - need_at i t) (c - need_at i t) (need_at i t - (c + 1)) (need_at i t - c) a b d
-    ]
-  where
-    short : (e s x y u v : ℕ) → x ≡ 0 → y ≡ 0 → v ≡ u + 1 → pos (e * x + s * u) +ℤ pos s *ℤ pos 1 ≡ pos (e * y + s * v)
-    short e s x y u v p q r =
-        let a : e * x ≡ 0 = ap (λ n. e * n) p ∙ omega arith in
-        let b : e * y ≡ 0 = ap (λ n. e * n) q ∙ omega arith in
-        let d : s * v ≡ s * u + s = ap (λ n. s * n) r ∙ omega arith in
-        ap (λ z. pos (e * x + s * u) +ℤ z) (times_one (pos s)) ∙ omega (arith, ints)
-
-    long : (e s x y u v : ℕ) → x ≡ y + 1 → u ≡ 0 → v ≡ 0 → pos (e * x + s * u) +ℤ neg_ℤ (pos e) *ℤ pos 1 ≡ pos (e * y + s * v)
-    long e s x y u v p q r =
-        let a : e * x ≡ e * y + e = ap (λ n. e * n) p ∙ omega arith in
-        let b : s * u ≡ 0 = ap (λ n. s * n) q ∙ omega arith in
-        let d : s * v ≡ 0 = ap (λ n. s * n) r ∙ omega arith in
-        ap (λ z. pos (e * x + s * u) +ℤ z) (times_one (neg_ℤ (pos e))) ∙ omega (arith, ints)
-
-price_at : (i : Problem) (rota : List Duty) (t : ℕ) → t < slots i → price_of (marginal_prices i rota) t ≡ marginal_price i t (cover i rota t)
-unfolding marginal_prices
-price_at i rota t h = get_or-map-range_with_len (λ t. marginal_price i t (cover i rota t)) 0 (slots i) t t (pos 0) h (omega arith)
-
-pos_sum : (f : ℕ → ℕ) (xs : List ℕ) → int_sum_by (λ x. pos (f x)) xs ≡ pos (sum_by f xs)
-pos_sum f [] = refl
-pos_sum f (x ∷ xs) = int_sum_by-cons (λ x. pos (f x)) x xs ∙ ap (λ z. pos (f x) +ℤ z) (pos_sum f xs) ∙ ap pos (sym (sum_by-cons f x xs))
 
 -- a slot in a plan with one duty more
 slot_with : (i : Problem) (rota : List Duty) (d : Duty) (t : ℕ) → t < slots i
@@ -82,11 +32,11 @@ slot_with i rota d t h =
       | inl y ↦
           ap (λ z. pos (slot_cost i t (cover i (rota ++ d ∷ []) t)) +ℤ z) (ap (λ b. cond b (price_of (marginal_prices i rota) t) (pos 0)) y ∙ price ∙ sym (times_one (marginal_price i t c)))
           ∙ ap (λ n. pos (slot_cost i t n) +ℤ marginal_price i t c *ℤ pos 1) (more ∙ ap (λ b. c + cond b 1 0) y)
-          ∙ slot_falls i t c
+          ∙ slot_falls i t c 1 (omega arith)
       | inr n ↦
           ap (λ z. pos (slot_cost i t (cover i (rota ++ d ∷ []) t)) +ℤ z) (ap (λ b. cond b (price_of (marginal_prices i rota) t) (pos 0)) n ∙ sym (mul-zero (marginal_price i t c)))
           ∙ ap (λ n. pos (slot_cost i t n) +ℤ marginal_price i t c *ℤ pos 0) (more ∙ ap (λ b. c + cond b 1 0) n)
-          ∙ slot_stays i t c
+          ∙ slot_falls i t c 0 (omega arith)
     ]
 
 slots_with : (i : Problem) (rota : List Duty) (d : Duty)

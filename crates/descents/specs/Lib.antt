@@ -1,1 +1,2 @@
 pub mod Descending
+pub mod Evening

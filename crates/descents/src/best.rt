@@ -15,7 +15,7 @@ use pricing::best_pattern;
 use shift_instance::Instance;
 
 /// The marginal price of a slot where that many duties work.
-fn marginal_price(instance: &Instance, t: usize, working: u32) -> i64
+pub(crate) fn marginal_price(instance: &Instance, t: usize, working: u32) -> i64
     requires { t < slots instance.now }
     ensures { result ≡ marginal_price instance.now t working }
 {

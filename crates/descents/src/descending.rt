@@ -26,7 +26,7 @@ enum Part {
 }
 
 /// Breaks once more.
-fn copy_of(alloc: Global, breaks: &Breaks) -> Result<Breaks, NoMemory>
+pub(crate) fn copy_of(alloc: Global, breaks: &Breaks) -> Result<Breaks, NoMemory>
     ensures { IfOk result (λ copy. copy ≡ breaks.now) }
 {
     let list = Vec::from_slice(alloc, breaks.as_slice())?;
@@ -34,7 +34,7 @@ fn copy_of(alloc: Global, breaks: &Breaks) -> Result<Breaks, NoMemory>
 }
 
 /// The duty of a row.
-fn duty_of(alloc: Global, row: &Row) -> Result<Duty, NoMemory>
+pub(crate) fn duty_of(alloc: Global, row: &Row) -> Result<Duty, NoMemory>
     ensures { IfOk result (λ d. d ≡ duty_of row.now) }
 {
     Ok(Duty {
@@ -45,7 +45,7 @@ fn duty_of(alloc: Global, row: &Row) -> Result<Duty, NoMemory>
 }
 
 /// Passes want of memory on, and nothing else for which a move is refused.
-fn refused(fault: MoveFault) -> Result<(), NoMemory>
+pub(crate) fn refused(fault: MoveFault) -> Result<(), NoMemory>
     ensures { OnOk result (fault ≡ NoMemory → ⊥) }
 {
     match fault {

@@ -14,8 +14,9 @@ use shift_instance::{Instance, Rows};
 use std::alloc::Global;
 use std::marker::Model;
 
-/// The adviser of the greedy adviser's prices, and of the plan that at most so many moves make of the greedy plan, each of which
-/// lowers its cost. It makes the plan at its first advice, and keeps it for as long as it is asked about the same instance.
+/// The adviser of the greedy adviser's prices, and of the plan that a descent makes of the greedy plan, moves that make it more even,
+/// and another descent, each of at most so many moves. It makes the plan at its first advice, and keeps it for as long as it is asked
+/// about the same instance.
 ///
 /// Contracts see the most moves, and what the adviser was told.
 #[derive(Drop)]
@@ -35,7 +36,7 @@ impl Model for Descent {
 }
 
 impl Descent {
-    /// An adviser of descents of at most `rounds` moves. It takes no memory.
+    /// An adviser of descents of at most `rounds` moves each. It takes no memory.
     pub fn new(alloc: Global, rounds: u16) -> Descent
         ensures { result ≡ record { rounds = rounds; heard = unheard } }
     {

@@ -7,6 +7,7 @@ ghost use Rattle.instance_json.specs.Reading.{reading_of};
 ghost use Rattle.descents.specs.Descending.{IsDescent};
 
 use crate::descending::descended;
+use crate::evening::evened;
 use break_rules::NoMemory;
 use greedy::greedy_plan;
 use instance_json::laws::canonical_text_reads_back;
@@ -25,12 +26,15 @@ pub(crate) struct KeptDescent {
     ghost made: { (i : Problem) → reading_of text.items ≡ Ok i → IsDescent i rounds rows },
 }
 
-/// The rows of a descent of at most `rounds` moves from the greedy plan.
+/// The rows of the greedy plan after a descent, moves that make it more even, and another descent, each of at most `rounds`
+/// moves.
 fn descent_rows(alloc: Global, instance: &Instance, rounds: u16) -> Result<Rows, NoMemory>
     ensures { IfOk result (λ rows. IsDescent instance.now rounds rows) }
 {
     let greedy = greedy_plan(alloc, instance)?;
-    let rows = descended(alloc, instance, greedy, rounds)?;
+    let low = descended(alloc, instance, greedy, rounds)?;
+    let even = evened(alloc, instance, low, rounds)?;
+    let rows = descended(alloc, instance, even, rounds)?;
     Ok(rows)
 }
 

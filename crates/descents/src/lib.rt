@@ -1,11 +1,13 @@
-//! Plans that no move makes cheaper, and the duty that is best to add.
+//! Plans that no move makes cheaper, plans made more even, and the duty that is best to add.
 #![tactic(auto)]
 
 mod best;
 mod descending;
 mod descent;
+mod evening;
 mod kept;
 
 pub use best::best_duty;
 pub use descending::{descend, descended};
 pub use descent::Descent;
+pub use evening::{even_out, evened, unevenness};

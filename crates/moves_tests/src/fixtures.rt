@@ -19,6 +19,25 @@ pub const DAY: &str =
 pub const LATE: &str =
     "{\"slot_minutes\":60,\"days\":1,\"need\":[0,0,0,0,0,0,0,0,2,2,2,1,1,2,2,2,0,0,0,0,0,0,0,0],\"max_heads\":2,\"weights\":{\"excess\":1,\"shortage\":2,\"shift\":3},\"types\":[{\"name\":\"M\",\"start_min\":8,\"start_max\":8,\"len_min\":8,\"len_max\":9,\"breaks\":{\"lead\":4,\"tail\":4,\"work_min\":2,\"work_max\":5,\"long_work\":5,\"long_rest\":1,\"size_min\":1,\"size_max\":1,\"totals\":[[8,1]],\"lunches\":[],\"resettle\":0}}]}";
 
+/// A week in which nobody is needed, with the weights of the day. A shift has at most two duties on a day. Two types have shifts of 8 and 9
+/// hours: those of the first begin at 8 o'clock, those of the second at 9, with 4 hours or more before and behind a break.
+pub const WEEK: &str =
+    "{\"slot_minutes\":60,\"days\":7,\"need\":[0,0,0,0,0,0,0,0,0,0,0,0,0,0,0,0,0,0,0,0,0,0,0,0,0,0,0,0,0,0,0,0,0,0,0,0,0,0,0,0,0,0,0,0,0,0,0,0,0,0,0,0,0,0,0,0,0,0,0,0,0,0,0,0,0,0,0,0,0,0,0,0,0,0,0,0,0,0,0,0,0,0,0,0,0,0,0,0,0,0,0,0,0,0,0,0,0,0,0,0,0,0,0,0,0,0,0,0,0,0,0,0,0,0,0,0,0,0,0,0,0,0,0,0,0,0,0,0,0,0,0,0,0,0,0,0,0,0,0,0,0,0,0,0,0,0,0,0,0,0,0,0,0,0,0,0,0,0,0,0,0,0,0,0,0,0,0,0],\"max_heads\":2,\"weights\":{\"excess\":1,\"shortage\":2,\"shift\":3},\"types\":[{\"name\":\"M\",\"start_min\":8,\"start_max\":8,\"len_min\":8,\"len_max\":9,\"breaks\":{\"lead\":2,\"tail\":2,\"work_min\":2,\"work_max\":5,\"long_work\":5,\"long_rest\":1,\"size_min\":1,\"size_max\":1,\"totals\":[[8,1]],\"lunches\":[],\"resettle\":0}},{\"name\":\"L\",\"start_min\":9,\"start_max\":9,\"len_min\":8,\"len_max\":9,\"breaks\":{\"lead\":4,\"tail\":4,\"work_min\":2,\"work_max\":5,\"long_work\":5,\"long_rest\":1,\"size_min\":1,\"size_max\":1,\"totals\":[[8,1]],\"lunches\":[],\"resettle\":0}}]}";
+
+/// Eight hours from midnight on, in each of which three employees are needed, with the weights of the day. The one shift has these hours and
+/// at most three duties, with one break of an hour after 2 to 5 hours.
+pub const NIGHT: &str =
+    "{\"slot_minutes\":60,\"days\":1,\"need\":[3,3,3,3,3,3,3,3,0,0,0,0,0,0,0,0,0,0,0,0,0,0,0,0],\"max_heads\":3,\"weights\":{\"excess\":1,\"shortage\":2,\"shift\":3},\"types\":[{\"name\":\"N\",\"start_min\":0,\"start_max\":0,\"len_min\":8,\"len_max\":8,\"breaks\":{\"lead\":2,\"tail\":2,\"work_min\":2,\"work_max\":5,\"long_work\":5,\"long_rest\":1,\"size_min\":1,\"size_max\":1,\"totals\":[[8,1]],\"lunches\":[],\"resettle\":0}}]}";
+
+/// A move as a table spells it: shift, day and breaks, or two shifts. Breaks are of one hour, and told by the hours before them.
+#[derive(Clone, Copy, Drop)]
+pub enum Step {
+    Add(u16, u8, u16),
+    Drop(u16, u8, u16),
+    Rebreak(u16, u8, u16, u16),
+    Reshift(u16, u16),
+}
+
 /// The instance of a document.
 pub fn instance_of(alloc: Global, text: &str) -> Result<Instance, Fail> {
     Ok(read(alloc, text.as_bytes())?)
@@ -38,17 +57,43 @@ pub fn empty(alloc: Global, instance: &Instance) -> Result<Draft, Fail>
     Ok(Draft::new(alloc, instance, costed.into_rows())?)
 }
 
-/// Adds a duty of the first shift with a break after so many hours, and gives what the plan costs then.
+/// The move that a step spells.
+pub fn move_of(alloc: Global, step: Step) -> Result<Move, NoMemory> {
+    Ok(match step {
+        Step::Add(shift, day, start) => Move::Add {
+            shift,
+            day,
+            breaks: pause(alloc, start)?,
+        },
+        Step::Drop(shift, day, start) => Move::Drop {
+            shift,
+            day,
+            breaks: pause(alloc, start)?,
+        },
+        Step::Rebreak(shift, day, from, to) => Move::Rebreak {
+            shift,
+            day,
+            from: pause(alloc, from)?,
+            to: pause(alloc, to)?,
+        },
+        Step::Reshift(from, to) => Move::Reshift { from, to },
+    })
+}
+
+/// Applies the move that a step spells, and gives what the plan costs then.
+pub fn take(instance: &Instance, draft: &mut Draft, step: Step) -> Result<u64, MoveFault>
+    requires { draft.old.instance ≡ instance.now }
+    ensures { draft.new.instance ≡ draft.old.instance }
+{
+    let step = move_of(draft.allocator(), step)?;
+    let _done = draft.apply(instance, &step)?;
+    Ok(draft.cost())
+}
+
+/// Adds a duty of the first shift on the first day with a break after so many hours, and gives what the plan costs then.
 pub fn add(instance: &Instance, draft: &mut Draft, start: u16) -> Result<u64, MoveFault>
     requires { draft.old.instance ≡ instance.now }
     ensures { draft.new.instance ≡ draft.old.instance }
 {
-    let breaks = pause(draft.allocator(), start)?;
-    let step = Move::Add {
-        shift: 0,
-        day: 0,
-        breaks,
-    };
-    let _done = draft.apply(instance, &step)?;
-    Ok(draft.cost())
+    take(instance, draft, Step::Add(0, 0, start))
 }
