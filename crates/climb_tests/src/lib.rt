@@ -1,0 +1,7 @@
+//! Tests of climbs of prices on small days, each worked out by hand, and against the bounds that the prices prove.
+#![tactic(auto)]
+
+#[cfg(test)]
+mod climbs;
+#[cfg(test)]
+mod days;

@@ -1,0 +1,286 @@
+//! The state of a plan search, and what its moves are made of.
+
+use crate::chains::Chain;
+use crate::chance::Chance;
+use crate::guide::Guide;
+use crate::nearness::Nearness;
+use break_rules::NoMemory;
+use shift_tables::{Pauses, Tables};
+use std::alloc::Global;
+use working_plan::{Placed, Plan, Stretches, ones};
+
+/// The most slots of a shift.
+const WINDOW: usize = 288;
+
+/// From how many places noise is taken.
+const TURNS: usize = 256;
+
+/// A duty that was put in, or taken out.
+#[derive(Clone, Copy)]
+pub(crate) struct Change {
+    placed: Placed,
+    is_put: bool,
+}
+
+/// A search for plans of one instance. It does the same for the same seed.
+#[derive(Drop)]
+pub struct PlanSearch {
+    pub(crate) alloc: Global,
+    pub(crate) chance: Chance,
+    /// The prices before each offset of a window.
+    sums: Vec<f64>,
+    /// What the best rest behind each node of a graph earns.
+    values: Vec<f64>,
+    /// Small numbers that are added to prices, so that equals are told apart at random.
+    noise: Vec<f64>,
+    near: Nearness,
+    pub(crate) guide: Guide,
+    /// What the running move did.
+    pub(crate) log: Vec<Change>,
+    pub(crate) plan: Plan,
+    /// The shifts that a sweep goes through.
+    pub(crate) order: Vec<u16>,
+    /// Duties that a move chooses from.
+    pub(crate) near_duties: Vec<(u16, usize)>,
+    pub(crate) best: Vec<Placed>,
+    pub(crate) best_cost: f64,
+    pub(crate) chain: Chain,
+    /// How many chains began.
+    pub(crate) chains: u32,
+    /// The rise of cost below which changes of the set of shifts are repaired.
+    pub(crate) repaired_rise: f64,
+    pub(crate) work: u64,
+    /// The work at which a move that is under way is cut short.
+    pub(crate) limit: u64,
+}
+
+/// Numbers from 0 to below 1 / 256, in eighths of that.
+fn noise(alloc: Global, seed: u64) -> Result<Vec<f64>, NoMemory> {
+    let mut chance = Chance::new(seed);
+    let mut list = Vec::new(alloc);
+    for _ in 0..TURNS + WINDOW {
+        let eighths = u32::try_from(chance.below(8)).unwrap_or(0);
+        list.push(f64::from(eighths) / 2048.0)?;
+    }
+    Ok(list)
+}
+
+/// A list from a place on, and nothing past its end.
+fn from_place(list: &[f64], place: usize) -> &[f64] {
+    list.get(place..).unwrap_or(&[])
+}
+
+/// How many bytes of a part of a list are 1, of a list of bytes 0 and 1.
+fn ones_between(list: &[u8], from: usize, to: usize) -> u32 {
+    match list.get(from..to) {
+        Some(part) => ones(part),
+        None => 0,
+    }
+}
+
+/// Lays the sums of the prices of a window: `short` for a slot with too few employees, and less `spare` for the others.
+fn lay_sums(sums: &mut [f64], full: &[u8], noise: &[f64], short: f64, spare: f64) {
+    let mut sum = 0.0;
+    for ((place, byte), extra) in sums.iter_mut().skip(1).zip(full).zip(noise) {
+        let price = if *byte == 0 { short } else { -spare };
+        sum += price + *extra;
+        *place = sum;
+    }
+}
+
+impl PlanSearch {
+    /// A search that hasn't begun.
+    pub fn new(alloc: Global, tables: &Tables, seed: u64) -> Result<PlanSearch, NoMemory> {
+        let plan = Plan::new(alloc, tables)?;
+        Ok(PlanSearch {
+            alloc,
+            chance: Chance::new(seed),
+            sums: vec![in alloc; 0.0; WINDOW + 1]?,
+            values: vec![in alloc; 0.0; tables.most_nodes()]?,
+            noise: noise(alloc, seed)?,
+            near: Nearness::new(alloc, tables)?,
+            guide: Guide::none(alloc),
+            log: Vec::new(alloc),
+            plan,
+            order: Vec::new(alloc),
+            near_duties: Vec::new(alloc),
+            best: Vec::new(alloc),
+            best_cost: f64::INFINITY,
+            chain: Chain::ended(),
+            chains: 0,
+            repaired_rise: 0.0,
+            work: 0,
+            limit: 0,
+        })
+    }
+
+    /// The work done so far: edges of graphs, and slots.
+    pub fn work(&self) -> u64 {
+        self.work
+    }
+
+    /// What the best plan so far costs.
+    pub fn best_cost(&self) -> f64 {
+        self.best_cost
+    }
+
+    /// Whether nothing was told of good plans.
+    pub fn is_unguided(&self) -> bool {
+        self.guide.shifts.is_empty()
+    }
+
+    /// Tells what is known of good plans.
+    pub fn set_guide(&mut self, guide: Guide) {
+        self.guide = guide;
+    }
+
+    /// Whether a move that is under way is cut short.
+    pub(crate) fn is_spent(&self) -> bool {
+        self.limit <= self.work
+    }
+
+    /// Counts work.
+    pub(crate) fn count(&mut self, work: usize) {
+        self.work = self.work.saturating_add(work as u64);
+    }
+
+    /// Lays the sums of a shift's window on a day at marginal prices, with noise, and tells how many there are.
+    fn lay_window(&mut self, tables: &Tables, shift: u16, day: usize) -> usize {
+        let len = tables.len_of(shift);
+        let turn = self.chance.below(TURNS);
+        let noise = from_place(&self.noise, turn);
+        let full = self.plan.levels.full(tables.base(shift, day), len);
+        lay_sums(&mut self.sums, full, noise, tables.shortage, tables.excess);
+        len.saturating_add(1)
+    }
+
+    /// What one more duty of a shift on a day gains, less what the shift costs.
+    pub(crate) fn value(&mut self, tables: &Tables, shift: u16, day: usize) -> f64 {
+        let count = self.lay_window(tables, shift, day);
+        let Some(graph) = tables.graph(shift) else {
+            return f64::MIN;
+        };
+        self.count(graph.edge_count().saturating_add(count));
+        let sums = self.sums.get(..count).unwrap_or(&[]);
+        graph.best_value(sums, &mut self.values).floor()
+    }
+
+    /// The breaks of a duty of a shift on a day that gains most, one of them at random.
+    pub(crate) fn list(&mut self, tables: &Tables, shift: u16, day: usize) -> Option<Pauses> {
+        let count = self.lay_window(tables, shift, day);
+        let graph = tables.graph(shift)?;
+        self.count(graph.edge_count().saturating_add(count));
+        let sums = self.sums.get(..count).unwrap_or(&[]);
+        let _ = graph.best_value(sums, &mut self.values);
+        graph.best_list(sums, &self.values)
+    }
+
+    /// No duty of a shift on a day gains more than this.
+    pub(crate) fn bound(&mut self, tables: &Tables, shift: u16, day: usize) -> f64 {
+        let Some(place) = tables.shifts.get(usize::from(shift)) else {
+            return f64::MIN;
+        };
+        let len = usize::from(place.len);
+        self.count(len / 8);
+        let losses = place.losses;
+        let full = self.plan.levels.full(tables.base(shift, day), len);
+        let inner = f64::from(ones_between(full, losses.from, losses.to));
+        let spare = f64::from(ones(full));
+        let lost = inner.max(losses.least).min(losses.most);
+        let saved = inner.min(lost);
+        let short = f64::from(place.len) - spare;
+        tables.shortage * (short - (lost - saved)) - tables.excess * (spare - saved)
+    }
+
+    /// Puts a duty in.
+    pub(crate) fn put(&mut self, tables: &Tables, placed: Placed) -> Result<(), NoMemory> {
+        self.log.push(Change {
+            placed,
+            is_put: true,
+        })?;
+        self.count(tables.len_of(placed.shift));
+        self.plan.put(tables, &placed)
+    }
+
+    /// Takes a duty out.
+    pub(crate) fn take(&mut self, tables: &Tables, placed: Placed) -> Result<(), NoMemory> {
+        self.log.push(Change {
+            placed,
+            is_put: false,
+        })?;
+        self.count(tables.len_of(placed.shift));
+        self.plan.take(tables, &placed);
+        Ok(())
+    }
+
+    /// Puts a duty of a shift in on a day that gains most, whatever that is.
+    pub(crate) fn put_best(
+        &mut self,
+        tables: &Tables,
+        shift: u16,
+        day: usize,
+    ) -> Result<bool, NoMemory> {
+        let Some(pauses) = self.list(tables, shift, day) else {
+            return Ok(false);
+        };
+        self.put(tables, Placed { shift, day, pauses })?;
+        Ok(true)
+    }
+
+    /// Undoes the running move back to that many changes.
+    pub(crate) fn undo_to(&mut self, tables: &Tables, mark: usize) -> Result<(), NoMemory> {
+        for _ in mark..self.log.len() {
+            let Some(change) = self.log.pop() else {
+                break;
+            };
+            self.count(tables.len_of(change.placed.shift));
+            if change.is_put {
+                self.plan.take(tables, &change.placed);
+            } else {
+                self.plan.put(tables, &change.placed)?;
+            }
+        }
+        Ok(())
+    }
+
+    /// Keeps the plan where it is the best so far.
+    pub(crate) fn note_best(&mut self, tables: &Tables) -> Result<(), NoMemory> {
+        if self.plan.cost < self.best_cost {
+            self.best.clear();
+            self.plan.list_into(tables, &mut self.best)?;
+            self.best_cost = self.plan.cost;
+        }
+        Ok(())
+    }
+
+    /// Whether a change that raises the cost by so much is taken at a temperature.
+    pub(crate) fn is_taken(&mut self, rise: f64, temperature: f64) -> bool {
+        rise <= 0.0 || rise < self.chance.exponential() * temperature
+    }
+
+    /// A shift that may be worth using.
+    pub(crate) fn candidate(&mut self, tables: &Tables) -> Option<u16> {
+        if !self.guide.shifts.is_empty() && !self.chance.is_once_in(3) {
+            return self.chance.pick(&self.guide.shifts);
+        }
+        self.chance.pick(&tables.usable)
+    }
+
+    /// A shift near one, or else a candidate.
+    pub(crate) fn neighbour(&mut self, tables: &Tables, shift: u16) -> Option<u16> {
+        match self.chance.pick(self.near.of(shift)) {
+            Some(near) => Some(near),
+            None => self.candidate(tables),
+        }
+    }
+
+    /// A used shift.
+    pub(crate) fn some_used(&mut self) -> Option<u16> {
+        self.chance.pick(&self.plan.used)
+    }
+}
+
+/// The stretches of work of a duty.
+pub(crate) fn stretches(tables: &Tables, placed: &Placed) -> Stretches {
+    Stretches::of(tables, placed.shift, placed.day, &placed.pauses)
+}

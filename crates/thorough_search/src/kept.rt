@@ -1,0 +1,231 @@
+//! What the adviser keeps of an instance.
+ghost use Rattle.std.specs.Prelude.{◌≡◌, IfOk, IfSome};
+
+use crate::prices::{SCALE, begin_prices, cut_prices, slot_prices};
+use crate::splits::{HeadSplit, NodeView, best_split};
+use advice::Ask;
+use break_rules::NoMemory;
+use head_splits::{CutPrices, Prices, SlotPrices};
+use plan_search::{Guide, PlanSearch};
+use price_climb::{Climb, Limits, Ranges};
+use rota_cost::{Costed, legal_rows};
+use shift_instance::Instance;
+use shift_tables::Tables;
+use std::alloc::Global;
+use std::cmp::OrderedFloat;
+use std::num::nearest_u64_to_f64;
+
+/// The work of a second, about.
+const SECOND: u64 = 80_000_000;
+
+/// The most work on plans at one advice.
+const SLICE: u64 = 4_000_000;
+
+/// By how much a value that closes a node may lie below the least cost known: bounds are rounded up.
+const ROUNDED: f64 = 0.99;
+
+/// How far above that value no rounding of prices leads below it.
+const CLEAR: f64 = 0.25;
+
+/// What the adviser keeps of an instance.
+#[derive(Drop)]
+pub(crate) struct Kept {
+    alloc: Global,
+    /// The canonical text of the instance.
+    pub(crate) text: Vec<u8>,
+    tables: Tables,
+    plans: PlanSearch,
+    climb: Climb,
+    /// What the cheapest plan of hints costs that was offered to the plan search.
+    offered: u64,
+    /// The work on plans when the best one was found.
+    work_at_best: u64,
+}
+
+/// The shifts whose averaged part isn't 0, the most used first.
+fn used_shifts(alloc: Global, parts: &[f64]) -> Result<Vec<u16>, NoMemory> {
+    let mut used = Vec::new(alloc);
+    for (shift, part) in parts.iter().enumerate() {
+        if 0.001 < *part {
+            let number = u16::try_from(shift).unwrap_or(u16::MAX);
+            used.push((OrderedFloat(-*part), number))?;
+        }
+    }
+    used.sort_unstable();
+    let mut shifts = Vec::new(alloc);
+    for (_, shift) in used.as_slice() {
+        shifts.push(*shift)?;
+    }
+    Ok(shifts)
+}
+
+/// When a climb to a value ends: at the node without cuts much later than below.
+fn limits_of(ask: &Ask, stop: f64) -> Limits {
+    if ask.cuts.is_empty() {
+        return Limits {
+            rounds: 2000,
+            stop,
+            stalls: 1000,
+            step: 0.1,
+        };
+    }
+    Limits {
+        rounds: 120,
+        stop,
+        stalls: 4,
+        step: 0.05,
+    }
+}
+
+impl Kept {
+    /// What is known at first of an instance, which is written as this text.
+    pub(crate) fn new(
+        alloc: Global,
+        instance: &Instance,
+        seed: u64,
+        text: Vec<u8>,
+    ) -> Result<Kept, NoMemory>
+        ensures { IfOk result (λ k. k.text ≡ text) }
+    {
+        let tables = Tables::new(alloc, instance)?;
+        let plans = PlanSearch::new(alloc, &tables, seed)?;
+        let climb = Climb::new(alloc, &tables)?;
+        Ok(Kept {
+            alloc,
+            text,
+            tables,
+            plans,
+            climb,
+            offered: u64::MAX,
+            work_at_best: 0,
+        })
+    }
+
+    /// Whether the best plan so far is cheaper than a cost.
+    pub(crate) fn is_cheaper_than(&self, cost: u64) -> bool {
+        self.plans.best_cost() < nearest_u64_to_f64(cost)
+    }
+
+    /// The best plan so far, with its cost, judged.
+    pub(crate) fn best_plan(&self, instance: &Instance) -> Result<Option<Costed>, NoMemory>
+        ensures { IfOk result (λ plan. IfSome plan (λ c. c.instance ≡ instance.now)) }
+    {
+        self.plans.best_plan(instance)
+    }
+
+    /// Has the plan search go on from the hint's rows, where they are legal and cheaper than its best and than all that it was
+    /// offered before.
+    fn take_hint(&mut self, instance: &Instance, ask: &Ask) -> Result<(), NoMemory>
+        ensures { self.new.text ≡ self.old.text }
+    {
+        if self.offered <= ask.best || self.is_cheaper_than(ask.best) {
+            return Ok(());
+        }
+        self.offered = ask.best;
+        if legal_rows(instance, &ask.hint.rows).is_ok() {
+            self.plans.offer(&self.tables, &ask.hint.rows)?;
+        }
+        Ok(())
+    }
+
+    /// The work that is due on plans, at most a slice: half of all work goes there at first and while they gain, and later less.
+    fn due_work(&self) -> u64 {
+        let plans = self.plans.work();
+        let is_gaining = plans < SECOND.saturating_add(self.work_at_best.saturating_mul(2));
+        let share = if is_gaining {
+            self.climb.work()
+        } else {
+            self.climb.work() / 8
+        };
+        share.saturating_sub(plans).min(SLICE)
+    }
+
+    /// Searches for plans as long as it is due.
+    fn search_plans(&mut self) -> Result<(), NoMemory>
+        ensures { self.new.text ≡ self.old.text }
+    {
+        let before = self.plans.best_cost();
+        let due = self.due_work();
+        self.plans.run(&self.tables, due)?;
+        if self.plans.best_cost() < before {
+            self.work_at_best = self.plans.work();
+        }
+        Ok(())
+    }
+
+    /// Tells the plan search what the last climb knows: that of the node without cuts, or else of the first node.
+    fn guide_plans(&mut self, ask: &Ask) -> Result<(), NoMemory>
+        ensures { self.new.text ≡ self.old.text }
+    {
+        if !ask.cuts.is_empty() && !self.plans.is_unguided() {
+            return Ok(());
+        }
+        let shifts = used_shifts(self.alloc, self.climb.parts())?;
+        let heads = Vec::from_slice(self.alloc, self.climb.heads())?;
+        self.plans.set_guide(Guide { shifts, heads });
+        Ok(())
+    }
+
+    /// The value that closes a node, from the least cost known.
+    fn closing_value(&self, best: u64) -> f64 {
+        self.plans.best_cost().min(nearest_u64_to_f64(best)) - ROUNDED
+    }
+
+    /// Climbs from the hint's prices, and gives the value reached.
+    fn climb_from(&mut self, ask: &Ask, ranges: &Ranges) -> Result<f64, NoMemory>
+        ensures { self.new.text ≡ self.old.text }
+    {
+        let stop = self.closing_value(ask.best);
+        let start = begin_prices(self.alloc, &self.tables, ranges, ask)?;
+        self.climb
+            .climb(&self.tables, ranges, &start, limits_of(ask, stop))
+    }
+
+    /// The prices of the last climb, as they are advised for so many cuts.
+    fn prices(&self, ranges: &Ranges, cuts: usize) -> Result<Prices, NoMemory> {
+        let best = self.climb.best();
+        let slots = slot_prices(self.alloc, &self.tables, best)?;
+        let cuts = cut_prices(self.alloc, &self.tables, ranges, best, cuts)?;
+        Ok(Prices {
+            q: SCALE,
+            slots: SlotPrices::new(slots),
+            cuts: CutPrices::new(cuts),
+        })
+    }
+
+    /// The split that promises most after the last climb, which lacks so much of what would close the node.
+    fn split(&mut self, ranges: &Ranges, room: f64) -> Result<Option<HeadSplit>, NoMemory>
+        ensures { self.new.text ≡ self.old.text }
+    {
+        let worth = self.climb.worth(&self.tables, ranges)?;
+        let view = NodeView {
+            ranges,
+            worth: &worth,
+            heads: self.climb.heads(),
+            prices: self.climb.best(),
+        };
+        Ok(best_split(&self.tables, &view, room))
+    }
+
+    /// Climbs for a node and searches for plans: the prices, and a split where the climb doesn't clearly close the node.
+    pub(crate) fn look(
+        &mut self,
+        instance: &Instance,
+        ask: &Ask,
+    ) -> Result<(Prices, Option<HeadSplit>), NoMemory>
+        ensures { self.new.text ≡ self.old.text }
+    {
+        self.take_hint(instance, ask)?;
+        let ranges = Ranges::new(self.alloc, &self.tables, ask.cuts.as_slice())?;
+        let value = self.climb_from(ask, &ranges)?;
+        self.guide_plans(ask)?;
+        self.search_plans()?;
+        let prices = self.prices(&ranges, ask.cuts.len())?;
+        let room = self.closing_value(ask.best) - value;
+        if room <= -CLEAR {
+            return Ok((prices, None));
+        }
+        let split = self.split(&ranges, room.max(0.0))?;
+        Ok((prices, split))
+    }
+}

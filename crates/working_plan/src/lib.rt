@@ -1,0 +1,9 @@
+//! A plan that duties are put into and taken out of, with its cost, for searches. Nothing is claimed of it: whoever takes a plan
+//! from a search judges it.
+#![tactic(auto)]
+
+mod levels;
+mod plan;
+
+pub use levels::{Effect, Levels, Stretches, ones};
+pub use plan::{Placed, Plan};
