@@ -3,29 +3,17 @@
 //! made from a number, and prints a line.
 #![tactic(auto)]
 
-mod demo;
-mod report;
-mod run;
-#[cfg(test)]
-mod run_tests;
-mod search;
-mod seats;
-mod status;
-mod words;
-
 use advice::Adviser;
 use advisers::{Greedy, Subgradient};
-pub use demo::demo_line;
 use descents::Descent;
 use plan_base::{FileDisk, StdSink, StdSource};
-pub use run::{Ended, solve_run};
-pub use status::{Status, status_line};
+use solve_runs::{Status, journal_path, solve_run, status_line, wants_local, wants_thorough};
 use std::alloc::AllocError;
 use std::process::ExitCode;
 use std::sync::Wait;
 use std::thread::Threads;
 use std::{env, io};
-pub use words::{journal_path, wants_local};
+use thorough_search::Thorough;
 use worker_gate::Open;
 
 /// How many advisers there are: one for each worker that a run may have.
@@ -50,8 +38,9 @@ fn command_words(rt: &HostRuntime) -> Result<Vec<String>, Status> {
 }
 
 /// The run of these words over the standard streams, and over a disk on the JOURNAL word's path, with an adviser for each worker that
-/// a run may have: the first gives greedy advice, with a plan made cheaper by moves where the words ask for a local search, and each
-/// other looks for prices by the subgradient method.
+/// a run may have. Where the words ask for a thorough search, each searches thoroughly, with a seed of its own from 1 on. Else the
+/// first gives greedy advice, with a plan made cheaper by moves where the words ask for a local search, and each other looks for
+/// prices by the subgradient method.
 fn solve<R: Threads + Wait + Sync>(
     host: HostRuntime,
     rt: &R,
@@ -62,14 +51,19 @@ fn solve<R: Threads + Wait + Sync>(
         Some(path) => path,
         None => String::new(alloc),
     };
+    let is_thorough = wants_thorough(alloc, words)?;
+    let is_local = wants_local(alloc, words)?;
     let mut advisers: Vec<Box<dyn Adviser + Send>> = Vec::with_capacity(alloc, ADVISERS)?;
-    if wants_local(alloc, words)? {
-        advisers.push(Box::new(alloc, Descent::new(alloc, MOVES))?)?;
-    } else {
-        advisers.push(Box::new(alloc, Greedy::new(alloc))?)?;
-    }
-    for _ in 1..ADVISERS {
-        advisers.push(Box::new(alloc, Subgradient::new(alloc, SCALE))?)?;
+    for place in 0..ADVISERS {
+        if is_thorough {
+            advisers.push(Box::new(alloc, Thorough::new(alloc, place as u64 + 1))?)?;
+        } else if 0 < place {
+            advisers.push(Box::new(alloc, Subgradient::new(alloc, SCALE))?)?;
+        } else if is_local {
+            advisers.push(Box::new(alloc, Descent::new(alloc, MOVES))?)?;
+        } else {
+            advisers.push(Box::new(alloc, Greedy::new(alloc))?)?;
+        }
     }
     let mut input = StdSource::new(host);
     let mut out = StdSink::new(host);

@@ -8,7 +8,7 @@ use Rattle.std.proofs.lemmas.Bool.{cases_Bool, cases_eq, false≢true, or_parts,
 use Rattle.std.proofs.lemmas.List.Recursion.{is_count_by}
 use Rattle.clap.specs.declared.parser.matches.ValueSource.TheVariants.{DefaultValue}
 use Rattle.clap.specs.Walk.{first_of, has_row, more_values, one_of, reading_by, Row, row_text, Text, with_default}
-use Rattle.solve_words.specs.Words.{demo, digits_in, flag, Flag, is_flag, journal, local, number, path_in, Part, Setting, steps, table, workers, Give, Given}
+use Rattle.solve_words.specs.Words.{demo, digits_in, flag, Flag, is_flag, journal, local, number, path_in, Part, Setting, steps, table, thorough, workers, Give, Given}
 use Rattle.solve_words.proofs.Rows.{at_none, bare_flag, bare_name, id_of, option_rules, wish_rule, row_for, rows_for, rule_for, setting_rule}
 use Rattle.solve_words.proofs.Singles.{no_row, no_times, times, Single}
 
@@ -32,6 +32,7 @@ first_path (number steps digits ∷ parts) = first_path parts
 first_path (number demo digits ∷ parts) = first_path parts
 first_path (flag table ∷ parts) = first_path parts
 first_path (flag local ∷ parts) = first_path parts
+first_path (flag thorough ∷ parts) = first_path parts
 
 first_digits : (setting : Setting) (parts : List Part) → first_of (bare_name setting) (rows_for parts) ≡ head_of (flat_map (digits_in setting) parts)
 first_digits workers [] = refl
@@ -41,6 +42,7 @@ first_digits workers (number steps digits ∷ parts) = first_digits workers part
 first_digits workers (number demo digits ∷ parts) = first_digits workers parts
 first_digits workers (flag table ∷ parts) = first_digits workers parts
 first_digits workers (flag local ∷ parts) = first_digits workers parts
+first_digits workers (flag thorough ∷ parts) = first_digits workers parts
 first_digits steps [] = refl
 first_digits steps (journal path ∷ parts) = first_digits steps parts
 first_digits steps (number workers digits ∷ parts) = first_digits steps parts
@@ -48,6 +50,7 @@ first_digits steps (number steps digits ∷ parts) = refl
 first_digits steps (number demo digits ∷ parts) = first_digits steps parts
 first_digits steps (flag table ∷ parts) = first_digits steps parts
 first_digits steps (flag local ∷ parts) = first_digits steps parts
+first_digits steps (flag thorough ∷ parts) = first_digits steps parts
 first_digits demo [] = refl
 first_digits demo (journal path ∷ parts) = first_digits demo parts
 first_digits demo (number workers digits ∷ parts) = first_digits demo parts
@@ -55,6 +58,7 @@ first_digits demo (number steps digits ∷ parts) = first_digits demo parts
 first_digits demo (number demo digits ∷ parts) = refl
 first_digits demo (flag table ∷ parts) = first_digits demo parts
 first_digits demo (flag local ∷ parts) = first_digits demo parts
+first_digits demo (flag thorough ∷ parts) = first_digits demo parts
 
 -- how many parts there are of each kind
 pub path_times : (parts : List Part) → length (flat_map path_in parts) ≡ times (codes "JOURNAL") parts
@@ -65,6 +69,7 @@ path_times (number steps digits ∷ parts) = path_times parts
 path_times (number demo digits ∷ parts) = path_times parts
 path_times (flag table ∷ parts) = path_times parts
 path_times (flag local ∷ parts) = path_times parts
+path_times (flag thorough ∷ parts) = path_times parts
 
 pub digit_times : (setting : Setting) (parts : List Part) → length (flat_map (digits_in setting) parts) ≡ times (bare_name setting) parts
 digit_times workers [] = refl
@@ -74,6 +79,7 @@ digit_times workers (number steps digits ∷ parts) = digit_times workers parts
 digit_times workers (number demo digits ∷ parts) = digit_times workers parts
 digit_times workers (flag table ∷ parts) = digit_times workers parts
 digit_times workers (flag local ∷ parts) = digit_times workers parts
+digit_times workers (flag thorough ∷ parts) = digit_times workers parts
 digit_times steps [] = refl
 digit_times steps (journal path ∷ parts) = digit_times steps parts
 digit_times steps (number workers digits ∷ parts) = digit_times steps parts
@@ -81,6 +87,7 @@ digit_times steps (number steps digits ∷ parts) = let rest = digit_times steps
 digit_times steps (number demo digits ∷ parts) = digit_times steps parts
 digit_times steps (flag table ∷ parts) = digit_times steps parts
 digit_times steps (flag local ∷ parts) = digit_times steps parts
+digit_times steps (flag thorough ∷ parts) = digit_times steps parts
 digit_times demo [] = refl
 digit_times demo (journal path ∷ parts) = digit_times demo parts
 digit_times demo (number workers digits ∷ parts) = digit_times demo parts
@@ -88,6 +95,7 @@ digit_times demo (number steps digits ∷ parts) = digit_times demo parts
 digit_times demo (number demo digits ∷ parts) = let rest = digit_times demo parts in omega (arith, rest)
 digit_times demo (flag table ∷ parts) = digit_times demo parts
 digit_times demo (flag local ∷ parts) = digit_times demo parts
+digit_times demo (flag thorough ∷ parts) = digit_times demo parts
 
 -- a part has the id of a flag where it is that flag
 named_flag : (wish : Flag) (part : Part) → bytes_eq (id_of part) (bare_flag wish) ≡ is_flag wish part
@@ -97,12 +105,21 @@ named_flag table (number steps digits) = refl
 named_flag table (number demo digits) = refl
 named_flag table (flag table) = refl
 named_flag table (flag local) = refl
+named_flag table (flag thorough) = refl
 named_flag local (journal path) = refl
 named_flag local (number workers digits) = refl
 named_flag local (number steps digits) = refl
 named_flag local (number demo digits) = refl
 named_flag local (flag table) = refl
 named_flag local (flag local) = refl
+named_flag local (flag thorough) = refl
+named_flag thorough (journal path) = refl
+named_flag thorough (number workers digits) = refl
+named_flag thorough (number steps digits) = refl
+named_flag thorough (number demo digits) = refl
+named_flag thorough (flag table) = refl
+named_flag thorough (flag local) = refl
+named_flag thorough (flag thorough) = refl
 
 flag_step : (wish : Flag) (part : Part) (parts : List Part) → times (bare_flag wish) (part ∷ parts) ≡ cond (is_flag wish part) (1 + times (bare_flag wish) parts) (times (bare_flag wish) parts)
 flag_step wish part parts = ap (λ (b : Bool). cond b (1 + times (bare_flag wish) parts) (times (bare_flag wish) parts)) (named_flag wish part)
@@ -125,6 +142,7 @@ said_by rows = record {
   demo = first_of (codes "demo") rows;
   table = is_wished (one_of (codes "table") rows);
   local = is_wished (one_of (codes "local") rows);
+  thorough = is_wished (one_of (codes "thorough") rows);
 }
 
 -- ---- the first row of an id
@@ -179,6 +197,7 @@ wish_text false = codes "false"
 own_id : (wish : Flag) → bytes_eq (bare_flag wish) (bare_flag wish) ≡ true
 own_id table = refl
 own_id local = refl
+own_id thorough = refl
 
 -- where every row of the flag says so, its row says whether there was one
 own_default : (wish : Flag) (rows : List Row) → (has_row (bare_flag wish) rows ≡ true → one_of (bare_flag wish) rows ≡ Some (codes "true"))
@@ -215,8 +234,14 @@ setting_default workers rows = elim (has_row (codes "workers") rows) as (λ b. (
 setting_default steps rows = elim (has_row (codes "steps") rows) as (λ b. (if b then rows else rows) ≡ rows) [ true ↦ refl | false ↦ refl ]
 setting_default demo rows = elim (has_row (codes "demo") rows) as (λ b. (if b then rows else rows) ≡ rows) [ true ↦ refl | false ↦ refl ]
 
+abbrev with_table : List Row → List Row
+with_table rows = with_default rows (wish_rule table)
+
+abbrev with_local : List Row → List Row
+with_local rows = with_default (with_table rows) (wish_rule local)
+
 abbrev with_flags : List Row → List Row
-with_flags rows = with_default (with_default rows (wish_rule table)) (wish_rule local)
+with_flags rows = with_default (with_local rows) (wish_rule thorough)
 
 finished_is : (rows : List Row) → fold with_default rows option_rules ≡ with_flags rows
 finished_is rows =
@@ -225,26 +250,36 @@ finished_is rows =
     ∙ ap (λ (r : List Row). with_flags (with_default r (setting_rule demo))) (setting_default steps rows)
     ∙ ap with_flags (setting_default demo rows)
 
-other_first : (id : Text) → bytes_eq (codes "table") id ≡ false → bytes_eq (codes "local") id ≡ false → (rows : List Row) → first_of id (fold with_default rows option_rules) ≡ first_of id rows
-other_first id t l rows =
+other_first : (id : Text) → ((wish : Flag) → bytes_eq (bare_flag wish) id ≡ false) → (rows : List Row) → first_of id (fold with_default rows option_rules) ≡ first_of id rows
+other_first id other rows =
     ap (first_of id) (finished_is rows)
-    ∙ ap (option_and_then (λ (r : Row). slice_get r.values 0)) (other_default local id l (with_default rows (wish_rule table)) ∙ other_default table id t rows)
+    ∙ ap (option_and_then (λ (r : Row). slice_get r.values 0))
+    (other_default thorough id (other thorough) (with_local rows) ∙ other_default local id (other local) (with_table rows) ∙ other_default table id (other table) rows)
 
--- what the row of a flag says, of whatever parts
+-- what the row of a flag says behind others, of whatever parts
+own_behind : (wish : Flag) (parts : List Part) (rows : List Row) → row_at (bare_flag wish) rows ≡ row_at (bare_flag wish) (rows_for parts)
+    → one_of (bare_flag wish) (with_default rows (wish_rule wish)) ≡ Some (wish_text (has_row (bare_flag wish) (rows_for parts)))
+own_behind wish parts rows same =
+    let has : has_row (bare_flag wish) rows ≡ has_row (bare_flag wish) (rows_for parts) = row_there (bare_flag wish) rows ∙ ap is_some same ∙ sym (row_there (bare_flag wish) (rows_for parts)) in
+    own_default wish rows (λ e. ap (option_and_then row_text) same ∙ wished_row wish parts (sym has ∙ e))
+    ∙ ap (λ (b : Bool). Some (wish_text b)) has
+
+-- and at the end
 pub flag_text : (wish : Flag) (parts : List Part) → one_of (bare_flag wish) (fold with_default (rows_for parts) option_rules) ≡ Some (wish_text (has_row (bare_flag wish) (rows_for parts)))
 flag_text table parts =
     let rows = rows_for parts in
     ap (one_of (codes "table")) (finished_is rows)
-    ∙ ap (option_and_then row_text) (other_default local (codes "table") refl (with_default rows (wish_rule table)))
-    ∙ own_default table rows (wished_row table parts)
+    ∙ ap (option_and_then row_text) (other_default thorough (codes "table") refl (with_local rows) ∙ other_default local (codes "table") refl (with_table rows))
+    ∙ own_behind table parts rows refl
 flag_text local parts =
     let rows = rows_for parts in
-    let first = with_default rows (wish_rule table) in
-    let same : row_at (codes "local") first ≡ row_at (codes "local") rows = other_default table (codes "local") refl rows in
-    let has : has_row (codes "local") first ≡ has_row (codes "local") rows = row_there (codes "local") first ∙ ap is_some same ∙ sym (row_there (codes "local") rows) in
     ap (one_of (codes "local")) (finished_is rows)
-    ∙ own_default local first (λ e. ap (option_and_then row_text) same ∙ wished_row local parts (sym has ∙ e))
-    ∙ ap (λ (b : Bool). Some (wish_text b)) has
+    ∙ ap (option_and_then row_text) (other_default thorough (codes "local") refl (with_local rows))
+    ∙ own_behind local parts (with_table rows) (other_default table (codes "local") refl rows)
+flag_text thorough parts =
+    let rows = rows_for parts in
+    ap (one_of (codes "thorough")) (finished_is rows)
+    ∙ own_behind thorough parts (with_local rows) (other_default local (codes "thorough") refl (with_table rows) ∙ other_default table (codes "thorough") refl rows)
 
 -- ---- the first of each kind, and which flags there are
 
@@ -256,29 +291,49 @@ heads parts = record {
   demo = head_of (flat_map (digits_in demo) parts);
   table = has_row (codes "table") (rows_for parts);
   local = has_row (codes "local") (rows_for parts);
+  thorough = has_row (codes "thorough") (rows_for parts);
 }
 
-pub same_given : (a b : Given) → a.journal ≡ b.journal → a.workers ≡ b.workers → a.steps ≡ b.steps → a.demo ≡ b.demo → a.table ≡ b.table → a.local ≡ b.local → a ≡ b
-same_given a b j w s d t l =
+pub same_given : (a b : Given) → a.journal ≡ b.journal → a.workers ≡ b.workers → a.steps ≡ b.steps → a.demo ≡ b.demo → a.table ≡ b.table → a.local ≡ b.local → a.thorough ≡ b.thorough → a ≡ b
+same_given a b j w s d t l h =
     ap (λ x. record a { journal = x }) j
     ∙ ap (λ x. record a { journal = b.journal; workers = x }) w
     ∙ ap (λ x. record a { journal = b.journal; workers = b.workers; steps = x }) s
     ∙ ap (λ x. record a { journal = b.journal; workers = b.workers; steps = b.steps; demo = x }) d
-    ∙ ap (λ x. record b { table = x; local = a.local }) t
-    ∙ ap (λ x. record b { local = x }) l
+    ∙ ap (λ x. record b { table = x; local = a.local; thorough = a.thorough }) t
+    ∙ ap (λ x. record b { local = x; thorough = a.thorough }) l
+    ∙ ap (λ x. record b { thorough = x }) h
 
 wish_said : (b : Bool) → is_wished (Some (wish_text b)) ≡ b
 wish_said true = refl
 wish_said false = refl
 
+-- no flag has the id of a path, nor that of an option with a number
+path_apart : (wish : Flag) → bytes_eq (bare_flag wish) (codes "JOURNAL") ≡ false
+path_apart table = refl
+path_apart local = refl
+path_apart thorough = refl
+
+number_apart : (setting : Setting) (wish : Flag) → bytes_eq (bare_flag wish) (bare_name setting) ≡ false
+number_apart workers table = refl
+number_apart workers local = refl
+number_apart workers thorough = refl
+number_apart steps table = refl
+number_apart steps local = refl
+number_apart steps thorough = refl
+number_apart demo table = refl
+number_apart demo local = refl
+number_apart demo thorough = refl
+
 finished_said : (parts : List Part) → said_by (fold with_default (rows_for parts) option_rules) ≡ heads parts
 finished_said parts = same_given (said_by (fold with_default (rows_for parts) option_rules)) (heads parts)
-    (other_first (codes "JOURNAL") refl refl (rows_for parts) ∙ first_path parts)
-    (other_first (codes "workers") refl refl (rows_for parts) ∙ first_digits workers parts)
-    (other_first (codes "steps") refl refl (rows_for parts) ∙ first_digits steps parts)
-    (other_first (codes "demo") refl refl (rows_for parts) ∙ first_digits demo parts)
+    (other_first (codes "JOURNAL") path_apart (rows_for parts) ∙ first_path parts)
+    (other_first (codes "workers") (number_apart workers) (rows_for parts) ∙ first_digits workers parts)
+    (other_first (codes "steps") (number_apart steps) (rows_for parts) ∙ first_digits steps parts)
+    (other_first (codes "demo") (number_apart demo) (rows_for parts) ∙ first_digits demo parts)
     (ap is_wished (flag_text table parts) ∙ wish_said (has_row (codes "table") (rows_for parts)))
     (ap is_wished (flag_text local parts) ∙ wish_said (has_row (codes "local") (rows_for parts)))
+    (ap is_wished (flag_text thorough parts) ∙ wish_said (has_row (codes "thorough") (rows_for parts)))
 
 head_option : (o : Option Text) → head_of (option_to_list o) ≡ o
 head_option None = refl
@@ -309,6 +364,7 @@ rows_said parts given give =
     (ap head_of give.of_demo ∙ head_option given.demo)
     (flag_given table parts given.table give.of_table)
     (flag_given local parts given.local give.of_local)
+    (flag_given thorough parts given.thorough give.of_thorough)
 
 flag_single : (wish : Flag) (parts : List Part) → Single parts → count_by (is_flag wish) parts ≡ (if has_row (bare_flag wish) (rows_for parts) then 1 else 0)
 flag_single wish parts single =
@@ -324,4 +380,5 @@ rows_give parts single = subst (Give parts) (sym (finished_said parts)) (record 
   of_demo = head_list (flat_map (digits_in demo) parts) (let few = single (codes "demo") in let n = digit_times demo parts in omega (arith, few, n));
   of_table = flag_single table parts single;
   of_local = flag_single local parts single;
+  of_thorough = flag_single thorough parts single;
 })

@@ -1,5 +1,4 @@
--- Every word is the name of an option, one with its number, the wish for a table or a local search, no flag at all, or a flag that is
--- refused.
+-- Every word is the name of an option, one with its number, a flag that is a wish, no flag at all, or a flag that is refused.
 use Rattle.std.proofs.Common.{◌≡◌, ◌≢◌, ◌∙◌, inl, inr, sym, ap, subst, refl, ℕ, zero, suc, ◌<◌, Bool, true, false, List, [], ◌∷◌, ◌++◌, length, codes, Option, Some, None, arith}
 use Rattle.std.specs.Prelude.{◌⊎◌, ◌==◌, if◌then◌else◌, IfSome, slice_get}
 use Rattle.std.specs.Option.{option_map_or}
@@ -13,7 +12,7 @@ use Rattle.clap.specs.Lexer.{long_of, name_and_value, short_of}
 use Rattle.clap.specs.Walk.{arg_by_long, idle, option, positional, Row, Rule, Text, Waiting}
 use Rattle.clap.proofs.CutLemmas.{Lacks}
 use Rattle.clap.proofs.LexerLemmas.{name_and_value-at, name_and_value-without}
-use Rattle.solve_words.specs.Words.{demo, Flag, local, name_of, name_of_flag, Setting, steps, table, workers}
+use Rattle.solve_words.specs.Words.{demo, Flag, local, name_of, name_of_flag, Setting, steps, table, thorough, workers}
 use Rattle.solve_words.proofs.Rows.{bare_flag, bare_name, option_rules, shape}
 use Rattle.std.proofs.lemmas.Bool.Decides.{nat_tests}
 use Rattle.solve_words.proofs.Classes.{first_apart, held_of, IsBare}
@@ -79,7 +78,10 @@ names name = elim (cases_Bool (bytes_eq (codes "workers") name)) [
         | inl e ↦ flag_name table (is_named (codes "table") name e)
         | inr t ↦ elim (cases_Bool (bytes_eq (codes "local") name)) [
           | inl e ↦ flag_name local (is_named (codes "local") name e)
-          | inr l ↦ unknown (rw (w, s, d, t, l) refl)
+          | inr l ↦ elim (cases_Bool (bytes_eq (codes "thorough") name)) [
+            | inl e ↦ flag_name thorough (is_named (codes "thorough") name e)
+            | inr h ↦ unknown (rw (w, s, d, t, l, h) refl)
+          ]
         ]
       ]
     ]
@@ -107,6 +109,7 @@ module _ (z : ℕ) (zs : Text) where
   strange_flag : (wish : Flag) (v : Text) → name_and_value (z ∷ zs) ≡ (bare_flag wish, Some v) → IsStrange (45 ∷ 45 ∷ z ∷ zs)
   strange_flag table v e = record { fault = λ waiting rows pending. some_kind kind.TooManyValues [] _ (long_fault_is waiting rows pending (codes "table", Some v) e) }
   strange_flag local v e = record { fault = λ waiting rows pending. some_kind kind.TooManyValues [] _ (long_fault_is waiting rows pending (codes "local", Some v) e) }
+  strange_flag thorough v e = record { fault = λ waiting rows pending. some_kind kind.TooManyValues [] _ (long_fault_is waiting rows pending (codes "thorough", Some v) e) }
 
   -- without a value
   sort_name : Lacks 61 (z ∷ zs) → Sort (45 ∷ 45 ∷ z ∷ zs)
@@ -126,6 +129,7 @@ module _ (z : ℕ) (zs : Text) where
       long_flag : (wish : Flag) → 45 ∷ 45 ∷ bare_flag wish ≡ name_of_flag wish
       long_flag table = refl
       long_flag local = refl
+      long_flag thorough = refl
 
   -- with one
   sort_value : IsCut 61 (z ∷ zs) → Sort (45 ∷ 45 ∷ z ∷ zs)

@@ -8,7 +8,7 @@ use Rattle.solve_words.specs.declared.texts.Texts.{Texts}
 
 -- what a command asks for
 abbrev pub asked : Command → Asked
-asked (Search journal workers steps table local) = over_journal journal.now workers steps table local
+asked (Search journal workers steps table method) = over_journal journal.now workers steps table method
 asked (Demo number steps) = from_number number steps
 
 -- the text behind a reference, if there is one
@@ -24,4 +24,5 @@ given texts = record {
   demo = text_of texts.demo;
   table = texts.table;
   local = texts.local;
+  thorough = texts.thorough;
 }

@@ -4,6 +4,8 @@ use Rattle.std.specs.List.{flat_map, list_all}
 use Rattle.std.specs.Option.{option_to_list}
 use Rattle.std.specs.Char.{is_ascii_digit}
 use Rattle.std.specs.Str.Parse.{digits_value}
+use Rattle.solve_words.specs.declared.command.Method.{Method}
+use Rattle.solve_words.specs.declared.command.Method.TheVariants.{Greedy, Local, Thorough}
 
 -- ---- the parts of a command line
 
@@ -13,10 +15,12 @@ pub data Setting : Type 0 where
   steps : Setting
   demo : Setting
 
--- the flags, which are options without a number: the wish for a table of the plan, and the wish for a local search of plans
+-- the flags, which are options without a number: the wish for a table of the plan, that for a local search of plans, and that for a
+-- thorough search
 pub data Flag : Type 0 where
   table : Flag
   local : Flag
+  thorough : Flag
 
 -- what may stand behind `solve`: the path of a journal, an option with the digits of its number, and a flag
 pub data Part : Type 0 where
@@ -34,6 +38,7 @@ name_of demo = codes "--demo"
 abbrev pub name_of_flag : Flag → List ℕ
 name_of_flag table = codes "--table"
 name_of_flag local = codes "--local"
+name_of_flag thorough = codes "--thorough"
 
 -- a part is these words; the digits of an option are its next word, or stand behind `=` in the same one
 abbrev pub IsSpelled : Part → List (List ℕ) → Type 0
@@ -70,6 +75,7 @@ digits_in setting (flag wish) = []
 abbrev pub is_same_flag : Flag → Flag → Bool
 is_same_flag table table = true
 is_same_flag local local = true
+is_same_flag thorough thorough = true
 is_same_flag _ _ = false
 
 -- whether a part is that flag
@@ -86,6 +92,7 @@ pub record Given : Type 0 where
   pub demo : Option (List ℕ)
   pub table : Bool
   pub local : Bool
+  pub thorough : Bool
 
 -- parts give that: each kind of part is among them at most once
 pub record Give (parts : List Part) (given : Given) : Type 0 where
@@ -95,6 +102,7 @@ pub record Give (parts : List Part) (given : Given) : Type 0 where
   pub of_demo : flat_map (digits_in demo) parts ≡ option_to_list given.demo
   pub of_table : count_by (is_flag table) parts ≡ (if given.table then 1 else 0)
   pub of_local : count_by (is_flag local) parts ≡ (if given.local then 1 else 0)
+  pub of_thorough : count_by (is_flag thorough) parts ≡ (if given.thorough then 1 else 0)
 
 -- words give that: they are the words of parts, in any order, each kind of part at most once
 abbrev pub IsGivenBy : List (List ℕ) → Given → Type 0
@@ -130,10 +138,10 @@ abbrev pub number_in : Setting → List ℕ → Option ℕ
 number_in setting = number_within (least setting) (most setting)
 
 -- what the words ask for: a search over the journal at a path, by so many workers where that is said, of so many steps, with the
--- table of its plan or without, and with a local search of plans or without; or a demonstration, which is a search without a
--- journal, of so many steps, for the instance made from a number
+-- table of its plan or without, and by a method; or a demonstration, which is a search without a journal, of so many steps, for the
+-- instance made from a number
 pub data Asked : Type 0 where
-  over_journal : List ℕ → Option ℕ → ℕ → Bool → Bool → Asked
+  over_journal : List ℕ → Option ℕ → ℕ → Bool → Method → Asked
   from_number : ℕ → ℕ → Asked
 
 -- the budget of steps: a thousand where none is given
@@ -146,15 +154,25 @@ abbrev pub workers_in : Option (List ℕ) → Option (Option ℕ)
 workers_in None = Some None
 workers_in (Some digits) = option_map (λ n. Some n) (number_in workers digits)
 
+-- the method that the flags `--local` and `--thorough` ask for, where they are there or not; there is none for both
+abbrev pub method_of : Bool → Bool → Option Method
+method_of false false = Some Greedy
+method_of true false = Some Local
+method_of false true = Some Thorough
+method_of true true = None
+
+abbrev pub method_in : Given → Option Method
+method_in given = method_of given.local given.thorough
+
 -- a search over the journal at a path
 abbrev pub search_on : List ℕ → Given → Option Asked
 search_on path given = if is_journal path
-    then option_and_then (λ count. option_map (λ budget. over_journal path count budget given.table given.local) (budget_in given.steps)) (workers_in given.workers)
+    then option_and_then (λ count. option_and_then (λ budget. option_map (λ method. over_journal path count budget given.table method) (method_in given)) (budget_in given.steps)) (workers_in given.workers)
     else None
 
 -- a demonstration has neither workers nor a flag
 abbrev pub demonstration_of : List ℕ → Given → Option Asked
-demonstration_of digits given = if is_some given.workers || (given.table || given.local) then None
+demonstration_of digits given = if is_some given.workers || (given.table || (given.local || given.thorough)) then None
     else option_and_then (λ n. option_map (λ budget. from_number n budget) (budget_in given.steps)) (number_in demo digits)
 
 -- exactly one of a journal and a demonstration is asked for

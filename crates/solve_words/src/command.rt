@@ -2,7 +2,7 @@
 
 ghost use Rattle.std.specs.Prelude.{◌≡◌, map, option_map, string_bytes, IfOk};
 ghost use Rattle.solve_words.specs.Asked.{asked, given, text_of};
-ghost use Rattle.solve_words.specs.Words.{asked_in, budget_in, demonstration_of, is_journal, number_in, search_on, workers_in, IsReadAs};
+ghost use Rattle.solve_words.specs.Words.{asked_in, budget_in, demonstration_of, is_journal, method_in, method_of, number_in, search_on, workers_in, IsReadAs};
 ghost use Rattle.solve_words.specs.Words.{demo as demo_setting};
 
 use crate::numbers::number_within;
@@ -21,17 +21,28 @@ const STEPS_USUAL: u64 = 1_000;
 /// The greatest number from which an instance may be made.
 const DEMO_MOST: u64 = 999_999;
 
+/// How a search looks for plans and prices.
+#[derive(Clone, Copy, Debug, Drop)]
+pub enum Method {
+    /// The greedy plan is taken as it is.
+    Greedy,
+    /// Moves make the greedy plan cheaper.
+    Local,
+    /// Plans, prices and the classes to split are searched for at length, so a step takes longer and says more.
+    Thorough,
+}
+
 /// What the words of a command line ask for.
 #[derive(Clone, Copy, Debug, Drop)]
 pub enum Command<'a> {
     /// A search over the journal at a path, by so many workers where the words say how many, of at most so many steps, with the
-    /// table of its plan or without, and with a local search of plans or without.
+    /// table of its plan or without, and by a method.
     Search {
         journal: &'a str,
         workers: Option<u16>,
         steps: u64,
         table: bool,
-        local: bool,
+        method: Method,
     },
     /// A search without a journal, of at most so many steps, for the instance that is made from a number.
     Demo {
@@ -81,6 +92,25 @@ fn demo_in(digits: &str) -> Option<u32>
     Some(number as u32)
 }
 
+/// The method that flags ask for: there is none for both.
+fn method_of(local: bool, thorough: bool) -> Option<Method>
+    ensures { result ≡ method_of local thorough }
+{
+    match (local, thorough) {
+        (false, false) => Some(Method::Greedy),
+        (true, false) => Some(Method::Local),
+        (false, true) => Some(Method::Thorough),
+        (true, true) => None,
+    }
+}
+
+/// The method that texts ask for.
+fn method_in(texts: &Texts) -> Option<Method>
+    ensures { result ≡ method_in (given texts.now) }
+{
+    method_of(texts.local, texts.thorough)
+}
+
 /// The search over the journal at a path.
 fn search_on<'a>(journal: &'a str, texts: &Texts<'a>) -> Option<Command<'a>>
     ensures { option_map asked result ≡ search_on journal.now (given texts.now) }
@@ -91,13 +121,13 @@ fn search_on<'a>(journal: &'a str, texts: &Texts<'a>) -> Option<Command<'a>>
     let workers = workers_in(texts.workers)?;
     let steps = budget_in(texts.steps)?;
     let table = texts.table;
-    let local = texts.local;
+    let method = method_in(texts)?;
     Some(Command::Search {
         journal,
         workers,
         steps,
         table,
-        local,
+        method,
     })
 }
 
@@ -105,7 +135,7 @@ fn search_on<'a>(journal: &'a str, texts: &Texts<'a>) -> Option<Command<'a>>
 fn demonstration_of<'a>(digits: &str, texts: &Texts<'a>) -> Option<Command<'a>>
     ensures { option_map asked result ≡ demonstration_of digits.now (given texts.now) }
 {
-    if texts.workers.is_some() || texts.table || texts.local {
+    if texts.workers.is_some() || texts.table || texts.local || texts.thorough {
         return None;
     }
     let number = demo_in(digits)?;
@@ -126,8 +156,8 @@ fn asked_in<'a>(texts: &Texts<'a>) -> Option<Command<'a>>
 
 /// What the words of a command line ask for, and none where they are no command. Want of memory is the one refusal.
 ///
-/// The words are `solve JOURNAL [--workers W] [--steps B] [--table] [--local]` or `solve --demo N [--steps B]`: `solve` comes
-/// first, and the rest in any order, each at most once. The number of an option is the next word, or stands behind `=` in the
+/// The words are `solve JOURNAL [--workers W] [--steps B] [--table] [--local | --thorough]` or `solve --demo N [--steps B]`:
+/// `solve` comes first, and the rest in any order, each at most once. The number of an option is the next word, or stands behind `=` in the
 /// option's word. A number is one to ten decimal digits. W is from 1 to 9,999, B at most 4,000,000,000 and 1,000 where it isn't
 /// given, and N at most 999,999. JOURNAL isn't empty and doesn't begin with `-`.
 pub fn command_of<'a>(alloc: Global, words: &'a [String]) -> Result<Option<Command<'a>>, AllocError>

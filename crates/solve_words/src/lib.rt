@@ -7,4 +7,4 @@ mod numbers;
 mod tests;
 mod texts;
 
-pub use command::{Command, command_of};
+pub use command::{Command, Method, command_of};

@@ -1,6 +1,6 @@
 //! What no clause says: that words are read where there is memory.
 
-use crate::{Command, command_of};
+use crate::{Command, Method, command_of};
 use std::alloc::{AllocError, Global};
 use std::test::Fail;
 
@@ -25,7 +25,26 @@ fn a_search_is_asked_for(rt: HostRuntime) -> Result<(), Fail> {
                 workers: Some(2),
                 steps: 3,
                 table: true,
-                local: true,
+                method: Method::Local,
+            }
+        )
+    );
+    Ok(())
+}
+
+#[test]
+fn a_thorough_search_is_asked_for(rt: HostRuntime) -> Result<(), Fail> {
+    let words = words_of(rt.alloc(), "solve --thorough J")?;
+    let command = command_of(rt.alloc(), words.as_slice())?.ok_or("no command")?;
+    assert!(rt;
+        matches!(
+            command,
+            Command::Search {
+                journal: "J",
+                workers: None,
+                steps: 1_000,
+                table: false,
+                method: Method::Thorough,
             }
         )
     );

@@ -21,6 +21,7 @@ pub(crate) struct Texts<'a> {
     pub demo: Option<&'a str>,
     pub table: bool,
     pub local: bool,
+    pub thorough: bool,
 }
 
 /// The options behind `solve`.
@@ -37,6 +38,9 @@ fn options<'a>(alloc: Global) -> Result<Command<'a>, AllocError>
     let local = Arg::new(alloc, "local")
         .long("local")
         .action(ArgAction::SetTrue);
+    let thorough = Arg::new(alloc, "thorough")
+        .long("thorough")
+        .action(ArgAction::SetTrue);
     Command::new(alloc, "solve")
         .no_binary_name(true)
         .disable_help_flag(true)
@@ -45,7 +49,8 @@ fn options<'a>(alloc: Global) -> Result<Command<'a>, AllocError>
         .arg(steps)?
         .arg(demo)?
         .arg(table)?
-        .arg(local)
+        .arg(local)?
+        .arg(thorough)
 }
 
 /// Whether a word is `--`.
@@ -81,6 +86,7 @@ pub(crate) fn texts_in<'a>(
             demo: matches.get_str("demo"),
             table: matches.get_flag("table"),
             local: matches.get_flag("local"),
+            thorough: matches.get_flag("thorough"),
         })),
         Err(fault) if fault.kind() == ErrorKind::OutOfMemory => Err(AllocError),
         Err(_) => Ok(None),

@@ -1,0 +1,31 @@
+use Rattle.std.proofs.Common.{◌≡◌, ◌∙◌, ◌<◌, ◌^◌, ℕ, ap, arith, length, List, Option, Some, subst, sym}
+use Rattle.shift_instance.specs.declared.Row.{Row}
+use Rattle.certificate.specs.declared.Cert.{Cert}
+use Rattle.certificate.specs.declared.CertStatus.{CertStatus}
+use Rattle.certificate.specs.declared.proof_lines.Line.{Line}
+use Rattle.certificate.specs.History.{lines_of}
+use Rattle.certificate.specs.Text.{Agrees}
+use Rattle.search_core.proofs.Fits.{rows_fit}
+use Rattle.solve_runs.specs.Report.{cert_of, status_of_book}
+use Rattle.solve_runs.proofs.Accepting.{has_text}
+use Rattle.solve_runs.proofs.report.cert_of.Goals as goal
+
+cert_is : (c : Cert) (s : CertStatus) (p : Option (ℕ × List Row)) (n : ℕ) (ls : List Line) → c.status ≡ s → c.plan ≡ p → c.bound ≡ n → c.lines ≡ ls → c ≡ record { status = s; plan = p; bound = n; lines = ls }
+cert_is c s p n ls status plan bound lines =
+    ap (λ x. record c { status = x }) status
+    ∙ ap (λ x. record c { status = s; plan = x }) plan
+    ∙ ap (λ x. record c { status = s; plan = p; bound = x }) bound
+    ∙ ap (λ x. record c { status = s; plan = p; bound = n; lines = x }) lines
+
+pub returns-clause-agrees : goal.returns-clause-agrees
+returns-clause-agrees g c = λ valid.
+    let v = c.args.book.now.log in
+    let e = c.in_ok-cert.ensures in
+    let is : c.in_ok-cert.cert ≡ cert_of v.history v.book =
+    cert_is c.in_ok-cert.cert (status_of_book v.book) (Some (v.book.cost, v.book.best)) _ (lines_of v.history)
+    (e.status ∙ c.status_of.ensures)
+    (e.plan ∙ ap (λ (n : ℕ). Some (n, c.best.result.now)) c.best_cost.ensures ∙ ap (λ (rows : List Row). Some (v.book.cost, rows)) c.best.ensures.best)
+    (e.bound ∙ c.floor.ensures.floor)
+    (e.lines ∙ ap lines_of c.history-posts.ensures.history) in
+    let few : length v.history < 2 ^ 32 = omega (arith, c.history-posts.ensures.few) in
+    subst Agrees (sym is) (has_text v.instance v.history v.book valid few (rows_fit v.instance v.book.best valid c.best.ensures.sound.legal).0 c.history-posts.ensures.folds)

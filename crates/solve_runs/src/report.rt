@@ -1,0 +1,65 @@
+//! What a run writes of its book.
+
+ghost use Rattle.std.specs.Prelude.{◌≡◌, ◌++◌, IfOk};
+ghost use Rattle.certificate.specs.Departing.{Spells};
+ghost use Rattle.certificate.specs.Text.{Agrees};
+ghost use Rattle.shift_instance.specs.Valid.{IsValid};
+ghost use Rattle.solve_runs.specs.Report.{cert_of, output_of, status_of_book};
+
+use break_rules::NoMemory;
+use certificate::{Cert, CertStatus, of_history};
+use plan_base::Disk;
+use rota_writer::{report, table};
+use search_book::Book;
+use shift_instance::Instance;
+use std::alloc::Global;
+
+/// What is said of a book.
+fn status_of<D: Disk>(book: &Book<D>) -> CertStatus
+    ensures { result ≡ status_of_book book.now.log.book }
+{
+    if book.finished() {
+        CertStatus::Optimal
+    } else {
+        CertStatus::Stopped
+    }
+}
+
+/// The certificate of a book.
+fn cert_of<D: Disk>(alloc: Global, book: &Book<D>) -> Result<Cert, NoMemory>
+    ensures is { IfOk result (λ cert. cert ≡ cert_of book.now.log.history book.now.log.book) }
+    ensures agrees { IfOk result (λ cert. IsValid book.now.log.instance → Agrees cert) }
+{
+    let posts = book.history();
+    let cert = of_history(
+        alloc,
+        posts,
+        status_of(book),
+        book.best(),
+        book.best_cost(),
+        book.floor(),
+    )?;
+    Ok(cert)
+}
+
+/// The report of a book, with the table of its plan where that is asked for: a text of the book's certificate.
+pub(crate) fn output_of<D: Disk>(
+    alloc: Global,
+    instance: &Instance,
+    book: &Book<D>,
+    with_table: bool,
+) -> Result<Vec<u8>, NoMemory>
+    requires same { book.now.log.instance ≡ instance.now }
+    ensures text { IfOk result (λ bytes. bytes.items ≡ output_of book.now.log.instance with_table book.now.log.history book.now.log.book) }
+    ensures reads { IfOk result (λ bytes. Spells bytes.items (cert_of book.now.log.history book.now.log.book)) }
+{
+    // a legal plan of a valid instance has few rows
+    let _heads = instance.heads();
+    let cert = cert_of(alloc, book)?;
+    let mut bytes = report(alloc, &cert)?;
+    if with_table {
+        let lines = table(alloc, instance, book.best())?;
+        bytes.extend_from_slice(lines.as_slice())?;
+    }
+    Ok(bytes)
+}
