@@ -13,8 +13,7 @@ import subprocess
 import sys
 import tempfile
 
-MOST_COST = 10**15
-MOST_ROTAS, MOST_SPAN = 1000, 8  # beyond these the rotas aren't enumerated, and a search isn't taken to its end
+MOST_COST, MOST_ROTAS, MOST_SPAN = 10**15, 1000, 8  # beyond the last two the rotas aren't enumerated, and a search isn't taken to its end
 PLAIN_RULE = {"lead": 0, "tail": 0, "work_min": 1, "work_max": 288, "long_work": 288, "long_rest": 1, "size_min": 1, "size_max": 48, "totals": []}
 Cut = collections.namedtuple("Cut", "place at_least number")  # its place: a shift, a day and a beginning of a break list
 Report = collections.namedtuple("Report", "status cost bound rows lines")  # where there is no plan, its cost is "-" and its rows are None
@@ -56,8 +55,9 @@ class Reading:
         self.day_slots = 1440 // document["slot_minutes"]
         to, kinds = (lambda kind, name: range(kind[name + "_min"], kind[name + "_max"] + 1)), document["types"]
         self.shifts = [(kind.get("breaks") or PLAIN_RULE, length, start) for kind in kinds for start in to(kind, "start") for length in to(kind, "len")]
-        self.lists = [[breaks for breaks in every_list(length) if is_legal(rule, length, breaks)] for rule, length, _ in self.shifts]
         self.places = [(shift, day) for shift in range(len(self.shifts)) for day in range(self.days)]
+
+    lists = functools.cached_property(lambda self: [[list for list in every_list(size) if is_legal(rule, size, list)] for rule, size, _ in self.shifts])
 
     def slots_worked(self, shift, day, breaks):
         rule, length, begin = self.shifts[shift]
