@@ -13,6 +13,7 @@ import time
 TOP = os.path.dirname(os.path.dirname(os.path.abspath(__file__)))
 OWN = "worker_gate advice advisers search_book instance_json shift_instance head_splits break_rules plan_base"
 STEPS = 2000
+JOURNAL = "/dev/shm/workers.journal"
 
 PROOFS = {"searched/Answers.antt": """use denote.Param.Send.{sendable}
 use Rattle.std.proofs.Crossing.{crosses}
@@ -21,6 +22,14 @@ use Rattle.run_workers.proofs.searched.Goals as goal
 
 pub run_workers-book-requires-send-B : goal.run_workers-book-requires-send-B
 run_workers-book-requires-send-B g c κs within = search (book_send, crosses, sendable) depth 60 fits 20000
+""", "searched/Invariants.antt": """use Rattle.std.proofs.Common.{◌≡◌, All, vec_len}
+use Rattle.run_workers.proofs.searched.Given as goal
+
+abbrev pub invariant-loop : goal.invariant-loop
+invariant-loop g l = record {
+  new : All (λ s. (s.told ≡ 0) × (s.share ≡ 0)) l.seats.items;
+  len : vec_len l.seats ≡ l.counter;
+}
 """, "SlowAdviser/advise/Invariants.antt": """use Rattle.std.proofs.Common.{◌≡◌}
 use Rattle.run_workers.proofs.SlowAdviser.advise.Given as goal
 
@@ -28,7 +37,7 @@ abbrev pub invariant-loop : goal.invariant-loop
 invariant-loop l = l.self.adviser ≡ l.initial.self.adviser
 """}
 
-PROGRAM = """//! A search by several workers: `run_workers STEPS WORKERS TIMES`.
+PROGRAM = """//! A search by several workers: `run_workers STEPS WORKERS TIMES`, with its journal in the file `/dev/shm/workers.journal`.
 #![tactic(auto)]
 
 ghost use Rattle.std.specs.Prelude.{◌≡◌, ◌+◌, ◌<◌, ◌≤◌, ◌^◌, All, IfOk, OnOk, length, vec_len};
@@ -38,7 +47,7 @@ use advice::{Advice, Adviser, Ask, Told};
 use advisers::Greedy;
 use break_rules::NoMemory;
 use instance_json::{canonical, read};
-use plan_base::MemDisk;
+use plan_base::FileDisk;
 use search_book::Book;
 use shift_instance::Instance;
 use std::alloc::{AllocError, Global};
@@ -48,7 +57,7 @@ use std::sync::Wait;
 use std::thread::Threads;
 use worker_gate::{Open, Seat, run_workers};
 
-const LIMIT: u32 = 1 << 30;
+const LIMIT: u32 = 1 << 26;
 const DOCUMENT: &str = DOCUMENT_TEXT;
 
 /// An adviser that makes its advice so many times.
@@ -86,7 +95,13 @@ fn add_seat(seats: &mut Vec<Seat>, adviser: Box<dyn Adviser + Send>) -> Result<(
 }
 
 /// The steps taken in a search of so many steps at most, by so many workers.
-fn searched<R: Abort + Threads + Wait + Sync>(rt: &R, alloc: Global, asked: &[u32]) -> Result<u64, NoMemory> {
+fn searched<R: Abort + Threads + Wait + Sync>(
+    host: &HostRuntime,
+    rt: &R,
+    path: String,
+    asked: &[u32],
+) -> Result<u64, NoMemory> {
+    let alloc = host.alloc();
     assert!(rt; asked.len() == 3);
     let (steps, workers, times) = (u64::from(asked[0]), asked[1], asked[2]);
     assert!(rt; 0 < workers && workers <= 16);
@@ -100,7 +115,7 @@ fn searched<R: Abort + Threads + Wait + Sync>(rt: &R, alloc: Global, asked: &[u3
         let adviser = Greedy::new(alloc);
         add_seat(&mut seats, Box::new(alloc, Slow { adviser, times })?)?;
     }
-    let disk = MemDisk::new(alloc, Vec::new(alloc), Vec::new(alloc));
+    let disk = FileDisk::new(host, path);
     match Book::open(alloc, &instance, disk, steps, LIMIT) {
         Ok(book) => {
             let (_book, seats, _end) = run_workers(rt, alloc, &instance, book, seats, &Open);
@@ -129,7 +144,8 @@ fn asked(rt: &HostRuntime) -> Result<Vec<u32>, NoMemory> {
 
 fn measured<R: Abort + Threads + Wait + Sync>(host: &HostRuntime, rt: &R) -> Result<u64, NoMemory> {
     let numbers = asked(host)?;
-    searched(rt, host.alloc(), numbers.as_slice())
+    let path = String::from_str(host.alloc(), "/dev/shm/workers.journal")?;
+    searched(host, rt, path, numbers.as_slice())
 }
 
 fn main(rt: HostRuntime) -> ExitCode {
@@ -193,7 +209,9 @@ def build(folder):
 
 
 def run(binary, *numbers):
-    """Seconds of a run in a process of its own, and the commits of its search."""
+    """Seconds of a run in a process of its own over a new journal in memory, and the commits of its search."""
+    if os.path.exists(JOURNAL):
+        os.remove(JOURNAL)
     begin = time.perf_counter()
     done = subprocess.run([binary, *map(str, numbers)], stdout=subprocess.PIPE, text=True)
     if done.returncode != 0:
