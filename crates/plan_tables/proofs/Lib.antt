@@ -1,0 +1,2 @@
+pub mod RowDuties
+pub mod SlotSums

@@ -1,0 +1,10 @@
+//! The words of the command line that ask for a plan or for a report to be shown.
+#![tactic(auto)]
+
+mod names;
+#[cfg(test)]
+mod tests;
+mod wanted;
+
+pub use names::{folder_beside, is_same_file, journal_beside};
+pub use wanted::{PlanWords, ShowWords, Wanted, wanted_by};
