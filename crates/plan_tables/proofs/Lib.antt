@@ -1,2 +1,0 @@
-pub mod RowDuties
-pub mod SlotSums
