@@ -1,0 +1,38 @@
+//! The page of a plan.
+ghost use Rattle.std.specs.Prelude.{◌≡◌, IsTrue};
+ghost use Rattle.shift_instance.specs.Rota.{are_legal_rows};
+
+use crate::days::add_days;
+use crate::head::add_head;
+use crate::overview::add_overview;
+use crate::staffing::staffed_slots;
+use break_rules::NoMemory;
+use plan_tables::{Attendance, Summary, rows_by_start};
+use shift_instance::{Instance, Rows};
+use std::alloc::Global;
+
+/// The page of a legal plan: a heading, a line on how the plan stands, the numbers of its summary, and for each day the need as a
+/// line over the employees as bars, with the rows of duties and their breaks below.
+///
+/// It is one file of hypertext that takes nothing from elsewhere and runs nothing. Texts may hold any characters. The numbers in its
+/// tables are those of the summary of the plan (`Summary::new`), and its pictures show the cover of the plan (`Attendance`).
+pub fn plan_page(
+    alloc: Global,
+    instance: &Instance,
+    rows: &Rows,
+    heading: &str,
+    standing: &str,
+) -> Result<String, NoMemory>
+    requires { IsTrue (are_legal_rows instance.now rows.now) }
+{
+    let attendance = Attendance::new(alloc, instance, rows)?;
+    let slots = staffed_slots(alloc, instance, &attendance)?;
+    let ordered = rows_by_start(alloc, instance, rows)?;
+    let summary = Summary::new(alloc, instance, rows)?;
+    let mut page = String::new(alloc);
+    add_head(&mut page, heading)?;
+    add_overview(&mut page, instance, &summary, standing)?;
+    add_days(&mut page, instance, &summary, &slots, &ordered)?;
+    page.push_str("</body>\n</html>\n")?;
+    Ok(page)
+}

@@ -1,0 +1,4 @@
+pub mod RowDuties
+pub mod SlotSums
+pub mod Starts
+pub mod Steps

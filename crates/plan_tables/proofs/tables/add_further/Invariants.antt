@@ -1,0 +1,8 @@
+use Rattle.std.proofs.Common.{◌≡◌, ◌++◌, take, codes, string_bytes}
+use Rattle.std.specs.List.{flat_map}
+use Rattle.rota_writer.specs.Table.{break_text}
+use Rattle.plan_tables.proofs.tables.add_further.Given as goal
+
+abbrev pub invariant-loop-next : goal.invariant-loop-next
+invariant-loop-next l =
+    string_bytes l.text ≡ string_bytes l.fn.text ++ flat_map (λ b. codes " " ++ break_text l.instance l.start b) (take l.next-index l.breaks)

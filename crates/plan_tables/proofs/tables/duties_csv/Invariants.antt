@@ -1,0 +1,8 @@
+use Rattle.std.proofs.Common.{◌≡◌, ◌++◌, map, take}
+use Rattle.std.specs.List.{flat_map}
+use Rattle.csv.specs.Writing.{default_writer, row_text}
+use Rattle.plan_tables.specs.Records.{duty_columns, duty_record}
+use Rattle.plan_tables.proofs.tables.duties_csv.Given as goal
+
+abbrev pub invariant-loop-row : goal.invariant-loop-row
+invariant-loop-row l = l.records ≡ row_text default_writer duty_columns ++ flat_map (duty_record l.instance) (map (λ r. r.now) (take l.row-index l.row-items))

@@ -1,0 +1,10 @@
+use Rattle.std.proofs.Common.{◌≡◌, ◌≤◌, count_by}
+use Rattle.shift_instance.specs.Problem.{below}
+use Rattle.shift_instance.specs.Rota.{is_used, rota_of}
+use Rattle.plan_tables.proofs.tallies.shifts_used.Given as goal
+
+abbrev pub invariant-loop-shift : goal.invariant-loop-shift
+invariant-loop-shift l = record {
+  used : l.used ≡ count_by (is_used (rota_of l.rows)) (below l.shift);
+  few : l.used ≤ l.shift;
+}

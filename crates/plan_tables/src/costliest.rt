@@ -1,0 +1,77 @@
+//! The slots that cost most.
+ghost use Rattle.std.specs.Prelude.{◌≡◌, ◌<◌, IfOk};
+ghost use Rattle.shift_instance.specs.Problem.{slots};
+ghost use Rattle.plan_tables.specs.Costliest.{AreCostliest, costly_slot, costly_slots};
+
+use crate::Attendance;
+use break_rules::NoMemory;
+use shift_instance::Instance;
+use std::alloc::Global;
+use std::cmp::Reverse;
+
+/// A slot with its employees and what it costs.
+#[derive(Clone, Copy, Debug, PartialEq, Eq, Drop)]
+pub struct CostlySlot {
+    /// The slot, counted from the beginning of the planning period.
+    pub slot: usize,
+    /// The employees that are wanted.
+    pub wanted: u32,
+    /// The employees that work.
+    pub working: u32,
+    /// What the slot costs.
+    pub cost: u64,
+}
+
+/// A slot with what it costs.
+fn costly_slot(instance: &Instance, attendance: &Attendance, t: usize) -> CostlySlot
+    requires instance { attendance.now.instance ≡ instance.now }
+    requires slot { t < slots instance.now }
+    ensures { result ≡ costly_slot instance.now attendance.now.duties t }
+{
+    let (excess, shortage, _) = instance.weights();
+    let wanted = instance.need(t);
+    let working = attendance.working(t);
+    let over = working.saturating_sub(wanted);
+    let under = wanted.saturating_sub(working);
+    CostlySlot {
+        slot: t,
+        wanted,
+        working,
+        cost: u64::from(excess) * u64::from(over) + u64::from(shortage) * u64::from(under),
+    }
+}
+
+/// The slots that cost something, from the first.
+fn costly_slots(
+    alloc: Global,
+    instance: &Instance,
+    attendance: &Attendance,
+) -> Result<Vec<CostlySlot>, NoMemory>
+    requires { attendance.now.instance ≡ instance.now }
+    ensures { IfOk result (λ found. found.items ≡ costly_slots instance.now attendance.now.duties) }
+{
+    let mut found = Vec::new(alloc);
+    for t in 0..instance.slots() {
+        let slot = costly_slot(instance, attendance, t);
+        if 0 < slot.cost {
+            found.push(slot)?;
+        }
+    }
+    Ok(found)
+}
+
+/// At most so many of the slots that cost something: those that cost most, and of equal ones the earliest.
+pub(crate) fn costliest(
+    alloc: Global,
+    instance: &Instance,
+    attendance: &Attendance,
+    most: usize,
+) -> Result<Vec<CostlySlot>, NoMemory>
+    requires { attendance.now.instance ≡ instance.now }
+    ensures { IfOk result (λ found. AreCostliest instance.now attendance.now.duties most found.items) }
+{
+    let mut found = costly_slots(alloc, instance, attendance)?;
+    found.sort_by_key(|slot| Reverse(slot.cost))?;
+    found.truncate(most);
+    Ok(found)
+}
