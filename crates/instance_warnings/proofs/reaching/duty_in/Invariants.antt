@@ -1,0 +1,6 @@
+use Rattle.std.proofs.Common.{ℕ, ◌<◌}
+use Rattle.instance_warnings.specs.Reached.{AvoidsShift}
+use Rattle.instance_warnings.proofs.reaching.duty_in.Given as goal
+
+abbrev pub invariant-loop-shift : goal.invariant-loop-shift
+invariant-loop-shift l = (k : ℕ) → k < l.shift → AvoidsShift l.instance l.t k

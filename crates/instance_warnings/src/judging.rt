@@ -1,0 +1,142 @@
+//! All warnings of an instance.
+ghost use Rattle.std.specs.Prelude.{◌≡◌, ◌++◌, ◌≤◌, List, All, length, IfOk, OnOk, IsTrue};
+ghost use Rattle.std.specs.List.{flat_map, enumerate_from};
+ghost use Rattle.break_rules.specs.Ranges.{IsRule};
+ghost use Rattle.shift_instance.specs.declared.Duty.{Duty};
+ghost use Rattle.shift_instance.specs.Listing.{IsListed};
+ghost use Rattle.shift_instance.specs.Rota.{cost, is_legal_rota};
+ghost use Rattle.instance_warnings.specs.Reached.{unreached, unreached_cost};
+ghost use Rattle.instance_warnings.specs.Warnings.{greatest_need, kind_warning, slot_warnings, head_warnings, weight_warnings, warning_if, warnings_of};
+
+use crate::breaks::{culprit, has_lists};
+use crate::reaching::unreached;
+use crate::slots::Slots;
+use crate::telling::Warning;
+use break_rules::NoMemory;
+use shift_instance::{Instance, TypeParts};
+use std::alloc::Global;
+
+/// Adds the warning of a type where no length of it has a legal break list.
+fn push_kind(
+    alloc: Global,
+    number: u16,
+    kind: &TypeParts,
+    list: &mut Vec<Warning>,
+) -> Result<(), NoMemory>
+    requires listed { IsListed kind.now }
+    requires rule { IsRule kind.now.rule }
+    ensures { OnOk result (list.new.items ≡ list.old.items ++ kind_warning (number, kind.now)) }
+{
+    if has_lists(alloc, kind, &kind.rule)? {
+        return Ok(());
+    }
+    let part = culprit(alloc, kind)?;
+    list.push(Warning::NoBreaks { kind: number, part })?;
+    Ok(())
+}
+
+/// Adds the warnings of types without a legal break list.
+fn push_kinds(alloc: Global, kinds: &[TypeParts], list: &mut Vec<Warning>) -> Result<(), NoMemory>
+    requires few { length kinds.now ≤ 16 }
+    requires listed { All IsListed kinds.now }
+    requires rules { All (λ k. IsRule k.rule) kinds.now }
+    ensures { OnOk result (list.new.items ≡ list.old.items ++ flat_map kind_warning (enumerate_from 0 kinds.now)) }
+{
+    for (k, kind) in kinds.iter().enumerate() {
+        push_kind(alloc, k as u16, kind, list)?;
+    }
+    Ok(())
+}
+
+/// What some slots with a need cost at least if no duty works in them.
+fn cost_of(instance: &Instance, slots: &[u16]) -> u64
+    requires { slots.now ≡ unreached instance.now }
+    ensures { result ≡ unreached_cost instance.now }
+{
+    let (_, shortage, _) = instance.weights();
+    let mut sum = 0;
+    for t in slots {
+        sum += u64::from(shortage) * u64::from(instance.need(usize::from(*t)));
+    }
+    sum
+}
+
+/// Adds the warning of slots that no duty can reach.
+fn push_slots(alloc: Global, instance: &Instance, list: &mut Vec<Warning>) -> Result<(), NoMemory>
+    ensures { OnOk result (list.new.items ≡ list.old.items ++ slot_warnings instance.now) }
+{
+    let slots = unreached(alloc, instance)?;
+    if !slots.is_empty() {
+        let least = cost_of(instance, &slots);
+        let slots = Slots::new(slots);
+        list.push(Warning::Unreached { slots, least })?;
+    }
+    Ok(())
+}
+
+/// The greatest need of a slot.
+fn greatest_need(instance: &Instance) -> u32
+    ensures need { result ≡ greatest_need instance.now }
+    ensures limit { result ≤ 10000 }
+{
+    let mut greatest = 0u32;
+    for t in 0..instance.slots() {
+        greatest = greatest.max(instance.need(t));
+    }
+    greatest
+}
+
+/// Adds the warning of a greatest number of duties that is far above every need.
+fn push_heads(instance: &Instance, list: &mut Vec<Warning>) -> Result<(), NoMemory>
+    ensures { OnOk result (list.new.items ≡ list.old.items ++ head_warnings instance.now) }
+{
+    let most = instance.heads();
+    let need = greatest_need(instance);
+    if 2 * need < u32::from(most) {
+        list.push(Warning::Heads { most, need })?;
+    }
+    Ok(())
+}
+
+/// Adds a warning where there is cause for it.
+fn push_if(list: &mut Vec<Warning>, cause: bool, warning: Warning) -> Result<(), NoMemory>
+    ensures { OnOk result (list.new.items ≡ list.old.items ++ warning_if cause warning) }
+{
+    if cause {
+        list.push(warning)?;
+    }
+    Ok(())
+}
+
+/// Adds the warnings of weights that are 0.
+fn push_weights(instance: &Instance, list: &mut Vec<Warning>) -> Result<(), NoMemory>
+    ensures { OnOk result (list.new.items ≡ list.old.items ++ weight_warnings instance.now) }
+{
+    let (excess, shortage, shift) = instance.weights();
+    push_if(list, excess == 0, Warning::NoExcess)?;
+    push_if(list, shortage == 0, Warning::NoShortage)?;
+    push_if(list, shift == 0, Warning::NoShift)
+}
+
+/// What a planner should know of an instance before it is searched: the types without a legal break list, in their order;
+/// the slots with a need that no duty can reach; a greatest number of duties that is more than twice the greatest need; and
+/// weights of 0. The list is empty where there is nothing to say. Want of memory is the one refusal.
+pub fn warnings(alloc: Global, instance: &Instance) -> Result<Vec<Warning>, NoMemory>
+    ensures { IfOk result (λ list. list.items ≡ warnings_of instance.now) }
+{
+    let mut list = Vec::new(alloc);
+    let parts = instance.parts();
+    push_kinds(alloc, parts.types.as_slice(), &mut list)?;
+    push_slots(alloc, instance, &mut list)?;
+    push_heads(instance, &mut list)?;
+    push_weights(instance, &mut list)?;
+    Ok(list)
+}
+
+/// Every legal plan costs at least what is said of the slots that no duty can reach. The contract is the law; the function
+/// changes nothing.
+pub fn unreached_slots_cost(instance: &Instance)
+    ensures least { (rota : List Duty) → IsTrue (is_legal_rota instance.now rota) → unreached_cost instance.now ≤ cost instance.now rota }
+{
+    let _parts = instance.parts();
+}
