@@ -1,0 +1,100 @@
+//! Which words ask for what: no clause says it.
+
+use clap::error::ErrorKind;
+use planning_words::{PlanWords, Wanted, folder_beside, journal_beside, wanted_by};
+use std::alloc::{AllocError, Global};
+use std::test::Fail;
+
+/// The words of a line, which are separated by single spaces.
+fn words_of(alloc: Global, line: &str) -> Result<Vec<String>, AllocError> {
+    let mut words = Vec::new(alloc);
+    for word in line.split(' ') {
+        words.push(String::from_str(alloc, word)?)?;
+    }
+    Ok(words)
+}
+
+/// The kind of the error that a line gives, if it gives one.
+fn kind_at(alloc: Global, line: &str) -> Result<Option<ErrorKind>, AllocError> {
+    let words = words_of(alloc, line)?;
+    match wanted_by(alloc, words.as_slice()) {
+        Ok(_) => Ok(None),
+        Err(error) => Ok(Some(error.kind())),
+    }
+}
+
+/// What a line asks for where it asks for a plan: its journal and folder, `-` where they aren't said, its seconds, its workers, and whether
+/// it begins again.
+fn plan_at(alloc: Global, line: &str) -> Result<Option<String>, AllocError> {
+    let words = words_of(alloc, line)?;
+    match wanted_by(alloc, words.as_slice()) {
+        Ok(
+            Wanted::Plan(
+                PlanWords {
+                    instance,
+                    journal,
+                    seconds,
+                    workers,
+                    out,
+                    anew,
+                },
+            ),
+        ) => {
+            let journal = journal.unwrap_or("-");
+            let out = out.unwrap_or("-");
+            Ok(Some(format!(in alloc; "{instance} {journal} {seconds} {workers} {out} {anew}")?))
+        }
+        _ => Ok(None),
+    }
+}
+
+#[test]
+fn a_plan_has_its_words(rt: HostRuntime) -> Result<(), Fail> {
+    let alloc = rt.alloc();
+    let short = plan_at(alloc, "shift_plan plan w.json")?.ok_or("no plan")?;
+    assert_eq!(rt; short.as_str(), "w.json - 60 4 - false");
+    let long = "shift_plan plan w.json --journal j --seconds 0 --workers=16 --out o --anew";
+    let long = plan_at(alloc, long)?.ok_or("no plan")?;
+    assert_eq!(rt; long.as_str(), "w.json j 0 16 o true");
+    Ok(())
+}
+
+#[test]
+fn names_stand_beside_the_instance(rt: HostRuntime) -> Result<(), Fail> {
+    let journal = journal_beside(rt.alloc(), "weeks/may.2026.json")?;
+    let folder = folder_beside(rt.alloc(), "weeks/may.2026.json")?;
+    assert_eq!(rt;
+        (journal.as_str(), folder.as_str()),
+        ("weeks/may.2026.journal", "weeks/may.2026.plan")
+    );
+    Ok(())
+}
+
+#[test]
+fn a_report_is_shown(rt: HostRuntime) -> Result<(), Fail> {
+    let words = words_of(rt.alloc(), "shift_plan show w.json r --out o")?;
+    match wanted_by(rt.alloc(), words.as_slice()) {
+        Ok(Wanted::Show(show)) => {
+            assert_eq!(rt;
+                (show.instance, show.report, show.out),
+                ("w.json", "r", Some("o"))
+            );
+            Ok(())
+        }
+        _ => Err(Fail::from("nothing is shown")),
+    }
+}
+
+#[test]
+fn other_words_are_refused(rt: HostRuntime) -> Result<(), Fail> {
+    let alloc = rt.alloc();
+    let kind = kind_at(alloc, "shift_plan plan")?;
+    assert!(rt; matches!(kind, Some(ErrorKind::MissingRequiredArgument)));
+    let kind = kind_at(alloc, "shift_plan plan w.json --workers 17")?;
+    assert!(rt; matches!(kind, Some(ErrorKind::ValueValidation)));
+    let kind = kind_at(alloc, "shift_plan plan w.json --seconds ten")?;
+    assert!(rt; matches!(kind, Some(ErrorKind::ValueValidation)));
+    let kind = kind_at(alloc, "shift_plan --help")?;
+    assert!(rt; matches!(kind, Some(ErrorKind::DisplayHelp)));
+    Ok(())
+}

@@ -1,0 +1,8 @@
+//! The words of the command line that ask for a plan or for a report to be shown.
+#![tactic(auto)]
+
+mod names;
+mod wanted;
+
+pub use names::{folder_beside, is_same_file, journal_beside};
+pub use wanted::{PlanWords, ShowWords, Wanted, wanted_by};
