@@ -6,7 +6,7 @@ import os
 
 HERE = os.path.dirname(os.path.abspath(__file__))
 TEXTS = os.path.join(HERE, "texts")
-PROGRAMS = ("shift_solve", "shift_check")
+PROGRAMS = ("shift_solve", "shift_check", "shift_plan")
 
 # the fields of a run, those of a case beside them, and those of a variant beside the ones of a run
 RUN = {

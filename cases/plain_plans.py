@@ -1,0 +1,279 @@
+#!/usr/bin/env python3
+"""Reads what `shift_plan` writes and says, by docs/DEFINITIONS.md alone: of some examples and of random small instances the report is accepted,
+`duties.csv` and `cover.csv` hold its rows, the need and the cover, and the cost that they add up to is the one that is printed; `show` writes
+the same files once more. Then runs that meet something in their way: another run's lock, a killed run, journals of all kinds, folders. Prints
+what is wrong, and last `N passed, M failed`, counted in instances and runs. Build the programs first."""
+import collections
+import csv
+import fcntl
+import json
+import pathlib
+import random
+import re
+import signal
+import subprocess
+import sys
+import tempfile
+import time
+
+from plain_reading import Reading, Trial, read_report
+
+TOP = pathlib.Path(__file__).resolve().parent.parent
+EXAMPLES = ("ward_week", "call_day", "airport_day")
+FILES = ("report", "duties.csv", "cover.csv", "plan.html")
+INSTANCES = 10
+DUTY_COLUMNS, SLOT_COLUMNS = "day start end type employees breaks", "day time need working on_break over under"
+
+
+def program(name):
+    return TOP / "crates" / name / "out" / name
+
+
+def clock(minutes):
+    return "%02d:%02d" % (minutes % 1440 // 60, minutes % 60)
+
+
+class Folder:
+    """A folder with an instance in it, and runs there."""
+
+    def __init__(self, folder, text):
+        self.path, self.text, self.document = pathlib.Path(folder), text, json.loads(text)
+        self.reading, self.minutes = Reading(self.document), self.document["slot_minutes"]
+        (self.path / "week.json").write_text(text)
+
+    def run(self, *words, name="shift_plan"):
+        done = subprocess.run([program(name), *words], cwd=self.path, stdin=subprocess.DEVNULL, stdout=subprocess.PIPE, stderr=subprocess.PIPE,
+                              universal_newlines=True)
+        return done.returncode, done.stdout, done.stderr
+
+    def plan(self, *words):
+        return self.run("plan", "week.json", *words)
+
+    def table(self, name, columns):
+        with open(self.path / "week.plan" / name, newline="") as source:
+            lines = list(csv.reader(source))
+        return lines[1:] if lines[0] == columns.split() else []
+
+    def period(self, first, length):
+        return "%s-%s" % (clock(first * self.minutes), clock((first + length) * self.minutes))
+
+    def duties(self, rows):
+        """The lines of `duties.csv` for these rows, by the slot of the period in which they start."""
+        names = [kind["name"] for kind in self.document["types"] for _ in range((kind["start_max"] - kind["start_min"] + 1) * (kind["len_max"] - kind["len_min"] + 1))]
+        found = []
+        for row in rows:
+            _, length, start = self.reading.shifts[row.shift]
+            first = (row.day * self.reading.day_slots + start) % len(self.reading.need)
+            breaks = " ".join(self.period(start + begin, size) for begin, size in row.breaks)
+            line = [first // self.reading.day_slots + 1, *self.period(start, length).split("-"), names[row.shift], row.count, breaks]
+            found.append((first, list(map(str, line))))
+        return [line for _, line in sorted(found, key=lambda one: one[0])]
+
+    def cover(self, rows):
+        """The lines of `cover.csv` for these rows."""
+        working, present = collections.Counter(), collections.Counter()
+        for row in rows:
+            working.update(self.reading.slots_worked(row.shift, row.day, row.breaks) * row.count)
+            length, start = self.reading.shifts[row.shift][1:]
+            present.update([(row.day * self.reading.day_slots + start + offset) % len(self.reading.need) for offset in range(length)] * row.count)
+        for slot, need in enumerate(self.reading.need):
+            day, at = divmod(slot, self.reading.day_slots)
+            works = working[slot]
+            yield list(map(str, [day + 1, clock(at * self.minutes), need, works, present[slot] - works, max(0, works - need), max(0, need - works)]))
+
+    def added_up(self):
+        """What the tables cost: over and under of the slots, and the kinds of duties, each at its weight."""
+        slots, duties = self.table("cover.csv", SLOT_COLUMNS), self.table("duties.csv", DUTY_COLUMNS)
+        over, under = (sum(int(slot[place]) for slot in slots) for place in (5, 6))
+        shifts = {(duty[3], duty[1], duty[2]) for duty in duties}
+        return self.reading.excess * over + self.reading.shortage * under + self.reading.shift * len(shifts)
+
+    def written(self):
+        return {name: (self.path / "week.plan" / name).read_bytes() for name in FILES}
+
+    def faults(self, seconds):
+        """What is wrong with a plan of this instance."""
+        status, said, _ = self.plan("--seconds", seconds, "--workers", "2")
+        if status != 0:
+            return ["shift_plan ends with %d" % status]
+        files = self.written()
+        report = read_report(files["report"].decode())
+        page = files["plan.html"].decode()
+        accepted = self.run("check", "week.json", "week.plan/report", name="shift_check")[0]
+        shown, said_again, _ = self.run("show", "week.json", "week.plan/report")
+        found = [
+            ("the report isn't accepted", accepted == 0),
+            ("the rows aren't legal at their cost", self.reading.are_legal(report.rows) and self.reading.cost(report.rows) == report.cost),
+            ("duties.csv holds something else than the rows", self.table("duties.csv", DUTY_COLUMNS) == self.duties(report.rows)),
+            ("cover.csv holds something else than need and cover", self.table("cover.csv", SLOT_COLUMNS) == list(self.cover(report.rows))),
+            ("the printed cost is another one", re.search(r"^cost +(\d+)$", said, re.M).group(1) == str(self.added_up()) == str(report.cost)),
+            ("the page takes something from elsewhere", not re.search(r"<script|https?://(?!www\.w3\.org/)|url\((?!#)|<link", page)),
+            ("the page has another cost", "<td>%d</td>" % report.cost in page),
+            ("another name is left in the folder", {path.name for path in (self.path / "week.plan").iterdir()} == set(FILES)),
+            ("the report is shown otherwise", (shown, said_again, self.written()) == (0, said, files)),
+        ]
+        return [fault for fault, holds in found if not holds]
+
+
+def example_faults(name):
+    with tempfile.TemporaryDirectory() as folder:
+        return Folder(folder, (TOP / "examples" / (name + ".json")).read_text()).faults("2")
+
+
+def random_faults(number, seed):
+    with tempfile.TemporaryDirectory() as folder, tempfile.TemporaryDirectory() as other:
+        draw = random.Random("plans %s %d" % (seed, number))
+        text = Trial(draw, pathlib.Path(other), None, None).text
+        return [fault + "\n" + text for fault in Folder(folder, text).faults("1")]
+
+
+def ends(run, status, *texts):
+    """What is wrong with a run that must end with a status and say each of these texts on standard error."""
+    found, _, error = run
+    faults = ["it ends with %d, and not %d: %s" % (found, status, error)] if found != status else []
+    return faults + ["it doesn't say %r but %r" % (text, error) for text in texts if text not in error]
+
+
+def lock_in_use(folder):
+    with open(folder.path / "week.journal", "w") as journal:
+        fcntl.flock(journal, fcntl.LOCK_EX)
+        return ends(folder.plan("--seconds", "1"), 7, "another run has the journal `week.journal`")
+
+
+def killed_run(folder):
+    run = subprocess.Popen([program("shift_plan"), "plan", "week.json", "--seconds", "60"], cwd=folder.path, stdout=subprocess.DEVNULL, stderr=subprocess.DEVNULL)
+    time.sleep(4)
+    run.send_signal(signal.SIGKILL)
+    run.wait()
+    begun = not (folder.path / "week.plan" / "report").exists()
+    again = folder.plan("--seconds", "0")
+    return ends(again, 0, "goes on from ") + ([] if begun else ["a killed run has written a plan"])
+
+
+def search_gone_on_with(folder):
+    first, second = folder.plan("--seconds", "1"), folder.plan("--seconds", "1")
+    return ends(first, 0) + ends(second, 0, "goes on from ")
+
+
+def begun_anew(folder):
+    folder.plan("--seconds", "1")
+    old = (folder.path / "week.journal").read_bytes()
+    again = folder.plan("--seconds", "0", "--anew")
+    kept = (folder.path / "week.journal.1").read_bytes() == old
+    return ends(again, 0, "the old journal is week.journal.1") + ([] if kept else ["the old journal is another one"])
+
+
+def journal_that_is_a_folder(folder):
+    (folder.path / "week.journal").mkdir()
+    return ends(folder.plan("--seconds", "1"), 7, "`week.journal`", "is a folder")
+
+
+def journal_of_another_instance(folder):
+    folder.plan("--seconds", "0")
+    before = (folder.path / "week.journal").read_bytes()
+    (folder.path / "week.json").write_text(folder.text.replace('"max_heads": ', '"max_heads": 1', 1).replace('"max_heads":1', '"max_heads":2', 1))
+    run = folder.plan("--seconds", "1")
+    same = (folder.path / "week.journal").read_bytes() == before
+    return ends(run, 9, "another instance") + ([] if same else ["the journal was changed"])
+
+
+def damaged_journal(folder):
+    folder.plan("--seconds", "0")
+    path = folder.path / "week.journal"
+    content = bytearray(path.read_bytes())
+    content[20] ^= 1
+    path.write_bytes(content)
+    run = folder.plan("--seconds", "1")
+    return ends(run, 9, "anew") + ([] if path.read_bytes() == bytes(content) else ["the journal was changed"])
+
+
+def torn_journal(folder):
+    folder.plan("--seconds", "0")
+    path = folder.path / "week.journal"
+    path.write_bytes(path.read_bytes()[:10])
+    return ends(folder.plan("--seconds", "1"), 9, "anew") + ([] if path.stat().st_size == 10 else ["the journal was changed"])
+
+
+def journal_on_a_full_device(folder):
+    return ends(folder.plan("--seconds", "1", "--journal", "/dev/full"), 7, "journal")
+
+
+def folder_below_a_file(folder):
+    return ends(folder.plan("--seconds", "1", "--out", "week.json/plan"), 6, "the plan's folder `week.json/plan`")
+
+
+def instance_that_isnt_there(folder):
+    return ends(folder.run("plan", "other.json"), 5, "the instance `other.json` isn't there")
+
+
+def instance_that_is_a_folder(folder):
+    return ends(folder.run("plan", "."), 5, "is a folder")
+
+
+def journal_of_the_instance(folder):
+    return ends(folder.plan("--journal", "week.json"), 2, "would be the same file")
+
+
+def bent_report(folder):
+    folder.plan("--seconds", "0")
+    path = folder.path / "week.plan" / "report"
+    text = path.read_text()
+    path.write_text(re.sub(r"^cost \d+$", "cost 1", text, count=1, flags=re.M))
+    return ends(folder.run("show", "week.json", "week.plan/report", "--out", "shown"), 1, "the report isn't accepted: it claims the cost 1") \
+        + (["a refused report was shown"] if (folder.path / "shown").exists() else [])
+
+
+def report_that_is_none(folder):
+    return ends(folder.run("show", "week.json", "week.json"), 4, "the report's line 1")
+
+
+def closed_output(folder):
+    run = subprocess.Popen([program("shift_plan"), "plan", "week.json", "--seconds", "1"], cwd=folder.path, stdout=subprocess.PIPE, stderr=subprocess.PIPE)
+    run.stdout.close()
+    run.stderr.close()
+    status = run.wait()
+    written = (folder.path / "week.plan" / "plan.html").exists()
+    return (["it ends with %d" % status] if status != 0 else []) + ([] if written else ["no plan was written"])
+
+
+def short_time(folder):
+    began = time.monotonic()
+    run = folder.plan("--seconds", "3")
+    taken = time.monotonic() - began
+    return ends(run, 0) + (["3 seconds took %.1f" % taken] if taken > 6 else [])
+
+
+MEETINGS = (
+    lock_in_use, killed_run, search_gone_on_with, begun_anew, journal_that_is_a_folder, journal_of_another_instance, damaged_journal, torn_journal,
+    journal_on_a_full_device, folder_below_a_file, instance_that_isnt_there, instance_that_is_a_folder, journal_of_the_instance, bent_report,
+    report_that_is_none, closed_output, short_time,
+)
+
+
+def meeting_faults(meeting):
+    with tempfile.TemporaryDirectory() as folder:
+        return meeting(Folder(folder, (TOP / "examples" / "ward_week.json").read_text()))
+
+
+def trials(number, seed):
+    """What is wrong with each example, with so many random instances, and with each run that meets something, one list for each."""
+    for name in EXAMPLES:
+        yield ["%s: %s" % (name, fault) for fault in example_faults(name)]
+    for instance in range(number):
+        yield ["instance %d of seed %s: %s" % (instance, seed, fault) for fault in random_faults(instance, seed)]
+    for meeting in MEETINGS:
+        yield ["%s: %s" % (meeting.__name__, fault) for fault in meeting_faults(meeting)]
+
+
+def main(number=str(INSTANCES), seed="1"):
+    passed = failed = 0
+    for found in trials(int(number), seed):
+        print("".join(fault + "\n" for fault in found), end="", flush=True)
+        failed += found != []
+        passed += found == []
+    print("%d passed, %d failed" % (passed, failed))
+    return int(failed > 0)
+
+
+if __name__ == "__main__":
+    sys.exit(main(*sys.argv[1:]))

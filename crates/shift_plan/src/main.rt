@@ -1,0 +1,70 @@
+//! Shift plans for people: `shift_plan plan INSTANCE` searches for a cheapest plan within a time and writes it to a folder, and
+//! `shift_plan show INSTANCE REPORT` does so with the plan of a report that stands.
+#![tactic(auto)]
+
+mod planning;
+mod reading;
+mod refusal;
+mod saying;
+mod showing;
+mod telling;
+
+use crate::refusal::{Cause, Refusal};
+use planning_words::{Wanted, wanted_by};
+use std::alloc::AllocError;
+use std::process::ExitCode;
+use std::sync::Wait;
+use std::thread::Threads;
+use std::{env, io};
+
+/// The words of the command line, the program's name first among them.
+fn command_words(rt: &HostRuntime) -> Result<Vec<String>, Refusal> {
+    let args = match env::args(rt) {
+        Ok(args) => args,
+        Err(fault) if fault.kind() == io::ErrorKind::OutOfMemory => {
+            return Err(Refusal::from(AllocError));
+        }
+        Err(_) => {
+            let sentence = String::from_str(
+                rt.alloc(),
+                "the words of the command line aren't UTF-8",
+            );
+            return Err(Refusal::said(Cause::Words, sentence));
+        }
+    };
+    Ok(args.collect(rt.alloc())?)
+}
+
+/// Does what the words ask for, and answers the number with which the program ends.
+fn answer<R: Threads + Wait + Sync>(
+    host: HostRuntime,
+    rt: &R,
+    words: &[String],
+) -> Result<u8, Refusal> {
+    let wanted = match wanted_by(host.alloc(), words) {
+        Ok(wanted) => wanted,
+        Err(error) => {
+            let _ = error.print(&host);
+            return Ok(u8::try_from(error.exit_code()).unwrap_or(2));
+        }
+    };
+    match wanted {
+        Wanted::Plan(words) => planning::plan(host, rt, &words)?,
+        Wanted::Show(words) => showing::show(host, &words)?,
+    }
+    Ok(0)
+}
+
+fn main(rt: HostRuntime) -> ExitCode {
+    let answered = match command_words(&rt) {
+        Ok(words) => answer(rt, &rt, words.as_slice()),
+        Err(why) => Err(why),
+    };
+    match answered {
+        Ok(number) => ExitCode::from(number),
+        Err(why) => {
+            let _ = eprintln!(rt; "shift_plan: {why}");
+            ExitCode::from(why.number())
+        }
+    }
+}

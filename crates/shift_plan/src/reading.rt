@@ -1,0 +1,55 @@
+//! Files that are read whole.
+
+use crate::refusal::Refusal;
+use instance_json::{INSTANCE_MAX, ReadRefusal};
+use plan_base::{FileSource, ReadEnd, read_all};
+use refusal_texts::Role;
+use std::fs::{self, File};
+use std::io;
+
+/// Why a file can't be read: what the system says of it now.
+fn why_unread(rt: HostRuntime, path: &str) -> io::ErrorKind {
+    if let Ok(found) = fs::metadata(&rt, path) {
+        if found.is_dir() {
+            return io::ErrorKind::IsADirectory;
+        }
+    }
+    match File::open(&rt, path) {
+        Err(why) => why.kind(),
+        Ok(_) => io::ErrorKind::Other,
+    }
+}
+
+/// All bytes of a file that may have so many, and none where it has more.
+fn read_within(
+    rt: HostRuntime,
+    role: Role,
+    path: &str,
+    limit: usize,
+) -> Result<Option<Vec<u8>>, Refusal> {
+    let alloc = rt.alloc();
+    let mut source = FileSource::new(rt, String::from_str(alloc, path)?);
+    match read_all(alloc, &mut source, limit) {
+        Ok(bytes) => Ok(Some(bytes)),
+        Err(ReadEnd::TooLong) => Ok(None),
+        Err(ReadEnd::ReadFault) => Err(Refusal::unread(alloc, role, path, why_unread(rt, path))),
+        Err(ReadEnd::NoMemory) => Err(Refusal::from(std::alloc::AllocError)),
+    }
+}
+
+/// The bytes of an instance document.
+pub(crate) fn read_document(rt: HostRuntime, path: &str) -> Result<Vec<u8>, Refusal> {
+    match read_within(rt, Role::Instance, path, INSTANCE_MAX)? {
+        Some(document) => Ok(document),
+        None => Err(Refusal::document(rt.alloc(), &[], &ReadRefusal::TooLong)),
+    }
+}
+
+/// The bytes of a report.
+pub(crate) fn read_report(rt: HostRuntime, path: &str) -> Result<Vec<u8>, Refusal> {
+    let limit = usize::try_from(certificate::BUNDLE_MAX).unwrap_or(usize::MAX);
+    match read_within(rt, Role::Report, path, limit)? {
+        Some(report) => Ok(report),
+        None => Err(Refusal::long_report(rt.alloc())),
+    }
+}

@@ -1,0 +1,207 @@
+//! Why there is no plan, and the sentence that says so.
+
+use cert_check::Refused;
+use certificate::BUNDLE_MAX;
+use instance_json::ReadRefusal;
+use journal_texts::journal_sentence;
+use planning_files::LockFault;
+use planning_runs::Unshown;
+use refusal_texts::{Role, document_sentence, file_sentence};
+use solve_runs::Status;
+use std::alloc::{AllocError, AllocFailed, Global};
+use std::{fmt, io};
+
+/// What kind of thing stands against a plan.
+#[derive(Clone, Copy, Debug, PartialEq, Eq)]
+pub(crate) enum Cause {
+    /// The report isn't accepted.
+    Refused,
+    /// The words of the command line can't be met.
+    Words,
+    /// The instance document is refused.
+    Document,
+    /// The report's file is no report.
+    Report,
+    /// A file can't be read.
+    Unread,
+    /// A file of the plan can't be written.
+    Unwritten,
+    /// The journal's file can't be used now, or the clock gives no time.
+    System,
+    /// There is no memory.
+    NoMemory,
+    /// The journal's file isn't one of this search.
+    Journal,
+}
+
+impl Cause {
+    /// The number with which the program ends.
+    fn number(self) -> u8 {
+        match self {
+            Cause::Refused => 1,
+            Cause::Words => 2,
+            Cause::Document => 3,
+            Cause::Report => 4,
+            Cause::Unread => 5,
+            Cause::Unwritten => 6,
+            Cause::System => 7,
+            Cause::NoMemory => 8,
+            Cause::Journal => 9,
+        }
+    }
+}
+
+/// Why there is no plan.
+#[derive(Debug, Drop)]
+pub(crate) struct Refusal {
+    cause: Cause,
+    /// The sentence that says why; none where there was no memory for one.
+    sentence: Option<String>,
+}
+
+impl From<AllocError> for Refusal {
+    fn from(_: AllocError) -> Refusal {
+        Refusal {
+            cause: Cause::NoMemory,
+            sentence: None,
+        }
+    }
+}
+
+impl<T: Drop> From<AllocFailed<T>> for Refusal {
+    fn from(_: AllocFailed<T>) -> Refusal {
+        Refusal::from(AllocError)
+    }
+}
+
+impl fmt::Display for Refusal {
+    fn fmt<W: fmt::Write>(&self, f: &mut fmt::Formatter<W>) -> fmt::Result {
+        match &self.sentence {
+            Some(sentence) => f.write_str(sentence.as_str()),
+            None => f.write_str("there is not enough memory"),
+        }
+    }
+}
+
+impl Refusal {
+    /// A refusal for a cause, with its sentence if there was memory for it.
+    pub(crate) fn said(cause: Cause, sentence: Result<String, AllocError>) -> Refusal {
+        match sentence {
+            Ok(sentence) => Refusal {
+                cause,
+                sentence: Some(sentence),
+            },
+            Err(why) => Refusal::from(why),
+        }
+    }
+
+    /// The number with which the program ends.
+    pub(crate) fn number(&self) -> u8 {
+        self.cause.number()
+    }
+
+    /// A file can't be read.
+    pub(crate) fn unread(alloc: Global, role: Role, path: &str, kind: io::ErrorKind) -> Refusal {
+        Refusal::said(Cause::Unread, file_sentence(alloc, role, path, kind))
+    }
+
+    /// A file or the folder of the plan can't be written.
+    pub(crate) fn unwritten(alloc: Global, role: Role, path: &str, kind: io::ErrorKind) -> Refusal {
+        Refusal::said(Cause::Unwritten, file_sentence(alloc, role, path, kind))
+    }
+
+    /// The instance document is refused.
+    pub(crate) fn document(alloc: Global, document: &[u8], why: &ReadRefusal) -> Refusal {
+        match why {
+            ReadRefusal::NoMemory => Refusal::from(AllocError),
+            _ => Refusal::said(Cause::Document, document_sentence(alloc, document, why)),
+        }
+    }
+
+    /// The report's file is longer than reports may be.
+    pub(crate) fn long_report(alloc: Global) -> Refusal {
+        Refusal::said(
+            Cause::Report,
+            format!(in alloc;
+                "the report has more than {BUNDLE_MAX} bytes, the most that a report may have"
+            ),
+        )
+    }
+
+    /// A report shows no plan for the instance of a document.
+    pub(crate) fn unshown(alloc: Global, document: &[u8], why: &Unshown) -> Refusal {
+        match why {
+            Unshown::Document(why) => Refusal::document(alloc, document, why),
+            Unshown::Report { line } => Refusal::said(
+                Cause::Report,
+                format!(in alloc;
+                    "the report's line {line}, counted from 1, is none that could stand there: the file is no report, or was cut off or changed"
+                ),
+            ),
+            Unshown::Refused(why) => Refusal::said(Cause::Refused, refused_sentence(alloc, why)),
+            Unshown::NoMemory => Refusal::from(AllocError),
+        }
+    }
+
+    /// The journal isn't this run's.
+    pub(crate) fn locked(alloc: Global, path: &str, why: &LockFault) -> Refusal {
+        let sentence = match why {
+            LockFault::InUse => format!(in alloc;
+                "another run has the journal `{path}`: wait until it ends, or name another one with --journal"
+            ),
+            LockFault::Unopened(why) => file_sentence(alloc, Role::Journal, path, why.kind()),
+            LockFault::Unlocked(why) => format!(in alloc;
+                "the journal `{path}` can't be locked where it is ({why}): name one on another disk with --journal"
+            ),
+        };
+        Refusal::said(Cause::System, sentence)
+    }
+
+    /// Why a run has no report that ended so, if it has none.
+    pub(crate) fn of_status(alloc: Global, document: &[u8], status: &Status) -> Option<Refusal> {
+        match status {
+            Status::Optimal | Status::Budget | Status::Full { .. } => None,
+            Status::Input(why) => Some(Refusal::document(alloc, document, why)),
+            Status::Journal(why) => Some(Refusal::said(
+                Cause::Journal,
+                journal_sentence(alloc, why),
+            )),
+            Status::DiskFault => Some(Refusal::said(Cause::System, disk_sentence(alloc))),
+            // the document and the report are in memory, the words are a command, and there are advisers enough
+            _ => Some(Refusal::from(AllocError)),
+        }
+    }
+}
+
+/// The sentence for a journal whose file failed in a search.
+fn disk_sentence(alloc: Global) -> Result<String, AllocError> {
+    String::from_str(
+        alloc,
+        "the journal's file can't be read or written: see that its disk has room; every step that it kept is kept",
+    )
+}
+
+/// The sentence for a report that isn't accepted.
+fn refused_sentence(alloc: Global, why: &Refused) -> Result<String, AllocError> {
+    match why {
+        Refused::BadSplit { line } => format!(in alloc;
+            "the report isn't accepted: its proof line {line}, counted from 1, splits no node that can be split so"
+        ),
+        Refused::BadPrice { line } => format!(in alloc;
+            "the report isn't accepted: the prices of its proof line {line}, counted from 1, give no bound"
+        ),
+        Refused::NotSettled { line } => format!(in alloc;
+            "the report isn't accepted: the node of its proof line {line}, counted from 1, isn't settled"
+        ),
+        Refused::BoundTooHigh { claimed, found } => format!(in alloc;
+            "the report isn't accepted: it claims that no legal plan costs less than {claimed}, and its proof gives {found}"
+        ),
+        Refused::BadPlan { row } => format!(in alloc;
+            "the report isn't accepted: row {row} of its plan, counted from 0, isn't legal"
+        ),
+        Refused::WrongCost { claimed, found } => format!(in alloc;
+            "the report isn't accepted: it claims the cost {claimed}, and its plan costs {found}"
+        ),
+        Refused::NoMemory => Err(AllocError),
+    }
+}

@@ -1,0 +1,28 @@
+//! A report that stands, shown once more.
+
+use crate::planning::folder_of;
+use crate::reading::{read_document, read_report};
+use crate::refusal::Refusal;
+use crate::telling::{ready_folder, show_plan};
+use planning_runs::judged_plan;
+use planning_words::ShowWords;
+
+/// Judges the report that the words name and, where it is accepted, writes its plan.
+pub(crate) fn show(rt: HostRuntime, words: &ShowWords) -> Result<(), Refusal> {
+    let alloc = rt.alloc();
+    let document = read_document(rt, words.instance)?;
+    let report = read_report(rt, words.report)?;
+    let plan = match judged_plan(alloc, document.as_slice(), report.as_slice()) {
+        Ok(plan) => plan,
+        Err(why) => return Err(Refusal::unshown(alloc, document.as_slice(), &why)),
+    };
+    let folder = folder_of(alloc, words.out, words.instance)?;
+    ready_folder(rt, folder.as_str())?;
+    show_plan(
+        rt,
+        words.instance,
+        folder.as_str(),
+        report.as_slice(),
+        &plan,
+    )
+}

@@ -1,0 +1,127 @@
+//! What is said of a plan, and the files that it is written to.
+
+ghost use Rattle.std.specs.Prelude.{IsTrue};
+ghost use Rattle.shift_instance.specs.Rota.{are_legal_rows};
+
+use crate::refusal::{Cause, Refusal};
+use crate::saying::standing;
+use plan_page::plan_page;
+use plan_tables::{Summary, cover_csv, duties_csv, duties_table, summary_text};
+use planning_files::{make_folder, write_whole};
+use planning_runs::Plan;
+use refusal_texts::Role;
+use rota_cost::legal_rows;
+use shift_instance::{Instance, Rows};
+use std::alloc::{AllocError, Global};
+use std::io::{self, Write};
+
+/// Makes the folder of a plan, where it isn't there.
+pub(crate) fn ready_folder(rt: HostRuntime, folder: &str) -> Result<(), Refusal> {
+    match make_folder(&rt, folder) {
+        Ok(()) => Ok(()),
+        Err(why) => Err(Refusal::unwritten(rt.alloc(), Role::Folder, folder, why.kind())),
+    }
+}
+
+/// Writes one file of a plan to its folder, whole or not at all.
+fn write_file(rt: HostRuntime, folder: &str, name: &str, bytes: &[u8]) -> Result<(), Refusal> {
+    let alloc = rt.alloc();
+    match write_whole(&rt, alloc, folder, name, bytes) {
+        Ok(()) => Ok(()),
+        Err(why) => {
+            let path = format!(in alloc; "{folder}/{name}")?;
+            Err(Refusal::unwritten(alloc, Role::Plan, path.as_str(), why.kind()))
+        }
+    }
+}
+
+/// The files of a plan, and what is said of it.
+#[derive(Drop)]
+struct Sheets {
+    /// Its duties as comma-separated values.
+    duties: Vec<u8>,
+    /// Its slots as comma-separated values.
+    cover: Vec<u8>,
+    /// Its page.
+    page: String,
+    /// What is said of it.
+    said: String,
+}
+
+impl Sheets {
+    /// The files of legal rows, under a heading and with a line on how the plan stands.
+    fn new(
+        alloc: Global,
+        instance: &Instance,
+        rows: &Rows,
+        heading: &str,
+        standing: &str,
+    ) -> Result<Sheets, AllocError>
+        requires { IsTrue (are_legal_rows instance.now rows.now) }
+    {
+        let summary = Summary::new(alloc, instance, rows)?;
+        let duties = duties_csv(alloc, instance, rows)?;
+        let cover = cover_csv(alloc, instance, rows)?;
+        let page = plan_page(alloc, instance, rows, heading, standing)?;
+        let sums = summary_text(alloc, instance, &summary)?;
+        let table = duties_table(alloc, instance, rows)?;
+        let said = format!(in alloc; "{}\n{}", sums.as_str(), table.as_str())?;
+        Ok(Sheets {
+            duties,
+            cover,
+            page,
+            said,
+        })
+    }
+}
+
+/// Says a text on standard output. Where nobody takes it, the files stand all the same.
+fn say(rt: HostRuntime, text: &str) {
+    let mut out = rt.stdout();
+    let _ = out.write_all(text.as_bytes());
+    let _ = out.flush();
+}
+
+/// What is refused of a report whose rows aren't legal for its instance.
+fn not_legal(alloc: Global) -> Refusal {
+    Refusal::said(
+        Cause::Refused,
+        String::from_str(alloc, "the report's plan isn't legal for this instance"),
+    )
+}
+
+/// Writes the plan of a report to a folder, each file whole or not at all, and says it on standard output. `instance` is the word that
+/// names the instance's file.
+pub(crate) fn show_plan(
+    rt: HostRuntime,
+    instance: &str,
+    folder: &str,
+    report: &[u8],
+    plan: &Plan,
+) -> Result<(), Refusal> {
+    let alloc = rt.alloc();
+    let Some((cost, rows)) = &plan.cert.plan else {
+        let bound = plan.cert.bound;
+        let text = format!(in alloc;
+            "The report has no plan. No legal plan costs less than {bound}.\n"
+        )?;
+        say(rt, text.as_str());
+        return Ok(());
+    };
+    if legal_rows(&plan.instance, rows).is_err() {
+        return Err(not_legal(alloc));
+    }
+    let stands = standing(alloc, &plan.cert, *cost)?;
+    let sheets = Sheets::new(alloc, &plan.instance, rows, instance, stands.as_str())?;
+    write_file(rt, folder, "report", report)?;
+    write_file(rt, folder, "duties.csv", sheets.duties.as_slice())?;
+    write_file(rt, folder, "cover.csv", sheets.cover.as_slice())?;
+    write_file(rt, folder, "plan.html", sheets.page.as_bytes())?;
+    let text = format!(in alloc;
+        "{}\n\n{}\nThe plan is in the folder {folder}: plan.html, duties.csv, cover.csv and report.\n",
+        stands.as_str(),
+        sheets.said.as_str()
+    )?;
+    say(rt, text.as_str());
+    Ok(())
+}
