@@ -158,7 +158,7 @@ def search_gone_on_with(folder):
 def begun_anew(folder):
     folder.plan("--seconds", "1")
     old = (folder.path / "week.journal").read_bytes()
-    again = folder.plan("--seconds", "0", "--anew")
+    again = folder.plan("--seconds", "1", "--anew")
     kept = (folder.path / "week.journal.1").read_bytes() == old
     return ends(again, 0, "the old journal is week.journal.1") + ([] if kept else ["the old journal is another one"])
 
@@ -169,7 +169,7 @@ def journal_that_is_a_folder(folder):
 
 
 def journal_of_another_instance(folder):
-    folder.plan("--seconds", "0")
+    folder.plan("--seconds", "1")
     before = (folder.path / "week.journal").read_bytes()
     (folder.path / "week.json").write_text(folder.text.replace('"max_heads": ', '"max_heads": 1', 1).replace('"max_heads":1', '"max_heads":2', 1))
     run = folder.plan("--seconds", "1")
@@ -178,7 +178,7 @@ def journal_of_another_instance(folder):
 
 
 def damaged_journal(folder):
-    folder.plan("--seconds", "0")
+    folder.plan("--seconds", "1")
     path = folder.path / "week.journal"
     content = bytearray(path.read_bytes())
     content[20] ^= 1
@@ -188,10 +188,18 @@ def damaged_journal(folder):
 
 
 def torn_journal(folder):
-    folder.plan("--seconds", "0")
+    folder.plan("--seconds", "1")
     path = folder.path / "week.journal"
     path.write_bytes(path.read_bytes()[:10])
     return ends(folder.plan("--seconds", "1"), 9, "anew") + ([] if path.stat().st_size == 10 else ["the journal was changed"])
+
+
+def no_search_to_show(folder):
+    folder.plan("--seconds", "1")
+    before = folder.written()
+    runs = folder.plan("--seconds", "0", "--journal", "other"), folder.plan("--seconds", "0", "--anew")
+    faults = [fault for run in runs for fault in ends(run, 2, "--seconds 0 writes the plan of the search that a journal holds")]
+    return faults + ([] if folder.written() == before and not (folder.path / "other").exists() else ["the plan was changed, or a journal made"])
 
 
 def journal_on_a_full_device(folder):
@@ -200,6 +208,10 @@ def journal_on_a_full_device(folder):
 
 def folder_below_a_file(folder):
     return ends(folder.plan("--seconds", "1", "--out", "week.json/plan"), 6, "the plan's folder `week.json/plan`")
+
+
+def folder_that_is_a_file(folder):
+    return ends(folder.plan("--seconds", "1", "--out", "week.json"), 6, "`week.json` is a file: name a folder")
 
 
 def instance_that_isnt_there(folder):
@@ -215,12 +227,22 @@ def journal_of_the_instance(folder):
 
 
 def bent_report(folder):
-    folder.plan("--seconds", "0")
+    folder.plan("--seconds", "1")
     path = folder.path / "week.plan" / "report"
     text = path.read_text()
-    path.write_text(re.sub(r"^cost \d+$", "cost 1", text, count=1, flags=re.M))
-    return ends(folder.run("show", "week.json", "week.plan/report", "--out", "shown"), 1, "the report isn't accepted: it claims the cost 1") \
-        + (["a refused report was shown"] if (folder.path / "shown").exists() else [])
+    claimed = int(re.search(r"^cost (\d+)$", text, re.M).group(1)) + 1
+    path.write_text(re.sub(r"^cost \d+$", "cost %d" % claimed, text, count=1, flags=re.M))
+    run = folder.run("show", "week.json", "week.plan/report", "--out", "shown")
+    faults = ends(run, 1, "the report isn't accepted: it claims the cost %d" % claimed)
+    return faults + (["a refused report was shown"] if (folder.path / "shown").exists() else [])
+
+
+def words_in_the_wrong_order(folder):
+    folder.plan("--seconds", "1")
+    short = folder.run("show", "week.plan/report", "week.json")
+    path = folder.path / "week.plan" / "report"
+    path.write_text(path.read_text() + "# a line behind the end\n" * 60000)
+    return ends(short, 3, "the instance comes first") + ends(folder.run("show", "week.plan/report", "week.json"), 3, "the instance comes first")
 
 
 def report_that_is_none(folder):
@@ -244,9 +266,9 @@ def short_time(folder):
 
 
 MEETINGS = (
-    lock_in_use, killed_run, search_gone_on_with, begun_anew, journal_that_is_a_folder, journal_of_another_instance, damaged_journal, torn_journal,
-    journal_on_a_full_device, folder_below_a_file, instance_that_isnt_there, instance_that_is_a_folder, journal_of_the_instance, bent_report,
-    report_that_is_none, closed_output, short_time,
+    lock_in_use, killed_run, search_gone_on_with, begun_anew, no_search_to_show, journal_that_is_a_folder, journal_of_another_instance, damaged_journal, torn_journal,
+    journal_on_a_full_device, folder_below_a_file, folder_that_is_a_file, instance_that_isnt_there, instance_that_is_a_folder, journal_of_the_instance, bent_report,
+    words_in_the_wrong_order, report_that_is_none, closed_output, short_time,
 )
 
 

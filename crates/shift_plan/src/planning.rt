@@ -15,6 +15,7 @@ use refusal_texts::Role;
 use shift_instance::Instance;
 use solve_runs::Status;
 use std::alloc::{AllocError, Global};
+use std::fs;
 use std::io::IsTerminal;
 use std::sync::{Arc, Wait};
 use std::thread::Threads;
@@ -61,6 +62,24 @@ fn locked(rt: HostRuntime, path: &str) -> Result<LockedJournal<HostRuntime>, Ref
     }
 }
 
+/// Whether there is something under a path that isn't empty.
+fn has_bytes(rt: HostRuntime, path: &str) -> bool {
+    match fs::metadata(&rt, path) {
+        Ok(found) => found.len() > 0,
+        Err(_) => false,
+    }
+}
+
+/// The refusal of words that ask for the plan of a search that there isn't.
+fn no_search(alloc: Global, path: &str) -> Refusal {
+    Refusal::said(
+        Cause::Words,
+        format!(in alloc;
+            "--seconds 0 writes the plan of the search that a journal holds, and `{path}` would hold none: give more seconds"
+        ),
+    )
+}
+
 /// The journal that the words name, locked for this run. Where they ask to begin again, the old one gets another name first.
 fn locked_journal(rt: HostRuntime, words: &PlanWords) -> Result<Journals, Refusal> {
     let alloc = rt.alloc();
@@ -72,6 +91,9 @@ fn locked_journal(rt: HostRuntime, words: &PlanWords) -> Result<Journals, Refusa
                 "the instance and the journal would be the same file, {path}: name another journal with --journal"
             ),
         ));
+    }
+    if words.seconds == 0 && (words.anew || !has_bytes(rt, path.as_str())) {
+        return Err(no_search(alloc, path.as_str()));
     }
     let now = locked(rt, path.as_str())?;
     if !words.anew || now.len().unwrap_or(0) == 0 {

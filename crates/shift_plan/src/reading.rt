@@ -5,7 +5,7 @@ use instance_json::{INSTANCE_MAX, ReadRefusal};
 use plan_base::{FileSource, ReadEnd, read_all};
 use refusal_texts::Role;
 use std::fs::{self, File};
-use std::io;
+use std::io::{self, Read};
 
 /// Why a file can't be read: what the system says of it now.
 fn why_unread(rt: HostRuntime, path: &str) -> io::ErrorKind {
@@ -37,11 +37,28 @@ fn read_within(
     }
 }
 
+/// How reports begin.
+const REPORT: &[u8] = b"shift-report ";
+
+/// Whether a file that is too long for a document begins as reports do.
+fn is_report(rt: HostRuntime, path: &str) -> bool {
+    let mut start = [0u8; 13];
+    match File::open(&rt, path) {
+        Ok(mut file) => file.read(&mut start).is_ok() && start.starts_with(REPORT),
+        Err(_) => false,
+    }
+}
+
 /// The bytes of an instance document.
 pub(crate) fn read_document(rt: HostRuntime, path: &str) -> Result<Vec<u8>, Refusal> {
+    let alloc = rt.alloc();
     match read_within(rt, Role::Instance, path, INSTANCE_MAX)? {
+        Some(document) if document.starts_with(REPORT) => {
+            Err(Refusal::report_for_instance(alloc, path))
+        }
         Some(document) => Ok(document),
-        None => Err(Refusal::document(rt.alloc(), &[], &ReadRefusal::TooLong)),
+        None if is_report(rt, path) => Err(Refusal::report_for_instance(alloc, path)),
+        None => Err(Refusal::document(alloc, &[], &ReadRefusal::TooLong)),
     }
 }
 

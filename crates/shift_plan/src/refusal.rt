@@ -7,6 +7,7 @@ use journal_texts::journal_sentence;
 use planning_files::LockFault;
 use planning_runs::Unshown;
 use refusal_texts::{Role, document_sentence, file_sentence};
+use search_book::OpenFault;
 use solve_runs::Status;
 use std::alloc::{AllocError, AllocFailed, Global};
 use std::{fmt, io};
@@ -118,6 +119,16 @@ impl Refusal {
         }
     }
 
+    /// The file that is named as the instance is a report.
+    pub(crate) fn report_for_instance(alloc: Global, path: &str) -> Refusal {
+        Refusal::said(
+            Cause::Document,
+            format!(in alloc;
+                "the instance `{path}` is a report: the instance comes first, as in show INSTANCE REPORT"
+            ),
+        )
+    }
+
     /// The report's file is longer than reports may be.
     pub(crate) fn long_report(alloc: Global) -> Refusal {
         Refusal::said(
@@ -162,14 +173,25 @@ impl Refusal {
         match status {
             Status::Optimal | Status::Budget | Status::Full { .. } => None,
             Status::Input(why) => Some(Refusal::document(alloc, document, why)),
-            Status::Journal(why) => Some(Refusal::said(
-                Cause::Journal,
-                journal_sentence(alloc, why),
-            )),
+            Status::Journal(why) => {
+                Some(Refusal::said(Cause::Journal, unopened_sentence(alloc, why)))
+            }
             Status::DiskFault => Some(Refusal::said(Cause::System, disk_sentence(alloc))),
             // the document and the report are in memory, the words are a command, and there are advisers enough
             _ => Some(Refusal::from(AllocError)),
         }
+    }
+}
+
+/// The sentence for a journal that isn't opened, with the options that help.
+fn unopened_sentence(alloc: Global, why: &OpenFault) -> Result<String, AllocError> {
+    let sentence = journal_sentence(alloc, why)?;
+    match why {
+        OpenFault::DiskFault | OpenFault::NoMemory => Ok(sentence),
+        _ => format!(in alloc;
+            "{} (--journal FILE names another one, --anew begins anew)",
+            sentence.as_str()
+        ),
     }
 }
 
@@ -194,13 +216,13 @@ fn refused_sentence(alloc: Global, why: &Refused) -> Result<String, AllocError> 
             "the report isn't accepted: the node of its proof line {line}, counted from 1, isn't settled"
         ),
         Refused::BoundTooHigh { claimed, found } => format!(in alloc;
-            "the report isn't accepted: it claims that no legal plan costs less than {claimed}, and its proof gives {found}"
+            "the report isn't accepted: it claims that no legal plan costs less than {claimed}, and its proof gives {found}; was the document changed since?"
         ),
         Refused::BadPlan { row } => format!(in alloc;
-            "the report isn't accepted: row {row} of its plan, counted from 0, isn't legal"
+            "the report isn't accepted: row {row} of its plan, counted from 0, isn't legal; was the document changed since?"
         ),
         Refused::WrongCost { claimed, found } => format!(in alloc;
-            "the report isn't accepted: it claims the cost {claimed}, and its plan costs {found}"
+            "the report isn't accepted: it claims the cost {claimed}, and its plan costs {found}; was the document changed since?"
         ),
         Refused::NoMemory => Err(AllocError),
     }

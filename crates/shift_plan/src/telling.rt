@@ -17,9 +17,14 @@ use std::io::{self, Write};
 
 /// Makes the folder of a plan, where it isn't there.
 pub(crate) fn ready_folder(rt: HostRuntime, folder: &str) -> Result<(), Refusal> {
+    let alloc = rt.alloc();
     match make_folder(&rt, folder) {
         Ok(()) => Ok(()),
-        Err(why) => Err(Refusal::unwritten(rt.alloc(), Role::Folder, folder, why.kind())),
+        Err(why) if why.kind() == io::ErrorKind::AlreadyExists => Err(Refusal::said(
+            Cause::Unwritten,
+            format!(in alloc; "the plan's folder `{folder}` is a file: name a folder with --out"),
+        )),
+        Err(why) => Err(Refusal::unwritten(alloc, Role::Folder, folder, why.kind())),
     }
 }
 
