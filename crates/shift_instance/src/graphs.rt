@@ -12,9 +12,9 @@ use break_rules::NoMemory;
 use std::alloc::Global;
 use std::marker::Model;
 
-/// The most edges that the graphs of an instance have together, which bounds their memory to some 50 MB. The shifts of an
+/// The most edges that the graphs of an instance have together, which bounds their memory to some 256 MB. The shifts of an
 /// hour's quarters have some thousands; those of breaks and slots of five minutes may have a million for each length.
-const EDGES_KEPT: usize = 1 << 22;
+const EDGES_KEPT: usize = 1 << 24;
 
 /// The graphs of a type's rule, by length from the type's least on. The greatest lengths are left out where there is no
 /// room for their graphs.

@@ -288,7 +288,7 @@ impl Instance {
     }
 
     /// The graph of the break lists of a shift, by the rule of its type and its length, and `None` where the instance
-    /// doesn't keep it. It keeps the graphs of all shifts unless they have together more than some 4 million edges, as for
+    /// doesn't keep it. It keeps the graphs of all shifts unless they have together more than some 16 million edges, as for
     /// much break time in slots of five minutes: then those of the longest shifts of a type are left out, and whoever
     /// wants one makes it.
     pub fn graph(&self, shift: u16) -> Option<&Graph>
