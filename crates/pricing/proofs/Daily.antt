@@ -1,9 +1,6 @@
 -- What the best rest of no breaks earns is what the best duty of a shift on a day earns.
-use Rattle.std.proofs.Common.{◌≡◌, ℕ, zero, suc, ◌+◌, ◌-◌, ◌<◌, ◌≤◌, ℤ, false, List, [], ◌∷◌, ◌++◌, length, length-append, get_or, pos, inl, inr, refl, sym, ap, ◌∙◌, subst, arith, Option, Some, None}
+use Rattle.std.proofs.Common.{◌≡◌, ℕ, zero, suc, ◌+◌, ◌-◌, ◌<◌, ◌≤◌, ℤ, pos, false, get_or, List, [], ◌∷◌, length, refl, sym, ap, ◌∙◌, subst, arith, Option, Some}
 use Rattle.std.specs.Prelude.{slice_get, IsSomeAnd}
-use Rattle.std.proofs.lemmas.Bool.{cases_lt}
-use Rattle.std.proofs.Math.ListN.{get_or-append}
-use Rattle.std.proofs.Math.Seq.{get_or-append_seam}
 use Rattle.std.specs.Option.{option_map_or}
 use Rattle.break_rules.specs.declared.Break.{Break}
 use Rattle.break_rules.specs.declared.Rule.{Rule}
@@ -14,7 +11,8 @@ use Rattle.shift_instance.specs.Rota.{is_list_of}
 use Rattle.shift_instance.specs.Valid.{IsValid, IsShift}
 use Rattle.break_graph.specs.declared.Node.{Node}
 use Rattle.break_graph.specs.Graph.{IsGraph, StandsAt}
-use Rattle.price_sums.specs.Along.{sum_at, ArePricesOf}
+use Rattle.price_sums.specs.Along.{sum_at, ArePricesOf, AreSums}
+use Rattle.price_sums.specs.Days.{sums_on, AreSumsByDay}
 use Rattle.price_sums.proofs.Prices.{some_at}
 use Rattle.pricing.specs.Values.{Priced, IsValue, AreValues}
 use Rattle.pricing.specs.Days.{IsMostOn, AreMostByDay}
@@ -77,18 +75,21 @@ no_list i s kept nodes own same none list =
     empty [] h = refl
     empty (n ∷ ns) h = absurd (omega (arith, h))
 
--- what the best duties of one day more earn
-pub most_more : (i : Problem) (s : ℕ) (prices : List ℤ) (day : ℕ) (values items : List ℤ) (v : ℤ) → AreMostByDay i s prices day values → IsMostOn i s day prices v → items ≡ values ++ v ∷ [] → AreMostByDay i s prices (day + 1) items
-most_more i s prices day values items v before here is =
-    subst (AreMostByDay i s prices (day + 1)) (sym is)
-    (record {
-      count = length-append values (v ∷ []) ∙ omega (arith, before.count);
-      each = λ d less.
-          elim (cases_lt d day) [
-            | inl l ↦ subst (IsMostOn i s d prices) (sym (get_or-append values (v ∷ []) (pos 0) d (omega (arith, before.count, l)))) (before.each d l)
-            | inr g ↦
-                let same : d ≡ day = omega (arith, g, less) in
-                subst (λ n. IsMostOn i s n prices (get_or (values ++ v ∷ []) n (pos 0))) (sym same)
-                (subst (IsMostOn i s day prices) (sym (ap (λ n. get_or (values ++ v ∷ []) n (pos 0)) (sym before.count) ∙ get_or-append_seam values v [] (pos 0))) here)
-          ];
-    })
+-- the values of the last node on all days are what the best duties earn
+pub most_of_days : (i : Problem) (s : ℕ) (prices : List ℤ) (lanes values : List (List ℤ)) (shift : Shift) (rule : Rule) (nodes : List Node) (k : ℕ) (list : List ℤ)
+    → IsSomeAnd (slice_get (shift_list i) s) (λ y. shift ≡ y.0) → IsSomeAnd (slice_get (shift_list i) s) (λ y. rule ≡ y.1) → IsGraph rule shift.len nodes → k + 1 ≡ length nodes
+    → IsValid i → IsShift i shift → ((x : Shift × Rule) → slice_get (shift_list i) s ≡ Some x → AreSumsByDay i x.0 prices lanes)
+    → ((day : ℕ) → day < 8 → AreSums shift.len (sums_on day lanes) → AreValues rule shift.len (sums_on day lanes) nodes (length nodes) (sums_on day values))
+    → i.days ≤ 8 → length list ≡ i.days → ((day : ℕ) → day < i.days → get_or list day (pos 0) ≡ sum_at (sums_on day values) k)
+    → AreMostByDay i s prices i.days list
+most_of_days i s prices lanes values shift rule nodes k list own_shift own_rule graph last valid inside of known few many is =
+    let some = some_of (slice_get (shift_list i) s) (λ y. shift ≡ y.0) own_shift in
+    let x = some.0 in
+    let same : shift ≡ x.0 = some_at (slice_get (shift_list i) s) x (λ y. shift ≡ y.0) some.1 own_shift in
+    record {
+      count = many;
+      each = λ day less.
+          let small : AreSums shift.len (sums_on day lanes) = subst (λ (z : Shift). AreSums z.len (sums_on day lanes)) (sym same) ((of x some.1).small day less) in
+          most_at i s day prices (sums_on day lanes) (sums_on day values) shift rule nodes k (get_or list day (pos 0)) own_shift own_rule graph last valid inside (λ y e. (of y e).each day less)
+          (known day (omega (arith, less, few)) small) (is day less);
+    }

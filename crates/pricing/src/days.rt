@@ -1,92 +1,82 @@
 //! What the best duties of a shift earn, day by day, at the prices of slots alone.
 
-ghost use Rattle.std.specs.Prelude.{◌≡◌, ◌<◌, List, IfOk, IsSomeAnd, MatchOption, length, false, slice_get};
+ghost use Rattle.std.specs.Prelude.{◌≡◌, ◌<◌, ◌≤◌, ℕ, List, IfOk, IsSomeAnd, MatchOption, Some, length, false, slice_get, slice_index_or, pos};
 ghost use Rattle.break_rules.specs.declared.Break.{Break};
+ghost use Rattle.break_rules.specs.declared.Rule.{Rule};
 ghost use Rattle.break_graph.specs.Graph.{IsGraph};
+ghost use Rattle.shift_instance.specs.declared.Shift.{Shift};
 ghost use Rattle.shift_instance.specs.Problem.{shift_list, slots};
 ghost use Rattle.shift_instance.specs.Rota.{is_list_of};
-ghost use Rattle.price_sums.specs.Along.{AreSmallPrices};
-ghost use Rattle.pricing.specs.Days.{IsMostOn, AreMostByDay};
+ghost use Rattle.price_sums.specs.Along.{sum_at};
+ghost use Rattle.price_sums.specs.Days.{AreSumsByDay};
+ghost use Rattle.pricing.specs.Days.{AreMostByDay};
 
-use crate::values::set_node_values;
+use crate::day_values::set_values_by_day;
+use crate::lanes::lane_at;
 use break_graph::Graph;
 use break_rules::NoMemory;
-use price_sums::{price_sums, sum_before};
+use price_sums::Lane;
 use shift_instance::Instance;
 use std::alloc::Global;
 
-/// What the best duty of a shift on a day earns, by the nodes of the shift's graph, and `None` where no list is legal.
-fn most_on_day(
-    alloc: Global,
-    instance: &Instance,
-    graph: &Graph,
-    shift: u16,
-    day: u8,
-    prices: &[i64],
-    values: &mut Vec<i64>,
-) -> Result<Option<i64>, NoMemory>
-    requires shift { shift < length (shift_list instance.now) }
-    requires graph { IsSomeAnd (slice_get (shift_list instance.now) shift) (λ x. IsGraph x.1 x.0.len graph.now) }
-    requires count { length prices.now ≡ slots instance.now }
-    requires prices { AreSmallPrices prices.now }
-    ensures { IfOk result (λ found. MatchOption found ((list : List Break) → is_list_of instance.now shift list ≡ false) (IsMostOn instance.now shift day prices.now)) }
+/// The numbers of the first days of a lane.
+fn day_list(alloc: Global, lane: &Lane, days: u8) -> Result<Vec<i128>, NoMemory>
+    requires { days ≤ 8 }
+    ensures count { IfOk result (λ list. length list.items ≡ days) }
+    ensures each { IfOk result (λ list. (day : ℕ) → day < days → slice_index_or list.items day (pos 0) ≡ sum_at lane.now day) }
 {
-    let nodes = graph.nodes();
-    let Some(opening) = nodes.len().checked_sub(1) else {
-        return Ok(None);
-    };
-    let rule = instance.rule_of(shift);
-    let len = instance.shift(shift).len;
-    let sums = price_sums(alloc, instance, shift, day, prices)?;
-    set_node_values(rule, len, nodes, &sums, values)?;
-    Ok(Some(sum_before(values, opening)))
+    let mut list = Vec::with_capacity(alloc, usize::from(days))?;
+    for day in 0..days {
+        list.push(i128::from(lane[usize::from(day)]))?;
+    }
+    Ok(list)
 }
 
-/// What the best duties of a shift earn, day by day, by the nodes of its graph, and `None` where no list is legal.
+/// What the best duties of a shift earn, day by day, by the nodes of its graph and the sums of the prices along it, and
+/// `None` where no list is legal.
 fn most_over(
     alloc: Global,
     instance: &Instance,
     graph: &Graph,
     shift: u16,
     prices: &[i64],
+    sums: &[Lane],
 ) -> Result<Option<Vec<i128>>, NoMemory>
     requires shift { shift < length (shift_list instance.now) }
     requires graph { IsSomeAnd (slice_get (shift_list instance.now) shift) (λ x. IsGraph x.1 x.0.len graph.now) }
-    requires count { length prices.now ≡ slots instance.now }
-    requires prices { AreSmallPrices prices.now }
+    requires sums { (x : Shift × Rule) → slice_get (shift_list instance.now) shift ≡ Some x → AreSumsByDay instance.now x.0 prices.now sums.now }
     ensures { IfOk result (λ found. MatchOption found ((list : List Break) → is_list_of instance.now shift list ≡ false) (λ most. AreMostByDay instance.now shift prices.now instance.now.days most.items)) }
 {
+    let nodes = graph.nodes();
+    let Some(opening) = nodes.len().checked_sub(1) else {
+        return Ok(None);
+    };
     let mut values = Vec::new(alloc);
-    let mut most = Vec::new(alloc);
-    for day in 0..instance.days() {
-        match most_on_day(alloc, instance, graph, shift, day, prices, &mut values)? {
-            Some(value) => most.push(i128::from(value))?,
-            None => return Ok(None),
-        }
-    }
-    Ok(Some(most))
+    let len = instance.shift(shift).len;
+    set_values_by_day(instance.rule_of(shift), len, nodes, sums, &mut values)?;
+    let list = day_list(alloc, lane_at(&values, opening), instance.days())?;
+    Ok(Some(list))
 }
 
 /// What the best duties of a shift earn, one value for each day: the greatest price of the slots in which a duty with a legal
-/// break list works. `None` where no list is legal. There is a price for each slot of the planning period, of at most 10^10
-/// in size.
+/// break list works. `None` where no list is legal.
 pub fn most_by_day(
     alloc: Global,
     instance: &Instance,
     shift: u16,
     prices: &[i64],
+    sums: &[Lane],
 ) -> Result<Option<Vec<i128>>, NoMemory>
     requires shift { shift < length (shift_list instance.now) }
-    requires count { length prices.now ≡ slots instance.now }
-    requires prices { AreSmallPrices prices.now }
+    requires sums { (x : Shift × Rule) → slice_get (shift_list instance.now) shift ≡ Some x → AreSumsByDay instance.now x.0 prices.now sums.now }
     ensures { IfOk result (λ found. MatchOption found ((list : List Break) → is_list_of instance.now shift list ≡ false) (λ most. AreMostByDay instance.now shift prices.now instance.now.days most.items)) }
 {
     match instance.graph(shift) {
-        Some(kept) => most_over(alloc, instance, kept, shift, prices),
+        Some(kept) => most_over(alloc, instance, kept, shift, prices, sums),
         None => {
             let len = instance.shift(shift).len;
             let made = Graph::new(alloc, instance.rule_of(shift), len)?;
-            most_over(alloc, instance, &made, shift, prices)
+            most_over(alloc, instance, &made, shift, prices, sums)
         }
     }
 }

@@ -1,8 +1,10 @@
 //! The best break list of a duty at given prices.
 #![tactic(auto)]
 
+mod day_values;
 mod days;
 mod found;
+mod lanes;
 mod rests;
 mod search;
 mod values;

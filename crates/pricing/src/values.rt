@@ -1,6 +1,6 @@
 //! The values of the nodes of a graph: what the best rests of the break lists that stand there earn.
 
-ghost use Rattle.std.specs.Prelude.{◌≡◌, ◌≢◌, ◌<◌, ◌≤◌, ◌++◌, ◌+ℤ◌, ◌-ℤ◌, [], List, MatchOption, length, IfOk, OnOk, FitsSigned, Some, slice_get};
+ghost use Rattle.std.specs.Prelude.{◌≡◌, ◌≢◌, ◌<◌, ◌≤◌, ◌++◌, ◌+ℤ◌, ◌-ℤ◌, [], List, MatchOption, length, IfOk, FitsSigned, Some, slice_get};
 ghost use Rattle.std.specs.Int.{w64};
 ghost use Rattle.break_rules.specs.declared.Break.{Break};
 ghost use Rattle.break_rules.specs.Ranges.{IsRule};
@@ -90,28 +90,6 @@ fn value_of(rule: &Rule, len: u16, nodes: &[Node], k: usize, sums: &[i64], value
     difference(whole, sum_before(sums, resumption(rule, node.spot)))
 }
 
-/// Sets a list to the value of each node of a graph. The room that the list has is used again.
-pub fn set_node_values(
-    rule: &Rule,
-    len: u16,
-    nodes: &[Node],
-    sums: &[i64],
-    values: &mut Vec<i64>,
-) -> Result<(), NoMemory>
-    requires rule { IsRule rule.now }
-    requires graph { IsGraph rule.now len nodes.now }
-    requires sums { AreSums len sums.now }
-    ensures { OnOk result (AreValues rule.now len sums.now nodes.now (length nodes.now) values.new.items) }
-{
-    values.clear();
-    values.reserve(nodes.len())?;
-    for k in 0..nodes.len() {
-        let value = value_of(rule, len, nodes, k, sums, values);
-        values.push(value)?;
-    }
-    Ok(())
-}
-
 /// The value of each node of a graph.
 pub fn node_values(
     alloc: Global,
@@ -125,7 +103,10 @@ pub fn node_values(
     requires sums { AreSums len sums.now }
     ensures { IfOk result (λ values. AreValues rule.now len sums.now nodes.now (length nodes.now) values.items) }
 {
-    let mut values = Vec::new(alloc);
-    set_node_values(rule, len, nodes, sums, &mut values)?;
+    let mut values = Vec::with_capacity(alloc, nodes.len())?;
+    for k in 0..nodes.len() {
+        let value = value_of(rule, len, nodes, k, sums, &values);
+        values.push(value)?;
+    }
     Ok(values)
 }

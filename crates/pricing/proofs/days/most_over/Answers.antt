@@ -1,18 +1,28 @@
-use Rattle.std.proofs.Common.{ap, ◌∙◌, subst, ◌≡◌, ◌++◌, ◌∷◌, [], ℤ, List, Option, false, rules, FitsSigned}
-use mir.Syntax.{w128}
-use Rattle.std.specs.Int.{w64}
-use Rattle.std.specs.Prelude.{MatchOption}
-use Rattle.std.proofs.lemmas.Int.{to_z-of_z}
-use Rattle.break_rules.specs.declared.Break.{Break}
-use Rattle.shift_instance.specs.Rota.{is_list_of}
-use Rattle.pricing.specs.Days.{IsMostOn}
-use Rattle.pricing.proofs.Daily.{most_more}
+use Rattle.std.proofs.Common.{rules, ◌<◌, ℤ, List, length, sym, ap, ◌∙◌, subst, arith}
+use Rattle.std.specs.Prelude.{slice_get}
+use Rattle.shift_instance.specs.Problem.{shift_list}
+use Rattle.price_sums.specs.Along.{sum_at}
+use Rattle.price_sums.specs.Days.{sums_on}
+use Rattle.pricing.proofs.Daily.{own_graph, most_of_days, no_list, none_below}
 use Rattle.pricing.proofs.days.most_over.Goals as goal
 
-pub loop-day-preserved : goal.loop-day-preserved
-loop-day-preserved c =
-    let values = c.loop-day.most.items in
-    let fits : FitsSigned w64 c.in-Some.value = search rules in
-    most_more c.args.instance.now c.args.shift c.args.prices.now c.loop-day.day values c.push.new.self.items c.in-Some.value c.loop-day.invariant
-    (subst (λ (o : Option ℤ). MatchOption o ((list : List Break) → is_list_of c.args.instance.now c.args.shift list ≡ false) (IsMostOn c.args.instance.now c.args.shift c.loop-day.day c.args.prices.now)) c.in-Some.is c.in_ok-value.ensures)
-    (c.in_ok-push-in-Some.ensures.items ∙ ap (λ (z : ℤ). values ++ z ∷ []) (to_z-of_z w128 c.from.result (record { sfits = c.from.type_inv }) ∙ c.from.ensures ∙ to_z-of_z w64 c.in-Some.value fits))
+pub returns-in_default : goal.returns-in_default
+returns-in_default c =
+    no_list c.args.instance.now c.args.shift c.args.graph.now c.nodes-nodes.result.now c.requires.graph c.nodes-nodes.ensures (none_below (length c.nodes-nodes.result.now) c.in_default.ensures)
+
+pub set_values_by_day-requires-clause-graph : goal.set_values_by_day-requires-clause-graph
+set_values_by_day-requires-clause-graph c =
+    own_graph (slice_get (shift_list c.args.instance.now) c.args.shift) c.shift-len.result c.rule_of.result.now c.args.graph.now c.nodes-nodes.result.now c.shift-len.ensures.shift c.rule_of.ensures.rule c.requires.graph c.nodes-nodes.ensures
+
+pub returns : goal.returns
+returns c =
+    let i = c.args.instance.now in
+    let nodes = c.nodes-nodes.result.now in
+    let values = c.set_values_by_day.new.values.items in
+    let graph = own_graph (slice_get (shift_list i) c.args.shift) c.shift-len.result c.rule_of.result.now c.args.graph.now nodes c.shift-len.ensures.shift c.rule_of.ensures.rule c.requires.graph c.nodes-nodes.ensures in
+    let days = c.days.ensures.days in
+    let week = c.days.ensures.valid.days in
+    most_of_days i c.args.shift c.args.prices.now c.args.sums.now values c.shift-len.result c.rule_of.result.now nodes c.in-Some.opening c.in_ok-list.list.items
+    c.shift-len.ensures.shift c.rule_of.ensures.rule graph (search rules) c.shift-len.ensures.valid c.shift-len.ensures.within c.requires.sums c.in_ok-set_values_by_day.ensures
+    (omega (arith, week)) (c.in_ok-list.ensures.count ∙ days)
+    (λ day less. c.in_ok-list.ensures.each day (subst (λ n. day < n) (sym days) less) ∙ c.lane_at.ensures day ∙ ap (λ (vs : List (List ℤ)). sum_at (sums_on day vs) c.in-Some.opening) c.deref.ensures.value)

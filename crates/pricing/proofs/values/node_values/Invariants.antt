@@ -1,6 +1,6 @@
 use Rattle.std.proofs.Common.{◌≡◌, length}
 use Rattle.pricing.specs.Values.{AreValues}
-use Rattle.pricing.proofs.values.set_node_values.Given as goal
+use Rattle.pricing.proofs.values.node_values.Given as goal
 
 abbrev pub invariant-loop-k : goal.invariant-loop-k
 invariant-loop-k l = record {

@@ -3,10 +3,10 @@ use Rattle.std.specs.Int.{w64}
 use Rattle.std.proofs.lemmas.Int.{to_z-of_z}
 use Rattle.pricing.specs.Values.{AreValues}
 use Rattle.pricing.proofs.Steps.{values_more}
-use Rattle.pricing.proofs.values.set_node_values.Goals as goal
+use Rattle.pricing.proofs.values.node_values.Goals as goal
 
 pub loop-k-init : goal.loop-k-init
-loop-k-init c = record { many = ap length c.in_ok-reserve.ensures.items ∙ ap length c.clear.ensures.items; known = λ k list less st. absurd (omega (arith, less)) }
+loop-k-init c = record { many = ap length c.in_ok-values.ensures.items; known = λ k list less st. absurd (omega (arith, less)) }
 
 pub value_of-value-requires-clause-known : goal.value_of-value-requires-clause-known
 value_of-value-requires-clause-known c =
