@@ -4,5 +4,5 @@
 mod days;
 mod sums;
 
-pub use days::{LANES, Lane};
+pub use days::{DaySums, LANES, Lane};
 pub use sums::{price_sums, resumption, stretch, sum_before};
