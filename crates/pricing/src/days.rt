@@ -1,21 +1,18 @@
 //! What the best duties of a shift earn, day by day, at the prices of slots alone.
 
-ghost use Rattle.std.specs.Prelude.{◌≡◌, ◌<◌, ◌≤◌, ℕ, List, IfOk, IsSomeAnd, MatchOption, Some, length, false, slice_get, slice_index_or, pos};
+ghost use Rattle.std.specs.Prelude.{◌≡◌, ◌<◌, ◌≤◌, ℕ, List, IfOk, IsSomeAnd, MatchOption, length, false, slice_get, slice_index_or, pos};
 ghost use Rattle.break_rules.specs.declared.Break.{Break};
-ghost use Rattle.break_rules.specs.declared.Rule.{Rule};
 ghost use Rattle.break_graph.specs.Graph.{IsGraph};
-ghost use Rattle.shift_instance.specs.declared.Shift.{Shift};
-ghost use Rattle.shift_instance.specs.Problem.{shift_list, slots};
+ghost use Rattle.shift_instance.specs.Problem.{shift_list};
 ghost use Rattle.shift_instance.specs.Rota.{is_list_of};
 ghost use Rattle.price_sums.specs.Along.{sum_at};
-ghost use Rattle.price_sums.specs.Days.{AreSumsByDay};
 ghost use Rattle.pricing.specs.Days.{AreMostByDay};
 
 use crate::day_values::set_values_by_day;
 use crate::lanes::lane_at;
 use break_graph::Graph;
 use break_rules::NoMemory;
-use price_sums::Lane;
+use price_sums::{DaySums, Lane};
 use shift_instance::Instance;
 use std::alloc::Global;
 
@@ -39,13 +36,12 @@ fn most_over(
     instance: &Instance,
     graph: &Graph,
     shift: u16,
-    prices: &[i64],
-    sums: &[Lane],
+    sums: &DaySums,
 ) -> Result<Option<Vec<i128>>, NoMemory>
     requires shift { shift < length (shift_list instance.now) }
     requires graph { IsSomeAnd (slice_get (shift_list instance.now) shift) (λ x. IsGraph x.1 x.0.len graph.now) }
-    requires sums { (x : Shift × Rule) → slice_get (shift_list instance.now) shift ≡ Some x → AreSumsByDay instance.now x.0 prices.now sums.now }
-    ensures { IfOk result (λ found. MatchOption found ((list : List Break) → is_list_of instance.now shift list ≡ false) (λ most. AreMostByDay instance.now shift prices.now instance.now.days most.items)) }
+    requires sums { sums.now.instance ≡ instance.now }
+    ensures { IfOk result (λ found. MatchOption found ((list : List Break) → is_list_of instance.now shift list ≡ false) (λ most. AreMostByDay instance.now shift sums.now.prices instance.now.days most.items)) }
 {
     let nodes = graph.nodes();
     let Some(opening) = nodes.len().checked_sub(1) else {
@@ -53,30 +49,31 @@ fn most_over(
     };
     let mut values = Vec::new(alloc);
     let len = instance.shift(shift).len;
-    set_values_by_day(instance.rule_of(shift), len, nodes, sums, &mut values)?;
+    let lanes = sums.along(instance, shift);
+    set_values_by_day(instance.rule_of(shift), len, nodes, lanes, &mut values)?;
     let list = day_list(alloc, lane_at(&values, opening), instance.days())?;
     Ok(Some(list))
 }
 
-/// What the best duties of a shift earn, one value for each day: the greatest price of the slots in which a duty with a legal
-/// break list works. `None` where no list is legal.
+/// What the best duties of a shift earn at the prices that the sums are of, one value for each day: the greatest price of the
+/// slots in which a duty with a legal break list works. `None` where no list is legal. All days are priced in one walk along the
+/// shift's graph, without making a list.
 pub fn most_by_day(
     alloc: Global,
     instance: &Instance,
     shift: u16,
-    prices: &[i64],
-    sums: &[Lane],
+    sums: &DaySums,
 ) -> Result<Option<Vec<i128>>, NoMemory>
     requires shift { shift < length (shift_list instance.now) }
-    requires sums { (x : Shift × Rule) → slice_get (shift_list instance.now) shift ≡ Some x → AreSumsByDay instance.now x.0 prices.now sums.now }
-    ensures { IfOk result (λ found. MatchOption found ((list : List Break) → is_list_of instance.now shift list ≡ false) (λ most. AreMostByDay instance.now shift prices.now instance.now.days most.items)) }
+    requires sums { sums.now.instance ≡ instance.now }
+    ensures { IfOk result (λ found. MatchOption found ((list : List Break) → is_list_of instance.now shift list ≡ false) (λ most. AreMostByDay instance.now shift sums.now.prices instance.now.days most.items)) }
 {
     match instance.graph(shift) {
-        Some(kept) => most_over(alloc, instance, kept, shift, prices, sums),
+        Some(kept) => most_over(alloc, instance, kept, shift, sums),
         None => {
             let len = instance.shift(shift).len;
             let made = Graph::new(alloc, instance.rule_of(shift), len)?;
-            most_over(alloc, instance, &made, shift, prices, sums)
+            most_over(alloc, instance, &made, shift, sums)
         }
     }
 }

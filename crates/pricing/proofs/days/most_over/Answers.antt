@@ -22,7 +22,7 @@ returns c =
     let graph = own_graph (slice_get (shift_list i) c.args.shift) c.shift-len.result c.rule_of.result.now c.args.graph.now nodes c.shift-len.ensures.shift c.rule_of.ensures.rule c.requires.graph c.nodes-nodes.ensures in
     let days = c.days.ensures.days in
     let week = c.days.ensures.valid.days in
-    most_of_days i c.args.shift c.args.prices.now c.args.sums.now values c.shift-len.result c.rule_of.result.now nodes c.in-Some.opening c.in_ok-list.list.items
-    c.shift-len.ensures.shift c.rule_of.ensures.rule graph (search rules) c.shift-len.ensures.valid c.shift-len.ensures.within c.requires.sums c.in_ok-set_values_by_day.ensures
+    most_of_days i c.args.shift c.args.sums.now.prices c.along-lanes.result.now values c.shift-len.result c.rule_of.result.now nodes c.in-Some.opening c.in_ok-list.list.items
+    c.shift-len.ensures.shift c.rule_of.ensures.rule graph (search rules) c.shift-len.ensures.valid c.shift-len.ensures.within c.along-lanes.ensures c.in_ok-set_values_by_day.ensures
     (omega (arith, week)) (c.in_ok-list.ensures.count ∙ days)
     (λ day less. c.in_ok-list.ensures.each day (subst (λ n. day < n) (sym days) less) ∙ c.lane_at.ensures day ∙ ap (λ (vs : List (List ℤ)). sum_at (sums_on day vs) c.in-Some.opening) c.deref.ensures.value)
