@@ -1,16 +1,18 @@
 //! The values of the duties of shifts, by pricing.
-ghost use Rattle.std.specs.Prelude.{◌≡◌, ◌≤◌, ◌<◌, ◌^◌, IfOk, MatchOption, IsTrue, length};
+ghost use Rattle.std.specs.Prelude.{◌≡◌, ◌≤◌, ◌<◌, ◌^◌, ◌&&◌, ◌==◌, not, IfOk, MatchOption, IsTrue, length};
+ghost use Rattle.std.specs.List.{list_any};
 ghost use Rattle.std.specs.Option.{option_map};
 ghost use Rattle.shift_instance.specs.Problem.{shift_list};
 ghost use Rattle.shift_instance.specs.Rota.{lists_of};
 ghost use Rattle.shift_instance.specs.Valid.{IsValid};
 ghost use Rattle.head_splits.specs.Bound.{are_prices, is_nil};
-ghost use Rattle.bound_sums.specs.Values.{IsValue};
+ghost use Rattle.bound_sums.specs.Values.{AreValues, IsValue};
 
 use crate::best_lists::best_of_day;
 use bound_sums::DayValues;
 use break_rules::{Breaks, NoMemory};
-use head_splits::{Cuts, Prices};
+use head_splits::{Cut, Cuts, Prices};
+use pricing::most_by_day;
 use shift_instance::Instance;
 use std::alloc::Global;
 
@@ -43,7 +45,49 @@ fn best_value(
     Ok(value_of(found))
 }
 
-/// The values of duties by the best break lists of pricing.
+/// The greatest reduced values of the duties of a shift on the first days, each by the best break list of its day, and `None`
+/// only where no break list is legal.
+fn values_by_lists(
+    alloc: Global,
+    instance: &Instance,
+    cuts: &Cuts,
+    prices: &Prices,
+    shift: u16,
+    days: u8,
+) -> Result<Option<Vec<i128>>, NoMemory>
+    requires valid { IsValid instance.now }
+    requires shift { shift < length (shift_list instance.now) }
+    requires few { length cuts.now ≤ 2 ^ 33 }
+    requires passes { IsTrue (are_prices instance.now cuts.now prices.now) }
+    ensures { IfOk result (λ found. MatchOption found (IsTrue (is_nil (lists_of instance.now shift))) (λ values. AreValues instance.now cuts.now prices.now shift days values.items)) }
+{
+    let mut values = Vec::new(alloc);
+    for day in 0..days {
+        let value = match best_value(alloc, instance, cuts, prices, shift, day)? {
+            Some(value) => value,
+            None => return Ok(None),
+        };
+        values.push(value)?;
+    }
+    Ok(Some(values))
+}
+
+/// Whether a cut bounds duties of a shift that begin with some break.
+fn is_on_prefix(cut: &Cut, shift: u16) -> bool
+    ensures { result ≡ (not (is_nil cut.now.class.prefix) && (shift == cut.now.class.shift)) }
+{
+    !cut.class.prefix.as_slice().is_empty() && shift == cut.class.shift
+}
+
+/// Whether some cut bounds duties of a shift that begin with some break.
+fn has_prefix(cuts: &Cuts, shift: u16) -> bool
+    ensures { result ≡ list_any (λ c. not (is_nil c.class.prefix) && (shift == c.class.shift)) cuts.now }
+{
+    cuts.as_slice().iter().any(|cut| is_on_prefix(cut, shift))
+}
+
+/// The values of duties by pricing: by the prices of slots alone where no cut bounds duties of the shift that begin with some
+/// break, and otherwise by the best break lists.
 #[derive(Clone, Copy, Debug, PartialEq, Eq, Drop)]
 pub(crate) struct ByPricing;
 
@@ -56,14 +100,10 @@ impl DayValues for ByPricing {
         prices: &Prices,
         shift: u16,
     ) -> Result<Option<Vec<i128>>, NoMemory> {
-        let mut values = Vec::new(alloc);
-        for day in 0..instance.days() {
-            let value = match best_value(alloc, instance, cuts, prices, shift, day)? {
-                Some(value) => value,
-                None => return Ok(None),
-            };
-            values.push(value)?;
+        let days = instance.days();
+        if has_prefix(cuts, shift) {
+            return values_by_lists(alloc, instance, cuts, prices, shift, days);
         }
-        Ok(Some(values))
+        most_by_day(alloc, instance, shift, prices.slots.as_slice())
     }
 }
