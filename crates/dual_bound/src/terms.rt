@@ -5,13 +5,14 @@ ghost use Rattle.std.specs.Option.{option_map};
 ghost use Rattle.shift_instance.specs.Problem.{shift_list};
 ghost use Rattle.shift_instance.specs.Rota.{lists_of};
 ghost use Rattle.shift_instance.specs.Valid.{IsValid};
-ghost use Rattle.head_splits.specs.Bound.{are_prices, is_nil};
+ghost use Rattle.head_splits.specs.Bound.{are_prices, bound_of, is_nil};
 ghost use Rattle.bound_sums.specs.Values.{AreValues, IsValue};
 
 use crate::best_lists::best_of_day;
-use bound_sums::DayValues;
+use bound_sums::{DayValues, bound_by};
 use break_rules::{Breaks, NoMemory};
 use head_splits::{Cut, Cuts, Prices};
+use price_sums::DaySums;
 use pricing::most_by_day;
 use shift_instance::Instance;
 use std::alloc::Global;
@@ -86,12 +87,18 @@ fn has_prefix(cuts: &Cuts, shift: u16) -> bool
     cuts.as_slice().iter().any(|cut| is_on_prefix(cut, shift))
 }
 
-/// The values of duties by pricing: by the prices of slots alone where no cut bounds duties of the shift that begin with some
-/// break, and otherwise by the best break lists.
-#[derive(Clone, Copy, Debug, PartialEq, Eq, Drop)]
-pub(crate) struct ByPricing;
+/// The values of duties by pricing, at slot prices with these sums: by the prices of slots alone where no cut bounds duties of the
+/// shift that begin with some break, and otherwise by the best break lists.
+#[derive(Drop)]
+struct ByPricing {
+    sums: DaySums,
+}
 
 impl DayValues for ByPricing {
+    ghost use Rattle.std.specs.Prelude.{◌≡◌};
+
+    ghost serves = { λ values i prices. values.sums ≡ record { instance = i; prices = prices.slots } };
+
     fn of_shift(
         &self,
         alloc: Global,
@@ -104,6 +111,22 @@ impl DayValues for ByPricing {
         if has_prefix(cuts, shift) {
             return values_by_lists(alloc, instance, cuts, prices, shift, days);
         }
-        most_by_day(alloc, instance, shift, prices.slots.as_slice())
+        most_by_day(alloc, instance, shift, &self.sums)
     }
+}
+
+/// The bound of a price set, with the values of duties by pricing.
+pub(crate) fn bound_by_pricing(
+    alloc: Global,
+    instance: &Instance,
+    cuts: &Cuts,
+    prices: &Prices,
+) -> Result<u64, NoMemory>
+    requires valid { IsValid instance.now }
+    requires few { length cuts.now ≤ 2 ^ 33 }
+    requires passes { IsTrue (are_prices instance.now cuts.now prices.now) }
+    ensures { IfOk result (λ b. b ≡ bound_of instance.now cuts.now prices.now) }
+{
+    let sums = DaySums::new(alloc, instance, prices.slots.as_slice())?;
+    bound_by(alloc, &ByPricing { sums }, instance, cuts, prices)
 }
