@@ -87,8 +87,31 @@ fn has_prefix(cuts: &Cuts, shift: u16) -> bool
     cuts.as_slice().iter().any(|cut| is_on_prefix(cut, shift))
 }
 
-/// The values of duties by pricing, at slot prices with these sums: by the prices of slots alone where no cut bounds duties of the
-/// shift that begin with some break, and otherwise by the best break lists.
+/// The greatest reduced values of the duties of a shift, day by day, and `None` where no break list is legal. The sums are those of
+/// the slots' prices. Where no cut bounds duties of the shift that begin with some break, all days are priced in one walk, and
+/// otherwise each by its best break list.
+pub fn best_values(
+    alloc: Global,
+    instance: &Instance,
+    cuts: &Cuts,
+    prices: &Prices,
+    sums: &DaySums,
+    shift: u16,
+) -> Result<Option<Vec<i128>>, NoMemory>
+    requires shift { shift < length (shift_list instance.now) }
+    requires few { length cuts.now ≤ 2 ^ 33 }
+    requires passes { IsTrue (are_prices instance.now cuts.now prices.now) }
+    requires sums { sums.now ≡ record { instance = instance.now; prices = prices.now.slots } }
+    ensures values { IfOk result (λ found. MatchOption found (IsTrue (is_nil (lists_of instance.now shift))) (λ values. AreValues instance.now cuts.now prices.now shift instance.now.days values.items)) }
+{
+    let days = instance.days();
+    if has_prefix(cuts, shift) {
+        return values_by_lists(alloc, instance, cuts, prices, shift, days);
+    }
+    most_by_day(alloc, instance, shift, sums)
+}
+
+/// The values of duties by pricing, at slot prices with these sums.
 #[derive(Drop)]
 struct ByPricing {
     sums: DaySums,
@@ -107,11 +130,7 @@ impl DayValues for ByPricing {
         prices: &Prices,
         shift: u16,
     ) -> Result<Option<Vec<i128>>, NoMemory> {
-        let days = instance.days();
-        if has_prefix(cuts, shift) {
-            return values_by_lists(alloc, instance, cuts, prices, shift, days);
-        }
-        most_by_day(alloc, instance, shift, &self.sums)
+        best_values(alloc, instance, cuts, prices, &self.sums, shift)
     }
 }
 
