@@ -6,6 +6,8 @@ mod best_lists;
 #[cfg(test)]
 mod cut_ranges;
 #[cfg(test)]
+mod day_sums;
+#[cfg(test)]
 mod fixtures;
 #[cfg(test)]
 mod price_bounds;
