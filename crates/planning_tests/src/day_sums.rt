@@ -18,6 +18,14 @@ fn two_days(alloc: Global) -> Result<Parts, NoMemory> {
     Ok(parts)
 }
 
+/// A price of its own for each hour from 22 to 2 of both nights, and 0 of all others. The last night ends in the first hours.
+fn night_prices() -> [i64; 48] {
+    let mut prices = [0i64; 48];
+    (prices[22], prices[23], prices[24], prices[25]) = (1, 2, 4, 8);
+    (prices[46], prices[47], prices[0], prices[1]) = (16, 32, 64, 128);
+    prices
+}
+
 /// What the sums of the first two days have gained in a lane since the first one.
 fn gained(lanes: &[Lane], place: usize) -> Option<(i64, i64)> {
     let first = lanes.first()?;
@@ -34,9 +42,7 @@ fn gained(lanes: &[Lane], place: usize) -> Option<(i64, i64)> {
 fn the_sums_of_a_night_go_round_the_end(rt: HostRuntime) -> Result<(), Fail> {
     let alloc = rt.alloc();
     let instance = Instance::new(alloc, two_days(alloc)?)?;
-    let mut prices = [0i64; 48];
-    (prices[22], prices[23], prices[24], prices[25]) = (1, 2, 4, 8);
-    (prices[46], prices[47], prices[0], prices[1]) = (16, 32, 64, 128);
+    let prices = night_prices();
     assert_eq!(rt; instance.shifts().len(), 1);
     assert_eq!(rt; prices.len(), instance.slots());
     assert!(rt; prices.iter().all(|p| p.unsigned_abs() <= 10_000_000_000));
