@@ -1,4 +1,4 @@
-//! Tests of what the bounds and the best lists of small instances are, and of what cuts leave, each worked out by hand.
+//! Tests of what the bounds, the best lists and the sums of prices of small instances are, and of what cuts leave, each worked out by hand.
 #![tactic(auto)]
 
 #[cfg(test)]
