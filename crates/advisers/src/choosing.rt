@@ -50,13 +50,7 @@ fn is_chosen(is_forced: bool, paid: u64, free: i128) -> bool
 }
 
 /// Whether the solution has duties of a shift, by the greatest reduced values of its days.
-fn is_used(
-    instance: &Instance,
-    cuts: &Cuts,
-    prices: &Prices,
-    shift: u16,
-    values: &[i128],
-) -> bool
+fn is_used(instance: &Instance, cuts: &Cuts, prices: &Prices, shift: u16, values: &[i128]) -> bool
     requires values { AreValues instance.now cuts.now prices.now shift instance.now.days values.now }
     ensures { result ≡ is_chosen instance.now cuts.now prices.now shift }
 {
