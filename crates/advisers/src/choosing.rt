@@ -49,7 +49,7 @@ fn is_chosen(is_forced: bool, paid: u64, free: i128) -> bool
     is_forced || i128::from(paid) < free
 }
 
-/// Whether the solution has duties of a shift, by the greatest reduced values of its days.
+/// Whether a shift is used, by the greatest reduced values of its duties, day by day.
 fn is_used(instance: &Instance, cuts: &Cuts, prices: &Prices, shift: u16, values: &[i128]) -> bool
     requires values { AreValues instance.now cuts.now prices.now shift instance.now.days values.now }
     ensures { result ≡ is_chosen instance.now cuts.now prices.now shift }
@@ -112,7 +112,7 @@ fn add_row(rows: &mut Vec<Row>, row: Option<Row>) -> Result<(), NoMemory>
     Ok(())
 }
 
-/// The rows of the duties of a used shift, one for each day that has any, by the greatest reduced values of its days.
+/// The rows of the duties of a used shift, one for each day that has any, by their greatest reduced values, day by day.
 fn used_rows(
     alloc: Global,
     instance: &Instance,
