@@ -8,8 +8,8 @@ use Rattle.greedy.proofs.plan.add_day.Goals as goal
 
 pub add-requires-clause-legal : goal.add-requires-clause-legal
 add-requires-clause-legal c =
-    best_legal c.args.instance.now c.args.bests.now.prices.items c.args.shift c.args.day c.in-Some.best.now.list c.requires.day
-    (value_some c.args.instance.now c.args.bests.now.prices.items c.args.shift c.args.day c.in-Some.best.now c.in-Some.ensures).0
+    best_legal c.args.instance.now c.args.values.now.prices.items c.args.shift c.args.day c.in-Some.best.now.list c.requires.day
+    (value_some c.args.instance.now c.args.values.now.prices.items c.args.shift c.args.day c.in-Some.best.now c.in-Some.ensures).0
 
 pub returns-in_ok-add-clause-duties : goal.returns-in_ok-add-clause-duties
 returns-in_ok-add-clause-duties c =
@@ -18,14 +18,14 @@ returns-in_ok-add-clause-duties c =
     let p : neg_ℤ (pos 2016000000) ≤ℤ value = c.value-value.ensures.small.above in
     let q : value ≤ℤ pos 2016000000 = c.value-value.ensures.small.below in
     let same : to_z w64 (of_z w64 value) ≡ value = omega (arith, ints) in
-    day_added i c.args.bests.now.prices.items c.args.shift c.args.day c.heads_on.result value c.is_wanted.result c.in-Some.best.now.list c.args.draft.now.cover.duties c.add.new.self.cover.duties
+    day_added i c.args.values.now.prices.items c.args.shift c.args.day c.heads_on.result value c.is_wanted.result c.in-Some.best.now.list c.args.draft.now.cover.duties c.add.new.self.cover.duties
     (c.is_wanted.ensures ∙ ap (is_wanted i c.heads_on.result) same) c.if-not-is_wanted.false c.heads_on.ensures c.value-value.ensures.value
-    (value_some i c.args.bests.now.prices.items c.args.shift c.args.day c.in-Some.best.now c.in-Some.ensures).0 c.in_ok-add.ensures.duties
+    (value_some i c.args.values.now.prices.items c.args.shift c.args.day c.in-Some.best.now c.in-Some.ensures).0 c.in_ok-add.ensures.duties
 
 pub returns-in_default-clause-duties : goal.returns-in_default-clause-duties
 returns-in_default-clause-duties c =
     let i = c.args.instance.now in
-    let prices = c.args.bests.now.prices.items in
+    let prices = c.args.values.now.prices.items in
     let value = c.value-value.result in
     let p : neg_ℤ (pos 2016000000) ≤ℤ value = c.value-value.ensures.small.above in
     let q : value ≤ℤ pos 2016000000 = c.value-value.ensures.small.below in
