@@ -1,7 +1,6 @@
 -- The best list of a shift on a day: the least of those that earn most.
 use Rattle.std.proofs.Common.{◌≡◌, inl, inr, ℕ, zero, suc, ◌+◌, ◌*◌, ◌≤◌, ℤ, pos, neg_ℤ, ◌+ℤ◌, ◌≤ℤ◌, ◌<ℤ◌, Bool, true, false, cond, not, Option, Some, None, List, [], ◌∷◌, refl, sym, ap, ◌∙◌, subst, arith}
 use Rattle.std.specs.Prelude.{int_lt, slice_get, MatchOption}
-use Rattle.std.specs.Option.{option_map, option_map_or}
 use Rattle.std.specs.List.{list_any, find}
 use Rattle.std.proofs.lemmas.Int.{ints}
 use Rattle.std.proofs.lemmas.Bool.{cases_Bool, false≢true}
@@ -15,7 +14,7 @@ use Rattle.shift_instance.specs.Rota.{lists_of, is_list_of, works}
 use Rattle.shift_instance.specs.Worth.{price_of, earned, worth, IsBest}
 use Rattle.shift_instance.proofs.Rotas.{Has-lists_of, from_lists_of}
 use Rattle.patterns.specs.declared.Pattern.{Pattern}
-use Rattle.greedy.specs.Greedy.{duty, earned_with, is_greatest, best_list, day_value}
+use Rattle.greedy.specs.Greedy.{duty, earned_with, is_greatest, best_list}
 use Rattle.greedy.specs.Sizes.{IsWithin, ArePrices}
 use Rattle.shift_instance.proofs.AllDuties.{Sorted-lists_of}
 use Rattle.greedy.proofs.Leading.{find_none}

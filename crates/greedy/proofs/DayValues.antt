@@ -1,35 +1,30 @@
 -- The values of shifts, day by day, and those at other prices.
-use Rattle.std.proofs.Common.{◌≡◌, ℕ, ◌+◌, ◌*◌, ◌/◌, ◌%◌, ◌<◌, ◌≤◌, ℤ, pos, ◌+ℤ◌, ◌≤ℤ◌, Bool, true, false, cond, inl, inr, not, Option, Some, None, List, [], map, length, get_or, set, refl, sym, ap, ◌∙◌, subst, arith, nat_lt}
+use Rattle.std.proofs.Common.{◌≡◌, ℕ, zero, suc, refl, ◌+◌, ◌*◌, ◌<◌, ◌≤◌, ℤ, pos, inl, inr, Bool, Option, Some, None, List, [], ◌∷◌, ◌++◌, length, length-set, length-append, get_or, set, cond, sym, ap, ◌∙◌, subst, arith, false}
 use Rattle.std.proofs.Math.Path.{fun_ext}
-use Rattle.std.specs.Prelude.{slice_get, int_lt, IsSomeAnd}
-use Rattle.std.specs.Option.{option_map, option_map_or}
+use Rattle.std.specs.Prelude.{slice_get, int_lt, IsSomeAnd, MatchOption, not, replicate}
 use Rattle.std.specs.Bool.{OnFalse}
+use Rattle.std.specs.Option.{option_map_or}
 use Rattle.std.specs.List.{list_any, find}
 use Rattle.std.proofs.lemmas.Int.{ints}
-use Rattle.std.proofs.lemmas.Bool.{and_from, lt-ltb, cases_eq}
-use Rattle.std.proofs.lemmas.Grind.{common_steps}
-use Rattle.std.proofs.lemmas.List.{get_or-set_same, get_or-set_other, ext_get_or}
-use Rattle.std.proofs.lemmas.List.FromFn.{length-map-range_with_len, get_or-map-range_with_len}
+use Rattle.std.proofs.lemmas.Bool.{cases_eq, cases_lt}
+use Rattle.std.proofs.lemmas.List.{get_or-set_same, get_or-set_other, get_or_past, get_or_push, get_or_read, get_or_append_left}
 use Rattle.break_rules.specs.declared.Break.{Break}
 use Rattle.break_rules.specs.declared.Rule.{Rule}
-use Rattle.break_rules.specs.Breaks.{is_legal, is_less_list, works_at}
-use Rattle.break_rules.specs.Plain.{plain_rule}
-use Rattle.break_rules.specs.Sums.{int_sum_by}
+use Rattle.break_rules.specs.Breaks.{works_at}
 use Rattle.break_rules.proofs.Lists.{from_below}
-use Rattle.break_rules.proofs.Plain.{plain_legal, plain_empty}
 use Rattle.break_rules.proofs.Sums.{int_sum_by-same}
 use Rattle.shift_instance.specs.declared.Shift.{Shift}
-use Rattle.shift_instance.specs.Problem.{Problem, day_slots, shift_list, slot_of, below}
+use Rattle.shift_instance.specs.Problem.{Problem, shift_list, slot_of, below}
 use Rattle.shift_instance.specs.Rota.{lists_of, is_list_of}
 use Rattle.shift_instance.specs.Valid.{IsValid}
-use Rattle.shift_instance.specs.Worth.{price_of, earned, worth, IsBest}
+use Rattle.shift_instance.specs.Worth.{price_of, earned}
 use Rattle.shift_instance.proofs.Offsets.{earned_by_offsets}
-use Rattle.shift_instance.proofs.Shifts.{some_at, Has_at, shift_within, shift_short, is_some_and_at}
-use Rattle.greedy.specs.Values.{AreValues, AreValuesOf}
+use Rattle.shift_instance.proofs.Shifts.{some_at, Has_at, shift_short, is_some_and_at}
 use Rattle.pricing.specs.Days.{IsMostOn, AreMostByDay}
-use Rattle.greedy.specs.Greedy.{duty, earned_with, best_list}
-use Rattle.greedy.proofs.BestLists.{worth_none, best_with}
-use Rattle.shift_instance.proofs.Ranges.{int_sum_below_more}
+use Rattle.greedy.specs.Greedy.{duty, earned_with, best_list, day_value}
+use Rattle.greedy.specs.Sizes.{ArePrices, IsWithin}
+use Rattle.greedy.specs.Values.{AreValues, AreValuesOf}
+use Rattle.greedy.proofs.BestLists.{best_found, best_missing, earned_small, found_small}
 
 -- what the best duty of a day earns is the day's value
 pub most_is : (i : Problem) (prices : List ℤ) (s day : ℕ) (value : ℤ) → IsMostOn i s day prices value → value ≡ day_value i prices s day
@@ -42,18 +37,37 @@ none_small : IsWithin (2016 * 1000000) (pos 0)
 none_small = record { above = omega (arith, ints); below = omega (arith, ints) }
 
 -- and small
-pub most_small : (i : Problem) (prices : List ℤ) (s days : ℕ) (values : List ℤ) → ArePrices i prices → AreMostByDay i s prices days values → (day : ℕ) → IsWithin (2016 * 1000000) (slice_index_or values day (pos 0))
+pub most_small : (i : Problem) (prices : List ℤ) (s days : ℕ) (values : List ℤ) → ArePrices i prices → AreMostByDay i s prices days values → (day : ℕ) → IsWithin (2016 * 1000000) (get_or values day (pos 0))
 most_small i prices s days values h m day =
     let count : length values ≡ days = m.count in
     elim (cases_lt day days) [
-      | inl l ↦ found_small i prices s day (m.each day l).0 (slice_index_or values day (pos 0)) h (m.each day l).1
+      | inl l ↦ found_small i prices s day (m.each day l).0 (get_or values day (pos 0)) h (m.each day l).1
       | inr g ↦ subst (IsWithin (2016 * 1000000)) (sym (get_or_past values day (pos 0) (omega arith))) none_small
     ]
+
+-- what holds of what was found
+pub some_of : {X : Type 0} (A : Type 0) (o : Option X) (B : X → Type 0) (x : X) → o ≡ Some x → MatchOption o A B → B x
+some_of A o B x e h = subst (λ o. MatchOption o A B) e h
+
+-- what holds unless it is so
+pub off : (b : Bool) (P : Type 0) → b ≡ false → OnFalse b P → P
+off b P e h = subst (λ b. OnFalse b P) e h
+
+-- a lane of zeros
+pub zeros : (n day : ℕ) → get_or (replicate n (pos 0)) day (pos 0) ≡ pos 0
+zeros zero day = refl
+zeros (suc n) zero = refl
+zeros (suc n) (suc day) = zeros n day
 
 -- where no list is legal it is 0
 pub none_is : (i : Problem) (prices : List ℤ) (s day : ℕ) → ((list : List Break) → is_list_of i s list ≡ false) → pos 0 ≡ day_value i prices s day
 unfolding day_value
 none_is i prices s day h = sym (ap (λ (o : Option (List Break)). option_map_or (earned_with i prices s day) o (pos 0)) (best_missing i prices s day h))
+
+-- and so where there is no best list
+pub missing_is : (i : Problem) (prices : List ℤ) (s day : ℕ) → None ≡ best_list i prices s day → pos 0 ≡ day_value i prices s day
+unfolding day_value
+missing_is i prices s day h = ap (λ (o : Option (List Break)). option_map_or (earned_with i prices s day) o (pos 0)) h
 
 -- no value is large
 pub value_small : (i : Problem) (prices : List ℤ) (s day : ℕ) → ArePrices i prices → IsWithin (2016 * 1000000) (day_value i prices s day)
@@ -73,7 +87,6 @@ same_earned i old prices s day list x valid e h =
     earned_by_offsets i old (duty s day list) x e short
     ∙ int_sum_by-same _ _ (below x.0.len) (λ o m. ap (λ z. cond (works_at x.1 x.0.len list o) z (pos 0)) (h o (from_below x.0.len o m)))
     ∙ sym (earned_by_offsets i prices (duty s day list) x e short)
-
 
 -- and so its value
 pub same_value : (i : Problem) (old prices : List ℤ) (s day n : ℕ) (y : Shift) → IsValid i → s < length (shift_list i) → IsSomeAnd (slice_get (shift_list i) s) (λ x. y ≡ x.0) → y.len ≤ n
@@ -95,10 +108,17 @@ slot_same i old prices s day o slot x e at same =
     ap (price_of old) (sym here) ∙ same ∙ ap (price_of prices) here
 
 -- ---- the lanes of all shifts
+-- a value that is read
+pub value_read : (i : Problem) (prices : List ℤ) (lanes : List (List ℤ)) (s day at on : ℕ) (lane : List ℤ) → AreValues i prices lanes → s < length (shift_list i) → day < i.days → at ≡ s → on ≡ day → lane ≡ get_or lanes at lane → get_or lane on (pos 0) ≡ day_value i prices s day
+value_read i prices lanes s day at on lane h hs hd e f read =
+    let all : length lanes ≡ length (shift_list i) = h.all in
+    let is : lane ≡ get_or lanes s [] = get_or_read lanes at lane (omega arith) read [] ∙ ap (λ k. get_or lanes k []) e in
+    ap (λ k. get_or lane k (pos 0)) f ∙ ap (λ (l : List ℤ). get_or l day (pos 0)) is ∙ h.each s hs day hd
+
 -- those of the first shifts
 pub record AreFirst (i : Problem) (prices : List ℤ) (n : ℕ) (lanes : List (List ℤ)) : Type 0 where
   pub all : length lanes ≡ n
-  pub each : (s : ℕ) → s < n → AreValuesOf i prices s (slice_index_or lanes s [])
+  pub each : (s : ℕ) → s < n → AreValuesOf i prices s (get_or lanes s [])
 
 -- with one more
 pub first_more : (i : Problem) (prices : List ℤ) (n : ℕ) (lanes more : List (List ℤ)) (lane : List ℤ) → AreValuesOf i prices n lane → more ≡ lanes ++ lane ∷ [] → AreFirst i prices n lanes → AreFirst i prices (n + 1) more
@@ -122,8 +142,8 @@ first_all i prices n lanes priced e h = record {
 -- those of the first shifts at new prices, and the others at old ones
 pub record AreRenewed (i : Problem) (old prices : List ℤ) (n : ℕ) (lanes : List (List ℤ)) : Type 0 where
   pub all : length lanes ≡ length (shift_list i)
-  pub new : (s : ℕ) → s < n → s < length (shift_list i) → AreValuesOf i prices s (slice_index_or lanes s [])
-  pub rest : (s : ℕ) → n ≤ s → s < length (shift_list i) → AreValuesOf i old s (slice_index_or lanes s [])
+  pub new : (s : ℕ) → s < n → s < length (shift_list i) → AreValuesOf i prices s (get_or lanes s [])
+  pub rest : (s : ℕ) → n ≤ s → s < length (shift_list i) → AreValuesOf i old s (get_or lanes s [])
 
 pub renewed_none : (i : Problem) (old prices : List ℤ) (lanes : List (List ℤ)) → AreValues i old lanes → AreRenewed i old prices 0 lanes
 renewed_none i old prices lanes h = record {

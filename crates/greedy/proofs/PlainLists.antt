@@ -1,33 +1,21 @@
 -- The best list of types without breaks.
-use Rattle.std.proofs.Common.{◌≡◌, ℕ, ◌+◌, ◌*◌, ◌/◌, ◌%◌, ◌<◌, ◌≤◌, ℤ, pos, ◌+ℤ◌, ◌≤ℤ◌, Bool, true, false, cond, inl, inr, not, Option, Some, None, List, [], map, length, get_or, set, refl, sym, ap, ◌∙◌, subst, arith, nat_lt}
-use Rattle.std.proofs.Math.Path.{fun_ext}
-use Rattle.std.specs.Prelude.{slice_get, int_lt, IsSomeAnd}
-use Rattle.std.specs.Option.{option_map, option_map_or}
-use Rattle.std.specs.Bool.{OnFalse}
-use Rattle.std.specs.List.{list_any, find}
+use Rattle.std.proofs.Common.{◌≡◌, ℕ, ◌<◌, ◌≤◌, ℤ, ◌≤ℤ◌, true, false, Some, List, [], length, refl, sym, ap, ◌∙◌, subst, arith}
+use Rattle.std.specs.Prelude.{slice_get, IsSomeAnd}
+use Rattle.std.specs.Option.{option_map_or}
 use Rattle.std.proofs.lemmas.Int.{ints}
-use Rattle.std.proofs.lemmas.Bool.{and_from, lt-ltb, cases_eq}
-use Rattle.std.proofs.lemmas.Grind.{common_steps}
-use Rattle.std.proofs.lemmas.List.{get_or-set_same, get_or-set_other, ext_get_or}
-use Rattle.std.proofs.lemmas.List.FromFn.{length-map-range_with_len, get_or-map-range_with_len}
 use Rattle.break_rules.specs.declared.Break.{Break}
 use Rattle.break_rules.specs.declared.Rule.{Rule}
-use Rattle.break_rules.specs.Breaks.{is_legal, is_less_list, works_at}
+use Rattle.break_rules.specs.Breaks.{is_legal, is_less_list}
 use Rattle.break_rules.specs.Plain.{plain_rule}
-use Rattle.break_rules.specs.Sums.{int_sum_by}
-use Rattle.break_rules.proofs.Lists.{from_below}
 use Rattle.break_rules.proofs.Plain.{plain_legal, plain_empty}
-use Rattle.break_rules.proofs.Sums.{int_sum_by-same}
 use Rattle.shift_instance.specs.declared.Shift.{Shift}
-use Rattle.shift_instance.specs.Problem.{Problem, day_slots, shift_list, slot_of, below}
-use Rattle.shift_instance.specs.Rota.{lists_of, is_list_of}
+use Rattle.shift_instance.specs.Problem.{Problem, day_slots, shift_list}
+use Rattle.shift_instance.specs.Rota.{is_list_of}
 use Rattle.shift_instance.specs.Valid.{IsValid}
-use Rattle.shift_instance.specs.Worth.{price_of, earned, worth, IsBest}
-use Rattle.shift_instance.proofs.Offsets.{earned_by_offsets}
-use Rattle.shift_instance.proofs.Shifts.{some_at, Has_at, shift_within, shift_short, is_some_and_at}
-use Rattle.greedy.specs.Greedy.{duty, earned_with, best_list}
-use Rattle.greedy.proofs.BestLists.{worth_none, best_with}
-use Rattle.shift_instance.proofs.Ranges.{int_sum_below_more}
+use Rattle.shift_instance.specs.Worth.{worth, IsBest}
+use Rattle.shift_instance.proofs.Shifts.{some_at, Has_at, shift_within, is_some_and_at}
+use Rattle.greedy.specs.Greedy.{duty, best_list}
+use Rattle.greedy.proofs.BestLists.{best_found}
 
 -- under a plain rule the empty list is the best one
 pub plain_best : (i : Problem) (prices : List ℤ) (s day : ℕ) (rule : Rule) → IsValid i → s < length (shift_list i) → IsSomeAnd (slice_get (shift_list i) s) (λ x. rule ≡ x.1) → rule ≡ plain_rule → best_list i prices s day ≡ Some []

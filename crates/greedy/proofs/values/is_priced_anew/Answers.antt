@@ -1,4 +1,4 @@
-use Rattle.std.proofs.Common.{arith, below_more}
+use Rattle.std.proofs.Common.{arith}
 use Rattle.greedy.proofs.values.is_priced_anew.Goals as goal
 
 pub loop-day-init : goal.loop-day-init
