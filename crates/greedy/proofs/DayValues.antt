@@ -36,7 +36,7 @@ most_is i prices s day value m =
 none_small : IsWithin (2016 * 1000000) (pos 0)
 none_small = record { above = omega (arith, ints); below = omega (arith, ints) }
 
--- and small
+-- and all of these are small
 pub most_small : (i : Problem) (prices : List ℤ) (s days : ℕ) (values : List ℤ) → ArePrices i prices → AreMostByDay i s prices days values → (day : ℕ) → IsWithin (2016 * 1000000) (get_or values day (pos 0))
 most_small i prices s days values h m day =
     let count : length values ≡ days = m.count in
@@ -45,13 +45,13 @@ most_small i prices s days values h m day =
       | inr g ↦ subst (IsWithin (2016 * 1000000)) (sym (get_or_past values day (pos 0) (omega arith))) none_small
     ]
 
--- what holds of what was found
+-- what was found is as a clause says of it
 pub some_of : {X : Type 0} (A : Type 0) (o : Option X) (B : X → Type 0) (x : X) → o ≡ Some x → MatchOption o A B → B x
 some_of A o B x e h = subst (λ o. MatchOption o A B) e h
 
--- what holds unless it is so
-pub off : (b : Bool) (P : Type 0) → b ≡ false → OnFalse b P → P
-off b P e h = subst (λ b. OnFalse b P) e h
+-- what a test that is false tells
+pub told_by_false : (b : Bool) (P : Type 0) → b ≡ false → OnFalse b P → P
+told_by_false b P e h = subst (λ b. OnFalse b P) e h
 
 -- a lane of zeros
 pub zeros : (n day : ℕ) → get_or (replicate n (pos 0)) day (pos 0) ≡ pos 0

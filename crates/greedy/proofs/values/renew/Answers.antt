@@ -1,7 +1,7 @@
 use Rattle.std.proofs.Common.{◌≡◌, ◌<◌, ◌+◌, set, length, sym, subst, arith, rules}
 use Rattle.shift_instance.specs.Problem.{shift_list}
 use Rattle.greedy.specs.Values.{AreValuesOf}
-use Rattle.greedy.proofs.DayValues.{AreRenewed, renewed_none, renewed_keep, renewed_set, renewed_all, off}
+use Rattle.greedy.proofs.DayValues.{AreRenewed, renewed_none, renewed_keep, renewed_set, renewed_all, told_by_false}
 use Rattle.greedy.proofs.values.renew.Goals as goal
 use Rattle.greedy.proofs.values.renew.Goals.{then-is_priced_anew+in_ok-lanes, else-is_priced_anew}
 
@@ -24,7 +24,7 @@ loop-shift-preserved c =
           subst (AreRenewed i old prices (shift + 1)) (sym put) (renewed_set i old prices shift lanes w.in_ok-lanes.field-0 of within c.loop-shift.invariant)
       | else-is_priced_anew w ↦
           let kept : c.if-is_priced_anew.lanes.items ≡ lanes = search rules in
-          subst (AreRenewed i old prices (shift + 1)) (sym kept) (renewed_keep i old prices shift lanes (off c.is_priced_anew.result _ w.if-is_priced_anew.false c.is_priced_anew.ensures) c.loop-shift.invariant)
+          subst (AreRenewed i old prices (shift + 1)) (sym kept) (renewed_keep i old prices shift lanes (told_by_false c.is_priced_anew.result _ w.if-is_priced_anew.false c.is_priced_anew.ensures) c.loop-shift.invariant)
     ]
 
 pub returns : goal.returns
