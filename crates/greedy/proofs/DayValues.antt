@@ -59,12 +59,12 @@ zeros zero day = refl
 zeros (suc n) zero = refl
 zeros (suc n) (suc day) = zeros n day
 
--- where no list is legal it is 0
+-- where no list is legal the value is 0
 pub none_is : (i : Problem) (prices : List ℤ) (s day : ℕ) → ((list : List Break) → is_list_of i s list ≡ false) → pos 0 ≡ day_value i prices s day
 unfolding day_value
 none_is i prices s day h = sym (ap (λ (o : Option (List Break)). option_map_or (earned_with i prices s day) o (pos 0)) (best_missing i prices s day h))
 
--- and so where there is no best list
+-- and where there is no best list
 pub missing_is : (i : Problem) (prices : List ℤ) (s day : ℕ) → None ≡ best_list i prices s day → pos 0 ≡ day_value i prices s day
 unfolding day_value
 missing_is i prices s day h = ap (λ (o : Option (List Break)). option_map_or (earned_with i prices s day) o (pos 0)) h
@@ -108,14 +108,14 @@ slot_same i old prices s day o slot x e at same =
     ap (price_of old) (sym here) ∙ same ∙ ap (price_of prices) here
 
 -- ---- the lanes of all shifts
--- a value that is read
+-- a value that is read of them
 pub value_read : (i : Problem) (prices : List ℤ) (lanes : List (List ℤ)) (s day at on : ℕ) (lane : List ℤ) → AreValues i prices lanes → s < length (shift_list i) → day < i.days → at ≡ s → on ≡ day → lane ≡ get_or lanes at lane → get_or lane on (pos 0) ≡ day_value i prices s day
 value_read i prices lanes s day at on lane h hs hd e f read =
     let all : length lanes ≡ length (shift_list i) = h.all in
     let is : lane ≡ get_or lanes s [] = get_or_read lanes at lane (omega arith) read [] ∙ ap (λ k. get_or lanes k []) e in
     ap (λ k. get_or lane k (pos 0)) f ∙ ap (λ (l : List ℤ). get_or l day (pos 0)) is ∙ h.each s hs day hd
 
--- those of the first shifts
+-- the lanes of the first shifts
 pub record AreFirst (i : Problem) (prices : List ℤ) (n : ℕ) (lanes : List (List ℤ)) : Type 0 where
   pub all : length lanes ≡ n
   pub each : (s : ℕ) → s < n → AreValuesOf i prices s (get_or lanes s [])
@@ -139,7 +139,7 @@ first_all i prices n lanes priced e h = record {
   each = λ s l. h.each s (omega arith);
 }
 
--- those of the first shifts at new prices, and the others at old ones
+-- the lanes of the first shifts at new prices, and the others at old ones
 pub record AreRenewed (i : Problem) (old prices : List ℤ) (n : ℕ) (lanes : List (List ℤ)) : Type 0 where
   pub all : length lanes ≡ length (shift_list i)
   pub new : (s : ℕ) → s < n → s < length (shift_list i) → AreValuesOf i prices s (get_or lanes s [])
