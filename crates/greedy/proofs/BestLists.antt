@@ -1,7 +1,6 @@
 -- The best list of a shift on a day: the least of those that earn most.
 use Rattle.std.proofs.Common.{◌≡◌, inl, inr, ℕ, zero, suc, ◌+◌, ◌*◌, ◌≤◌, ℤ, pos, neg_ℤ, ◌+ℤ◌, ◌≤ℤ◌, ◌<ℤ◌, Bool, true, false, cond, not, Option, Some, None, List, [], ◌∷◌, refl, sym, ap, ◌∙◌, subst, arith}
 use Rattle.std.specs.Prelude.{int_lt, slice_get, MatchOption}
-use Rattle.std.specs.Option.{option_map, option_map_or}
 use Rattle.std.specs.List.{list_any, find}
 use Rattle.std.proofs.lemmas.Int.{ints}
 use Rattle.std.proofs.lemmas.Bool.{cases_Bool, false≢true}
@@ -15,9 +14,7 @@ use Rattle.shift_instance.specs.Rota.{lists_of, is_list_of, works}
 use Rattle.shift_instance.specs.Worth.{price_of, earned, worth, IsBest}
 use Rattle.shift_instance.proofs.Rotas.{Has-lists_of, from_lists_of}
 use Rattle.patterns.specs.declared.Pattern.{Pattern}
-use Rattle.greedy.specs.declared.bests.Best.{Best}
-use Rattle.greedy.specs.Bests.{earning, best_of}
-use Rattle.greedy.specs.Greedy.{duty, earned_with, is_greatest, best_list, day_value}
+use Rattle.greedy.specs.Greedy.{duty, earned_with, is_greatest, best_list}
 use Rattle.greedy.specs.Sizes.{IsWithin, ArePrices}
 use Rattle.shift_instance.proofs.AllDuties.{Sorted-lists_of}
 use Rattle.greedy.proofs.Leading.{find_none}
@@ -86,21 +83,6 @@ pub best_missing : (i : Problem) (prices : List ℤ) (s day : ℕ) → ((list : 
 unfolding best_list
 best_missing i prices s day h = find_none (is_greatest i prices s day) (lists_of i s) (λ list m. absurd (false≢true (sym (h list) ∙ from_lists_of i s list m)))
 
--- a list with a value
-abbrev pub best_with : List Break → ℤ → Best
-best_with list value = record { list = list; value = value }
-
--- so it is the entry of shift and day
-pub best_of_some : (i : Problem) (prices : List ℤ) (s day : ℕ) (list : List Break) (value v : ℤ) → IsBest i s day prices [] list value → v ≡ value → Some (best_with list v) ≡ best_of i prices s day
-unfolding best_of
-best_of_some i prices s day list value v b same =
-    let f = best_found i prices s day list value b in
-    ap (λ z. Some (best_with list z)) (same ∙ f.1) ∙ sym (ap (option_map (earning i prices s day)) f.0)
-
-pub best_of_none : (i : Problem) (prices : List ℤ) (s day : ℕ) → ((list : List Break) → is_list_of i s list ≡ false) → None ≡ best_of i prices s day
-unfolding best_of
-best_of_none i prices s day h = sym (ap (option_map (earning i prices s day)) (best_missing i prices s day h))
-
 -- ---- sizes
 sum_within : (f : ℕ → ℤ) (b n : ℕ) → ((t : ℕ) → IsWithin b (f t)) → IsWithin (n * b) (int_sum_by f (below n))
 sum_within f b zero h = record { above = omega (arith, ints); below = omega (arith, ints) }
@@ -143,29 +125,3 @@ none_at {X} {A} o B e h = subst (λ o. MatchOption o A B) e h
 -- what was found, as a pair
 pub found_at : (i : Problem) (prices : List ℤ) (s day : ℕ) (o : Option (Pattern × ℤ)) (p : Pattern) (value : ℤ) (A : Type 0) → o ≡ Some (p, value) → MatchOption o A (λ q. IsBest i s day prices [] q.0.list q.1) → IsBest i s day prices [] p.list value
 found_at i prices s day o p value A e h = subst (λ o. MatchOption o A (λ q. IsBest i s day prices [] q.0.list q.1)) e h
-
--- ---- the entries
--- the value of a shift on a day, by its entry
-pub value_some : (i : Problem) (prices : List ℤ) (s day : ℕ) (best : Best) → Some best ≡ best_of i prices s day → (best_list i prices s day ≡ Some best.list) × (best.value ≡ day_value i prices s day) × (best.value ≡ earned i prices (duty s day best.list))
-unfolding best_of day_value
-value_some i prices s day best e = parts (best_list i prices s day) e
-  where
-    parts : (o : Option (List Break)) → Some best ≡ option_map (earning i prices s day) o
-        → (o ≡ Some best.list) × (best.value ≡ option_map_or (earned_with i prices s day) o (pos 0)) × (best.value ≡ earned i prices (duty s day best.list))
-    parts None h = absurd (cc)
-    parts (Some list) h =
-        let made : Best = earning i prices s day list in
-        let same : best ≡ made = (let g : Some best ≡ Some made = h in cc) in (
-          ap (λ (b : Best). Some b.list) (sym same),
-          ap (λ (b : Best). b.value) same,
-          ap (λ (b : Best). b.value) same ∙ ap (λ (b : Best). earned_with i prices s day b.list) (sym same),
-        )
-
-pub value_none : (i : Problem) (prices : List ℤ) (s day : ℕ) → None ≡ best_of i prices s day → (best_list i prices s day ≡ None) × (pos 0 ≡ day_value i prices s day)
-unfolding best_of day_value
-value_none i prices s day e = parts (best_list i prices s day) e
-  where
-    parts : (o : Option (List Break)) → None ≡ option_map (earning i prices s day) o
-        → (o ≡ None) × (pos 0 ≡ option_map_or (earned_with i prices s day) o (pos 0))
-    parts None h = (refl, refl)
-    parts (Some list) h = absurd (cc)

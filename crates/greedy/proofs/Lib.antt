@@ -1,4 +1,5 @@
 pub mod BestLists
+pub mod DayValues
 pub mod Falls
 pub mod Growing
 pub mod Leading

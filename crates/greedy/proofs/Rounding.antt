@@ -1,12 +1,11 @@
 -- Steps of the rounds of the greedy plan.
-use Rattle.std.proofs.Common.{◌≡◌, inl, inr, ℕ, suc, ◌+◌, ◌-◌, ◌*◌, ◌/◌, ◌%◌, ◌<◌, ◌≤◌, ℤ, pos, neg_ℤ, ◌+ℤ◌, ◌-ℤ◌, ◌≤ℤ◌, Bool, true, false, cond, not, ◌&&◌, Option, Some, None, List, [], ◌∷◌, ◌++◌, map, filter, length, get_or, refl, sym, ap, ◌∙◌, subst, arith}
+use Rattle.std.proofs.Common.{◌≡◌, inl, inr, ℕ, suc, ◌+◌, ◌-◌, ◌*◌, ◌<◌, ◌≤◌, ℤ, pos, neg_ℤ, ◌+ℤ◌, ◌-ℤ◌, ◌≤ℤ◌, Bool, true, false, cond, not, ◌&&◌, Option, Some, None, List, [], ◌∷◌, ◌++◌, map, filter, length, get_or, refl, sym, ap, ◌∙◌, subst, arith}
 use Rattle.std.specs.Prelude.{int_lt, nat_lt, MatchBool}
 use Rattle.std.specs.List.{list_any}
 use Rattle.std.proofs.lemmas.Int.{ints}
 use Rattle.std.proofs.lemmas.Bool.{cases_lt}
 use Rattle.std.proofs.lemmas.List.{append-nil, get_or_past}
 use Rattle.std.proofs.lemmas.List.FromFn.{length-map-range_with_len, get_or-map-range_with_len}
-use Rattle.std.proofs.lemmas.Nat.{div-mul-add, mod-mul-add, mul-add-lt}
 use Rattle.break_rules.specs.declared.Break.{Break}
 use Rattle.break_rules.specs.Sums.{int_sum_by}
 use Rattle.break_rules.proofs.Lists.{from_below}
@@ -15,8 +14,6 @@ use Rattle.shift_instance.specs.declared.Row.{Row}
 use Rattle.shift_instance.specs.Problem.{Problem, slots, need_at, shift_list, below}
 use Rattle.shift_instance.specs.Rota.{cover, heads_on, is_used, are_legal_rows, cost, rota_of}
 use Rattle.shift_instance.specs.Valid.{IsValid}
-use Rattle.greedy.specs.declared.bests.Best.{Best}
-use Rattle.greedy.specs.Bests.{AreBests, best_of, best_at, best_lists}
 use Rattle.greedy.specs.Drafts.{Leads, LeadsToGreedy}
 use Rattle.greedy.specs.Greedy.{duty, marginal_price, marginal_prices, best_list, best_duty, day_value, value_on, is_wanted, counts, gain, first_greatest, next_shift, new_duties, greedy_after, greedy_rota, greedy_rows, rows_of}
 use Rattle.greedy.specs.Sizes.{IsWithin, ArePrices}
@@ -25,10 +22,10 @@ use Rattle.greedy.proofs.Growing.{heads_before}
 use Rattle.greedy.proofs.Leading.{leads_all}
 use Rattle.greedy.proofs.PlanRows.{rows_legal, rota_costs}
 use Rattle.shift_instance.proofs.Ranges.{int_sum_below_more}
-use Rattle.greedy.proofs.Ranges.{map_more, map_push, filter_more}
+use Rattle.greedy.proofs.Ranges.{map_push, filter_more}
 use Rattle.greedy.proofs.Rounds.{used_is, find_some, round_some, round_none, greedy_legal}
 
--- ---- prices and entries
+-- ---- prices
 -- a marginal price is no larger than a weight
 price_small : (i : Problem) (t c : ℕ) → IsValid i → IsWithin 1000000 (marginal_price i t c)
 price_small i t c valid =
@@ -52,25 +49,6 @@ prices_small i rota prices valid e =
         | inr g ↦ subst (IsWithin 1000000) (sym (get_or_past (map f (below (slots i))) t (pos 0) (omega arith))) (record { above = omega (arith, ints); below = omega (arith, ints) })
       ]);
     }
-
--- there is an entry for each shift and day
-pub entries_all : (i : Problem) (prices : List ℤ) (entries : List (Option Best)) → AreBests i prices entries → length entries ≡ length (shift_list i) * i.days
-unfolding best_lists
-entries_all i prices entries h = ap (λ (es : List (Option Best)). length es) h.all ∙ length-map-range_with_len (best_at i prices) 0 (length (shift_list i) * i.days)
-
-pub entry_is : (i : Problem) (prices : List ℤ) (entries : List (Option Best)) (s day at : ℕ) (v : Option Best) → AreBests i prices entries → s < length (shift_list i) → day < i.days → at ≡ s * i.days + day → v ≡ get_or entries at v → v ≡ best_of i prices s day
-unfolding best_lists
-entry_is i prices entries s day at v h hs hd e read =
-    let small : s * i.days + day < i.days * length (shift_list i) = mul-add-lt s i.days day (length (shift_list i)) hs hd in
-    read ∙ ap (λ es. get_or es at v) h.all
-    ∙ get_or-map-range_with_len (best_at i prices) 0 (length (shift_list i) * i.days) at at v (omega arith) (omega arith)
-    ∙ ap (best_at i prices) e
-    ∙ ap (λ k. best_of i prices k ((s * i.days + day) % i.days)) (div-mul-add s i.days day hd)
-    ∙ ap (best_of i prices s) (mod-mul-add s i.days day hd)
-
-pub entries_done : (i : Problem) (prices : List ℤ) (entries : List (Option Best)) (n : ℕ) → entries ≡ map (best_at i prices) (below n) → n ≡ length (shift_list i) * i.days → entries ≡ best_lists i prices
-unfolding best_lists
-entries_done i prices entries n h e = h ∙ ap (λ k. map (best_at i prices) (below k)) e
 
 -- ---- gains
 pub counts_is : (i : Problem) (rota : List Duty) (prices : List ℤ) (s day n : ℕ) (v : ℤ) (b : Bool) → b ≡ is_wanted i n v → n ≡ heads_on rota s day → v ≡ day_value i prices s day → prices ≡ marginal_prices i rota → counts i rota s day ≡ b
@@ -187,14 +165,6 @@ not_wanted i prices s day n v b h ev none = h ∙ ap (is_wanted i n) (ev ∙ sym
     and_no : (b : Bool) → (b && false) ≡ false
     and_no true = refl
     and_no false = refl
-
--- the entries so far, with one more
-pub entries_more : (i : Problem) (prices : List ℤ) (entries more : List (Option Best)) (v : Option Best) (k s day : ℕ) → entries ≡ map (best_at i prices) (below k) → more ≡ entries ++ v ∷ [] → v ≡ best_of i prices s day → s ≡ k / i.days → day ≡ k % i.days
-    → more ≡ map (best_at i prices) (below (k + 1))
-entries_more i prices entries more v k s day h e ev es ed =
-    e ∙ ap (λ zs. zs ++ v ∷ []) h
-    ∙ ap (λ z. map (best_at i prices) (below k) ++ z ∷ []) (ev ∙ ap (λ n. best_of i prices n day) es ∙ ap (best_of i prices (k / i.days)) ed)
-    ∙ sym (map_more (best_at i prices) k)
 
 -- ---- rounds
 pub opening_leads : (i : Problem) (n : ℕ) (rota : List Duty) → rota ≡ [] → n ≡ length (shift_list i) * i.days * i.heads → LeadsToGreedy i n rota

@@ -1,4 +1,4 @@
 pub mod Greedy
 pub mod Sizes
-pub mod Bests
+pub mod Values
 pub mod Drafts

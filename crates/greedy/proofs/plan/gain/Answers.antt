@@ -10,7 +10,7 @@ pub loop-day-preserved : goal.loop-day-preserved
 loop-day-preserved c =
     let i = c.args.instance.now in
     let rota = c.args.draft.now.cover.duties in
-    let prices = c.args.bests.now.prices.items in
+    let prices = c.args.values.now.prices.items in
     let gain = to_z w64 c.loop-day.gain-bits in
     let value = c.value-value.result in
     let day = c.loop-day.day in

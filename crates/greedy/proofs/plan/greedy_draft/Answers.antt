@@ -5,15 +5,15 @@ use Rattle.greedy.proofs.plan.greedy_draft.Goals as goal
 pub rounds-init : goal.rounds-init
 rounds-init c = record {
   draft = c.in_ok-draft.ensures.draft;
-  bests = c.in_ok-bests.ensures.entries;
-  prices = c.in_ok-bests.ensures.prices ∙ c.in_ok-prices.ensures;
+  values = c.in_ok-values.ensures.lanes;
+  prices = c.in_ok-values.ensures.prices ∙ c.in_ok-prices.ensures;
   leads = opening_leads c.args.instance.now _ c.in_ok-draft.draft.cover.duties c.in_ok-draft.ensures.duties (search rules);
 }
 
 pub rounds-preserved : goal.rounds-preserved
 rounds-preserved c = record {
   draft = c.in_ok-round.ensures.draft;
-  bests = c.in_ok-round.ensures.bests;
+  values = c.in_ok-round.ensures.values;
   prices = c.in_ok-round.ensures.prices;
   leads = next_round c.args.instance.now _ c.rounds._round c.rounds.draft.cover.duties c.round.new.draft.cover.duties c.in_ok-round.field-0
       c.rounds-test.true c.if-not-branch.false c.in_ok-round.ensures.leads c.rounds.invariant.leads;

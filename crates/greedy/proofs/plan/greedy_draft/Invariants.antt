@@ -1,5 +1,5 @@
 use Rattle.std.proofs.Common.{◌≡◌, ◌-◌}
-use Rattle.greedy.specs.Bests.{AreBests}
+use Rattle.greedy.specs.Values.{AreValues}
 use Rattle.greedy.specs.Drafts.{IsDraft, LeadsToGreedy}
 use Rattle.greedy.specs.Greedy.{marginal_prices}
 use Rattle.greedy.proofs.plan.greedy_draft.Given as goal
@@ -7,7 +7,7 @@ use Rattle.greedy.proofs.plan.greedy_draft.Given as goal
 abbrev pub invariant-rounds : goal.invariant-rounds
 invariant-rounds l = record {
   draft : IsDraft l.instance l.draft.cover l.draft.heads.items l.draft.rows.items;
-  bests : AreBests l.instance l.bests.prices.items l.bests.entries.items;
-  prices : l.bests.prices.items ≡ marginal_prices l.instance l.draft.cover.duties;
+  values : AreValues l.instance l.values.prices.items l.values.lanes.items;
+  prices : l.values.prices.items ≡ marginal_prices l.instance l.draft.cover.duties;
   leads : LeadsToGreedy l.instance (l.most - l._round) l.draft.cover.duties;
 }

@@ -4,7 +4,7 @@ use Rattle.break_rules.specs.declared.Rule.{Rule}
 use Rattle.shift_instance.specs.declared.Shift.{Shift}
 use Rattle.shift_instance.specs.Problem.{shift_list, slot_of}
 use Rattle.shift_instance.specs.Worth.{price_of}
-use Rattle.greedy.proofs.bests.is_priced_anew.Given as goal
+use Rattle.greedy.proofs.values.is_day_priced_anew.Given as goal
 
 abbrev pub invariant-loop-offset : goal.invariant-loop-offset
 invariant-loop-offset l =

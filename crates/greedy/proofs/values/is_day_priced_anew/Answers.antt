@@ -1,8 +1,8 @@
 use Rattle.std.proofs.Common.{◌≡◌, ◌≤ℤ◌, ◌∙◌, ℤ, pos, neg_ℤ, to_z, of_z, w64, sym, ap, arith, below_more}
 use Rattle.std.proofs.lemmas.Int.{ints}
 use Rattle.shift_instance.specs.Worth.{price_of}
-use Rattle.greedy.proofs.PlainLists.{same_best, slot_same}
-use Rattle.greedy.proofs.bests.is_priced_anew.Goals as goal
+use Rattle.greedy.proofs.DayValues.{same_value, slot_same}
+use Rattle.greedy.proofs.values.is_day_priced_anew.Goals as goal
 
 pub loop-offset-init : goal.loop-offset-init
 loop-offset-init c = λ x e o l. absurd (omega arith)
@@ -22,5 +22,5 @@ loop-offset-preserved c =
 
 pub returns : goal.returns
 returns c =
-    same_best c.args.instance.now c.args.before.now c.args.prices.now c.args.shift c.args.day c.loop-offset.offset c.shift-whole.result c.requires.prices.valid c.requires.shift c.shift-whole.ensures.shift
+    same_value c.args.instance.now c.args.before.now c.args.prices.now c.args.shift c.args.day c.loop-offset.offset c.shift-whole.result c.requires.prices.valid c.requires.shift c.shift-whole.ensures.shift
     (omega arith) c.loop-offset.invariant
