@@ -1,13 +1,14 @@
-//! Tests of what the bounds and the best lists of small instances are, and of what cuts leave, each worked out by hand.
+//! Tests of what a best list, bounds and a settled node of a small instance are, and of what the subgradient adviser tells, each worked out by
+//! hand.
 #![tactic(auto)]
 
 #[cfg(test)]
 mod best_lists;
-#[cfg(test)]
-mod cut_ranges;
 #[cfg(test)]
 mod fixtures;
 #[cfg(test)]
 mod price_bounds;
 #[cfg(test)]
 mod settled_nodes;
+#[cfg(test)]
+mod subgradient_prices;
