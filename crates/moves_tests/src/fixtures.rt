@@ -1,5 +1,5 @@
 //! A small day, and drafts of plans for it.
-ghost use Rattle.std.specs.Prelude.{◌≡◌, IfOk, OnOk};
+ghost use Rattle.std.specs.Prelude.{◌≡◌, IfOk};
 
 use break_rules::{Break, Breaks, NoMemory};
 use instance_json::read;

@@ -1,5 +1,5 @@
 //! Prices, plans and splits that are advised where the adviser was asked for another day before.
-ghost use Rattle.std.specs.Prelude.{◌≡◌, ◌≤◌, ◌^◌, IfOk, length};
+ghost use Rattle.std.specs.Prelude.{◌≡◌, IfOk, length};
 
 use advice::{Advice, Adviser, Ask, Told};
 use break_rules::{Breaks, NoMemory};
