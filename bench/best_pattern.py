@@ -1,16 +1,17 @@
 #!/usr/bin/env python3
-"""Measures `best_pattern`, without bonuses, over all shifts and days of some instances: nanoseconds a call, the best of some runs.
-Writes a program of its own beside a copy of the crates that it uses, in a folder that is removed, and has `rt run` prove and build it."""
+"""Measures what the best duty of a shift on a day takes at prices of slots, over all shifts and days of some instances: its value (`most_by_day`)
+and its list with the value (`best_pattern` without bonuses), in nanoseconds for a shift and day, the best of some runs; and a loop of known work
+for comparing machines. Writes a program of its own beside a copy of the crates that it uses, in a folder that is removed, and has `rt run` prove and build it."""
 import json
 import os
+import resource
 import shutil
 import subprocess
 import sys
 import tempfile
-import time
 
 TOP = os.path.join(os.path.dirname(os.path.abspath(__file__)), os.pardir)
-CRATES = ["break_rules", "break_graph", "patterns", "shift_instance", "pricing"]
+CRATES = ["break_rules", "break_graph", "patterns", "shift_instance", "price_sums", "pricing"]
 
 
 def example(name):
@@ -18,23 +19,25 @@ def example(name):
         return json.load(source)
 
 
-def long_shifts():
-    """Weeks of 5-minute slots with shifts of 96 slots that have 12 slots of breaks in pieces of 1 to 6."""
+def long_shifts(total):
+    """Weeks of 5-minute slots with shifts of 96 slots that have so many slots of breaks in pieces of 1 to 6."""
     rule = {"lead": 12, "tail": 12, "work_min": 6, "work_max": 48, "long_work": 24, "long_rest": 2, "size_min": 1, "size_max": 6,
-            "totals": [[96, 12]], "lunches": [[72, 6, 36, 66]], "resettle": 1}
+            "totals": [[96, total]], "lunches": [[72, 6, 36, 66]], "resettle": 1}
     return {"slot_minutes": 5, "days": 7, "types": [{"start_min": 72, "start_max": 91, "len_min": 96, "len_max": 96, "breaks": rule}]}
 
 
 INSTANCES = [("usual week", example("usual_week"), 20000), ("call week", example("call_week"), 1500), ("airport day", example("airport_day"), 3000),
-             ("96 slots of 5 minutes, 12 of them breaks", long_shifts(), 20)]
+             ("96 slots of 5 minutes, 12 of them breaks", long_shifts(12), 20), ("96 slots of 5 minutes, 18 of them breaks", long_shifts(18), 20),
+             ("96 slots of 5 minutes, 36 of them breaks", long_shifts(36), 5)]
 
 HEAD = """//! Prices all shifts and days of an instance again and again: `price_rounds INSTANCE ROUNDS`.
 #![tactic(auto)]
 
-ghost use Rattle.pricing.specs.Rests.{AreSmallPrices};
+ghost use Rattle.price_sums.specs.Along.{AreSmallPrices};
 
 use break_rules::{Lunch, Lunches, NoMemory, Rule, Totals};
-use pricing::best_pattern;
+use price_sums::DaySums;
+use pricing::{best_pattern, most_by_day};
 use shift_instance::{Instance, Parts, TypeParts};
 use std::alloc::Global;
 use std::env;
@@ -74,6 +77,31 @@ fn price_all(rt: &impl Abort, alloc: Global, instance: &Instance, prices: &[i64]
     Ok(sum)
 }
 
+/// The values of all shifts, without lists.
+fn value_all(rt: &impl Abort, alloc: Global, instance: &Instance, prices: &[i64]) -> Result<i128, NoMemory>
+    requires { AreSmallPrices prices.now }
+{
+    assert_eq!(rt; prices.len(), instance.slots());
+    let sums = DaySums::new(alloc, instance, prices)?;
+    let mut sum = 0i128;
+    for shift in 0..u16::try_from(instance.shifts().len()).unwrap_or(0) {
+        assert!(rt; usize::from(shift) < instance.shifts().len());
+        if let Some(values) = most_by_day(alloc, instance, shift, &sums)? {
+            sum = sum.wrapping_add(values.first().copied().unwrap_or(0));
+        }
+    }
+    Ok(sum)
+}
+
+/// Adds up numbers of a congruence.
+fn known_work(many: u32) -> u32 {
+    let mut state = 1u32;
+    for _ in 0..many {
+        state = state.wrapping_mul(1_664_525).wrapping_add(1_013_904_223);
+    }
+    state
+}
+
 /// Prices for slots.
 fn some_prices(alloc: Global, slots: usize) -> Result<Vec<i64>, NoMemory> {
     let mut prices = Vec::new(alloc);
@@ -86,7 +114,7 @@ fn some_prices(alloc: Global, slots: usize) -> Result<Vec<i64>, NoMemory> {
 }
 
 /// Rounds over an instance.
-fn rounds(rt: &impl Abort, alloc: Global, parts: Parts, many: u32) -> Result<i128, NoMemory> {
+fn rounds(rt: &impl Abort, alloc: Global, parts: Parts, many: u32, lists: bool) -> Result<i128, NoMemory> {
     let Ok(instance) = Instance::new(alloc, parts) else {
         return Ok(-1);
     };
@@ -94,30 +122,43 @@ fn rounds(rt: &impl Abort, alloc: Global, parts: Parts, many: u32) -> Result<i12
     assert!(rt; prices.iter().all(|p| p.unsigned_abs() <= 10_000_000_000));
     let mut sum = 0i128;
     for _ in 0..many {
-        sum = sum.wrapping_add(price_all(rt, alloc, &instance, &prices)?);
+        let more = if lists {
+            price_all(rt, alloc, &instance, &prices)?
+        } else {
+            value_all(rt, alloc, &instance, &prices)?
+        };
+        sum = sum.wrapping_add(more);
     }
     Ok(sum)
 }
 """
 
 TAIL = """
-/// The instance and the rounds that the words ask for.
-fn asked(rt: &HostRuntime) -> Result<(Parts, u32), NoMemory> {
+/// The number of a word, and 0 where there is none.
+fn number_at(words: &[String], at: usize) -> u32 {
+    words.get(at).and_then(|w| w.as_str().parse::<u32>().ok()).unwrap_or(0)
+}
+
+/// The instance, the rounds, and whether lists are wanted, by the words.
+fn asked(rt: &HostRuntime) -> Result<(Parts, u32, bool), NoMemory> {
     let alloc = rt.alloc();
     let Ok(args) = env::args(rt) else {
-        return Ok((instance(alloc, 0)?, 0));
+        return Ok((instance(alloc, 0)?, 0, false));
     };
     let words: Vec<String> = args.skip(1).collect(alloc)?;
-    let number = words.first().and_then(|w| w.as_str().parse::<u32>().ok()).unwrap_or(0);
-    let many = words.last().and_then(|w| w.as_str().parse::<u32>().ok()).unwrap_or(0);
-    Ok((instance(alloc, number)?, many))
+    let lists = number_at(&words, 2);
+    if lists == 2 {
+        let sum = known_work(number_at(&words, 1));
+        return Ok((instance(alloc, 0)?, sum / u32::MAX, false));
+    }
+    Ok((instance(alloc, number_at(&words, 0))?, number_at(&words, 1), lists == 1))
 }
 
 fn main(rt: HostRuntime) -> ExitCode {
-    let Ok((parts, many)) = asked(&rt) else {
+    let Ok((parts, many, lists)) = asked(&rt) else {
         return ExitCode::from(2);
     };
-    match rounds(&rt, rt.alloc(), parts, many) {
+    match rounds(&rt, rt.alloc(), parts, many, lists) {
         Ok(-1) => ExitCode::from(1),
         Ok(_) => ExitCode::from(0),
         Err(_) => ExitCode::from(2),
@@ -165,7 +206,7 @@ def build(folder):
     with open(os.path.join(TOP, "crates.txt")) as source:
         lines = [line for line in source if line.split(":")[0] in CRATES]
     with open(os.path.join(folder, "crates.txt"), "w") as out:
-        out.write("".join(lines) + "price_rounds: pricing shift_instance break_rules\n")
+        out.write("".join(lines) + "price_rounds: pricing price_sums shift_instance break_rules\n")
     done = subprocess.run(["rt", "run", "--", "0", "0"], cwd=home, stdout=subprocess.PIPE, stderr=subprocess.STDOUT, text=True)
     binary = os.path.join(home, "out", "price_rounds")
     if not os.path.exists(binary):
@@ -173,10 +214,12 @@ def build(folder):
     return binary
 
 
-def seconds(binary, number, rounds):
-    start = time.perf_counter()
-    subprocess.run([binary, str(number), str(rounds)], check=True)
-    return time.perf_counter() - start
+def seconds(binary, number, rounds, mode):
+    """Returns the processor time of a run; mode 0 is for values, 1 for lists, 2 for the loop of known work."""
+    before = resource.getrusage(resource.RUSAGE_CHILDREN)
+    subprocess.run([binary, str(number), str(rounds), str(mode)], check=True)
+    after = resource.getrusage(resource.RUSAGE_CHILDREN)
+    return after.ru_utime + after.ru_stime - before.ru_utime - before.ru_stime
 
 
 def main():
@@ -185,9 +228,12 @@ def main():
         for number, (name, instance, rounds) in enumerate(INSTANCES):
             shifts = sum((t["start_max"] + 1 - t["start_min"]) * (t["len_max"] + 1 - t["len_min"]) for t in instance["types"])
             calls = shifts * instance["days"]
-            empty = min(seconds(binary, number, 0) for _ in range(5))
-            full = min(seconds(binary, number, rounds) for _ in range(5))
-            print("%-45s %6d shifts and days: %9.0f ns a call, %8.3f ms to start" % (name, calls, (full - empty) / (rounds * calls) * 1e9, empty * 1e3))
+            empty = min(seconds(binary, number, 0, 0) for _ in range(5))
+            value, list_ = (min(seconds(binary, number, rounds, mode) for _ in range(5)) for mode in (0, 1))
+            each = lambda full: (full - empty) / (rounds * calls) * 1e9
+            print("%-45s %6d shifts and days: value %9.0f ns, with list %9.0f ns, %8.3f ms to start" % (name, calls, each(value), each(list_), empty * 1e3))
+        work = min(seconds(binary, 0, 10**9, 2) for _ in range(3)) - min(seconds(binary, 0, 0, 2) for _ in range(5))
+        print("a step of the congruence of 32 bits: %.3f ns" % work)
 
 
 if __name__ == "__main__":

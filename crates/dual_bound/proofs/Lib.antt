@@ -4,3 +4,4 @@ pub mod PlanFloor
 pub mod Splitting
 pub mod Entries
 pub mod BestLists
+pub mod BySlots

@@ -10,8 +10,7 @@ ghost use Rattle.dual_bound.specs.Proved.{IsProved};
 
 use crate::PriceFault;
 use crate::faults::first_fault;
-use crate::terms::ByPricing;
-use bound_sums::bound_by;
+use crate::terms::bound_by_pricing;
 use head_splits::{Cuts, Prices};
 use shift_instance::Instance;
 use std::alloc::Global;
@@ -55,7 +54,7 @@ pub fn prove(
         Some(fault) => return Err(fault),
         None => {}
     }
-    let bound = match bound_by(alloc, &ByPricing, instance, &cuts, &prices) {
+    let bound = match bound_by_pricing(alloc, instance, &cuts, &prices) {
         Ok(bound) => bound,
         Err(_) => return Err(PriceFault::NoMemory),
     };

@@ -1,16 +1,19 @@
 //! The values of the duties of shifts, by pricing.
-ghost use Rattle.std.specs.Prelude.{◌≡◌, ◌≤◌, ◌<◌, ◌^◌, IfOk, MatchOption, IsTrue, length};
+ghost use Rattle.std.specs.Prelude.{◌≡◌, ◌≤◌, ◌<◌, ◌^◌, ◌&&◌, ◌==◌, not, IfOk, MatchOption, IsTrue, length};
+ghost use Rattle.std.specs.List.{list_any};
 ghost use Rattle.std.specs.Option.{option_map};
 ghost use Rattle.shift_instance.specs.Problem.{shift_list};
 ghost use Rattle.shift_instance.specs.Rota.{lists_of};
 ghost use Rattle.shift_instance.specs.Valid.{IsValid};
-ghost use Rattle.head_splits.specs.Bound.{are_prices, is_nil};
-ghost use Rattle.bound_sums.specs.Values.{IsValue};
+ghost use Rattle.head_splits.specs.Bound.{are_prices, bound_of, is_nil};
+ghost use Rattle.bound_sums.specs.Values.{AreValues, IsValue};
 
 use crate::best_lists::best_of_day;
-use bound_sums::DayValues;
+use bound_sums::{DayValues, bound_by};
 use break_rules::{Breaks, NoMemory};
-use head_splits::{Cuts, Prices};
+use head_splits::{Cut, Cuts, Prices};
+use price_sums::DaySums;
+use pricing::most_by_day;
 use shift_instance::Instance;
 use std::alloc::Global;
 
@@ -43,11 +46,82 @@ fn best_value(
     Ok(value_of(found))
 }
 
-/// The values of duties by the best break lists of pricing.
-#[derive(Clone, Copy, Debug, PartialEq, Eq, Drop)]
-pub(crate) struct ByPricing;
+/// The greatest reduced values of the duties of a shift on the first days, each by the best break list of its day, and `None`
+/// only where no break list is legal.
+fn values_by_lists(
+    alloc: Global,
+    instance: &Instance,
+    cuts: &Cuts,
+    prices: &Prices,
+    shift: u16,
+    days: u8,
+) -> Result<Option<Vec<i128>>, NoMemory>
+    requires valid { IsValid instance.now }
+    requires shift { shift < length (shift_list instance.now) }
+    requires few { length cuts.now ≤ 2 ^ 33 }
+    requires passes { IsTrue (are_prices instance.now cuts.now prices.now) }
+    ensures { IfOk result (λ found. MatchOption found (IsTrue (is_nil (lists_of instance.now shift))) (λ values. AreValues instance.now cuts.now prices.now shift days values.items)) }
+{
+    let mut values = Vec::new(alloc);
+    for day in 0..days {
+        let value = match best_value(alloc, instance, cuts, prices, shift, day)? {
+            Some(value) => value,
+            None => return Ok(None),
+        };
+        values.push(value)?;
+    }
+    Ok(Some(values))
+}
+
+/// Whether a cut bounds duties of a shift that begin with some break.
+fn is_on_prefix(cut: &Cut, shift: u16) -> bool
+    ensures { result ≡ (not (is_nil cut.now.class.prefix) && (shift == cut.now.class.shift)) }
+{
+    !cut.class.prefix.as_slice().is_empty() && shift == cut.class.shift
+}
+
+/// Whether some cut bounds duties of a shift that begin with some break.
+fn has_prefix(cuts: &Cuts, shift: u16) -> bool
+    ensures { result ≡ list_any (λ c. not (is_nil c.class.prefix) && (shift == c.class.shift)) cuts.now }
+{
+    cuts.as_slice().iter().any(|cut| is_on_prefix(cut, shift))
+}
+
+/// The greatest reduced values of the duties of a shift, day by day, and `None` where no break list is legal. The sums are those of
+/// the slots' prices. Where no cut bounds duties of the shift that begin with some break, all days are priced in one walk, and
+/// otherwise each by its best break list.
+pub fn best_values(
+    alloc: Global,
+    instance: &Instance,
+    cuts: &Cuts,
+    prices: &Prices,
+    sums: &DaySums,
+    shift: u16,
+) -> Result<Option<Vec<i128>>, NoMemory>
+    requires shift { shift < length (shift_list instance.now) }
+    requires few { length cuts.now ≤ 2 ^ 33 }
+    requires passes { IsTrue (are_prices instance.now cuts.now prices.now) }
+    requires sums { sums.now ≡ record { instance = instance.now; prices = prices.now.slots } }
+    ensures values { IfOk result (λ found. MatchOption found (IsTrue (is_nil (lists_of instance.now shift))) (λ values. AreValues instance.now cuts.now prices.now shift instance.now.days values.items)) }
+{
+    let days = instance.days();
+    if has_prefix(cuts, shift) {
+        return values_by_lists(alloc, instance, cuts, prices, shift, days);
+    }
+    most_by_day(alloc, instance, shift, sums)
+}
+
+/// The values of duties by pricing, at slot prices with these sums.
+#[derive(Drop)]
+struct ByPricing {
+    sums: DaySums,
+}
 
 impl DayValues for ByPricing {
+    ghost use Rattle.std.specs.Prelude.{◌≡◌};
+
+    ghost serves = { λ values i prices. values.sums ≡ record { instance = i; prices = prices.slots } };
+
     fn of_shift(
         &self,
         alloc: Global,
@@ -56,14 +130,22 @@ impl DayValues for ByPricing {
         prices: &Prices,
         shift: u16,
     ) -> Result<Option<Vec<i128>>, NoMemory> {
-        let mut values = Vec::new(alloc);
-        for day in 0..instance.days() {
-            let value = match best_value(alloc, instance, cuts, prices, shift, day)? {
-                Some(value) => value,
-                None => return Ok(None),
-            };
-            values.push(value)?;
-        }
-        Ok(Some(values))
+        best_values(alloc, instance, cuts, prices, &self.sums, shift)
     }
+}
+
+/// The bound of a price set, with the values of duties by pricing.
+pub(crate) fn bound_by_pricing(
+    alloc: Global,
+    instance: &Instance,
+    cuts: &Cuts,
+    prices: &Prices,
+) -> Result<u64, NoMemory>
+    requires valid { IsValid instance.now }
+    requires few { length cuts.now ≤ 2 ^ 33 }
+    requires passes { IsTrue (are_prices instance.now cuts.now prices.now) }
+    ensures { IfOk result (λ b. b ≡ bound_of instance.now cuts.now prices.now) }
+{
+    let sums = DaySums::new(alloc, instance, prices.slots.as_slice())?;
+    bound_by(alloc, &ByPricing { sums }, instance, cuts, prices)
 }

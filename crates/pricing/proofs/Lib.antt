@@ -9,3 +9,4 @@ pub mod Leaving
 pub mod Tries
 pub mod Beyond
 pub mod Worths
+mod Daily

@@ -1,3 +1,4 @@
 pub mod Rests
 pub mod Values
 pub mod Found
+pub mod Days

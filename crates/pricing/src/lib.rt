@@ -1,9 +1,13 @@
 //! The best break list of a duty at given prices.
 #![tactic(auto)]
 
+mod day_values;
+mod days;
 mod found;
+mod lanes;
 mod rests;
 mod search;
 mod values;
 
+pub use days::most_by_day;
 pub use search::best_pattern;

@@ -1,10 +1,16 @@
-use Rattle.std.proofs.Common.{◌≡◌, ◌≤◌, ◌<◌, ◌*◌, List, ◌++◌, length, length-append, ap, ◌∙◌, arith}
+use Rattle.std.proofs.Common.{◌≡◌, ◌≤◌, ◌<◌, ◌*◌, List, ◌++◌, length, length-append, sym, ap, ◌∙◌, subst, arith}
 use Rattle.std.proofs.lemmas.List.Elements.{All-append, All-same}
 use Rattle.shift_instance.specs.declared.Row.{Row}
 use Rattle.shift_instance.specs.Problem.{shift_list}
 use Rattle.shift_instance.specs.Rota.{rota_of}
+use Rattle.price_sums.specs.Along.{AreSmallPrices}
+use Rattle.bound_sums.proofs.Priced.{slots_small}
 use Rattle.advisers.proofs.Choices.{shifts_more, solution_is}
 use Rattle.advisers.proofs.choosing.solution.Goals as goal
+
+pub new-requires-clause-prices : goal.new-requires-clause-prices
+new-requires-clause-prices c =
+    subst AreSmallPrices (sym c.as_slice.ensures) (slots_small c.args.instance.now c.args.cuts.now c.args.prices.now c.shifts.ensures.valid c.requires.passes)
 
 pub loop-shift-preserved : goal.loop-shift-preserved
 loop-shift-preserved c =

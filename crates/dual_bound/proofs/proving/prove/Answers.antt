@@ -4,8 +4,8 @@ use Rattle.dual_bound.specs.Proved.{Proving, IsProved}
 use Rattle.dual_bound.proofs.Causes.{passes}
 use Rattle.dual_bound.proofs.proving.prove.Goals as goal
 
-pub bound_by-requires-clause-passes : goal.bound_by-requires-clause-passes
-bound_by-requires-clause-passes c = passes c.args.instance.now c.args.cuts c.args.prices (sym c.in-None.ensures.fault)
+pub bound_by_pricing-requires-clause-passes : goal.bound_by_pricing-requires-clause-passes
+bound_by_pricing-requires-clause-passes c = passes c.args.instance.now c.args.cuts c.args.prices (sym c.in-None.ensures.fault)
 
 pub invariant_of-result : goal.invariant_of-result
 invariant_of-result c =

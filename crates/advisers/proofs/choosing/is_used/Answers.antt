@@ -1,0 +1,61 @@
+use Rattle.std.proofs.Common.{◌≡◌, ◌≤◌, ◌<◌, ◌+◌, ◌*◌, ◌^◌, ℕ, ℤ, pos, ◌+ℤ◌, ◌*ℤ◌, Bool, ◌||◌, nat_lt, to_z, of_z, get_or, sym, ap, ◌∙◌, subst, arith}
+use mir.Syntax.{w128}
+use Rattle.std.specs.List.{list_any}
+use Rattle.std.specs.Int.{int_max}
+use Rattle.std.proofs.lemmas.Int.{to_z-of_z}
+use Rattle.break_rules.specs.Sums.{int_sum_by}
+use Rattle.shift_instance.specs.Problem.{below}
+use Rattle.head_splits.specs.Cuts.{low, whole_class}
+use Rattle.head_splits.specs.Bound.{free_day_value}
+use Rattle.bound_sums.specs.Values.{IsValue}
+use Rattle.bound_sums.proofs.Sizes.{fits, added, added_small}
+use Rattle.bound_sums.proofs.ShiftTerms.{free_worth}
+use Rattle.shift_instance.proofs.Ranges.{int_sum_below_more, any_below_more}
+use Rattle.advisers.proofs.Choices.{chosen_is}
+use Rattle.advisers.proofs.choosing.is_used.Goals as goal
+
+pub loop-day-preserved : goal.loop-day-preserved
+loop-day-preserved c =
+    let i = c.args.instance.now in
+    let cuts = c.args.cuts.now in
+    let prices = c.args.prices.now in
+    let s = c.args.shift in
+    let day = c.loop-day.day in
+    let v : ℤ = get_or c.args.values.now c.from.result (pos 0) in
+    let value : IsValue i cuts prices s day v = subst (λ (n : ℕ). IsValue i cuts prices s day (get_or c.args.values.now n (pos 0))) (sym c.from.ensures) (c.requires.values.each day (omega arith)) in
+    let read : to_z w128 (of_z w128 v) ≡ v = to_z-of_z w128 v (fits v (2 ^ 74) value.small (omega arith)) in
+    let days : i.days ≤ 7 = c.weights-cost.ensures.valid.days in
+    let end = c.days-day-end.ensures.days in
+    let inside = c.loop-day-test.true in
+    let limit : (day + 1) * 2 ^ 90 < 2 ^ 127 = omega arith in
+    let least = c.whole_range-least.result.0 in
+    let most = c.whole_range-least.result.1 in
+    let g : ℕ → ℤ = free_day_value i cuts prices s in
+    let needs : ℕ → Bool = λ d. nat_lt 0 (low cuts (whole_class s d)) in
+    let of_free : c.free_value-free.result ≡ g day =
+    c.free_value-free.ensures.value ∙ ap (λ (z : ℤ). int_max (pos 0) (z *ℤ pos most)) read ∙ free_worth i cuts prices s day v least most value c.whole_range-least.ensures.low c.whole_range-least.ensures.high in
+    let fit_free = fits c.free_value-free.result (2 ^ 90) c.free_value-free.ensures.small (omega arith) in
+    record {
+      forced = c.needs_duty-is_forced.ensures ∙ ap (λ (n : ℕ). c.loop-day.is_forced || nat_lt 0 n) c.whole_range-least.ensures.low
+          ∙ ap (λ (b : Bool). b || needs day) c.loop-day.invariant.forced ∙ sym (any_below_more needs day);
+      worth = added _ c.free_value-free.result (g day) day (2 ^ 90) fit_free of_free c.free_value-free.ensures.small c.loop-day.invariant.small limit
+          ∙ ap (λ (z : ℤ). z +ℤ g day) c.loop-day.invariant.worth ∙ sym (int_sum_below_more g day);
+      small = added_small _ c.free_value-free.result (g day) day (2 ^ 90) fit_free of_free c.free_value-free.ensures.small c.loop-day.invariant.small limit;
+    }
+
+pub returns : goal.returns
+returns c =
+    let i = c.args.instance.now in
+    let cuts = c.args.cuts.now in
+    let prices = c.args.prices.now in
+    let s = c.args.shift in
+    let days = c.days-day-end.ensures.days in
+    let last = c.loop-day-test.false in
+    let first = c.loop-day.auto.day-end in
+    let all : c.loop-day.day ≡ i.days = omega arith in
+    let paid : c.from-2.result * c.from-3.result ≡ prices.q * i.shift =
+    ap (λ (n : ℕ). n * c.from-3.result) c.from-2.ensures ∙ ap (λ (n : ℕ). prices.q * n) (c.from-3.ensures ∙ ap (λ (w : ℕ × ℕ × ℕ). w.2) c.weights-cost.ensures.weights) in
+    chosen_is i cuts prices s c.is_chosen.result c.loop-day.is_forced (c.from-2.result * c.from-3.result) _ c.is_chosen.ensures
+    (c.loop-day.invariant.forced ∙ ap (λ (n : ℕ). list_any (λ (d : ℕ). nat_lt 0 (low cuts (whole_class s d))) (below n)) all)
+    paid
+    (c.loop-day.invariant.worth ∙ ap (λ (n : ℕ). int_sum_by (free_day_value i cuts prices s) (below n)) all)

@@ -1,0 +1,13 @@
+use Rattle.std.proofs.Common.{◌≡◌, ◌<◌, ◌≤◌, All, length}
+use Rattle.std.specs.List.{flat_map}
+use Rattle.shift_instance.specs.Problem.{below, shift_list}
+use Rattle.shift_instance.specs.Rota.{rota_of}
+use Rattle.advisers.specs.Solutions.{duties_on}
+use Rattle.advisers.proofs.choosing.used_rows.Given as goal
+
+abbrev pub invariant-loop-day : goal.invariant-loop-day
+invariant-loop-day l = record {
+  rota : rota_of l.rows.items ≡ flat_map (duties_on l.instance l.cuts l.prices l.shift) (below l.day);
+  known : All (λ r. r.shift < length (shift_list l.instance)) l.rows.items;
+  few : length l.rows.items ≤ l.day;
+}

@@ -1,0 +1,49 @@
+-- The values of the duties of a shift that no cut with a prefix bounds, by the prices of slots alone.
+use Rattle.std.proofs.Common.{◌≡◌, ℕ, ◌≤◌, ◌^◌, ℤ, Bool, true, false, cond, not, ◌&&◌, ◌==◌, List, [], ◌∷◌, length, map, Option, Some, None, refl, sym, ap, ◌∙◌, subst}
+use Rattle.std.specs.Prelude.{MatchOption}
+use Rattle.std.specs.List.{list_any, zip, filter}
+use Rattle.std.proofs.lemmas.Bool.{or_parts}
+use Rattle.break_rules.specs.declared.Break.{Break}
+use Rattle.shift_instance.specs.Problem.{Problem}
+use Rattle.shift_instance.specs.Rota.{is_list_of, lists_of}
+use Rattle.shift_instance.specs.Valid.{IsValid}
+use Rattle.shift_instance.specs.Worth.{IsBest}
+use Rattle.pricing.specs.Days.{AreMostByDay, IsMostOn}
+use Rattle.head_splits.specs.declared.Cut.{Cut}
+use Rattle.head_splits.specs.declared.Prices.{Prices}
+use Rattle.head_splits.specs.Bound.{are_prices, entries_of, is_nil}
+use Rattle.bound_sums.specs.Values.{AreValues, IsValue}
+use Rattle.dual_bound.proofs.Entries.{entry_of, is_of}
+use Rattle.dual_bound.proofs.Values.{nil_without, value_of_best}
+
+-- whether a cut is one of a shift, with some prefix
+abbrev pub is_on_prefix : ℕ → Cut → Bool
+is_on_prefix s c = not (is_nil c.class.prefix) && (s == c.class.shift)
+
+-- where no cut with a prefix is one of the shift, there is no entry
+entries_none : (cuts : List Cut) (prices : List ℕ) (s day : ℕ) → list_any (is_on_prefix s) cuts ≡ false → entries_of (zip cuts prices) s day ≡ []
+entries_none [] prices s day none = refl
+entries_none (c ∷ cs) [] s day none = refl
+entries_none (c ∷ cs) (p ∷ ps) s day none =
+    let parts = or_parts (is_on_prefix s c) (list_any (is_on_prefix s) cs) none in
+    let rest = filter (is_of s day) (zip cs ps) in
+    ap (λ (b : Bool). map entry_of (cond (b && (day == c.class.day)) ((c, p) ∷ rest) rest)) parts.0 ∙ entries_none cs ps s day parts.1
+
+module _ (i : Problem) (cuts : List Cut) (prices : Prices) (s : ℕ) (valid : IsValid i) (h : are_prices i cuts prices ≡ true) (few : length cuts ≤ 2 ^ 33) (none : list_any (is_on_prefix s) cuts ≡ false) where
+  -- what the best duty earns is the value
+  value_of_most : (day : ℕ) (v : ℤ) → IsMostOn i s day prices.slots v → IsValue i cuts prices s day v
+  value_of_most day v most =
+      value_of_best i cuts prices s day most.0 v valid h few
+      (subst (λ (entries : List (List Break × ℤ)). IsBest i s day prices.slots entries most.0 v) (sym (entries_none cuts prices.cuts s day none)) most.1)
+
+  -- what the best duties earn, day by day, are the values, and without a list there is none
+  pub values_of_most : {V : Type 0} (items : V → List ℤ) (slots : List ℤ) (found : Option V) → slots ≡ prices.slots
+      → MatchOption found ((list : List Break) → is_list_of i s list ≡ false) (λ v. AreMostByDay i s slots i.days (items v))
+      → MatchOption found (is_nil (lists_of i s) ≡ true) (λ v. AreValues i cuts prices s i.days (items v))
+  values_of_most items slots None same no_list = nil_without i s no_list
+  values_of_most items slots (Some v) same most =
+      let at_prices : AreMostByDay i s prices.slots i.days (items v) = subst (λ (xs : List ℤ). AreMostByDay i s xs i.days (items v)) same most in
+      record {
+        count = at_prices.count;
+        each = λ day less. value_of_most day _ (at_prices.each day less);
+      }

@@ -1,0 +1,12 @@
+use Rattle.std.proofs.Common.{◌≡◌, ℕ, ◌+◌, ◌*◌, ◌%◌, ◌<◌, ◌+ℤ◌, length}
+use Rattle.shift_instance.specs.Worth.{price_of}
+use Rattle.price_sums.specs.Along.{sum_at}
+use Rattle.price_sums.proofs.days.next_lane.Given as goal
+
+abbrev pub invariant-loop-day : goal.invariant-loop-day
+invariant-loop-day l = record {
+  many : length l.next ≡ 8;
+  inside : l.slot < length l.prices;
+  slot : l.slot ≡ (l.day * l.day_slots + l.first) % length l.prices;
+  done : (day : ℕ) → day < l.day → sum_at l.next day ≡ sum_at l.last day +ℤ price_of l.prices ((day * l.day_slots + l.first) % length l.prices);
+}

@@ -1,0 +1,95 @@
+-- What the best rest of no breaks earns is what the best duty of a shift on a day earns.
+use Rattle.std.proofs.Common.{◌≡◌, ℕ, zero, suc, ◌+◌, ◌-◌, ◌<◌, ◌≤◌, ℤ, pos, false, get_or, List, [], ◌∷◌, length, refl, sym, ap, ◌∙◌, subst, arith, Option, Some}
+use Rattle.std.specs.Prelude.{slice_get, IsSomeAnd}
+use Rattle.std.specs.Option.{option_map_or}
+use Rattle.break_rules.specs.declared.Break.{Break}
+use Rattle.break_rules.specs.declared.Rule.{Rule}
+use Rattle.break_rules.specs.Breaks.{is_legal}
+use Rattle.shift_instance.specs.declared.Shift.{Shift}
+use Rattle.shift_instance.specs.Problem.{Problem, shift_list, slots}
+use Rattle.shift_instance.specs.Rota.{is_list_of}
+use Rattle.shift_instance.specs.Valid.{IsValid, IsShift}
+use Rattle.break_graph.specs.declared.Node.{Node}
+use Rattle.break_graph.specs.Graph.{IsGraph, StandsAt}
+use Rattle.price_sums.specs.Along.{sum_at, ArePricesOf, AreSums}
+use Rattle.price_sums.specs.Days.{sums_on, AreSumsByDay}
+use Rattle.price_sums.proofs.Prices.{some_at}
+use Rattle.pricing.specs.Values.{Priced, IsValue, AreValues}
+use Rattle.pricing.specs.Days.{IsMostOn, AreMostByDay}
+use Rattle.pricing.proofs.Beyond.{best_prices, none_legal}
+use Rattle.pricing.proofs.Worths.{some_of, short_shift, best_is}
+
+most_is : (i : Problem) (s day : ℕ) (prices sums : List ℤ) (x : Shift × Rule) → slice_get (shift_list i) s ≡ Some x → x.0.len ≤ slots i → ArePricesOf i x.0 day prices sums → (nodes : List Node) (v : ℤ)
+    → IsValue x.1 x.0.len sums [] v → IsMostOn i s day prices v
+most_is i s day prices sums x e short of nodes v own =
+    let p : Priced = record { rule = x.1; len = x.0.len; nodes = nodes; sums = sums } in
+    (own.0, best_is i s day prices sums x e short of nodes [] own.0 v (best_prices p v v [] own.0 own.0 refl refl refl own (own.0, refl, (v, own.1))))
+
+-- the graph of a shift is one of its rule and its length
+pub own_graph : (o : Option (Shift × Rule)) (shift : Shift) (rule : Rule) (kept nodes : List Node) → IsSomeAnd o (λ y. shift ≡ y.0) → IsSomeAnd o (λ y. rule ≡ y.1) → IsSomeAnd o (λ y. IsGraph y.1 y.0.len kept)
+    → nodes ≡ kept → IsGraph rule shift.len nodes
+own_graph o shift rule kept nodes own_shift own_rule own same =
+    let some = some_of o (λ y. shift ≡ y.0) own_shift in
+    let x = some.0 in
+    subst (IsGraph rule shift.len) (sym same)
+    (subst (λ (r : Rule). IsGraph r shift.len kept) (sym (some_at o x (λ y. rule ≡ y.1) some.1 own_rule))
+    (subst (λ (z : Shift). IsGraph x.1 z.len kept) (sym (some_at o x (λ y. shift ≡ y.0) some.1 own_shift)) (some_at o x (λ y. IsGraph y.1 y.0.len kept) some.1 own)))
+
+some_nodes : (nodes : List Node) (k : ℕ) → k + 1 ≡ length nodes → nodes ≡ [] → ⊥
+some_nodes [] k h e = absurd (omega (arith, h))
+some_nodes (n ∷ ns) k h e = absurd (cc)
+
+opening_at : (rule : Rule) (len : ℕ) (nodes : List Node) (k : ℕ) → IsGraph rule len nodes → k + 1 ≡ length nodes → StandsAt rule len nodes k []
+opening_at rule len nodes k g last =
+    let at : k ≡ length nodes - 1 = omega (arith, last) in
+    subst (λ n. StandsAt rule len nodes n []) (sym at) (g.opening (some_nodes nodes k last))
+
+-- the value of the last node is what the best duty earns
+pub most_at : (i : Problem) (s day : ℕ) (prices sums values : List ℤ) (shift : Shift) (rule : Rule) (nodes : List Node) (k : ℕ) (v : ℤ)
+    → IsSomeAnd (slice_get (shift_list i) s) (λ y. shift ≡ y.0) → IsSomeAnd (slice_get (shift_list i) s) (λ y. rule ≡ y.1) → IsGraph rule shift.len nodes → k + 1 ≡ length nodes
+    → IsValid i → IsShift i shift → ((x : Shift × Rule) → slice_get (shift_list i) s ≡ Some x → ArePricesOf i x.0 day prices sums) → AreValues rule shift.len sums nodes (length nodes) values → v ≡ sum_at values k
+    → IsMostOn i s day prices v
+most_at i s day prices sums values shift rule nodes k v own_shift own_rule graph last valid inside of known is =
+    let some = some_of (slice_get (shift_list i) s) (λ y. shift ≡ y.0) own_shift in
+    let x = some.0 in
+    let same_shift : shift ≡ x.0 = some_at (slice_get (shift_list i) s) x (λ y. shift ≡ y.0) some.1 own_shift in
+    let same_rule : rule ≡ x.1 = some_at (slice_get (shift_list i) s) x (λ y. rule ≡ y.1) some.1 own_rule in
+    let value : IsValue rule shift.len sums [] (sum_at values k) = known k [] (omega (arith, last)) (opening_at rule shift.len nodes k graph last) in
+    let own : IsValue x.1 x.0.len sums [] v =
+    subst (IsValue x.1 x.0.len sums []) (sym is) (subst (λ (z : Shift). IsValue x.1 z.len sums [] (sum_at values k)) same_shift (subst (λ (r : Rule). IsValue r shift.len sums [] (sum_at values k)) same_rule value)) in
+    most_is i s day prices sums x some.1 (short_shift i x.0 valid (subst (IsShift i) same_shift inside)) (of x some.1) nodes v own
+
+pub none_below : (n : ℕ) → (1 ≤ n → ⊥) → n ≡ 0
+none_below zero h = refl
+none_below (suc n) h = absurd (h (omega arith))
+
+-- a graph without nodes is one of a shift without legal lists
+pub no_list : (i : Problem) (s : ℕ) (kept nodes : List Node) → IsSomeAnd (slice_get (shift_list i) s) (λ y. IsGraph y.1 y.0.len kept) → nodes ≡ kept → length nodes ≡ 0 → (list : List Break) → is_list_of i s list ≡ false
+no_list i s kept nodes own same none list =
+    let some = some_of (slice_get (shift_list i) s) (λ y. IsGraph y.1 y.0.len kept) own in
+    let x = some.0 in
+    let graph : IsGraph x.1 x.0.len nodes = subst (IsGraph x.1 x.0.len) (sym same) (some_at (slice_get (shift_list i) s) x (λ y. IsGraph y.1 y.0.len kept) some.1 own) in
+    ap (λ o. option_map_or (λ (y : Shift × Rule). is_legal y.1 y.0.len list) o false) some.1 ∙ none_legal x.1 x.0.len (graph.none (empty nodes none)) list
+  where
+    empty : (ns : List Node) → length ns ≡ 0 → ns ≡ []
+    empty [] h = refl
+    empty (n ∷ ns) h = absurd (omega (arith, h))
+
+-- the values of the last node on all days are what the best duties earn
+pub most_of_days : (i : Problem) (s : ℕ) (prices : List ℤ) (lanes values : List (List ℤ)) (shift : Shift) (rule : Rule) (nodes : List Node) (k : ℕ) (list : List ℤ)
+    → IsSomeAnd (slice_get (shift_list i) s) (λ y. shift ≡ y.0) → IsSomeAnd (slice_get (shift_list i) s) (λ y. rule ≡ y.1) → IsGraph rule shift.len nodes → k + 1 ≡ length nodes
+    → IsValid i → IsShift i shift → ((x : Shift × Rule) → slice_get (shift_list i) s ≡ Some x → AreSumsByDay i x.0 prices lanes)
+    → ((day : ℕ) → day < 8 → AreSums shift.len (sums_on day lanes) → AreValues rule shift.len (sums_on day lanes) nodes (length nodes) (sums_on day values))
+    → i.days ≤ 8 → length list ≡ i.days → ((day : ℕ) → day < i.days → get_or list day (pos 0) ≡ sum_at (sums_on day values) k)
+    → AreMostByDay i s prices i.days list
+most_of_days i s prices lanes values shift rule nodes k list own_shift own_rule graph last valid inside of known few many is =
+    let some = some_of (slice_get (shift_list i) s) (λ y. shift ≡ y.0) own_shift in
+    let x = some.0 in
+    let same : shift ≡ x.0 = some_at (slice_get (shift_list i) s) x (λ y. shift ≡ y.0) some.1 own_shift in
+    record {
+      count = many;
+      each = λ day less.
+          let small : AreSums shift.len (sums_on day lanes) = subst (λ (z : Shift). AreSums z.len (sums_on day lanes)) (sym same) ((of x some.1).small day less) in
+          most_at i s day prices (sums_on day lanes) (sums_on day values) shift rule nodes k (get_or list day (pos 0)) own_shift own_rule graph last valid inside (λ y e. (of y e).each day less)
+          (known day (omega (arith, less, few)) small) (is day less);
+    }

@@ -1,0 +1,10 @@
+use Rattle.std.proofs.Common.{◌≡◌, ◌<◌, ◌+ℤ◌, ℕ, length, FitsSigned}
+use Rattle.std.specs.Int.{w64}
+use Rattle.price_sums.specs.Along.{sum_at}
+use Rattle.pricing.proofs.lanes.lane_total.Given as goal
+
+abbrev pub invariant-loop-k : goal.invariant-loop-k
+invariant-loop-k l = record {
+  many : length l.total ≡ 8;
+  done : (day : ℕ) → day < l.k → FitsSigned w64 (sum_at l.a day +ℤ sum_at l.b day) → sum_at l.total day ≡ sum_at l.a day +ℤ sum_at l.b day;
+}

@@ -1,0 +1,79 @@
+//! What the best duties of a shift earn, day by day, at the prices of slots alone.
+
+ghost use Rattle.std.specs.Prelude.{◌≡◌, ◌<◌, ◌≤◌, ℕ, List, IfOk, IsSomeAnd, MatchOption, length, false, slice_get, slice_index_or, pos};
+ghost use Rattle.break_rules.specs.declared.Break.{Break};
+ghost use Rattle.break_graph.specs.Graph.{IsGraph};
+ghost use Rattle.shift_instance.specs.Problem.{shift_list};
+ghost use Rattle.shift_instance.specs.Rota.{is_list_of};
+ghost use Rattle.price_sums.specs.Along.{sum_at};
+ghost use Rattle.pricing.specs.Days.{AreMostByDay};
+
+use crate::day_values::set_values_by_day;
+use crate::lanes::lane_at;
+use break_graph::Graph;
+use break_rules::NoMemory;
+use price_sums::{DaySums, Lane};
+use shift_instance::Instance;
+use std::alloc::Global;
+
+/// The numbers of the first days of a lane.
+fn day_list(alloc: Global, lane: &Lane, days: u8) -> Result<Vec<i128>, NoMemory>
+    requires { days ≤ 8 }
+    ensures count { IfOk result (λ list. length list.items ≡ days) }
+    ensures each { IfOk result (λ list. (day : ℕ) → day < days → slice_index_or list.items day (pos 0) ≡ sum_at lane.now day) }
+{
+    let mut list = Vec::with_capacity(alloc, usize::from(days))?;
+    for day in 0..days {
+        list.push(i128::from(lane[usize::from(day)]))?;
+    }
+    Ok(list)
+}
+
+/// What the best duties of a shift earn, day by day, by the nodes of its graph and the sums of the prices along it, and
+/// `None` where no list is legal.
+fn most_over(
+    alloc: Global,
+    instance: &Instance,
+    graph: &Graph,
+    shift: u16,
+    sums: &DaySums,
+) -> Result<Option<Vec<i128>>, NoMemory>
+    requires shift { shift < length (shift_list instance.now) }
+    requires graph { IsSomeAnd (slice_get (shift_list instance.now) shift) (λ x. IsGraph x.1 x.0.len graph.now) }
+    requires sums { sums.now.instance ≡ instance.now }
+    ensures { IfOk result (λ found. MatchOption found ((list : List Break) → is_list_of instance.now shift list ≡ false) (λ most. AreMostByDay instance.now shift sums.now.prices instance.now.days most.items)) }
+{
+    let nodes = graph.nodes();
+    let Some(opening) = nodes.len().checked_sub(1) else {
+        return Ok(None);
+    };
+    let mut values = Vec::new(alloc);
+    let len = instance.shift(shift).len;
+    let lanes = sums.along(instance, shift);
+    set_values_by_day(instance.rule_of(shift), len, nodes, lanes, &mut values)?;
+    let list = day_list(alloc, lane_at(&values, opening), instance.days())?;
+    Ok(Some(list))
+}
+
+/// What the best duties of a shift earn at the prices that the sums are of, one value for each day: the greatest price of the
+/// slots in which a duty with a legal break list works. `None` where no list is legal. All days are priced in one walk along the
+/// shift's graph, without making a list.
+pub fn most_by_day(
+    alloc: Global,
+    instance: &Instance,
+    shift: u16,
+    sums: &DaySums,
+) -> Result<Option<Vec<i128>>, NoMemory>
+    requires shift { shift < length (shift_list instance.now) }
+    requires sums { sums.now.instance ≡ instance.now }
+    ensures { IfOk result (λ found. MatchOption found ((list : List Break) → is_list_of instance.now shift list ≡ false) (λ most. AreMostByDay instance.now shift sums.now.prices instance.now.days most.items)) }
+{
+    match instance.graph(shift) {
+        Some(kept) => most_over(alloc, instance, kept, shift, sums),
+        None => {
+            let len = instance.shift(shift).len;
+            let made = Graph::new(alloc, instance.rule_of(shift), len)?;
+            most_over(alloc, instance, &made, shift, sums)
+        }
+    }
+}
