@@ -1,7 +1,7 @@
 //! Climbs, and what the prices prove that they end at.
 ghost use Rattle.std.specs.Prelude.{◌≤◌, length};
 
-use crate::days::{LONG, MORNING, MORNING_OF_TWO, WITHOUT_LISTS, first_break};
+use crate::days::{LONG, first_break};
 use break_rules::NoMemory;
 use dual_bound::prove;
 use head_splits::{Cut, CutPrices, Cuts, Prices, SlotPrices};
@@ -80,12 +80,6 @@ fn climb(alloc: Global, instance: &Instance, cuts: Cuts, rounds: u32) -> Result<
     Ok(Climbed { value, bound })
 }
 
-/// A climb on a day below no cut.
-fn root(alloc: Global, day: &str) -> Result<Climbed, Fail> {
-    let instance = read(alloc, day.as_bytes())?;
-    climb(alloc, &instance, Cuts::new(Vec::new(alloc)), 40)
-}
-
 /// A climb on the long day below a cut to at least one duty whose break lies at this offset.
 fn below(alloc: Global, start: u16) -> Result<Climbed, Fail> {
     let instance = read(alloc, LONG.as_bytes())?;
@@ -104,24 +98,6 @@ impl Climbed {
         let bound = nearest_u64_to_f64(self.bound);
         self.value - 0.05 <= bound && bound <= self.value + 1.05
     }
-}
-
-// Two duties would earn as much as two shifts cost, so half a shift is used where there may be two.
-#[test]
-fn the_cost_of_one_shift_is_reached(rt: HostRuntime) -> Result<(), Fail> {
-    let one = root(rt.alloc(), MORNING)?;
-    assert_eq!(rt; (one.value, one.bound), (3.0, 3));
-    let half = root(rt.alloc(), MORNING_OF_TWO)?;
-    assert_eq!(rt; (half.value, half.bound), (1.5, 2));
-    Ok(())
-}
-
-// Two hours have nobody, and no duty is legal that has its break in its one hour.
-#[test]
-fn without_legal_lists_the_needs_cost_what_they_lack(rt: HostRuntime) -> Result<(), Fail> {
-    let found = root(rt.alloc(), WITHOUT_LISTS)?;
-    assert_eq!(rt; (found.value, found.bound), (4.0, 4));
-    Ok(())
 }
 
 // The best break, from 11 to 12, costs nothing. One from 10 to 11 leaves nobody there, and one employee too many from 11 on.

@@ -1,4 +1,4 @@
-//! Tests of documents of instances and of the bytes of posts, as they are read and written.
+//! Tests of instance documents and of the text of reports, as they are read and written.
 #![tactic(auto)]
 
 #[cfg(test)]
@@ -6,6 +6,4 @@ mod documents;
 #[cfg(test)]
 mod generated_instances;
 #[cfg(test)]
-mod instance_sources;
-#[cfg(test)]
-mod posts;
+mod reports;

@@ -1,7 +1,5 @@
-//! Tests of how runs of four workers end.
+//! A test of how runs of four workers end on a disk of which a call fails.
 #![tactic(auto)]
 
 #[cfg(test)]
 mod ends;
-#[cfg(test)]
-mod odd_adviser;

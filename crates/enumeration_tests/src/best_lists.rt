@@ -1,8 +1,11 @@
 //! The best lists of small pseudo-random rules, by a plain search among every list of breaks.
+ghost use Rattle.std.specs.Prelude.{◌<◌, length};
+ghost use Rattle.shift_instance.specs.Problem.{shift_list};
+
 use crate::days::day;
 use crate::draws::Draws;
+use crate::lists::{earned, every_break, every_list};
 use break_rules::{Break, Breaks, Lunches, NoMemory, Rule, Totals, legal};
-use patterns::works;
 use pricing::best_pattern;
 use shift_instance::Instance;
 use std::alloc::Global;
@@ -66,54 +69,15 @@ impl Draws {
     }
 }
 
-/// Every break of at most two slots in a shift of `len` slots.
-fn every_break(alloc: Global, len: u16) -> Result<Vec<Break>, NoMemory> {
-    let mut breaks = Vec::new(alloc);
-    for start in 0..len {
-        breaks.push(Break { start, len: 1 })?;
-        breaks.push(Break { start, len: 2 })?;
-    }
-    Ok(breaks)
-}
-
-/// Adds a list that is legal.
-fn add_legal(
-    rule: &Rule,
-    len: u16,
-    list: Vec<Break>,
-    lists: &mut Vec<Vec<Break>>,
-) -> Result<(), NoMemory> {
-    if legal(rule, len, &list) {
-        lists.push(list)?;
-    }
-    Ok(())
-}
-
 /// The legal lists of at most two breaks, which are all where at most two slots are breaks.
 fn legal_lists(alloc: Global, rule: &Rule, len: u16) -> Result<Vec<Vec<Break>>, NoMemory> {
-    let breaks = every_break(alloc, len)?;
     let mut lists = Vec::new(alloc);
-    add_legal(rule, len, Vec::new(alloc), &mut lists)?;
-    for first in &breaks {
-        add_legal(rule, len, Vec::from_slice(alloc, &[*first])?, &mut lists)?;
-        for second in &breaks {
-            let two = Vec::from_slice(alloc, &[*first, *second])?;
-            add_legal(rule, len, two, &mut lists)?;
+    for list in every_list(alloc, &every_break(alloc, len, 2)?)? {
+        if legal(rule, len, &list) {
+            lists.push(list)?;
         }
     }
     Ok(lists)
-}
-
-/// The prices of the hours in which a duty with a list works.
-fn earned(rule: &Rule, start: u16, len: u16, list: &[Break], prices: &[i64]) -> i64 {
-    let mut sum = 0i64;
-    for offset in 0..len {
-        if works(rule, len, list, offset) {
-            let hour = usize::from(start.saturating_add(offset)) % 24;
-            sum = sum.saturating_add(prices.get(hour).copied().unwrap_or(0));
-        }
-    }
-    sum
 }
 
 /// The bonuses that a list gets.
@@ -127,20 +91,20 @@ fn gets(list: &[Break], bonus: &[(Breaks, i64)]) -> i64 {
     sum
 }
 
-/// Whether a list and its value are the best of the legal lists.
+/// Whether a list and its value are the best of the legal lists of the first shift on the first day.
 fn is_best_among(
     found: &[Vec<Break>],
-    rule: &Rule,
-    shift: (u16, u16),
+    instance: &Instance,
     prices: &[i64],
     bonus: &[(Breaks, i64)],
     best: (&[Break], i128),
-) -> bool {
+) -> bool
+    requires { 0 < length (shift_list instance.now) }
+{
     let mut is_there = false;
     for list in found {
-        let value = i128::from(earned(rule, shift.0, shift.1, list, prices).saturating_add(gets(
-            list, bonus,
-        )));
+        let earned = earned(instance, prices, 0, 0, list);
+        let value = i128::from(earned.saturating_add(gets(list, bonus)));
         let is_this = list.as_slice() == best.0;
         if best.1 < value
             || best.1 == value && list.as_slice() < best.0
@@ -161,9 +125,7 @@ fn try_day(
     draws: &mut Draws,
 ) -> Result<bool, NoMemory> {
     assert_eq!(rt; instance.shifts().len(), 1);
-    let shift = instance.shift(0);
-    let rule = instance.rule_of(0);
-    let lists = legal_lists(alloc, rule, shift.len)?;
+    let lists = legal_lists(alloc, instance.rule_of(0), instance.shift(0).len)?;
     let prices = draws.prices();
     let bonus = draws.bonus(alloc, &lists)?;
     assert_eq!(rt; prices.len(), instance.slots());
@@ -177,8 +139,7 @@ fn try_day(
     match best_pattern(alloc, instance, 0, 0, &prices, &bonus)? {
         Some((pattern, value)) => {
             let best = (pattern.list.as_slice(), value);
-            let hours = (shift.start, shift.len);
-            assert!(rt; is_best_among(&lists, rule, hours, &prices, &bonus, best));
+            assert!(rt; is_best_among(&lists, instance, &prices, &bonus, best));
             Ok(true)
         }
         None => {

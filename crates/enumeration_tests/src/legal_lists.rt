@@ -1,5 +1,6 @@
 //! The legal lists of small pseudo-random rules, by a plain reading of the rule over every list of at most two breaks.
 use crate::draws::Draws;
+use crate::lists::{every_break, every_list};
 use break_rules::{Break, Lunch, Lunches, NoMemory, Rule, Totals, legal};
 use std::alloc::Global;
 use std::process::Abort;
@@ -148,33 +149,6 @@ fn meets_the_rule(rule: &Rule, len: u16, list: &[Break]) -> bool {
         && used(list) == total_of(rule, len)
 }
 
-/// Every break in a shift of `len` slots, by start and then by length.
-fn every_break(alloc: Global, len: u16) -> Result<Vec<Break>, NoMemory> {
-    let mut breaks = Vec::new(alloc);
-    for start in 0..len {
-        for size in 0..len - start {
-            breaks.push(Break {
-                start,
-                len: size + 1,
-            })?;
-        }
-    }
-    Ok(breaks)
-}
-
-/// Every list of at most two breaks, in either order.
-fn every_list(alloc: Global, breaks: &[Break]) -> Result<Vec<Vec<Break>>, NoMemory> {
-    let mut lists = Vec::new(alloc);
-    lists.push(Vec::new(alloc))?;
-    for first in breaks {
-        lists.push(Vec::from_slice(alloc, &[*first])?)?;
-        for second in breaks {
-            lists.push(Vec::from_slice(alloc, &[*first, *second])?)?;
-        }
-    }
-    Ok(lists)
-}
-
 /// Asks [`legal`] of each list, and gives the number of those that meet the rule.
 fn try_rule(rt: &impl Abort, rule: &Rule, len: u16, lists: &[Vec<Break>]) -> u32 {
     let mut count = 0u32;
@@ -192,7 +166,7 @@ fn small_rules_have_the_lists_that_every_list_tried_shows(rt: HostRuntime) -> Re
     let mut draws = Draws { state: 1 };
     let mut with_lists = 0u32;
     for len in 3..9 {
-        let lists = every_list(alloc, &every_break(alloc, len)?)?;
+        let lists = every_list(alloc, &every_break(alloc, len, len)?)?;
         for _ in 0..8 {
             let rule = draws.rule(alloc)?;
             let count = try_rule(&rt, &rule, len, &lists);

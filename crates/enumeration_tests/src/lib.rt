@@ -11,6 +11,8 @@ mod draws;
 #[cfg(test)]
 mod legal_lists;
 #[cfg(test)]
+mod lists;
+#[cfg(test)]
 mod price_bounds;
 #[cfg(test)]
 mod settled_cuts;

@@ -1,14 +1,14 @@
 //! The bounds of small pseudo-random instances, cuts and prices, by a plain reading of what a bound is over every list of
-//! at most one break.
+//! breaks.
 
 ghost use Rattle.std.specs.Prelude.{◌<◌, length};
 ghost use Rattle.shift_instance.specs.Problem.{shift_list};
 
 use crate::draws::Draws;
+use crate::lists::{earned, every_break, every_list};
 use break_rules::{Break, Breaks, NoMemory, Rule, Totals, legal};
 use dual_bound::prove;
 use head_splits::{Class, Cut, CutPrices, Cuts, Prices, Side, SlotPrices};
-use patterns::works;
 use shift_instance::{Instance, Parts, TOP, TypeParts};
 use std::alloc::Global;
 use std::process::Abort;
@@ -101,32 +101,6 @@ impl Draws {
     }
 }
 
-/// The list without a break, and those of one break of one slot.
-fn every_list(alloc: Global, len: u16) -> Result<Vec<Vec<Break>>, NoMemory> {
-    let mut lists = Vec::new(alloc);
-    lists.push(Vec::new(alloc))?;
-    for start in 0..len {
-        lists.push(vec![in alloc; Break { start, len: 1 }; 1]?)?;
-    }
-    Ok(lists)
-}
-
-/// What the prices of the slots are worth in which a duty works.
-fn earned(instance: &Instance, prices: &[i64], shift: u16, day: u8, list: &[Break]) -> i64
-    requires { shift < length (shift_list instance.now) }
-{
-    let rule = instance.rule_of(shift);
-    let len = instance.shift(shift).len;
-    let mut sum = 0i64;
-    for offset in 0..len {
-        if works(rule, len, list, offset) {
-            let slot = instance.slot_of(shift, day, offset);
-            sum = sum.saturating_add(prices.get(slot).copied().unwrap_or(0));
-        }
-    }
-    sum
-}
-
 /// A cut's price with the sign of its side.
 fn signed(priced: &Priced) -> i64 {
     let price = priced.price.min(1_000) as i64;
@@ -167,7 +141,7 @@ fn best_value(
     let rule = instance.rule_of(shift);
     let len = instance.shift(shift).len;
     let mut best = None;
-    for list in every_list(alloc, len)? {
+    for list in every_list(alloc, &every_break(alloc, len, 1)?)? {
         if legal(rule, len, &list) {
             let earned = earned(instance, slots, shift, day, &list);
             let value = earned.saturating_add(bonuses(cuts, shift, day, &list));

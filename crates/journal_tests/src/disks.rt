@@ -1,5 +1,5 @@
 //! Disks in memory and of the system.
-use plan_base::{Disk, Failed, FileDisk, FileSource, MemDisk, read_all};
+use plan_base::{Disk, FileDisk, FileSource, MemDisk, read_all};
 use std::fs;
 use std::test::Fail;
 
@@ -39,12 +39,5 @@ fn a_file_is_written_and_read_again(rt: HostRuntime) -> Result<(), Fail> {
     let bytes = read_all(alloc, &mut source, 4)?;
     fs::remove_file(&rt, path)?;
     assert_eq!(rt; bytes.as_slice(), [1, 2, 9, 8].as_slice());
-    Ok(())
-}
-
-#[test]
-fn a_folder_is_no_disk(rt: HostRuntime) -> Result<(), Fail> {
-    let mut disk = FileDisk::new(&rt, String::from_str(rt.alloc(), ".")?);
-    assert_eq!(rt; disk.len(), Err(Failed));
     Ok(())
 }

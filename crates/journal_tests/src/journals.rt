@@ -1,4 +1,4 @@
-//! Journals on a disk in memory, which are put on and opened again.
+//! A journal on a disk in memory, which is put on and opened again.
 use gated_journal::Journal;
 use plan_base::MemDisk;
 use std::test::Fail;
@@ -20,20 +20,5 @@ fn a_record_is_put_and_found_again(rt: HostRuntime) -> Result<(), Fail> {
     assert_eq!(rt; again.end(), 23);
     assert_eq!(rt; head.as_slice(), [7, 8, 9].as_slice());
     assert!(rt; records.len() == 1 && records[0].as_slice() == [4, 5].as_slice());
-    Ok(())
-}
-
-// A record behind the gate of a journal that was opened, in whose file more stands behind that gate.
-#[test]
-fn a_journal_that_was_opened_goes_on(rt: HostRuntime) -> Result<(), Fail> {
-    let alloc = rt.alloc();
-    let mut bytes = WHOLE;
-    bytes[15] = 0x77;
-    let mut disk = MemDisk::new(alloc, Vec::from_slice(alloc, &bytes)?, Vec::new(alloc));
-    let (mut journal, _head, records) = Journal::open(alloc, &mut disk, 100)?;
-    assert_eq!(rt; records.len(), 0);
-    journal.reserve(2)?;
-    journal.put(&mut disk, &[4, 5])?;
-    assert_eq!(rt; disk.bytes(), WHOLE.as_slice());
     Ok(())
 }

@@ -1,9 +1,7 @@
-//! Tests of streams, disks and journals.
+//! Tests of disks and a journal.
 #![tactic(auto)]
 
 #[cfg(test)]
 mod disks;
 #[cfg(test)]
 mod journals;
-#[cfg(test)]
-mod streams;

@@ -1,9 +1,6 @@
 //! Sentences for people whose journal isn't opened or is full: what is wrong with it, and what to do.
 #![tactic(auto)]
 
-#[cfg(test)]
-mod tests;
-
 ghost use Rattle.std.specs.Prelude.{◌≡◌, ◌++◌, ℕ, List, codes, IfOk, string_bytes};
 ghost use Rattle.search_book.specs.OpenFaultText.{open_fault_text};
 ghost use Rattle.journal_texts.specs.Full.{full_text};

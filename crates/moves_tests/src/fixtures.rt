@@ -1,5 +1,5 @@
 //! A small day, and drafts of plans for it.
-ghost use Rattle.std.specs.Prelude.{◌≡◌, IfOk, OnOk};
+ghost use Rattle.std.specs.Prelude.{◌≡◌, IfOk};
 
 use break_rules::{Break, Breaks, NoMemory};
 use instance_json::read;
@@ -15,14 +15,9 @@ use std::test::Fail;
 pub const DAY: &str =
     "{\"slot_minutes\":60,\"days\":1,\"need\":[0,0,0,0,0,0,0,0,2,2,2,1,1,2,2,2,0,0,0,0,0,0,0,0],\"max_heads\":2,\"weights\":{\"excess\":1,\"shortage\":2,\"shift\":3},\"types\":[{\"name\":\"M\",\"start_min\":8,\"start_max\":8,\"len_min\":8,\"len_max\":8,\"breaks\":{\"lead\":2,\"tail\":2,\"work_min\":2,\"work_max\":5,\"long_work\":5,\"long_rest\":1,\"size_min\":1,\"size_max\":1,\"totals\":[[8,1]],\"lunches\":[],\"resettle\":0}}]}";
 
-/// The same with a second shift, of 9 hours, and with 4 hours or more before and behind a break.
-pub const LATE: &str =
-    "{\"slot_minutes\":60,\"days\":1,\"need\":[0,0,0,0,0,0,0,0,2,2,2,1,1,2,2,2,0,0,0,0,0,0,0,0],\"max_heads\":2,\"weights\":{\"excess\":1,\"shortage\":2,\"shift\":3},\"types\":[{\"name\":\"M\",\"start_min\":8,\"start_max\":8,\"len_min\":8,\"len_max\":9,\"breaks\":{\"lead\":4,\"tail\":4,\"work_min\":2,\"work_max\":5,\"long_work\":5,\"long_rest\":1,\"size_min\":1,\"size_max\":1,\"totals\":[[8,1]],\"lunches\":[],\"resettle\":0}}]}";
-
-/// A week in which nobody is needed, with the weights of the day. A shift has at most two duties on a day. Two types have shifts of 8 and 9
-/// hours: those of the first begin at 8 o'clock, those of the second at 9, with 4 hours or more before and behind a break.
-pub const WEEK: &str =
-    "{\"slot_minutes\":60,\"days\":7,\"need\":[0,0,0,0,0,0,0,0,0,0,0,0,0,0,0,0,0,0,0,0,0,0,0,0,0,0,0,0,0,0,0,0,0,0,0,0,0,0,0,0,0,0,0,0,0,0,0,0,0,0,0,0,0,0,0,0,0,0,0,0,0,0,0,0,0,0,0,0,0,0,0,0,0,0,0,0,0,0,0,0,0,0,0,0,0,0,0,0,0,0,0,0,0,0,0,0,0,0,0,0,0,0,0,0,0,0,0,0,0,0,0,0,0,0,0,0,0,0,0,0,0,0,0,0,0,0,0,0,0,0,0,0,0,0,0,0,0,0,0,0,0,0,0,0,0,0,0,0,0,0,0,0,0,0,0,0,0,0,0,0,0,0,0,0,0,0,0,0],\"max_heads\":2,\"weights\":{\"excess\":1,\"shortage\":2,\"shift\":3},\"types\":[{\"name\":\"M\",\"start_min\":8,\"start_max\":8,\"len_min\":8,\"len_max\":9,\"breaks\":{\"lead\":2,\"tail\":2,\"work_min\":2,\"work_max\":5,\"long_work\":5,\"long_rest\":1,\"size_min\":1,\"size_max\":1,\"totals\":[[8,1]],\"lunches\":[],\"resettle\":0}},{\"name\":\"L\",\"start_min\":9,\"start_max\":9,\"len_min\":8,\"len_max\":9,\"breaks\":{\"lead\":4,\"tail\":4,\"work_min\":2,\"work_max\":5,\"long_work\":5,\"long_rest\":1,\"size_min\":1,\"size_max\":1,\"totals\":[[8,1]],\"lunches\":[],\"resettle\":0}}]}";
+/// The same with a second shift, of 9 hours, and with 3 hours or more before a break and 4 or more behind it.
+pub const LONGER: &str =
+    "{\"slot_minutes\":60,\"days\":1,\"need\":[0,0,0,0,0,0,0,0,2,2,2,1,1,2,2,2,0,0,0,0,0,0,0,0],\"max_heads\":2,\"weights\":{\"excess\":1,\"shortage\":2,\"shift\":3},\"types\":[{\"name\":\"M\",\"start_min\":8,\"start_max\":8,\"len_min\":8,\"len_max\":9,\"breaks\":{\"lead\":3,\"tail\":4,\"work_min\":2,\"work_max\":5,\"long_work\":5,\"long_rest\":1,\"size_min\":1,\"size_max\":1,\"totals\":[[8,1]],\"lunches\":[],\"resettle\":0}}]}";
 
 /// Eight hours from midnight on, in each of which three employees are needed, with the weights of the day. The one shift has these hours and
 /// at most three duties, with one break of an hour after 2 to 5 hours.
@@ -44,7 +39,7 @@ pub fn instance_of(alloc: Global, text: &str) -> Result<Instance, Fail> {
 }
 
 /// A break of one hour.
-pub fn pause(alloc: Global, start: u16) -> Result<Breaks, NoMemory> {
+fn pause(alloc: Global, start: u16) -> Result<Breaks, NoMemory> {
     Ok(Breaks::new(vec![in alloc; Break { start, len: 1 }]?))
 }
 
@@ -90,10 +85,12 @@ pub fn take(instance: &Instance, draft: &mut Draft, step: Step) -> Result<u64, M
     Ok(draft.cost())
 }
 
-/// Adds a duty of the first shift on the first day with a break after so many hours, and gives what the plan costs then.
-pub fn add(instance: &Instance, draft: &mut Draft, start: u16) -> Result<u64, MoveFault>
-    requires { draft.old.instance ≡ instance.now }
-    ensures { draft.new.instance ≡ draft.old.instance }
+/// The draft of two duties that break in the first hours.
+pub fn early(alloc: Global, instance: &Instance) -> Result<Draft, Fail>
+    ensures { IfOk result (λ d. d.instance ≡ instance.now) }
 {
-    take(instance, draft, Step::Add(0, 0, start))
+    let mut draft = empty(alloc, instance)?;
+    let _first = take(instance, &mut draft, Step::Add(0, 0, 2))?;
+    let _second = take(instance, &mut draft, Step::Add(0, 0, 3))?;
+    Ok(draft)
 }

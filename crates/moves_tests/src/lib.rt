@@ -1,6 +1,11 @@
-//! Tests of plans that change move by move, each worked out by hand, and the day that they are about.
+//! Tests of plans that change move by move, of descents, and of plans made more even, each worked out by hand.
 #![tactic(auto)]
 
 #[cfg(test)]
+mod descending;
+#[cfg(test)]
 mod drafts;
-pub mod fixtures;
+#[cfg(test)]
+mod evening;
+#[cfg(test)]
+mod fixtures;

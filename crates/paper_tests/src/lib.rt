@@ -1,4 +1,4 @@
-//! Tests of what a plan adds up to, of its tables and of its page.
+//! Tests of the lines of text for a plan, and of its page.
 #![tactic(auto)]
 
 #[cfg(test)]
@@ -7,7 +7,3 @@ mod fixtures;
 mod lines;
 #[cfg(test)]
 mod pages;
-#[cfg(test)]
-mod sums;
-#[cfg(test)]
-mod tables;

@@ -18,7 +18,7 @@ const DAY: &str =
 
 /// What a search came to: what its best plan costs by its own count and by the count of the judge, in how many rows, and the
 /// work that it did.
-#[derive(Clone, Copy, PartialEq)]
+#[derive(Clone, Copy)]
 struct Outcome {
     told: f64,
     cost: u64,
@@ -110,15 +110,6 @@ fn work_ends_soon_behind_the_slices(rt: HostRuntime) -> Result<(), Fail> {
     let found = reached(rt.alloc(), 3, 2)?;
     assert!(rt; 40_000 <= found.work);
     assert!(rt; found.work < 80_000);
-    Ok(())
-}
-
-#[test]
-fn one_seed_gives_one_run(rt: HostRuntime) -> Result<(), Fail> {
-    let alloc = rt.alloc();
-    let first = reached(alloc, 7, 3)?;
-    let second = reached(alloc, 7, 3)?;
-    assert!(rt; first == second);
     Ok(())
 }
 

@@ -1,4 +1,4 @@
-//! Tests of the words that ask for a plan, and of the files that a plan is written to.
+//! Tests of the words that ask for a plan, and of the names that old journals get.
 #![tactic(auto)]
 
 #[cfg(test)]

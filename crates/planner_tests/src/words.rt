@@ -1,7 +1,7 @@
 //! Which words ask for what: no clause says it.
 
 use clap::error::ErrorKind;
-use planning_words::{PlanWords, Wanted, folder_beside, journal_beside, wanted_by};
+use planning_words::{PlanWords, Wanted, wanted_by};
 use std::alloc::{AllocError, Global};
 use std::test::Fail;
 
@@ -56,17 +56,6 @@ fn a_plan_has_its_words(rt: HostRuntime) -> Result<(), Fail> {
     let long = "shift_plan plan w.json --journal j --seconds 0 --workers=16 --out o --anew";
     let long = plan_at(alloc, long)?.ok_or("no plan")?;
     assert_eq!(rt; long.as_str(), "w.json j 0 16 o true");
-    Ok(())
-}
-
-#[test]
-fn names_stand_beside_the_instance(rt: HostRuntime) -> Result<(), Fail> {
-    let journal = journal_beside(rt.alloc(), "weeks/may.2026.json")?;
-    let folder = folder_beside(rt.alloc(), "weeks/may.2026.json")?;
-    assert_eq!(rt;
-        (journal.as_str(), folder.as_str()),
-        ("weeks/may.2026.journal", "weeks/may.2026.plan")
-    );
     Ok(())
 }
 

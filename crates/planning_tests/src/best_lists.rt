@@ -1,6 +1,6 @@
 //! A best list that was worked out by hand.
-use crate::fixtures::{breaks, day, rests};
-use break_rules::{Break, NoMemory};
+use crate::fixtures::day;
+use break_rules::{Break, Breaks, NoMemory, Rule, Totals};
 use pricing::best_pattern;
 use shift_instance::{Instance, Parts};
 use std::alloc::Global;
@@ -8,8 +8,10 @@ use std::test::Fail;
 
 /// A shift from 8 to 16 that has a break of one hour after at least two hours of work.
 fn long_day(alloc: Global) -> Result<Parts, NoMemory> {
-    let mut rule = rests(alloc, 8, 1)?;
+    let totals = Vec::from_slice(alloc, &[(8, 1)])?;
+    let mut rule = Rule::plain(alloc)?;
     (rule.lead, rule.tail, rule.work_min) = (2, 2, 2);
+    rule.totals = Totals::new(totals);
     day(alloc, 1, 8, rule)
 }
 
@@ -20,7 +22,8 @@ fn the_best_break_is_taken(rt: HostRuntime) -> Result<(), Fail> {
     // Each hour of the shift but that from 12 on is worth 2. A break from 10 on gets 3 more than one from 12 on.
     let mut prices = [2i64; 24];
     prices[12] = 0;
-    let bonus = vec![in alloc; (breaks(alloc, &[2])?, 3i64)]?;
+    let early = Breaks::new(vec![in alloc; Break { start: 2, len: 1 }]?);
+    let bonus = vec![in alloc; (early, 3i64)]?;
     assert_eq!(rt; instance.shifts().len(), 1);
     assert_eq!(rt; prices.len(), instance.slots());
     assert!(rt; prices.iter().all(|p| p.unsigned_abs() <= 10_000_000_000));

@@ -1,6 +1,6 @@
 //! Sums of prices of two days side by side, worked out by hand.
-use crate::fixtures::{day, rests};
-use break_rules::NoMemory;
+use crate::fixtures::day;
+use break_rules::{NoMemory, Rule};
 use price_sums::{DaySums, Lane};
 use shift_instance::{Instance, Parts};
 use std::alloc::Global;
@@ -8,8 +8,7 @@ use std::test::Fail;
 
 /// Two days of hours with one shift from 22 to 2.
 fn two_days(alloc: Global) -> Result<Parts, NoMemory> {
-    let rule = rests(alloc, 8, 1)?;
-    let mut parts = day(alloc, 1, 4, rule)?;
+    let mut parts = day(alloc, 1, 4, Rule::plain(alloc)?)?;
     parts.days = 2;
     parts.need = vec![in alloc; 0; 48]?;
     for kind in parts.types.iter_mut() {

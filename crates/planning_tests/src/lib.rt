@@ -1,10 +1,9 @@
-//! Tests of what the bounds, the best lists and the sums of prices of small instances are, and of what cuts leave, each worked out by hand.
+//! Tests of what a best list, sums of prices, bounds and a settled node of a small instance are, and of what the subgradient adviser tells, each
+//! worked out by hand.
 #![tactic(auto)]
 
 #[cfg(test)]
 mod best_lists;
-#[cfg(test)]
-mod cut_ranges;
 #[cfg(test)]
 mod day_sums;
 #[cfg(test)]
@@ -13,3 +12,5 @@ mod fixtures;
 mod price_bounds;
 #[cfg(test)]
 mod settled_nodes;
+#[cfg(test)]
+mod subgradient_prices;

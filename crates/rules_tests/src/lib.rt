@@ -1,4 +1,4 @@
-//! Tests of what the rules, the instances and the costs of rows give to callers.
+//! Tests of what the rules, their graphs and patterns, and instances give to callers.
 #![tactic(auto)]
 
 #[cfg(test)]
@@ -11,7 +11,3 @@ mod break_patterns;
 mod fixtures;
 #[cfg(test)]
 mod instances;
-#[cfg(test)]
-mod row_costs;
-#[cfg(test)]
-mod rule_faults;

@@ -51,13 +51,13 @@ fn posts_on(alloc: Global, instance: &Instance, disk: MemDisk) -> Result<Option<
     }
 }
 
-/// What there is after a crash at a call that failed, which was the last one, where that other byte is `fill`.
-fn found_after(rt: &impl Abort, alloc: Global, call: u64, fill: u8) -> Result<Found, Fail> {
+/// What there is after a crash at a call that failed, which was the last one, where that other byte is 255.
+fn found_after(rt: &impl Abort, alloc: Global, call: u64) -> Result<Found, Fail> {
     let instance = morning(alloc, "2")?;
     let (disk, told) = stopped(alloc, &instance, call)?;
     assert!(rt; disk.calls() == call);
     let written = posts_on(alloc, &instance, disk.image(None)?)?;
-    let lost = posts_on(alloc, &instance, disk.image(Some(fill))?)?;
+    let lost = posts_on(alloc, &instance, disk.image(Some(255))?)?;
     Ok(Found {
         told,
         written,
@@ -65,16 +65,10 @@ fn found_after(rt: &impl Abort, alloc: Global, call: u64, fill: u8) -> Result<Fo
     })
 }
 
-/// Whether this is what there is after a crash at each of two calls, where the other byte is `fill`.
-fn is_found(
-    rt: &impl Abort,
-    alloc: Global,
-    calls: [u64; 2],
-    fill: u8,
-    found: Found,
-) -> Result<bool, Fail> {
-    let first = found_after(rt, alloc, calls[0], fill)?;
-    let second = found_after(rt, alloc, calls[1], fill)?;
+/// Whether this is what there is after a crash at each of two calls.
+fn is_found(rt: &impl Abort, alloc: Global, calls: [u64; 2], found: Found) -> Result<bool, Fail> {
+    let first = found_after(rt, alloc, calls[0])?;
+    let second = found_after(rt, alloc, calls[1])?;
     Ok(first == found && second == found)
 }
 
@@ -90,8 +84,8 @@ fn an_opening_leaves_a_whole_journal_or_none(rt: HostRuntime) -> Result<(), Fail
         lost: None,
         ..unwritten
     };
-    assert!(rt; is_found(&rt, rt.alloc(), [1, 2], 255, unwritten)?);
-    assert!(rt; is_found(&rt, rt.alloc(), [3, 4], 255, unsure)?);
+    assert!(rt; is_found(&rt, rt.alloc(), [1, 2], unwritten)?);
+    assert!(rt; is_found(&rt, rt.alloc(), [3, 4], unsure)?);
     Ok(())
 }
 
@@ -114,25 +108,10 @@ fn within(posts: u64, after: u64) -> (Found, Found) {
 #[test]
 fn a_step_is_there_whole_or_not_at_all(rt: HostRuntime) -> Result<(), Fail> {
     let (closed, opened) = within(0, 3);
-    assert!(rt; is_found(&rt, rt.alloc(), [5, 6], 255, closed)?);
-    assert!(rt; is_found(&rt, rt.alloc(), [7, 8], 255, opened)?);
+    assert!(rt; is_found(&rt, rt.alloc(), [5, 6], closed)?);
+    assert!(rt; is_found(&rt, rt.alloc(), [7, 8], opened)?);
     let (closed, opened) = within(3, 4);
-    assert!(rt; is_found(&rt, rt.alloc(), [9, 10], 255, closed)?);
-    assert!(rt; is_found(&rt, rt.alloc(), [11, 12], 255, opened)?);
-    Ok(())
-}
-
-// A lost byte of the first step may be 0, or 1, which is what the byte of an open gate is.
-#[test]
-fn other_bytes_than_were_written_make_no_step(rt: HostRuntime) -> Result<(), Fail> {
-    let (closed, opened) = within(0, 3);
-    assert!(rt; is_found(&rt, rt.alloc(), [5, 6], 0, closed)?);
-    assert!(rt; is_found(&rt, rt.alloc(), [7, 8], 0, opened)?);
-    let whole = Found {
-        lost: Some(3),
-        ..opened
-    };
-    assert!(rt; is_found(&rt, rt.alloc(), [5, 6], 1, closed)?);
-    assert!(rt; is_found(&rt, rt.alloc(), [7, 8], 1, whole)?);
+    assert!(rt; is_found(&rt, rt.alloc(), [9, 10], closed)?);
+    assert!(rt; is_found(&rt, rt.alloc(), [11, 12], opened)?);
     Ok(())
 }

@@ -8,30 +8,31 @@ use std::test::Fail;
 use worker_gate::{Open, RunEnd, run_seat};
 use workers_tests::fixtures::{morning, seat_with};
 
-/// How a run of one step ends on a new journal of at most `limit` bytes, and how many bytes there are then.
-fn ended(rt: &impl Abort, alloc: Global, limit: u32) -> Result<(RunEnd, usize), Fail> {
+/// How a run of one step ends on a new journal of at most `limit` bytes, the node that the worker then holds, and how many bytes there are.
+fn ended(rt: &impl Abort, alloc: Global, limit: u32) -> Result<(RunEnd, Option<u32>, usize), Fail> {
     assert!(rt; 385 <= limit && limit < 1000);
-    let instance = morning(alloc, "2")?;
+    let instance = morning(alloc, "1")?;
     let mut seat = seat_with(Box::new(alloc, Greedy::new(alloc))?);
     let disk = MemDisk::new(alloc, Vec::new(alloc), Vec::new(alloc));
     match Book::open(alloc, &instance, disk, 1, limit) {
         Ok(mut book) => {
             let end = run_seat(alloc, &instance, &mut book, &mut seat, &Open);
-            Ok((end, book.into_disk().bytes().len()))
+            let held = book.held(0);
+            Ok((end, held, book.into_disk().bytes().len()))
         }
         Err(_) => Err("it isn't opened")?,
     }
 }
 
-// The step has a plan, prices and a split, of 21, 209 and 13 bytes, and their record has 7 more: with the first post alone the
-// journal would end at 413 bytes, with two at 622, and with all at 635.
+// The step has a plan and prices, of 21 and 209 bytes, and their record has 7 more: with the first post alone the journal would end at
+// 413 bytes, and with both at 622.
 #[test]
 fn a_record_is_there_whole_or_not_at_all(rt: HostRuntime) -> Result<(), Fail> {
     let alloc = rt.alloc();
-    for limit in [412u32, 621, 634] {
-        let full = RunEnd::Full { end: 635, limit };
-        assert!(rt; ended(&rt, alloc, limit)? == (full, 385));
+    for limit in [412u32, 500, 621] {
+        let full = RunEnd::Full { end: 622, limit };
+        assert!(rt; ended(&rt, alloc, limit)? == (full, Some(0), 385));
     }
-    assert!(rt; ended(&rt, alloc, 635)? == (RunEnd::Spent, 635));
+    assert!(rt; ended(&rt, alloc, 622)? == (RunEnd::Finished, None, 622));
     Ok(())
 }

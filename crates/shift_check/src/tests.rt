@@ -2,7 +2,7 @@
 
 ghost use Rattle.std.specs.Prelude.{◌<◌};
 
-use crate::{BundleFault, CheckStatus, check_run};
+use crate::{CheckStatus, check_run};
 use plan_base::{MemSink, MemSource};
 use std::alloc::{AllocError, Global};
 use std::test::Fail;
@@ -30,20 +30,15 @@ struct Faults {
     write: u64,
 }
 
-/// How a run ends, and what the sink then holds. A read gives at most 100 bytes, and a write takes at most 5.
-fn run(
-    alloc: Global,
-    verb: &str,
-    report: &str,
-    faults: Faults,
-) -> Result<(CheckStatus, Vec<u8>), AllocError> {
+/// How a check of the report ends, and what the sink then holds. A read gives at most 100 bytes, and a write takes at most 5.
+fn run(alloc: Global, faults: Faults) -> Result<(CheckStatus, Vec<u8>), AllocError> {
     let words = vec![in alloc;
-        String::from_str(alloc, verb)?,
+        String::from_str(alloc, "check")?,
         String::from_str(alloc, "I")?,
         String::from_str(alloc, "R")?,
     ]?;
     let mut instance = source(alloc, DOCUMENT, 100, faults.document)?;
-    let mut bundle = source(alloc, report, 100, faults.report)?;
+    let mut bundle = source(alloc, REPORT, 100, faults.report)?;
     let mut sink = MemSink::new(alloc, vec![in alloc; faults.write]?, 5);
     let status = check_run(
         alloc,
@@ -55,42 +50,6 @@ fn run(
     Ok((status, Vec::from_slice(alloc, sink.bytes())?))
 }
 
-const NO_FAULT: Faults = Faults {
-    document: 0,
-    report: 0,
-    write: 0,
-};
-
-#[test]
-fn a_report_is_accepted(rt: HostRuntime) -> Result<(), Fail> {
-    let (status, written) = run(rt.alloc(), "check", REPORT, NO_FAULT)?;
-    assert_eq!(rt; status.number(), 0);
-    assert_eq!(rt; written.as_slice(), b"accepted cost 3 bound 3\n".as_slice());
-    Ok(())
-}
-
-#[test]
-fn rows_are_counted_again(rt: HostRuntime) -> Result<(), Fail> {
-    let (status, written) = run(rt.alloc(), "recount", REPORT, NO_FAULT)?;
-    assert_eq!(rt; status.number(), 0);
-    assert_eq!(rt; written.as_slice(), b"cost 3\n".as_slice());
-    Ok(())
-}
-
-/// The program shows the status alone, so the line stands here.
-#[test]
-fn a_text_departs_at_its_first_bad_line(rt: HostRuntime) -> Result<(), Fail> {
-    let (status, written) = run(
-        rt.alloc(),
-        "check",
-        "shift-report 1\nstatus open\n",
-        NO_FAULT,
-    )?;
-    assert!(rt; matches!(status, CheckStatus::Bundle(BundleFault::Text { line: 2 })));
-    assert!(rt; written.is_empty());
-    Ok(())
-}
-
 /// Whether a run in which a read of the document fails, or one of the report, ends as a read fault with nothing written.
 fn is_unread(alloc: Global, document: u64, report: u64) -> Result<bool, AllocError> {
     let faults = Faults {
@@ -98,7 +57,7 @@ fn is_unread(alloc: Global, document: u64, report: u64) -> Result<bool, AllocErr
         report,
         write: 0,
     };
-    let (status, written) = run(alloc, "check", REPORT, faults)?;
+    let (status, written) = run(alloc, faults)?;
     Ok(matches!(status, CheckStatus::ReadFault) && written.is_empty())
 }
 
@@ -122,7 +81,7 @@ fn a_failing_write_leaves_the_beginning(rt: HostRuntime) -> Result<(), Fail> {
         report: 0,
         write: 3,
     };
-    let (status, written) = run(rt.alloc(), "check", REPORT, faults)?;
+    let (status, written) = run(rt.alloc(), faults)?;
     assert!(rt; matches!(status, CheckStatus::WriteFault));
     assert_eq!(rt; written.as_slice(), b"accepted c".as_slice());
     Ok(())

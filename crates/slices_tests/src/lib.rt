@@ -1,4 +1,4 @@
-//! Tests of runs in slices over a journal in memory.
+//! A test of runs in slices over a journal in memory, whose time is over.
 #![tactic(auto)]
 
 #[cfg(test)]

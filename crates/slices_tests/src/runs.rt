@@ -1,4 +1,4 @@
-//! What no clause says: that a search goes on from slice to slice, and that it keeps to its time.
+//! What no clause says: that a search keeps to its time.
 
 use crate::journal::MemJournal;
 use advice::Adviser;
@@ -15,10 +15,6 @@ use worker_gate::Open;
 /// One type `M` of one shift, 8:00 to 12:00, and a day that needs one employee then, with room for one.
 const MORNING: &str =
     "{\"slot_minutes\":60,\"days\":1,\"need\":[0,0,0,0,0,0,0,0,1,1,1,1,0,0,0,0,0,0,0,0,0,0,0,0],\"max_heads\":1,\"weights\":{\"excess\":1,\"shortage\":2,\"shift\":3},\"types\":[{\"name\":\"M\",\"start_min\":8,\"start_max\":8,\"len_min\":4,\"len_max\":4,\"breaks\":null}]}";
-
-/// The report of three steps at prices of zero.
-const SPLIT_REPORT: &str =
-    "shift-report 1\nstatus optimal\ncost 3\nbound 3\nrows 1\nrow 0 0 1 -\nproof 5\npriced 0 1 0,0,0,0,0,0,0,0,0,0,0,0,0,0,0,0,0,0,0,0,0,0,0,0 -\nsplit 0 0 0 - 0\npriced 1 1 0,0,0,0,0,0,0,0,0,0,0,0,0,0,0,0,0,0,0,0,0,0,0,0 0\nsettled 1\npriced 2 1 0,0,0,0,0,0,0,0,0,0,0,0,0,0,0,0,0,0,0,0,0,0,0,0 0\nend\n";
 
 /// The progress of a run by one worker that begins now.
 fn begun(rt: HostRuntime) -> Result<Arc<Progress>, Fail> {
@@ -47,39 +43,6 @@ fn slices_of(alloc: Global, adviser: Box<dyn Adviser + Send>) -> Result<Slices, 
     let mut advisers = Vec::new(alloc);
     advisers.push(adviser)?;
     Ok(Slices::new(document, 1, advisers))
-}
-
-/// What the last report says, and nothing where there is none.
-fn last_report(slices: &Slices) -> &[u8] {
-    match &slices.report {
-        Some(sink) => sink.bytes(),
-        None => &[],
-    }
-}
-
-#[test]
-fn a_search_goes_on_to_its_end(rt: HostRuntime) -> Result<(), Fail> {
-    let alloc = rt.alloc();
-    let progress = begun(rt)?;
-    let adviser = watched(rt, &progress)?;
-    let mut slices = slices_of(alloc, Box::new(alloc, adviser)?)?;
-    let mut journal = MemJournal::new(alloc);
-    let found = slices.add(&rt, alloc, 1, &mut journal, &Open)?;
-    assert!(rt; matches!(found, Status::Budget));
-    let status = run_until(
-        &rt,
-        &rt,
-        alloc,
-        3_600_000,
-        &progress,
-        &mut slices,
-        &mut journal,
-        &Open,
-    );
-    assert!(rt; matches!(status, Status::Optimal));
-    assert_eq!(rt; last_report(&slices), SPLIT_REPORT.as_bytes());
-    assert_eq!(rt; progress.steps(), 3);
-    Ok(())
 }
 
 #[test]

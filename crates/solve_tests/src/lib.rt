@@ -1,7 +1,5 @@
-//! Tests of runs of `solve` whose source, sink and disk are in memory.
+//! Tests of runs of `solve` with sources, sinks and disks in memory of which a call fails, and with advisers that no program has.
 #![tactic(auto)]
 
-#[cfg(test)]
-mod lines;
 #[cfg(test)]
 mod runs;

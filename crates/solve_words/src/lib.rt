@@ -3,8 +3,6 @@
 
 mod command;
 mod numbers;
-#[cfg(test)]
-mod tests;
 mod texts;
 
 pub use command::{Command, Method, command_of};

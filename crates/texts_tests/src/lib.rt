@@ -1,7 +1,7 @@
-//! Tests of sentences for refused documents and files, and of warnings, as they are shown.
+//! Tests of sentences for journals, and of warnings as they are shown.
 #![tactic(auto)]
 
 #[cfg(test)]
-mod sentences;
+mod journals;
 #[cfg(test)]
 mod warnings;

@@ -1,90 +1,127 @@
-//! Prices, plans and splits that are advised.
-ghost use Rattle.std.specs.Prelude.{◌≡◌, ◌≤◌, ◌^◌, IfOk, length};
+//! Prices, plans and splits that are advised where the adviser was asked for another day before.
+ghost use Rattle.std.specs.Prelude.{◌≡◌, IfOk, length};
 
-use crate::fixtures::{
-    FREE, IDLE, MORNING, NO_LIST, Seen, TWO, instance_of, plain_ask, root, seen_at, seen_of, used,
-};
-use advice::{Adviser, Told};
-use break_rules::NoMemory;
-use shift_instance::Instance;
+use advice::{Advice, Adviser, Ask, Told};
+use break_rules::{Breaks, NoMemory};
+use dual_bound::prove;
+use head_splits::{Class, Cut, Cuts, Hint, Prices, Side};
+use instance_json::read;
+use rota_cost::cost_rows;
+use shift_instance::{Instance, Rows};
 use std::alloc::Global;
 use std::test::Fail;
 use thorough_search::Thorough;
 
-/// What is seen of the first advice for the node without cuts of a document, where the plan without duties costs so much.
-fn first_seen(alloc: Global, text: &str, best: u64) -> Result<Seen, Fail> {
-    let instance = instance_of(alloc, text)?;
-    let ask = plain_ask(alloc, root(alloc), best);
-    Ok(seen_at(alloc, &mut Thorough::new(alloc, 1), &instance, &ask)?)
-}
+/// Hour slots of one day, of which those from 8 to 12 o'clock need one employee. The one shift has these hours, at most one duty
+/// on a day and no breaks. Excess costs 1, shortage 2 and the shift 3.
+const MORNING: &str =
+    "{\"slot_minutes\":60,\"days\":1,\"need\":[0,0,0,0,0,0,0,0,1,1,1,1,0,0,0,0,0,0,0,0,0,0,0,0],\"max_heads\":1,\"weights\":{\"excess\":1,\"shortage\":2,\"shift\":3},\"types\":[{\"name\":\"M\",\"start_min\":8,\"start_max\":8,\"len_min\":4,\"len_max\":4,\"breaks\":null}]}";
 
-// Where one duty is the most, the best prices earn what the shift costs, which its plan costs too.
-#[test]
-fn prices_reach_the_least_cost(rt: HostRuntime) -> Result<(), Fail> {
-    let wanted = Seen {
-        bound: Some(3),
-        cost: Some(3),
-        split: None,
+/// The same with at most two duties on a day.
+const TWO: &str =
+    "{\"slot_minutes\":60,\"days\":1,\"need\":[0,0,0,0,0,0,0,0,1,1,1,1,0,0,0,0,0,0,0,0,0,0,0,0],\"max_heads\":2,\"weights\":{\"excess\":1,\"shortage\":2,\"shift\":3},\"types\":[{\"name\":\"M\",\"start_min\":8,\"start_max\":8,\"len_min\":4,\"len_max\":4,\"breaks\":null}]}";
+
+/// One cut: at least one duty of the shift.
+fn used(alloc: Global) -> Result<Cuts, NoMemory>
+    ensures { IfOk result (λ cuts. length cuts ≡ 1) }
+{
+    let class = Class {
+        shift: 0,
+        day: 0,
+        prefix: Breaks::new(Vec::new(alloc)),
     };
-    assert_eq!(rt; first_seen(rt.alloc(), MORNING, 8)?, wanted);
-    Ok(())
+    let side = Side::AtLeast;
+    Ok(Cuts::new(vec![in alloc; Cut { class, side, m: 1 }]?))
 }
 
-// Where two duties may be, half a shift would do, which costs half of it. So the node is split above one duty: a second one would
-// only cost.
-#[test]
-fn a_split_and_a_plan_are_advised(rt: HostRuntime) -> Result<(), Fail> {
-    let wanted = Seen {
-        bound: Some(2),
-        cost: Some(3),
-        split: Some((0, 0, 1)),
-    };
-    assert_eq!(rt; first_seen(rt.alloc(), TWO, 8)?, wanted);
-    Ok(())
-}
-
-// No duty is legal, so nobody works: four hours are short. Where nothing costs or nobody is needed, the plan without duties costs 0.
-#[test]
-fn plans_without_duties_are_the_best(rt: HostRuntime) -> Result<(), Fail> {
-    for (text, best) in [(NO_LIST, 8), (FREE, 0), (IDLE, 0)] {
-        let wanted = Seen {
-            bound: Some(best),
-            cost: None,
-            split: None,
-        };
-        assert_eq!(rt; first_seen(rt.alloc(), text, best)?, wanted);
+/// What is asked for the node of these cuts, where the plan without duties is the best, and no prices were posted.
+fn asked(alloc: Global, cuts: Cuts) -> Ask
+    ensures { result.cuts ≡ cuts }
+{
+    Ask {
+        cuts,
+        floor: 0,
+        best: 8,
+        hint: Hint {
+            prices: None,
+            rows: Rows::new(Vec::new(alloc)),
+        },
     }
-    Ok(())
+}
+
+/// What is looked at of an advice for the node without cuts: the bound that its prices give, what its plan costs, and the shift, the day and
+/// the number of its split.
+#[derive(Clone, Copy, Debug, PartialEq, Eq, Drop)]
+struct Seen {
+    /// The bound, where the prices give one.
+    bound: Option<u64>,
+    /// The cost, where there is a plan and it is legal.
+    cost: Option<u64>,
+    /// The shift, the day and the number.
+    split: Option<(u16, u8, u16)>,
+}
+
+/// The bound that prices give at the root.
+fn bound_of(alloc: Global, instance: &Instance, prices: Prices) -> Option<u64> {
+    match prove(alloc, instance, Cuts::new(Vec::new(alloc)), prices) {
+        Ok(proved) => Some(proved.bound()),
+        Err(_) => None,
+    }
+}
+
+/// What legal rows cost.
+fn cost_of(instance: &Instance, rows: Rows) -> Option<u64> {
+    match cost_rows(instance, rows) {
+        Ok(costed) => Some(costed.cost()),
+        Err(_) => None,
+    }
+}
+
+/// What is seen of an advice.
+fn seen_of(alloc: Global, instance: &Instance, advice: Advice) -> Seen {
+    let Advice {
+        prices,
+        plan,
+        split,
+    } = advice;
+    Seen {
+        bound: bound_of(alloc, instance, prices),
+        cost: plan.and_then(|rows| cost_of(instance, rows)),
+        split: split.map(|split| (split.class.shift, split.class.day, split.m)),
+    }
 }
 
 /// What is seen of the second advice of an adviser that was asked for another day first, through a box, and was told something.
 fn second_seen(alloc: Global, first: &str, second: &str) -> Result<Seen, Fail> {
     let mut adviser: Box<dyn Adviser + Send> = Box::new(alloc, Thorough::new(alloc, 1))?;
-    let other = instance_of(alloc, first)?;
-    let ask = plain_ask(alloc, used(alloc)?, 8);
-    let _first = adviser.advise(&other, &ask)?;
+    let other = read(alloc, first.as_bytes())?;
+    let _first = adviser.advise(&other, &asked(alloc, used(alloc)?))?;
     adviser.learn(&Told {
         node: 1,
         floor: 3,
         best: 8,
     });
-    let instance = instance_of(alloc, second)?;
-    let ask = plain_ask(alloc, root(alloc), 8);
-    let advice = adviser.advise(&instance, &ask)?;
-    Ok(seen_of(alloc, &instance, root(alloc), advice))
+    let instance = read(alloc, second.as_bytes())?;
+    let advice = adviser.advise(&instance, &asked(alloc, Cuts::new(Vec::new(alloc))))?;
+    Ok(seen_of(alloc, &instance, advice))
 }
 
-// Nothing of the first day is left.
+// Nothing of the first day is left. Where one duty is the most, the best prices earn what the shift costs, which its plan costs too. Where
+// two may be, half a shift would do, which costs half of it: the node is split above one duty, as a second one would only cost.
 #[test]
 fn another_instance_is_begun_anew(rt: HostRuntime) -> Result<(), Fail> {
     let alloc = rt.alloc();
-    assert_eq!(rt;
-        second_seen(alloc, TWO, MORNING)?,
-        first_seen(alloc, MORNING, 8)?
-    );
-    assert_eq!(rt;
-        second_seen(alloc, MORNING, TWO)?,
-        first_seen(alloc, TWO, 8)?
-    );
+    let one = Seen {
+        bound: Some(3),
+        cost: Some(3),
+        split: None,
+    };
+    assert_eq!(rt; second_seen(alloc, TWO, MORNING)?, one);
+    let two = Seen {
+        bound: Some(2),
+        cost: Some(3),
+        split: Some((0, 0, 1)),
+    };
+    assert_eq!(rt; second_seen(alloc, MORNING, TWO)?, two);
     Ok(())
 }

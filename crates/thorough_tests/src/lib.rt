@@ -1,9 +1,5 @@
-//! Tests of what the thorough adviser advises, each worked out by hand.
+//! Tests of what the thorough adviser advises, worked out by hand.
 #![tactic(auto)]
 
 #[cfg(test)]
 mod advised;
-#[cfg(test)]
-mod fixtures;
-#[cfg(test)]
-mod hints;

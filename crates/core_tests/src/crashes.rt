@@ -36,7 +36,7 @@ fn committed(alloc: Global, instance: &Instance) -> Result<Core, Fail>
 #[test]
 fn posts_that_were_kept_stay(rt: HostRuntime) -> Result<(), Fail> {
     let alloc = rt.alloc();
-    let instance = morning(alloc, "1")?;
+    let instance = morning(alloc)?;
     let mut core = committed(alloc, &instance)?;
     let is_committed = core.history().len() == 2 && core.acked() == 0 && core.held(0).is_none();
     let crash = core.event(&instance, Event::Crash { keep: 1 });

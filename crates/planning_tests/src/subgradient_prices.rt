@@ -1,10 +1,10 @@
-//! Prices and plans that the subgradient adviser tells, and advisers behind boxes.
+//! Prices and plans that the subgradient adviser tells.
 ghost use Rattle.std.specs.Prelude.{◌≡◌, ◌≤◌, ◌^◌, IfOk, length};
 
-use crate::fixtures::{Size, instance_of, plain_type};
-use advice::{Advice, Adviser, Ask, Told};
-use advisers::{Fixed, Greedy, Subgradient};
-use break_rules::{Break, Breaks, NoMemory};
+use crate::fixtures::day;
+use advice::{Advice, Adviser, Ask};
+use advisers::Subgradient;
+use break_rules::{Break, Breaks, NoMemory, Rule};
 use dual_bound::{PriceFault, prove};
 use head_splits::{Class, Cut, Cuts, Hint, Prices, Side};
 use rota_cost::cost_rows;
@@ -12,16 +12,9 @@ use shift_instance::{Instance, Rows};
 use std::alloc::Global;
 use std::test::Fail;
 
-/// The one shift from 8 to 12, without breaks, which so many employees may work and which costs 3. Each of its hours needs
-/// one.
+/// The day with one shift from 8 to 12, without breaks, which so many employees may work.
 fn morning(alloc: Global, heads: u16) -> Result<Instance, Fail> {
-    let types = vec![in alloc; plain_type(alloc, "D", 8, 4)?]?;
-    let size = Size {
-        days: 1,
-        heads,
-        shift: 3,
-    };
-    instance_of(alloc, size, &[8, 9, 10, 11], types)
+    Ok(Instance::new(alloc, day(alloc, heads, 4, Rule::plain(alloc)?)?)?)
 }
 
 /// One cut: at least one duty of the shift whose breaks begin with that of the slot at offset 1, which no duty has.
@@ -108,34 +101,5 @@ fn prices_of_greatest_value_are_advised(rt: HostRuntime) -> Result<(), Fail> {
         prices_at_ten(alloc, Cuts::new(Vec::new(alloc)))?,
         (Some(4), None)
     );
-    Ok(())
-}
-
-/// The scale that an adviser advises through a box, after it was told something.
-fn boxed_scale(
-    alloc: Global,
-    instance: &Instance,
-    mut adviser: Box<dyn Adviser + Send>,
-) -> Result<u16, NoMemory> {
-    adviser.learn(&Told {
-        node: 0,
-        floor: 0,
-        best: 8,
-    });
-    let asked = ask(alloc, Cuts::new(Vec::new(alloc)));
-    Ok(adviser.advise(instance, &asked)?.prices.q)
-}
-
-// Each adviser is asked and told through a box.
-#[test]
-fn boxed_advisers_advise(rt: HostRuntime) -> Result<(), Fail> {
-    let alloc = rt.alloc();
-    let instance = morning(alloc, 1)?;
-    let greedy = Box::new(alloc, Greedy::new(alloc))?;
-    assert_eq!(rt; boxed_scale(alloc, &instance, greedy)?, 1);
-    let fixed = Box::new(alloc, Fixed::new(alloc, 7, Vec::new(alloc)))?;
-    assert_eq!(rt; boxed_scale(alloc, &instance, fixed)?, 7);
-    let subgradient = Box::new(alloc, Subgradient::new(alloc, 3))?;
-    assert_eq!(rt; boxed_scale(alloc, &instance, subgradient)?, 3);
     Ok(())
 }
