@@ -1,5 +1,5 @@
 //! The solution that prices choose.
-ghost use Rattle.std.specs.Prelude.{◌≡◌, ◌<◌, ◌≤◌, ◌*◌, ◌^◌, ◌||◌, ◌++◌, nat_lt, int_lt, IfOk, OnOk, IsTrue, All, length, pos, ◌*ℤ◌, if◌then◌else◌};
+ghost use Rattle.std.specs.Prelude.{◌≡◌, ◌<◌, ◌≤◌, ◌*◌, ◌^◌, ◌||◌, ◌++◌, nat_lt, int_lt, IfOk, OnOk, IsTrue, All, length, pos, ◌*ℤ◌};
 ghost use Rattle.std.specs.Int.{int_max};
 ghost use Rattle.std.specs.Int.RustNames.{unsigned_abs};
 ghost use Rattle.std.specs.List.{flat_map};
