@@ -12,8 +12,10 @@ TOP = os.path.dirname(os.path.dirname(os.path.abspath(__file__)))
 SOLVE = os.path.join(TOP, "crates", "shift_solve", "out", "shift_solve")
 CHECK = os.path.join(TOP, "crates", "shift_check", "out", "shift_check")
 DAY = 288
-# of each type the longest stretch of work, so that no two types have one rule
-STRETCHES = [42, 44, 46, 48]
+# by how much the longest stretch of work of a type is shorter than that of the first, so that no two types have one rule
+SHORTER = [0, 1, 2, 3]
+# of each number of slots of breaks: the least and the longest stretch of work, the longest break, and the lunches
+RULES = {18: (3, 48, 6, []), 48: (2, 96, 48, [[72, 6, 36, 66]])}
 
 
 def numbers(seed):
@@ -34,11 +36,12 @@ def needs():
 
 
 def week(total):
-    """Four types with 256 starts each, whose shifts have so many slots of breaks."""
+    """Four types with 256 starts each, whose shifts have so many slots of breaks: the graph of a rule has some 120,000 or 1,300,000 edges."""
     types = []
-    for number, most in enumerate(STRETCHES):
-        rule = {"lead": 12, "tail": 12, "work_min": 6, "work_max": most, "long_work": 24, "long_rest": 2, "size_min": 1, "size_max": 6,
-                "totals": [[96, total]], "lunches": [], "resettle": 1}
+    least, most, longest, lunches = RULES[total]
+    for number, shorter in enumerate(SHORTER):
+        rule = {"lead": 6, "tail": 6, "work_min": least, "work_max": most - shorter, "long_work": 24, "long_rest": 2, "size_min": 1, "size_max": longest,
+                "totals": [[96, total]], "lunches": lunches, "resettle": 0}
         types.append({"name": "t%d" % number, "start_min": 0, "start_max": 255, "len_min": 96, "len_max": 96, "breaks": rule})
     return {"slot_minutes": 5, "days": 7, "need": needs(), "max_heads": 200, "weights": {"excess": 1, "shortage": 4, "shift": 40}, "types": types}
 
