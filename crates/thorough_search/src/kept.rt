@@ -18,7 +18,7 @@ use std::num::nearest_u64_to_f64;
 /// The work of a second, about.
 const SECOND: u64 = 80_000_000;
 
-/// The most work on plans at one advice.
+/// The most work on plans at one advice, where the climb of that advice takes no more.
 const SLICE: u64 = 4_000_000;
 
 /// By how much a value that closes a node may lie below the least cost known: bounds are rounded up.
@@ -40,6 +40,8 @@ pub(crate) struct Kept {
     offered: u64,
     /// The work on plans when the best one was found.
     work_at_best: u64,
+    /// The work of climbs when plans were looked for last.
+    climbed: u64,
 }
 
 /// The shifts whose averaged part isn't 0, the most used first.
@@ -98,6 +100,7 @@ impl Kept {
             climb,
             offered: u64::MAX,
             work_at_best: 0,
+            climbed: 0,
         })
     }
 
@@ -128,7 +131,8 @@ impl Kept {
         Ok(())
     }
 
-    /// The work that is due on plans, at most a slice: half of all work goes there at first and while they gain, and later less.
+    /// The work that is due on plans, at most a slice, or as much as the climb took: half of all work goes there at first and while
+    /// they gain, and later less.
     fn due_work(&self) -> u64 {
         let plans = self.plans.work();
         let is_gaining = plans < SECOND.saturating_add(self.work_at_best.saturating_mul(2));
@@ -137,7 +141,8 @@ impl Kept {
         } else {
             self.climb.work() / 8
         };
-        share.saturating_sub(plans).min(SLICE)
+        let climb = self.climb.work().saturating_sub(self.climbed);
+        share.saturating_sub(plans).min(SLICE.max(climb))
     }
 
     /// Searches for plans as long as it is due.
@@ -146,6 +151,7 @@ impl Kept {
     {
         let before = self.plans.best_cost();
         let due = self.due_work();
+        self.climbed = self.climb.work();
         self.plans.run(&self.tables, due)?;
         if self.plans.best_cost() < before {
             self.work_at_best = self.plans.work();
