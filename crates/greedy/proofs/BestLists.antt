@@ -33,7 +33,7 @@ find_least R p (y ∷ ys) x s m t least =
       ]
     ]
 
-not_true : (b : Bool) → not b ≡ true → b ≡ false
+pub not_true : (b : Bool) → not b ≡ true → b ≡ false
 not_true true h = absurd (false≢true h)
 not_true false h = refl
 

@@ -1,11 +1,11 @@
 -- Bounds of gains: they stay bounds while duties are added, and the shift that leads by an exact bound is the next one.
 use Rattle.std.proofs.Common.{◌≡◌, inl, inr, ℕ, zero, suc, ◌+◌, ◌*◌, ◌<◌, ◌≤◌, ℤ, pos, negsuc, neg_ℤ, ◌+ℤ◌, ◌-ℤ◌, ◌≤ℤ◌, ◌<ℤ◌, Bool, true, false, cond, Option, Some, None, List, [], ◌∷◌, ◌++◌, length, length-set, get_or, set, refl, sym, ap, ◌∙◌, subst, arith}
-use Rattle.std.specs.Prelude.{MatchOption, replicate}
+use Rattle.std.specs.Prelude.{MatchOption, int_lt, replicate}
 use Rattle.std.proofs.lemmas.Int.{ints}
-use Rattle.std.proofs.lemmas.Bool.{cases_eq, cases_lt}
-use Rattle.std.proofs.lemmas.List.{get_or-replicate, get_or-set_same, get_or-set_other, get_or_past}
+use Rattle.std.proofs.lemmas.Bool.{cases_Bool, cases_eq, cases_lt}
+use Rattle.std.proofs.lemmas.List.{get_or-replicate, get_or-set_same, get_or-set_other, get_or_past, get_or_read}
 use Rattle.shift_instance.specs.declared.Duty.{Duty}
-use Rattle.shift_instance.specs.Problem.{Problem, shift_list, below}
+use Rattle.shift_instance.specs.Problem.{Problem, shift_list}
 use Rattle.shift_instance.specs.Rota.{is_used}
 use Rattle.shift_instance.specs.Valid.{IsValid}
 use Rattle.greedy.specs.Bounds.{AreBounds, bound_at}
@@ -16,6 +16,10 @@ use Rattle.greedy.proofs.BestLists.{sum_within}
 use Rattle.greedy.proofs.DayValues.{value_small}
 use Rattle.greedy.proofs.Lowering.{counted, gain_is, gain_falls, gain_rises, others_used}
 use Rattle.greedy.proofs.Rounding.{prices_small, next_all}
+use Rattle.greedy.proofs.Rounds.{lt_true, lt_false}
+
+through : (a b c : ℤ) → a ≤ℤ b → b ≤ℤ c → a ≤ℤ c
+through a b c p q = omega (arith, ints)
 
 none_small : (b : ℕ) → IsWithin b (pos 0)
 none_small b = record { above = omega (arith, ints); below = omega (arith, ints) }
@@ -90,9 +94,6 @@ bounds_set i old new bounds s z hs h own small others =
         | inr ne ↦ subst (IsWithin 14114000000) (sym (get_or-set_other bounds s k z (pos 0) ne)) (h.small k)
       ];
     }
-  where
-    through : (a b c : ℤ) → a ≤ℤ b → b ≤ℤ c → a ≤ℤ c
-    through a b c p q = omega (arith, ints)
 
 same : (z : ℤ) → z ≤ℤ z
 same z = omega (arith, ints)
@@ -121,9 +122,6 @@ leads_below f g n None top h less own = record {
   bounds = λ j l. through (g j) (f j) top (less j l) (h.bounds j l);
   first = h.first;
 }
-  where
-    through : (a b c : ℤ) → a ≤ℤ b → b ≤ℤ c → a ≤ℤ c
-    through a b c p q = omega (arith, ints)
 leads_below f g n (Some b) top h less own =
     let p = h.first in record {
       some = h.some;
@@ -131,9 +129,6 @@ leads_below f g n (Some b) top h less own =
       first = (p.0, own ∙ p.1, p.2, λ j l. before (g j) (f j) top (less j (let m : b < n = p.0 in omega arith)) (p.3 j l));
     }
   where
-    through : (a b c : ℤ) → a ≤ℤ b → b ≤ℤ c → a ≤ℤ c
-    through a b c p q = omega (arith, ints)
-
     before : (a b c : ℤ) → a ≤ℤ b → b <ℤ c → a <ℤ c
     before a b c p q = omega (arith, ints)
 
@@ -183,3 +178,20 @@ looks_end (b ∷ bs) zero z l some less = let k : above_zero z < above_zero b = 
     one (pos n) (negsuc m) h g = absurd (omega (arith, ints))
     one (negsuc n) (negsuc m) h g = absurd (omega (arith, ints))
 looks_end (b ∷ bs) (suc s) z l some less = let k : all_above_zero (set bs s z) < all_above_zero bs = looks_end bs s z (omega arith) some less in omega arith
+
+-- a gain that isn't its bound is less
+pub falls_short : (g b : ℤ) → g ≤ℤ b → (g ≡ b → ⊥) → g <ℤ b
+falls_short g b h ne =
+    elim (cases_Bool (int_lt g b)) [
+      | inl t ↦ lt_true g b t
+      | inr f ↦ let l : b ≤ℤ g = lt_false g b f in absurd (ne (omega (arith, ints)))
+    ]
+
+-- a bound that is read
+pub bound_read : (bounds : List ℤ) (s at : ℕ) (z : ℤ) → s < length bounds → at ≡ s → z ≡ get_or bounds at z → z ≡ bound_at bounds s
+bound_read bounds s at z l e read = get_or_read bounds at z (omega arith) read (pos 0) ∙ ap (bound_at bounds) e
+
+-- a look at a shift whose gain is less than its bound lowers the bounds
+pub look_lowers : (bounds : List ℤ) (s at : ℕ) (z g : ℤ) → at ≡ s → z ≡ g → s < length bounds → pos 0 <ℤ bound_at bounds s → g <ℤ bound_at bounds s → all_above_zero (set bounds at z) < all_above_zero bounds
+look_lowers bounds s at z g e is l some less =
+    subst (λ (j : ℕ). all_above_zero (set bounds j z) < all_above_zero bounds) (sym e) (subst (λ (y : ℤ). all_above_zero (set bounds s y) < all_above_zero bounds) (sym is) (looks_end bounds s g l some less))

@@ -1,25 +1,13 @@
 -- The values of shifts, day by day, and those at other prices.
-use Rattle.std.proofs.Common.{◌≡◌, ℕ, zero, suc, refl, ◌+◌, ◌*◌, ◌<◌, ◌≤◌, ℤ, pos, inl, inr, Bool, Option, Some, None, List, [], ◌∷◌, ◌++◌, length, length-set, length-append, get_or, set, cond, sym, ap, ◌∙◌, subst, arith, false}
-use Rattle.std.proofs.Math.Path.{fun_ext}
-use Rattle.std.specs.Prelude.{slice_get, int_lt, IsSomeAnd, MatchOption, not, replicate}
-use Rattle.std.specs.Bool.{OnFalse}
+use Rattle.std.proofs.Common.{◌≡◌, ℕ, zero, suc, refl, ◌*◌, ℤ, pos, inl, inr, Option, Some, None, List, length, get_or, sym, ap, ◌∙◌, subst, arith, false}
+use Rattle.std.specs.Prelude.{MatchOption, replicate}
 use Rattle.std.specs.Option.{option_map_or}
-use Rattle.std.specs.List.{list_any, find}
 use Rattle.std.proofs.lemmas.Int.{ints}
-use Rattle.std.proofs.lemmas.Bool.{cases_eq, cases_lt}
-use Rattle.std.proofs.lemmas.List.{get_or-set_same, get_or-set_other, get_or_past, get_or_push, get_or_read, get_or_append_left}
+use Rattle.std.proofs.lemmas.Bool.{cases_lt}
+use Rattle.std.proofs.lemmas.List.{get_or_past}
 use Rattle.break_rules.specs.declared.Break.{Break}
-use Rattle.break_rules.specs.declared.Rule.{Rule}
-use Rattle.break_rules.specs.Breaks.{works_at}
-use Rattle.break_rules.proofs.Lists.{from_below}
-use Rattle.break_rules.proofs.Sums.{int_sum_by-same}
-use Rattle.shift_instance.specs.declared.Shift.{Shift}
-use Rattle.shift_instance.specs.Problem.{Problem, shift_list, slot_of, below}
-use Rattle.shift_instance.specs.Rota.{lists_of, is_list_of}
-use Rattle.shift_instance.specs.Valid.{IsValid}
-use Rattle.shift_instance.specs.Worth.{price_of, earned}
-use Rattle.shift_instance.proofs.Offsets.{earned_by_offsets}
-use Rattle.shift_instance.proofs.Shifts.{some_at, Has_at, shift_short, is_some_and_at}
+use Rattle.shift_instance.specs.Problem.{Problem}
+use Rattle.shift_instance.specs.Rota.{is_list_of}
 use Rattle.pricing.specs.Days.{IsMostOn, AreMostByDay}
 use Rattle.greedy.specs.Greedy.{duty, earned_with, best_list, day_value}
 use Rattle.greedy.specs.Sizes.{ArePrices, IsWithin}

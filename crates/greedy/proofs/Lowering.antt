@@ -1,10 +1,10 @@
 -- What more duties lower: marginal prices, the values of shifts, and their gains.
-use Rattle.std.proofs.Common.{◌≡◌, ◌⊎◌, inl, inr, ℕ, zero, suc, ◌+◌, ◌*◌, ◌<◌, ◌≤◌, ℤ, pos, neg_ℤ, ◌+ℤ◌, ◌-ℤ◌, ◌≤ℤ◌, ◌<ℤ◌, Bool, true, false, cond, ◌&&◌, ◌||◌, ◌==◌, not, Option, Some, None, List, [], ◌∷◌, ◌++◌, length, refl, sym, ap, ◌∙◌, subst, arith, nat_lt}
+use Rattle.std.proofs.Common.{◌≡◌, ◌⊎◌, inl, inr, ℕ, ◌+◌, ◌<◌, ◌≤◌, ℤ, pos, neg_ℤ, ◌+ℤ◌, ◌-ℤ◌, ◌≤ℤ◌, ◌<ℤ◌, Bool, true, false, cond, ◌&&◌, ◌||◌, ◌==◌, not, Option, Some, None, List, [], ◌∷◌, ◌++◌, refl, sym, ap, ◌∙◌, arith, nat_lt}
 use Rattle.std.specs.Prelude.{int_lt}
 use Rattle.std.specs.Option.{option_map_or}
 use Rattle.std.specs.List.{list_any, find}
 use Rattle.std.proofs.lemmas.Int.{ints}
-use Rattle.std.proofs.lemmas.Bool.{and_parts, and_from, cases_Bool, cases_lt, false≢true, lt-ltb, le-ltb, ltb-true, ne_eqb}
+use Rattle.std.proofs.lemmas.Bool.{and_parts, and_from, cases_Bool, cases_lt, lt-ltb, le-ltb, ltb-true, ne_eqb}
 use Rattle.std.proofs.lemmas.List.Folds.{list_any-append}
 use Rattle.break_rules.specs.declared.Break.{Break}
 use Rattle.break_rules.specs.Sums.{int_sum_by}
@@ -12,10 +12,11 @@ use Rattle.break_rules.proofs.Counts.{count_by-append}
 use Rattle.break_rules.proofs.Lists.{Has, any_none, any_some, from_below}
 use Rattle.break_rules.proofs.Sums.{int_sum_by-le}
 use Rattle.shift_instance.specs.declared.Duty.{Duty}
-use Rattle.shift_instance.specs.Problem.{Problem, slots, need_at, shift_list, below}
+use Rattle.shift_instance.specs.Problem.{Problem, slots, need_at, below}
 use Rattle.shift_instance.specs.Rota.{lists_of, works, cover, heads_on, is_on, is_used}
 use Rattle.shift_instance.specs.Worth.{price_of, earned}
-use Rattle.greedy.specs.Greedy.{duty, marginal_price, marginal_prices, earned_with, is_greatest, best_list, day_value, value_on, is_wanted, counts, gain, next_shift, new_duties}
+use Rattle.greedy.specs.Greedy.{duty, marginal_price, marginal_prices, earned_with, is_greatest, best_list, day_value, value_on, counts, gain, next_shift, new_duties}
+use Rattle.greedy.proofs.BestLists.{not_true}
 use Rattle.greedy.proofs.Falls.{price_at, new_used}
 use Rattle.greedy.proofs.Leading.{lt_from}
 use Rattle.greedy.proofs.Rounds.{find_some, find_has, listed, lt_true, lt_false, round_grows}
@@ -65,17 +66,23 @@ top_of f x (z ∷ zs) =
     let r = top_of f z zs in
     elim (cases_Bool (int_lt (f r.0) (f x))) [
       | inl t ↦
-          let more : f r.0 <ℤ f x = lt_true (f r.0) (f x) t in
-          (x, inl refl, λ y m. elim m [
-            | inl e ↦ no_more (f y) (f x) (sym (ap f e))
-            | inr n ↦ let l : f y ≤ℤ f r.0 = r.2 y n in omega (arith, ints)
-          ])
+          let more : f r.0 <ℤ f x = lt_true (f r.0) (f x) t in (
+            x,
+            inl refl,
+            λ y m. elim m [
+              | inl e ↦ no_more (f y) (f x) (sym (ap f e))
+              | inr n ↦ let l : f y ≤ℤ f r.0 = r.2 y n in omega (arith, ints)
+            ],
+          )
       | inr u ↦
-          let less : f x ≤ℤ f r.0 = lt_false (f r.0) (f x) u in
-          (r.0, inr r.1, λ y m. elim m [
-            | inl e ↦ let same : f x ≡ f y = ap f e in omega (arith, ints)
-            | inr n ↦ r.2 y n
-          ])
+          let less : f x ≤ℤ f r.0 = lt_false (f r.0) (f x) u in (
+            r.0,
+            inr r.1,
+            λ y m. elim m [
+              | inl e ↦ let same : f x ≡ f y = ap f e in omega (arith, ints)
+              | inr n ↦ r.2 y n
+            ],
+          )
     ]
 
 found : {X : Type 0} (f : X → ℤ) (xs : List X) (x : X) → Has xs x → (b : X) × (find (λ y. not (list_any (λ o. int_lt (f y) (f o)) xs)) xs ≡ Some b)
@@ -86,10 +93,6 @@ found f (z ∷ zs) x h =
       | inl any ↦ let k = any_some (λ o. int_lt (f t.0) (f o)) (z ∷ zs) any in absurd (beyond (f t.0) (f k.0) (lt_true (f t.0) (f k.0) k.2) (t.2 k.0 k.1))
       | inr e ↦ ap not e
     ])
-
-not_true : (b : Bool) → not b ≡ true → b ≡ false
-not_true true h = absurd (false≢true h)
-not_true false h = refl
 
 -- where a list is legal there is a best one
 best_exists : (i : Problem) (prices : List ℤ) (s day : ℕ) (list : List Break) → Has (lists_of i s) list → (best : List Break) × (best_list i prices s day ≡ Some best)

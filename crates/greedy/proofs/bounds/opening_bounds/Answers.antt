@@ -1,6 +1,6 @@
-use Rattle.std.proofs.Common.{arith}
+use Rattle.std.proofs.Common.{rules}
 use Rattle.greedy.proofs.Bounding.{bounds_first}
 use Rattle.greedy.proofs.bounds.opening_bounds.Goals as goal
 
 pub returns : goal.returns
-returns c = bounds_first c.args.instance.now _ c.in_ok-bounds.bounds.items c.shifts.ensures.valid c.shifts.ensures.count c.in_ok-bounds.ensures.items
+returns c = bounds_first c.args.instance.now _ c.in_ok-bounds.bounds.items c.shifts.ensures.valid c.shifts.ensures.count (search rules)

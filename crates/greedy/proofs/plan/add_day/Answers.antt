@@ -1,4 +1,4 @@
-use Rattle.std.proofs.Common.{◌≡◌, ◌≤ℤ◌, ◌∙◌, ℤ, pos, neg_ℤ, Some, None, List, to_z, of_z, w64, refl, sym, ap, subst, arith}
+use Rattle.std.proofs.Common.{◌≡◌, ◌≤ℤ◌, ◌∙◌, pos, neg_ℤ, Some, None, to_z, of_z, w64, refl, sym, ap, subst, arith}
 use Rattle.std.proofs.lemmas.Int.{ints}
 use Rattle.greedy.specs.Greedy.{best_list, day_value, is_wanted}
 use Rattle.greedy.specs.Sizes.{IsWithin}

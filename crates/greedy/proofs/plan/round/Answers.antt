@@ -1,4 +1,4 @@
-use Rattle.std.proofs.Common.{◌≡◌, ◌<◌, ◌∙◌, Some, None, length, arith}
+use Rattle.std.proofs.Common.{◌≡◌, ◌<◌, ◌∙◌, Some, length, arith}
 use Rattle.shift_instance.specs.Problem.{shift_list}
 use Rattle.greedy.specs.Greedy.{next_shift}
 use Rattle.greedy.proofs.BestLists.{none_at}
