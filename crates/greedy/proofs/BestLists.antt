@@ -33,7 +33,7 @@ find_least R p (y ∷ ys) x s m t least =
       ]
     ]
 
-not_true : (b : Bool) → not b ≡ true → b ≡ false
+pub not_true : (b : Bool) → not b ≡ true → b ≡ false
 not_true true h = absurd (false≢true h)
 not_true false h = refl
 
@@ -84,7 +84,7 @@ unfolding best_list
 best_missing i prices s day h = find_none (is_greatest i prices s day) (lists_of i s) (λ list m. absurd (false≢true (sym (h list) ∙ from_lists_of i s list m)))
 
 -- ---- sizes
-sum_within : (f : ℕ → ℤ) (b n : ℕ) → ((t : ℕ) → IsWithin b (f t)) → IsWithin (n * b) (int_sum_by f (below n))
+pub sum_within : (f : ℕ → ℤ) (b n : ℕ) → ((t : ℕ) → IsWithin b (f t)) → IsWithin (n * b) (int_sum_by f (below n))
 sum_within f b zero h = record { above = omega (arith, ints); below = omega (arith, ints) }
 sum_within f b (suc n) h =
     let r = sum_within f b n h in

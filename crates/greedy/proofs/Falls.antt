@@ -189,7 +189,7 @@ used_more p q s n h e =
         omega arith
 
 -- a shift with new duties is used, and no other shift is by them
-new_used : (i : Problem) (rota : List Duty) (s k : ℕ) → 1 ≤ length (new_duties i rota s) → is_used (new_duties i rota s) k ≡ (k == s)
+pub new_used : (i : Problem) (rota : List Duty) (s k : ℕ) → 1 ≤ length (new_duties i rota s) → is_used (new_duties i rota s) k ≡ (k == s)
 new_used i rota s k some =
     let first = has_one (new_duties i rota s) some in
     let at : (d : Duty) → Has (new_duties i rota s) d → s ≡ d.shift = λ d m. ap (λ (x : Duty). x.shift) (from_new_duties i rota s d m).3 in

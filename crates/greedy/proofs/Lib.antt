@@ -1,8 +1,10 @@
 pub mod BestLists
+pub mod Bounding
 pub mod DayValues
 pub mod Falls
 pub mod Growing
 pub mod Leading
+pub mod Lowering
 pub mod Places
 pub mod PlainLists
 pub mod PlanRows

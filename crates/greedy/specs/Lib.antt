@@ -1,3 +1,4 @@
+pub mod Bounds
 pub mod Greedy
 pub mod Sizes
 pub mod Values

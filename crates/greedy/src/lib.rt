@@ -1,7 +1,9 @@
 //! The greedy plan: shift by shift, always the one that lowers the cost most, each with its best break lists.
 #![tactic(auto)]
 
+mod bounds;
 mod draft;
+mod gains;
 mod laws;
 mod lists;
 mod plan;

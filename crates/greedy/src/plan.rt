@@ -2,87 +2,46 @@
 ghost use Rattle.std.specs.Prelude.{◌≡◌, ◌<◌, ◌≤◌, ◌+◌, ◌++◌, ◌∷◌, [], ℕ, length, IfOk, OnOk, IsTrue, MatchBool, if◌then◌else◌};
 ghost use Rattle.shift_instance.specs.Problem.{shift_list};
 ghost use Rattle.shift_instance.specs.Rota.{are_legal_rows, cost, heads_on, rota_of};
-ghost use Rattle.greedy.specs.Values.{AreValues};
+ghost use Rattle.greedy.specs.Bounds.{AreBounds};
+ghost use Rattle.greedy.specs.Sizes.{ArePrices};
+ghost use Rattle.greedy.specs.Values.{AreValuesOf};
 ghost use Rattle.greedy.specs.Drafts.{IsDraft, LeadsToGreedy};
-ghost use Rattle.greedy.specs.Greedy.{best_duty, day_value, gain, greedy_rows, is_wanted, marginal_prices, new_duties, next_shift};
+ghost use Rattle.greedy.specs.Greedy.{best_duty, day_value, greedy_rows, is_wanted, marginal_prices, new_duties};
 
+use crate::bounds::{next_shift, opening_bounds, raise};
 use crate::draft::Draft;
+use crate::gains::is_wanted;
 use crate::lists::best_list;
 use crate::prices::marginal_prices;
-use crate::values::Values;
+use crate::values::value_on;
 use break_rules::NoMemory;
+use price_sums::Lane;
 use shift_instance::{Instance, Rows};
 use std::alloc::Global;
-
-/// Whether there is room for one more duty beside that many, and it has a value above 0.
-fn is_wanted(instance: &Instance, heads: u16, value: i64) -> bool
-    ensures { result ≡ is_wanted instance.now heads value }
-{
-    heads < instance.heads() && 0 < value
-}
-
-/// The gain of a shift.
-fn gain(instance: &Instance, draft: &Draft, values: &Values, shift: u16) -> i64
-    requires draft { IsDraft instance.now draft.now.cover draft.now.heads.items draft.now.rows.items }
-    requires values { AreValues instance.now values.now.prices.items values.now.lanes.items }
-    requires prices { values.now.prices.items ≡ marginal_prices instance.now draft.now.cover.duties }
-    requires shift { shift < length (shift_list instance.now) }
-    ensures { result ≡ gain instance.now draft.now.cover.duties shift }
-{
-    let mut gain = 0;
-    for day in 0..instance.days() {
-        let value = values.value(instance, shift, day);
-        if is_wanted(instance, draft.heads_on(instance, shift, day), value) {
-            gain += value;
-        }
-    }
-    if draft.is_used(instance, shift) {
-        return gain;
-    }
-    let (_, _, weight) = instance.weights();
-    gain - i64::from(weight)
-}
-
-/// The shift to take next: that of greatest gain, and of least number among equals, where its gain is above 0.
-fn best_shift(instance: &Instance, draft: &Draft, values: &Values) -> Option<u16>
-    requires draft { IsDraft instance.now draft.now.cover draft.now.heads.items draft.now.rows.items }
-    requires values { AreValues instance.now values.now.prices.items values.now.lanes.items }
-    requires prices { values.now.prices.items ≡ marginal_prices instance.now draft.now.cover.duties }
-    ensures { result ≡ next_shift instance.now draft.now.cover.duties }
-{
-    let mut best = None;
-    let mut best_gain = 0;
-    for shift in 0..instance.shifts().len() as u16 {
-        let gain = gain(instance, draft, values, shift);
-        if best_gain < gain {
-            best = Some(shift);
-            best_gain = gain;
-        }
-    }
-    best
-}
 
 /// Adds a duty of a shift with its best list on a day, where the day counts.
 fn add_day(
     alloc: Global,
     instance: &Instance,
     draft: &mut Draft,
-    values: &Values,
+    prices: &[i64],
+    values: &Lane,
     shift: u16,
     day: u8,
 ) -> Result<(), NoMemory>
     requires draft { IsDraft instance.now draft.old.cover draft.old.heads.items draft.old.rows.items }
-    requires values { AreValues instance.now values.now.prices.items values.now.lanes.items }
+    requires prices { ArePrices instance.now prices.now }
+    requires values { AreValuesOf instance.now prices.now shift values.now }
     requires shift { shift < length (shift_list instance.now) }
     requires day { day < instance.now.days }
     ensures draft { OnOk result (IsDraft instance.now draft.new.cover draft.new.heads.items draft.new.rows.items) }
-    ensures duties { OnOk result (draft.new.cover.duties ≡ draft.old.cover.duties ++ (if is_wanted instance.now (heads_on draft.old.cover.duties shift day) (day_value instance.now values.now.prices.items shift day) then best_duty instance.now values.now.prices.items shift day ∷ [] else [])) }
+    ensures duties { OnOk result (draft.new.cover.duties ≡ draft.old.cover.duties ++ (if is_wanted instance.now (heads_on draft.old.cover.duties shift day) (day_value instance.now prices.now shift day) then best_duty instance.now prices.now shift day ∷ [] else [])) }
 {
-    let value = values.value(instance, shift, day);
+    let value = value_on(values, day);
     if !is_wanted(instance, draft.heads_on(instance, shift, day), value) {
         return Ok(());
     }
-    if let Some(list) = best_list(alloc, instance, &values.prices, shift, day)? {
+    if let Some(list) = best_list(alloc, instance, prices, shift, day)? {
         draft.add(alloc, instance, shift, day, &list)?;
     }
     Ok(())
@@ -93,44 +52,45 @@ fn add_days(
     alloc: Global,
     instance: &Instance,
     draft: &mut Draft,
-    values: &Values,
+    prices: &[i64],
+    values: &Lane,
     shift: u16,
 ) -> Result<(), NoMemory>
     requires draft { IsDraft instance.now draft.old.cover draft.old.heads.items draft.old.rows.items }
-    requires values { AreValues instance.now values.now.prices.items values.now.lanes.items }
-    requires prices { values.now.prices.items ≡ marginal_prices instance.now draft.old.cover.duties }
+    requires prices { prices.now ≡ marginal_prices instance.now draft.old.cover.duties }
+    requires values { AreValuesOf instance.now prices.now shift values.now }
     requires shift { shift < length (shift_list instance.now) }
     ensures draft { OnOk result (IsDraft instance.now draft.new.cover draft.new.heads.items draft.new.rows.items) }
     ensures duties { OnOk result (draft.new.cover.duties ≡ draft.old.cover.duties ++ new_duties instance.now draft.old.cover.duties shift) }
 {
     for day in 0..instance.days() {
-        add_day(alloc, instance, draft, values, shift, day)?;
+        add_day(alloc, instance, draft, prices, values, shift, day)?;
     }
     Ok(())
 }
 
-/// One round: takes the shift of greatest gain, and says whether there was one. The values are those at the plan's
-/// marginal prices, and stay so where there was one.
+/// One round: takes the shift of greatest gain, and says whether there was one. The bounds are no less than the gains, and
+/// stay so.
 fn round(
     alloc: Global,
     instance: &Instance,
     draft: &mut Draft,
-    values: &mut Values,
+    bounds: &mut Vec<i64>,
 ) -> Result<bool, NoMemory>
     requires draft { IsDraft instance.now draft.old.cover draft.old.heads.items draft.old.rows.items }
-    requires values { AreValues instance.now values.old.prices.items values.old.lanes.items }
-    requires prices { values.old.prices.items ≡ marginal_prices instance.now draft.old.cover.duties }
+    requires bounds { AreBounds instance.now draft.old.cover.duties bounds.old.items }
     ensures draft { OnOk result (IsDraft instance.now draft.new.cover draft.new.heads.items draft.new.rows.items) }
     ensures leads { IfOk result (λ more. (rounds : ℕ) → LeadsToGreedy instance.now (rounds + 1) draft.old.cover.duties
         → MatchBool more (LeadsToGreedy instance.now rounds draft.new.cover.duties) (LeadsToGreedy instance.now 0 draft.new.cover.duties)) }
-    ensures values { OnOk result (AreValues instance.now values.new.prices.items values.new.lanes.items) }
-    ensures prices { OnOk result (values.new.prices.items ≡ marginal_prices instance.now draft.new.cover.duties) }
+    ensures bounds { OnOk result (AreBounds instance.now draft.new.cover.duties bounds.new.items) }
 {
-    match best_shift(instance, draft, values) {
-        Some(shift) => {
-            add_days(alloc, instance, draft, values, shift)?;
-            let prices = marginal_prices(alloc, instance, &draft.cover)?;
-            values.renew(alloc, instance, prices)?;
+    let prices = marginal_prices(alloc, instance, &draft.cover)?;
+    match next_shift(alloc, instance, draft, &prices, bounds)? {
+        Some(taken) => {
+            let shift = taken.shift;
+            let values = taken.values;
+            add_days(alloc, instance, draft, &prices, &values, shift)?;
+            raise(instance, bounds, shift);
             Ok(true)
         }
         None => Ok(false),
@@ -143,13 +103,12 @@ fn greedy_draft(alloc: Global, instance: &Instance) -> Result<Draft, NoMemory>
     ensures leads { IfOk result (λ d. LeadsToGreedy instance.now 0 d.cover.duties) }
 {
     let mut draft = Draft::empty(alloc, instance)?;
-    let prices = marginal_prices(alloc, instance, &draft.cover)?;
-    let mut values = Values::of(alloc, instance, prices)?;
+    let mut bounds = opening_bounds(alloc, instance)?;
     let most = instance.shifts().len()
         * usize::from(instance.days())
         * usize::from(instance.heads());
     'rounds: for _round in 0..most {
-        if !round(alloc, instance, &mut draft, &mut values)? {
+        if !round(alloc, instance, &mut draft, &mut bounds)? {
             return Ok(draft);
         }
     }

@@ -1,20 +1,20 @@
-use Rattle.std.proofs.Common.{◌∙◌, rules}
-use Rattle.greedy.proofs.Rounding.{prices_small, last_round, next_round, rounds_done, opening_leads}
+use Rattle.std.proofs.Common.{List, sym, subst, rules}
+use Rattle.shift_instance.specs.declared.Duty.{Duty}
+use Rattle.greedy.specs.Bounds.{AreBounds}
+use Rattle.greedy.proofs.Rounding.{last_round, next_round, rounds_done, opening_leads}
 use Rattle.greedy.proofs.plan.greedy_draft.Goals as goal
 
 pub rounds-init : goal.rounds-init
 rounds-init c = record {
   draft = c.in_ok-draft.ensures.draft;
-  values = c.in_ok-values.ensures.lanes;
-  prices = c.in_ok-values.ensures.prices ∙ c.in_ok-prices.ensures;
+  bounds = subst (λ (ds : List Duty). AreBounds c.args.instance.now ds c.in_ok-bounds.bounds.items) (sym c.in_ok-draft.ensures.duties) c.in_ok-bounds.ensures;
   leads = opening_leads c.args.instance.now _ c.in_ok-draft.draft.cover.duties c.in_ok-draft.ensures.duties (search rules);
 }
 
 pub rounds-preserved : goal.rounds-preserved
 rounds-preserved c = record {
   draft = c.in_ok-round.ensures.draft;
-  values = c.in_ok-round.ensures.values;
-  prices = c.in_ok-round.ensures.prices;
+  bounds = c.in_ok-round.ensures.bounds;
   leads = next_round c.args.instance.now _ c.rounds._round c.rounds.draft.cover.duties c.round.new.draft.cover.duties c.in_ok-round.field-0
       c.rounds-test.true c.if-not-branch.false c.in_ok-round.ensures.leads c.rounds.invariant.leads;
 }
@@ -26,6 +26,3 @@ returns-then-not-branch-clause-leads c =
 
 pub returns-clause-leads : goal.returns-clause-leads
 returns-clause-leads c = rounds_done c.args.instance.now _ c.rounds._round c.rounds.draft.cover.duties c.rounds-test.false c.rounds.invariant.leads
-
-pub of-requires : goal.of-requires
-of-requires c = prices_small c.args.instance.now c.in_ok-draft.draft.cover.duties c.in_ok-prices.prices.items c.in_ok-draft.ensures.draft.valid c.in_ok-prices.ensures

@@ -3,7 +3,7 @@ use Rattle.break_rules.specs.Sums.{int_sum_by}
 use Rattle.shift_instance.specs.Problem.{below}
 use Rattle.greedy.specs.Greedy.{counts, value_on}
 use Rattle.greedy.specs.Sizes.{IsWithin}
-use Rattle.greedy.proofs.plan.gain.Given as goal
+use Rattle.greedy.proofs.gains.gain.Given as goal
 
 abbrev pub invariant-loop-day : goal.invariant-loop-day
 invariant-loop-day l = record {
