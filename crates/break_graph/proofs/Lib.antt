@@ -2,3 +2,4 @@ pub mod Marks
 pub mod Elements
 pub mod Nodes
 pub mod Leading
+pub mod Fronts

@@ -1,5 +1,6 @@
 -- The marks of a walk's spots, from the opening spot on.
-use Rattle.std.proofs.Common.{◌≡◌, ◌⊎◌, inl, inr, ℕ, ◌+◌, ◌*◌, ◌<◌, ◌≤◌, Bool, true, false, List, [], ◌∷◌, ◌++◌, refl, sym, ap, ◌∙◌, subst, arith, slice_index_or, sum_by}
+use Rattle.std.proofs.Common.{◌≡◌, ◌⊎◌, inl, inr, ℕ, zero, suc, ◌+◌, ◌*◌, ◌<◌, ◌≤◌, Bool, true, false, List, [], ◌∷◌, ◌++◌, refl, sym, ap, ◌∙◌, subst, arith, slice_index_or, sum_by}
+use Rattle.std.specs.List.{AllClonesOf}
 use Rattle.std.proofs.lemmas.Bool.{and_parts, cases_lt}
 use Rattle.break_rules.specs.declared.Break.{Break}
 use Rattle.break_rules.specs.declared.Rule.{Rule}
@@ -10,6 +11,12 @@ use Rattle.break_rules.proofs.Lists.{Has}
 use Rattle.break_rules.proofs.Steps.{has_next}
 use Rattle.break_rules.proofs.Reaching.{is_walk-more, later_place, walk_small}
 use Rattle.break_graph.specs.Building.{IsMarked, AreMarked}
+
+-- a table of copies of `false` has no mark
+pub none_marked : (clones : Bool → Bool → Type 0) (table : List Bool) → ((y : Bool) → clones false y → y ≡ false) → AllClonesOf clones false table → (place : ℕ) → slice_index_or table place false ≡ false
+none_marked clones [] same all place = refl
+none_marked clones (y ∷ ys) same all zero = elim all.0 [ inl e ↦ e | inr c ↦ same y c ]
+none_marked clones (y ∷ ys) same all (suc k) = none_marked clones ys same all.1 k
 
 -- a list is empty or has a last break
 pub last_cases : (list : List Break) → (list ≡ []) ⊎ ((front : List Break) × (b : Break) × (list ≡ front ++ b ∷ []))

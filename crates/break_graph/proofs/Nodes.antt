@@ -191,10 +191,14 @@ module _ (rule : Rule) (len place : ℕ) (nodes : List Node) (numbers : List (Op
     back = drafted.back;
     behind = drafted.behind;
     ends = drafted.ends;
+    reached = drafted.reached;
+    placed = λ k l. let p = drafted.placed k l in omega arith;
+    order = drafted.order;
   }
 
   -- a place with a node
   module _ (n : Node) (many : length numbers ≡ place) (at : place_of len n.spot ≡ place) (back : LeadBelow (length nodes) n.edges)
+      (some_list : (list : List Break) × (is_walk rule len list ≡ true) × (place_of len (spot_of rule list) ≡ place))
       (right : (list : List Break) → is_walk rule len list ≡ true → place_of len (spot_of rule list) ≡ place → IsRight rule len nodes list n) where
     right_at : (k : ℕ) (list : List Break) → k ≡ length nodes → StandsAt rule len (nodes ++ n ∷ []) k list → IsRight rule len nodes list n
     right_at k list e s =
@@ -202,6 +206,23 @@ module _ (rule : Rule) (len place : ℕ) (nodes : List Node) (numbers : List (Op
 
     inside : (k : ℕ) → k < length (nodes ++ n ∷ []) → (k < length nodes) ⊎ (k ≡ length nodes)
     inside k l = cases_last k (length nodes) (omega (arith, one_longer nodes n))
+
+    -- where a list stands whose place is that of the new node
+    stands_last : (list : List Break) → is_walk rule len list ≡ true → place_of len (spot_of rule list) ≡ place → StandsAt rule len (nodes ++ n ∷ []) (length nodes) list
+    stands_last list walk e =
+        let made = right list walk e in
+        record {
+          within = omega (arith, one_longer nodes n);
+          walk = walk;
+          spot = ap (λ (m : Node). m.spot) (same_last nodes n (length nodes) refl) ∙ made.spot;
+          live = made.live;
+        }
+
+    place_before : (k : ℕ) → k < length nodes → place_of len (node_at (nodes ++ n ∷ []) k).spot < place
+    place_before k l = subst (λ (m : Node). place_of len m.spot < place) (sym (same_before nodes n k l)) (drafted.placed k l)
+
+    place_last : (k : ℕ) → k ≡ length nodes → place_of len (node_at (nodes ++ n ∷ []) k).spot ≡ place
+    place_last k e = ap (λ (m : Node). place_of len m.spot) (same_last nodes n k e) ∙ at
 
     pub draft_some : AreDrafted rule len (place + 1) (nodes ++ n ∷ []) (numbers ++ Some (length nodes) ∷ [])
     draft_some = record {
@@ -211,12 +232,7 @@ module _ (rule : Rule) (len place : ℕ) (nodes : List Node) (numbers : List (Op
         | inl l ↦ subst (Tells rule len (nodes ++ n ∷ []) list) (sym (number_before numbers (Some (length nodes)) (place_of len (spot_of rule list)) (omega arith)))
             (told_on rule len nodes n list (number_at numbers (place_of len (spot_of rule list))) (drafted.known list walk l))
         | inr e ↦ subst (Tells rule len (nodes ++ n ∷ []) list) (sym (number_here numbers (Some (length nodes)) (place_of len (spot_of rule list)) (e ∙ sym many)))
-            (let made = right list walk e in record {
-              within = omega (arith, one_longer nodes n);
-              walk = walk;
-              spot = ap (λ (m : Node). m.spot) (same_last nodes n (length nodes) refl) ∙ made.spot;
-              live = made.live;
-            })
+            (stands_last list walk e)
       ];
       edges = λ k list s. elim (inside k s.within) [
         | inl l ↦ ap (λ (m : Node). map (λ (e : Edge). e.stop) m.edges) (same_before nodes n k l) ∙ drafted.edges k list (stood rule len nodes n k list l s)
@@ -235,6 +251,21 @@ module _ (rule : Rule) (len place : ℕ) (nodes : List Node) (numbers : List (Op
       ends = λ k list s. elim (inside k s.within) [
         | inl l ↦ ap (λ (m : Node). length m.edges == 0) (same_before nodes n k l) ∙ drafted.ends k list (stood rule len nodes n k list l s)
         | inr e ↦ ap (λ (m : Node). length m.edges == 0) (same_last nodes n k e) ∙ (right_at k list e s).ends
+      ];
+      reached = λ k l. elim (inside k l) [
+        | inl before ↦ let r = drafted.reached k before in (r.0, stands_on rule len nodes n k r.0 r.1)
+        | inr e ↦ (some_list.0, subst (λ j. StandsAt rule len (nodes ++ n ∷ []) j some_list.0) (sym e) (stands_last some_list.0 some_list.1 some_list.2))
+      ];
+      placed = λ k l. elim (inside k l) [
+        | inl before ↦ let p = place_before k before in omega arith
+        | inr e ↦ let p = place_last k e in omega arith
+      ];
+      order = λ j k less l. elim (inside k l) [
+        | inl before ↦
+            let first : j < length nodes = omega arith in
+            subst (λ (m : Node). place_of len (node_at (nodes ++ n ∷ []) j).spot < place_of len m.spot) (sym (same_before nodes n k before))
+            (subst (λ (m : Node). place_of len m.spot < place_of len (node_at nodes k).spot) (sym (same_before nodes n j first)) (drafted.order j k less before))
+        | inr e ↦ let p = place_before j (omega arith) in let q = place_last k e in omega arith
       ];
     }
 
@@ -279,7 +310,7 @@ draft_more rule len place nodes new numbers more (Some m) number r d many of non
     λ list walk at. subst (λ (o : Option Node). MatchOption o (is_live rule len list ≡ false) (λ m. IsRight rule len nodes list m)) (sym (of.exact list walk at)) (told_here rule len place nodes numbers d list r walk at) in
     subst (λ (ns : List Node). AreDrafted rule len (place + 1) ns more) (sym n.1)
     (subst (AreDrafted rule len (place + 1) (nodes ++ m ∷ [])) (ap (λ (x : Option ℕ). numbers ++ x ∷ []) (sym n.0) ∙ sym e)
-    (draft_some rule len place nodes numbers d m many (of.at m refl) (of.back (length nodes) m d.within refl) told))
+    (draft_some rule len place nodes numbers d m many (of.at m refl) (of.back (length nodes) m d.within refl) (of.reached m refl) told))
 
 -- the whole graph, when the place of the opening spot has been looked at
 opening_place : (rule : Rule) (len : ℕ) → place_of len (spot_of rule []) ≡ 256 * len
@@ -302,6 +333,8 @@ no_graph rule len nodes numbers r d of =
       back = λ k i e l h. absurd (beyond k l);
       behind = λ k i e list s h. absurd (beyond k s.within);
       ends = λ k list s. absurd (beyond k s.within);
+      reached = λ k l. absurd (beyond k l);
+      order = λ j k less l. absurd (beyond k l);
     }
   where
     beyond : (k : ℕ) → k < length {A = Node} [] → ⊥
@@ -321,4 +354,6 @@ whole_graph rule len nodes numbers n r d many of =
       back = λ k i e l h. all.back k l i e h;
       behind = all.behind;
       ends = all.ends;
+      reached = all.reached;
+      order = all.order;
     }

@@ -19,6 +19,10 @@ IsMarked rule len table list = slice_index_or table (place_of len (spot_of rule 
 abbrev pub AreMarked : Rule → ℕ → List Bool → Type 0
 AreMarked rule len table = (list : List Break) → IsTrue (is_walk rule len list) → IsMarked rule len table list
 
+-- each marked place is that of some walk's spot
+abbrev pub AreReached : Rule → ℕ → List Bool → Type 0
+AreReached rule len table = (place : ℕ) → slice_index_or table place false ≡ true → (list : List Break) × IsTrue (is_walk rule len list) × (place_of len (spot_of rule list) ≡ place)
+
 -- the number of the node of a place, if it has one
 abbrev pub number_at : List (Option ℕ) → ℕ → Option ℕ
 number_at numbers place = slice_index_or numbers place None
@@ -55,6 +59,7 @@ node_by rule len numbers list =
 pub record IsNodeOf (rule : Rule) (len place : ℕ) (numbers : List (Option ℕ)) (found : Option Node) : Type 0 where
   pub exact : (list : List Break) → IsTrue (is_walk rule len list) → place_of len (spot_of rule list) ≡ place → found ≡ node_by rule len numbers list
   pub at : (n : Node) → found ≡ Some n → place_of len n.spot ≡ place
+  pub reached : (n : Node) → found ≡ Some n → (list : List Break) × IsTrue (is_walk rule len list) × (place_of len (spot_of rule list) ≡ place)
   pub back : (bound : ℕ) (n : Node) → AreBelow bound numbers → found ≡ Some n → LeadBelow bound n.edges
 
 -- the nodes of the places before one, and the numbers of these places
@@ -66,3 +71,6 @@ pub record AreDrafted (rule : Rule) (len before : ℕ) (nodes : List Node) (numb
   pub back : (k : ℕ) → k < length nodes → LeadBelow k (node_at nodes k).edges
   pub behind : (k i : ℕ) (e : Edge) (list : List Break) → StandsAt rule len nodes k list → slice_get (node_at nodes k).edges i ≡ Some e → StandsAt rule len nodes e.next (list ++ e.stop ∷ [])
   pub ends : (k : ℕ) (list : List Break) → StandsAt rule len nodes k list → (length (node_at nodes k).edges == 0) ≡ is_legal rule len list
+  pub reached : (k : ℕ) → k < length nodes → (list : List Break) × StandsAt rule len nodes k list
+  pub placed : (k : ℕ) → k < length nodes → place_of len (node_at nodes k).spot < before
+  pub order : (j k : ℕ) → j < k → k < length nodes → place_of len (node_at nodes j).spot < place_of len (node_at nodes k).spot

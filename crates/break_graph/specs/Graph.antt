@@ -3,6 +3,7 @@ use Rattle.std.specs.Prelude.{◌≡◌, ◌≢◌, ℕ, ◌-◌, ◌<◌, true,
 use Rattle.break_rules.specs.declared.Break.{Break}
 use Rattle.break_rules.specs.declared.Rule.{Rule}
 use Rattle.break_rules.specs.Breaks.{is_legal, is_live}
+use Rattle.break_rules.specs.Live.{place_of}
 use Rattle.break_rules.specs.Walk.{nexts_of, spot_of, is_walk}
 use Rattle.break_graph.specs.declared.Edge.{Edge}
 use Rattle.break_graph.specs.declared.Node.{Node}
@@ -24,7 +25,8 @@ pub record StandsAt (rule : Rule) (len : ℕ) (nodes : List Node) (k : ℕ) (lis
 
 -- the nodes of a rule and a length: there are none where no list is legal, and else the empty list stands at the last one. The
 -- edges of a node have the breaks with which its lists go on, in rising order, and lead to earlier nodes, where those lists
--- with that break stand. A node has no edge exactly where its lists are legal.
+-- with that break stand. A node has no edge exactly where its lists are legal. Each node is that of some list, and the nodes stand
+-- in the order of their spots' places, so no spot has two.
 pub record IsGraph (rule : Rule) (len : ℕ) (nodes : List Node) : Type 0 where
   pub none : nodes ≡ [] → is_live rule len [] ≡ false
   pub opening : nodes ≢ [] → StandsAt rule len nodes (length nodes - 1) []
@@ -32,3 +34,5 @@ pub record IsGraph (rule : Rule) (len : ℕ) (nodes : List Node) : Type 0 where
   pub back : (k i : ℕ) (e : Edge) → k < length nodes → slice_get (node_at nodes k).edges i ≡ Some e → e.next < k
   pub behind : (k i : ℕ) (e : Edge) (list : List Break) → StandsAt rule len nodes k list → slice_get (node_at nodes k).edges i ≡ Some e → StandsAt rule len nodes e.next (list ++ e.stop ∷ [])
   pub ends : (k : ℕ) (list : List Break) → StandsAt rule len nodes k list → (length (node_at nodes k).edges == 0) ≡ is_legal rule len list
+  pub reached : (k : ℕ) → k < length nodes → (list : List Break) × StandsAt rule len nodes k list
+  pub order : (j k : ℕ) → j < k → k < length nodes → place_of len (node_at nodes j).spot < place_of len (node_at nodes k).spot

@@ -6,7 +6,7 @@ ghost use Rattle.break_rules.specs.Ranges.{IsRule};
 ghost use Rattle.break_rules.specs.Walk.{nexts_of, spot_of, is_walk};
 ghost use Rattle.break_rules.specs.Live.{place_of};
 ghost use Rattle.break_graph.specs.Graph.{IsGraph};
-ghost use Rattle.break_graph.specs.Building.{AreMarked, number_at, AreBelow, LeadBelow, edge_to, edges_by, IsNodeOf};
+ghost use Rattle.break_graph.specs.Building.{AreMarked, AreReached, number_at, AreBelow, LeadBelow, edge_to, edges_by, IsNodeOf};
 
 use crate::places::{is_marked, marked_places};
 use crate::{Edge, Edges, Graph, Node};
@@ -61,7 +61,8 @@ fn node_of(
 ) -> Result<Option<Node>, NoMemory>
     requires rule { IsRule rule.now }
     requires inside { place < 256 * (len + 1) }
-    requires reached { AreMarked rule.now len reached.now }
+    requires marked { AreMarked rule.now len reached.now }
+    requires walked { AreReached rule.now len reached.now }
     ensures { IfOk result (λ found. IsNodeOf rule.now len place numbers.now found) }
 {
     if !is_marked(reached, place) {

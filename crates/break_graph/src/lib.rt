@@ -2,6 +2,7 @@
 //! legal list goes on from there. It depends on a rule and a length alone, and answers for every start, day and price.
 #![tactic(auto)]
 
+mod behind;
 mod building;
 mod first_list;
 mod places;

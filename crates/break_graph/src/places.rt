@@ -1,11 +1,11 @@
 //! The spots that walks reach, in a table by place.
 
-ghost use Rattle.std.specs.Prelude.{◌≡◌, ◌+◌, ◌-◌, ◌*◌, ◌<◌, ◌≤◌, ◌++◌, ℕ, List, [], ◌∷◌, Bool, true, false, IfOk, IsTrue, length, slice_index_or};
+ghost use Rattle.std.specs.Prelude.{◌≡◌, ◌⊎◌, ◌+◌, ◌-◌, ◌*◌, ◌<◌, ◌≤◌, ◌++◌, ℕ, List, [], ◌∷◌, Bool, true, false, IfOk, IsTrue, length, slice_index_or};
 ghost use Rattle.break_rules.specs.declared.Break.{Break};
 ghost use Rattle.break_rules.specs.Ranges.{IsRule};
 ghost use Rattle.break_rules.specs.Walk.{spot_of, is_walk};
 ghost use Rattle.break_rules.specs.Live.{place_of};
-ghost use Rattle.break_graph.specs.Building.{IsMarked, AreMarked};
+ghost use Rattle.break_graph.specs.Building.{IsMarked, AreMarked, AreReached};
 
 use break_rules::{NoMemory, Rule, Spot, after, nexts, place, spot_at};
 use std::alloc::Global;
@@ -22,6 +22,7 @@ fn mark(table: &mut Vec<bool>, place: usize)
     ensures len { length table.new.items ≡ length table.old.items }
     ensures kept { (other : ℕ) → slice_index_or table.old.items other false ≡ true → slice_index_or table.new.items other false ≡ true }
     ensures marked { place < length table.old.items → slice_index_or table.new.items place false ≡ true }
+    ensures others { (other : ℕ) → slice_index_or table.new.items other false ≡ true → (other ≡ place) ⊎ (slice_index_or table.old.items other false ≡ true) }
 {
     if place < table.len() {
         table[place] = true;
@@ -35,6 +36,7 @@ fn mark_nexts(rule: &Rule, len: u16, spot: Spot, table: &mut Vec<bool>)
     ensures len { length table.new.items ≡ length table.old.items }
     ensures kept { (other : ℕ) → slice_index_or table.old.items other false ≡ true → slice_index_or table.new.items other false ≡ true }
     ensures marked { (list : List Break) (b : Break) → spot ≡ spot_of rule.now list → IsTrue (is_walk rule.now len (list ++ b ∷ [])) → IsMarked rule.now len table.new.items (list ++ b ∷ []) }
+    ensures reached { (list : List Break) → spot ≡ spot_of rule.now list → IsTrue (is_walk rule.now len list) → AreReached rule.now len table.old.items → AreReached rule.now len table.new.items }
 {
     for next in nexts(rule, len, spot) {
         mark(table, place(len, after(rule, spot, next)));
@@ -49,16 +51,18 @@ fn mark_behind(rule: &Rule, len: u16, place: usize, table: &mut Vec<bool>)
     ensures len { length table.new.items ≡ length table.old.items }
     ensures kept { (other : ℕ) → slice_index_or table.old.items other false ≡ true → slice_index_or table.new.items other false ≡ true }
     ensures marked { (list : List Break) (b : Break) → place_of len (spot_of rule.now list) ≡ place → IsMarked rule.now len table.old.items list → IsTrue (is_walk rule.now len (list ++ b ∷ [])) → IsMarked rule.now len table.new.items (list ++ b ∷ []) }
+    ensures reached { AreReached rule.now len table.old.items → AreReached rule.now len table.new.items }
 {
     if is_marked(table, place) {
         mark_nexts(rule, len, spot_at(len, place), table);
     }
 }
 
-/// A table in which the place of each spot that a walk reaches is marked.
+/// A table in which the place of each spot that a walk reaches is marked, and no other place.
 pub fn marked_places(alloc: Global, rule: &Rule, len: u16) -> Result<Vec<bool>, NoMemory>
     requires { IsRule rule.now }
-    ensures { IfOk result (λ table. AreMarked rule.now len table.items) }
+    ensures marked { IfOk result (λ table. AreMarked rule.now len table.items) }
+    ensures reached { IfOk result (λ table. AreReached rule.now len table.items) }
 {
     let count = 256 * (usize::from(len) + 1);
     let mut table = vec![in alloc; false; count]?;

@@ -19,6 +19,7 @@ returns-then-not-ends c = record {
       no_node rule len c.args.numbers.now list c.spot_at-spot.result c.in_ok-edges.edges is (c.in_ok-edges.ensures.exact list is) (sym (c.ends.ensures list walk is) ∙ c.if-not-ends.true)
       (ap length (sym c.as_slice.ensures) ∙ eqb-true _ _ (sym c.is_empty.ensures ∙ c.if-is_empty.true));
   at = λ n e. absurd (cc);
+  reached = λ n e. absurd (cc);
   back = λ bound n below e. absurd (cc);
 }
 
@@ -36,6 +37,7 @@ returns c =
             | else-is_empty-via-else-is_empty w ↦ inr (λ none. eqb-false (length c.as_slice.result.now) 0 (sym c.is_empty.ensures ∙ w.if-is_empty.false) (ap length c.as_slice.ensures ∙ none))
           ]);
       at = λ n e. let same : c.spot_at-spot.result ≡ n.spot = ap (λ (o : Node). o.spot) (let s : record { spot = c.spot_at-spot.result; edges = c.in_ok-edges.edges } ≡ n = cc in s) in ap (place_of len) (sym same) ∙ c.spot_at-spot.ensures.place;
+      reached = λ n e. c.requires.walked c.args.place (sym c.is_marked.ensures ∙ c.if-not-is_marked.false);
       back = λ bound n below e i x h.
           let same : c.in_ok-edges.edges ≡ n.edges = ap (λ (o : Node). o.edges) (let s : record { spot = c.spot_at-spot.result; edges = c.in_ok-edges.edges } ≡ n = cc in s) in
           subst (LeadBelow bound) same (c.in_ok-edges.ensures.back bound below) i x h;

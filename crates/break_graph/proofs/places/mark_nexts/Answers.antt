@@ -4,7 +4,7 @@ use Rattle.break_rules.specs.Live.{place_of}
 use Rattle.break_rules.specs.Walk.{nexts_of, spot_of}
 use Rattle.break_rules.proofs.Lists.{Has, Has-append_cases}
 use Rattle.break_rules.proofs.Steps.{from_next}
-use Rattle.break_rules.proofs.Reaching.{has_middle}
+use Rattle.break_rules.proofs.Reaching.{has_middle, walk_on}
 use Rattle.break_graph.proofs.Marks.{walk_front, place_small}
 use Rattle.break_graph.proofs.places.mark_nexts.Goals as goal
 
@@ -35,6 +35,13 @@ loop-next-preserved c =
           | inr none ↦ absurd none
         ]
       ];
+      reached = λ list is walk old place m.
+          let at : c.place.result ≡ place_of len (spot_of rule (list ++ next ∷ [])) =
+          c.place.ensures ∙ ap (place_of len) (c.after.ensures list is (len, c.ranges.len.fits, from_next rule len c.args.spot next has)) in
+          elim (c.mark.ensures.others place m) [
+            | inl same ↦ (list ++ next ∷ [], walk_on rule len list next walk (subst (λ s. Has (nexts_of rule len s) next) is has), sym (same ∙ at))
+            | inr before ↦ c.loop-next.invariant.reached list is walk old place before
+          ];
     }
 
 pub returns-clause-marked : goal.returns-clause-marked

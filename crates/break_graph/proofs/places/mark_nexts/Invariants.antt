@@ -2,7 +2,7 @@ use Rattle.std.proofs.Common.{◌≡◌, ℕ, ◌++◌, List, [], ◌∷◌, tru
 use Rattle.break_rules.specs.declared.Break.{Break}
 use Rattle.break_rules.specs.Walk.{nexts_of, spot_of, is_walk}
 use Rattle.break_rules.proofs.Lists.{Has}
-use Rattle.break_graph.specs.Building.{IsMarked}
+use Rattle.break_graph.specs.Building.{IsMarked, AreReached}
 use Rattle.break_graph.proofs.places.mark_nexts.Given as goal
 
 abbrev pub invariant-loop-next : goal.invariant-loop-next
@@ -13,4 +13,5 @@ invariant-loop-next l = record {
   many : length l.table.items ≡ length l.fn.table.items;
   kept : (other : ℕ) → slice_index_or l.fn.table.items other false ≡ true → slice_index_or l.table.items other false ≡ true;
   marked : (list : List Break) (b : Break) → l.fn.spot ≡ spot_of l.rule list → is_walk l.rule l.len (list ++ b ∷ []) ≡ true → Has l.yielded b → IsMarked l.rule l.len l.table.items (list ++ b ∷ []);
+  reached : (list : List Break) → l.fn.spot ≡ spot_of l.rule list → is_walk l.rule l.len list ≡ true → AreReached l.rule l.len l.fn.table.items → AreReached l.rule l.len l.table.items;
 }

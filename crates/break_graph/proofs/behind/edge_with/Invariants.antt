@@ -1,0 +1,7 @@
+use Rattle.std.proofs.Common.{◌≡◌, take}
+use Rattle.break_rules.proofs.Lists.{Has}
+use Rattle.break_graph.specs.declared.Edge.{Edge}
+use Rattle.break_graph.proofs.behind.edge_with.Given as goal
+
+abbrev pub invariant-loop-edge : goal.invariant-loop-edge
+invariant-loop-edge l = record { others : (e : Edge) → Has (take l.edge-index l.edges) e → e.stop ≡ l.stop → ⊥ }
