@@ -1,6 +1,7 @@
 -- The graphs of break lists that an instance keeps, one more at a time.
-use Rattle.std.proofs.Common.{◌≡◌, ◌⊎◌, inl, inr, ℕ, ◌+◌, ◌-◌, ◌<◌, ◌≤◌, List, [], ◌∷◌, ◌++◌, length, get_or, sym, ap, ◌∙◌, subst, arith, Option, Some, None, MatchOption, Bor}
-use Rattle.std.specs.Prelude.{slice_get, IsSomeAnd}
+use Rattle.std.proofs.Common.{◌≡◌, ◌⊎◌, inl, inr, ℕ, ◌+◌, ◌-◌, ◌<◌, ◌≤◌, List, [], ◌∷◌, ◌++◌, length, map, get_or, refl, sym, ap, ◌∙◌, subst, arith, Option, Some, None, MatchOption, Bor}
+use Rattle.std.specs.List.{AllZip}
+use Rattle.std.specs.Prelude.{slice_get, IsSomeAnd, IfSome}
 use Rattle.std.proofs.lemmas.List.{length-append}
 use Rattle.std.proofs.lemmas.Bool.{cases_lt}
 use Rattle.std.proofs.lemmas.Option.{slice_get_within, get_or_from_slice_get, slice_get-get_or}
@@ -41,6 +42,12 @@ graphs_more kind rule low len list new graph same least from many made is e j no
           let at : len ≡ kind.len_min + j = omega (arith, last.0) in
           subst (IsGraph kind.rule (kind.len_min + j)) last.1 (subst (λ n. IsGraph kind.rule n graph) at (subst (λ (r : Rule). IsGraph r len graph) same is))
     ]
+
+-- what stands at the place of a length among the graphs of a type with a rule is the graph of both
+pub graph_at : {V : Type 0} (nodes_of : V → List Node) (kind : Kind) (rule : Rule) (len above : ℕ) (of : List (List Node)) (found : Option (Bor V)) → AreGraphsOf kind of → kind.rule ≡ rule → kind.len_min + above ≡ len
+    → MatchOption found (slice_get of above ≡ None) (λ g. slice_get of above ≡ Some (nodes_of g.now)) → IfSome found (λ g. IsGraph rule len (nodes_of g.now))
+graph_at nodes_of kind rule len above of None made same long there = tt
+graph_at nodes_of kind rule len above of (Some g) made same long there = subst (λ (r : Rule). IsGraph r len (nodes_of g.now)) same (subst (λ n. IsGraph kind.rule n (nodes_of g.now)) long (made above (nodes_of g.now) there))
 
 -- the graphs of a type more
 pub types_more : (kinds : List Kind) (list new : List (List (List Node))) (of : List (List Node)) (k : ℕ) (kind : Kind) → slice_get kinds k ≡ Some kind → length list ≡ k
@@ -98,14 +105,21 @@ same_problem x y minutes days need heads excess shortage shift kinds =
     let same : made y.slot_minutes y.days y.need y.heads y.excess y.shortage y.shift y.kinds ≡ made x.slot_minutes x.days x.need x.heads x.excess x.shortage x.shift x.kinds = cc in
     same
 
+-- what is read off two lists is the same where it is at each place
+pub same_mapped : {X Y : Type 0} (v : X → Y) (xs ys : List X) → AllZip (λ x y. v y ≡ v x) xs ys → map v ys ≡ map v xs
+same_mapped v [] [] h = refl
+same_mapped v [] (y ∷ ys) h = absurd h
+same_mapped v (x ∷ xs) [] h = absurd h
+same_mapped v (x ∷ xs) (y ∷ ys) h = ap (λ (z : _). z ∷ map v ys) h.0 ∙ ap (λ (zs : List _). v x ∷ zs) (same_mapped v xs ys h.1)
+
 -- what an instance keeps is kept by what equals it
 pub same_inside : (i j : Problem) (ss ts : List Shift) (gs hs : List (List (List Node))) → j ≡ i → ts ≡ ss → hs ≡ gs → IsInside i ss gs → IsInside j ts hs
 same_inside i j ss ts gs hs e f g inside =
     subst (λ (k : Problem). IsInside k ts hs) (sym e) (subst (λ (us : List Shift). IsInside i us hs) (sym f) (subst (IsInside i ss) (sym g) inside))
 
 -- a graph that is kept, if one is, is that of the shift
-pub graph_found : (i j : Problem) (s : ℕ) (y : Shift) (kind : Kind) (above : ℕ) (graphs : List (List (List Node))) (of : List (List Node)) (found : Option (Bor (List Node))) → i ≡ j → AreGraphs i.kinds graphs
+pub graph_found : {V : Type 0} (nodes_of : V → List Node) (i j : Problem) (s : ℕ) (y : Shift) (kind : Kind) (above : ℕ) (graphs : List (List (List Node))) (of : List (List Node)) (found : Option (Bor V)) → i ≡ j → AreGraphs i.kinds graphs
     → s < length (shift_list j) → IsSomeAnd (slice_get (shift_list j) s) (λ x. y ≡ x.0) → kind ≡ get_or i.kinds y.kind kind → y.len ≡ kind.len_min + above → slice_get graphs y.kind ≡ Some of
-    → MatchOption found (slice_get of above ≡ None) (λ g. slice_get of above ≡ Some g.now) → MatchOption found (Unit {0}) (λ g. IsSomeAnd (slice_get (shift_list j) s) (λ x. IsGraph x.1 x.0.len g.now))
-graph_found i j s y kind above graphs of None same drawn small found read long here there = tt
-graph_found i j s y kind above graphs of (Some g) same drawn small found read long here there = kept_found i j s y kind above graphs of g.now same drawn small found read long here there
+    → MatchOption found (slice_get of above ≡ None) (λ g. slice_get of above ≡ Some (nodes_of g.now)) → IfSome found (λ g. IsSomeAnd (slice_get (shift_list j) s) (λ x. IsGraph x.1 x.0.len (nodes_of g.now)))
+graph_found nodes_of i j s y kind above graphs of None same drawn small found read long here there = tt
+graph_found nodes_of i j s y kind above graphs of (Some g) same drawn small found read long here there = kept_found i j s y kind above graphs of (nodes_of g.now) same drawn small found read long here there

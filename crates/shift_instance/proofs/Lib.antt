@@ -9,3 +9,5 @@ pub mod Rotas
 pub mod AllDuties
 pub mod RowCounts
 pub mod Shifts
+pub mod SameRules
+pub mod Crosses

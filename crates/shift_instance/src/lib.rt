@@ -6,7 +6,9 @@ mod judging;
 mod listing;
 mod rows;
 
-ghost use Rattle.std.specs.Prelude.{◌≡◌, ◌<◌, ◌≤◌, length, map, slice_get, IsSomeAnd, IfOk, MatchOption, MatchResult, None};
+ghost use Rattle.std.specs.Prelude.{◌≡◌, ◌<◌, ◌≤◌, length, map, slice_get, IsSomeAnd, IfOk, IfSome, MatchOption, MatchResult, None};
+ghost use Rattle.std.specs.Arc.{arc_value};
+ghost use Rattle.break_rules.specs.Breaks.{is_live};
 ghost use Rattle.break_rules.specs.Causes.{first_cause};
 ghost use Rattle.break_rules.specs.RuleFaults.{rule_causes};
 ghost use Rattle.break_rules.specs.Ranges.{IsRule};
@@ -16,13 +18,14 @@ ghost use Rattle.shift_instance.specs.Faults.{instance_causes, Answers};
 ghost use Rattle.shift_instance.specs.Valid.{IsValid, IsShift};
 
 use break_graph::Graph;
-use break_rules::{Breaks, NoMemory, Rule, RuleFault};
+use break_rules::{Break, Breaks, NoMemory, Rule, RuleFault, live};
 use graphs::TypeGraphs;
 pub use rows::Rows;
 use std::alloc::Global;
 use std::error::Error;
 use std::fmt;
 use std::marker::Model;
+use std::sync::Arc;
 
 /// The number that stands for the cost of a rota where there is none to be had. It is meant to lie above every legal rota's cost.
 pub const TOP: u64 = 1_000_000_000_000_000;
@@ -287,13 +290,10 @@ impl Instance {
         &kind.rule
     }
 
-    /// The graph of the break lists of a shift, by the rule of its type and its length, and `None` where the instance
-    /// doesn't keep it. It keeps the graphs of all shifts unless they have together more than some 16 million edges, as for
-    /// much break time in slots of five minutes: then those of the longest shifts of a type are left out, and whoever
-    /// wants one makes it.
-    pub fn graph(&self, shift: u16) -> Option<&Graph>
+    /// The graph of a shift as it is kept, if it is.
+    fn kept_graph(&self, shift: u16) -> Option<&Arc<Graph>>
         requires { shift < length (shift_list self.now) }
-        ensures graph { MatchOption result Unit (λ g. IsSomeAnd (slice_get (shift_list self.now) shift) (λ x. IsGraph x.1 x.0.len g.now)) }
+        ensures { IfSome result (λ g. IsSomeAnd (slice_get (shift_list self.now) shift) (λ x. IsGraph x.1 x.0.len (arc_value g.now))) }
     {
         let shift = self.shift(shift);
         let parts = &self.parts;
@@ -301,6 +301,44 @@ impl Instance {
         let kind = &parts.types[number];
         let above = shift.len.checked_sub(kind.len_min)?;
         self.graphs.get(number)?.at(above)
+    }
+
+    /// The graph of the break lists of a shift, by the rule of its type and its length, and `None` where the instance
+    /// doesn't keep it. It keeps the graphs of all shifts unless they have together more than some 16 million edges, as for
+    /// much break time in slots of five minutes: then those of the longest shifts of a type are left out, and whoever
+    /// wants one makes it. Shifts of one length share their graph where their types have the same rule.
+    pub fn graph(&self, shift: u16) -> Option<&Graph>
+        requires { shift < length (shift_list self.now) }
+        ensures graph { MatchOption result Unit (λ g. IsSomeAnd (slice_get (shift_list self.now) shift) (λ x. IsGraph x.1 x.0.len g.now)) }
+    {
+        let kept = self.kept_graph(shift)?;
+        Some(kept)
+    }
+
+    /// The same graph, shared: it stays as long as someone has it.
+    pub fn shared_graph(&self, shift: u16) -> Result<Option<Arc<Graph>>, NoMemory>
+        requires { shift < length (shift_list self.now) }
+        ensures graph { IfOk result (λ found. IfSome found (λ g. IsSomeAnd (slice_get (shift_list self.now) shift) (λ x. IsGraph x.1 x.0.len (arc_value g)))) }
+    {
+        match self.kept_graph(shift) {
+            Some(kept) => Ok(Some(Arc::try_clone(kept)?)),
+            None => Ok(None),
+        }
+    }
+
+    /// Whether some legal break list of a shift begins with some breaks. Where the instance keeps the shift's graph it is
+    /// walked along the breaks, which takes no memory.
+    pub fn is_live(&self, alloc: Global, shift: u16, front: &[Break]) -> Result<bool, NoMemory>
+        requires { shift < length (shift_list self.now) }
+        ensures live { IfOk result (λ answer. IsSomeAnd (slice_get (shift_list self.now) shift) (λ x. answer ≡ is_live x.1 x.0.len front.now)) }
+    {
+        match self.graph(shift) {
+            Some(graph) => Ok(graph.node_behind(front).is_some()),
+            None => {
+                let len = self.shift(shift).len;
+                live(alloc, self.rule_of(shift), len, front)
+            }
+        }
     }
 
     /// The wanted employees of a slot.

@@ -1,6 +1,7 @@
 use Rattle.std.proofs.Common.{rules, ◌∙◌, sym}
+use Rattle.std.specs.Arc.{arc_value}
 use Rattle.std.proofs.lemmas.List.Elements.{same_from_all_zip}
-use Rattle.shift_instance.proofs.KeptGraphs.{same_pair, same_rule, same_kind, same_node, same_problem, same_inside}
+use Rattle.shift_instance.proofs.KeptGraphs.{same_pair, same_rule, same_kind, same_mapped, same_problem, same_inside}
 use Rattle.shift_instance.proofs.InstanceClone.clone.Goals as goal
 
 pub invariant_of-result : goal.invariant_of-result
@@ -17,7 +18,5 @@ invariant_of-result c =
     c.in-Ok.ensures.cases.4.1.1.1.0 c.in-Ok.ensures.cases.4.1.1.1.1.0 c.in-Ok.ensures.cases.4.1.1.1.1.1.0 c.in-Ok.ensures.cases.4.1.1.1.1.1.1.0 kinds ∙ c.in-Ok.ensures.cases.2 in
     let shifts = same_from_all_zip _ _ _ c.in-Ok-2.ensures.cases.0 (λ x y h. h) in
     let graphs = same_from_all_zip _ _ _ c.in-Ok-3.ensures.cases.0
-    (λ x y h. sym h.3 ∙ same_from_all_zip _ _ _ h.4.0
-    (λ x y g. sym g.3 ∙ same_from_all_zip _ _ _ g.4.0
-    (λ x y n. same_node x y n.0 (sym n.1.3 ∙ same_from_all_zip _ _ _ n.1.4.0 (λ x y e. e) ∙ n.1.2)) ∙ g.2) ∙ h.2) in
+    (λ x y h. sym h.3 ∙ same_mapped arc_value _ _ h.4.0 ∙ h.2) in
     same_inside _ _ _ _ _ _ parts shifts graphs (search rules)

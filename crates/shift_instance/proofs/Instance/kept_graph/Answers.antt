@@ -1,12 +1,13 @@
 use Rattle.std.proofs.Common.{◌≡◌, ℕ, ◌+◌, ◌∙◌, ap, arith, get_or, sym, List, Some, refl}
 use Rattle.std.specs.Prelude.{slice_get}
+use Rattle.std.specs.Arc.{arc_value}
 use Rattle.std.proofs.lemmas.Bool.{ltb-true}
 use Rattle.std.proofs.lemmas.Option.{slice_get_read}
 use Rattle.break_graph.specs.declared.Node.{Node}
 use Rattle.shift_instance.specs.Kind.{Kind}
 use Rattle.shift_instance.specs.Problem.{Problem}
 use Rattle.shift_instance.proofs.KeptGraphs.{graph_found}
-use Rattle.shift_instance.proofs.Instance.graph.Goals as goal
+use Rattle.shift_instance.proofs.Instance.kept_graph.Goals as goal
 
 pub returns : goal.returns
 returns c =
@@ -21,7 +22,5 @@ returns c =
     let here : slice_get s.graphs.items y.kind ≡ Some c.in_ok-get.field-0.now =
     ap (λ (gs : List (List (List Node))). slice_get gs y.kind) (sym c.deref.ensures.value) ∙ ap (slice_get c.deref.result.now) (sym at)
     ∙ slice_get_read c.deref.result.now _ c.from-number.result c.in_ok-get.field-0.now refl (ltb-true _ _ (sym c.in_ok-get.ensures.lookup.0)) c.in_ok-get.ensures.lookup.1 in
-    record {
-      graph = graph_found s.parts c.args.self.now c.args.shift y kind c.in_ok-above.above s.graphs.items c.in_ok-get.field-0.now c.at.result c.self.view_is c.self.invariant.drawn c.requires c.shift-shift.ensures.shift
-          (read ∙ ap (λ (q : Problem). get_or q.kinds y.kind kind) c.parts.view_is) long here c.at.ensures;
-    }
+    graph_found arc_value s.parts c.args.self.now c.args.shift y kind c.in_ok-above.above s.graphs.items c.in_ok-get.field-0.now c.at.result c.self.view_is c.self.invariant.drawn c.requires c.shift-shift.ensures.shift
+    (read ∙ ap (λ (q : Problem). get_or q.kinds y.kind kind) c.parts.view_is) long here c.at.ensures
