@@ -1,6 +1,6 @@
 -- The value of a duty.
-use Rattle.std.proofs.Common.{◌≡◌, inl, ℕ, ◌-◌, ◌*◌, ◌^◌, ◌≤◌, ℤ, pos, ◌+ℤ◌, ◌-ℤ◌, ◌*ℤ◌, ◌≤ℤ◌, true, false, cond, List, [], ◌∷◌, map, refl, sym, ap, ◌∙◌, subst, arith, Option, Some, None}
-use Rattle.std.specs.Prelude.{slice_get, IsSomeAnd, IfOk, Result, Ok, Err}
+use Rattle.std.proofs.Common.{◌≡◌, inl, ℕ, ◌-◌, ◌^◌, ◌≤◌, ℤ, pos, ◌+ℤ◌, ◌≤ℤ◌, true, false, cond, List, [], ◌∷◌, map, refl, sym, ap, ◌∙◌, subst, arith, Option, Some, None}
+use Rattle.std.specs.Prelude.{slice_get, IsSomeAnd, ◌<◌}
 use Rattle.std.specs.Int.RustNames.{unsigned_abs}
 use Rattle.std.specs.List.{range_with_len}
 use Rattle.std.specs.Option.{option_map_or}
@@ -19,10 +19,15 @@ use Rattle.shift_instance.specs.Rota.{lists_of, is_list_of}
 use Rattle.shift_instance.specs.Worth.{earned}
 use Rattle.shift_instance.proofs.Offsets.{earned_by_offsets}
 use Rattle.shift_instance.proofs.Rotas.{Has-lists_of, from_lists_of}
+use Rattle.shift_instance.proofs.Shifts.{Has_at, shift_short}
+use Rattle.shift_instance.specs.Valid.{IsValid}
+use Rattle.break_graph.specs.declared.Node.{Node}
+use Rattle.break_graph.specs.Graph.{IsGraph}
 use Rattle.head_splits.specs.declared.Cut.{Cut}
 use Rattle.head_splits.specs.declared.Prices.{Prices}
 use Rattle.head_splits.specs.Bound.{is_nil, reduced}
-use Rattle.price_sums.specs.Along.{price_in, earned_from, ArePricesOf, Completes}
+use Rattle.price_sums.specs.Along.{price_in, earned_from, AreSums, ArePricesOf, Completes}
+use Rattle.price_sums.specs.Days.{sums_on, AreSumsByDay}
 use Rattle.cert_check.specs.Rests.{IsGreatest}
 use Rattle.cert_check.specs.Below.{duty_with, bonuses, whole_worth}
 use Rattle.bound_sums.specs.Values.{IsValue}
@@ -81,7 +86,31 @@ shift_some (Some x) P h = (x, refl, h)
 pub shift_at : (o : Option (Shift × Rule)) (x : Shift × Rule) (P : Shift × Rule → Type 0) → o ≡ Some x → IsSomeAnd o P → P x
 shift_at o x P e h = subst (λ (q : Option (Shift × Rule)). IsSomeAnd q P) e h
 
--- what both clauses of an answer give
-pub if_ok_both : {A E : Type 0} (r : Result A E) (P Q R : A → Type 0) → ((a : A) → P a → Q a → R a) → IfOk r P → IfOk r Q → IfOk r R
-if_ok_both (Ok a) P Q R f p q = f a p q
-if_ok_both (Err e) P Q R f p q = tt
+-- a shift and its rule, as they are read
+module _ (i : Problem) (s : ℕ) (shift : Shift) (rule : Rule) (own_shift : IsSomeAnd (slice_get (shift_list i) s) (λ y. shift ≡ y.0)) (own_rule : IsSomeAnd (slice_get (shift_list i) s) (λ y. rule ≡ y.1)) where
+  pub own_graph : (nodes : List Node) → IsSomeAnd (slice_get (shift_list i) s) (λ x. IsGraph x.1 x.0.len nodes) → IsGraph rule shift.len nodes
+  own_graph nodes h =
+      let o = slice_get (shift_list i) s in
+      let x = shift_some o (λ x. IsGraph x.1 x.0.len nodes) h in
+      subst (λ (r : Rule). IsGraph r shift.len nodes) (sym (shift_at o x.0 (λ y. rule ≡ y.1) x.1 own_rule))
+      (subst (λ (z : Shift). IsGraph x.0.1 z.len nodes) (sym (shift_at o x.0 (λ y. shift ≡ y.0) x.1 own_shift)) x.2)
+
+  -- the sums along the shift on a day
+  pub own_sums : (prices : List ℤ) (lanes : List (List ℤ)) (day : ℕ) → ((x : Shift × Rule) → slice_get (shift_list i) s ≡ Some x → AreSumsByDay i x.0 prices lanes) → day < i.days → AreSums shift.len (sums_on day lanes)
+  own_sums prices lanes day of less =
+      let x = shift_some (slice_get (shift_list i) s) (λ y. shift ≡ y.0) own_shift in
+      subst (λ (z : Shift). AreSums z.len (sums_on day lanes)) (sym x.2) ((of x.0 x.1).small day less)
+
+  -- the value of the shift's duties on a day
+  pub own_value : (cuts cs : List Cut) (prices : Prices) (ps : List ℕ) (lanes : List (List ℤ)) (day : ℕ) (v : ℤ) → IsValid i → cs ≡ cuts → ps ≡ prices.cuts
+      → ((x : Shift × Rule) → slice_get (shift_list i) s ≡ Some x → AreSumsByDay i x.0 prices.slots lanes) → day < i.days
+      → IsGreatest (Completes rule shift.len []) (whole_worth cs ps s day (sums_on day lanes) rule shift.len []) v → unsigned_abs v ≤ 2 ^ 74 → IsValue i cuts prices s day v
+  own_value cuts cs prices ps lanes day v valid same_cuts same_prices of less g size =
+      let o = slice_get (shift_list i) s in
+      let x = shift_some o (λ y. shift ≡ y.0) own_shift in
+      let sums = sums_on day lanes in
+      value_is i cuts prices s day sums x.0 x.1 (shift_short i valid x.0 (Has_at (shift_list i) s x.0 x.1)) ((of x.0 x.1).each day less) v
+      (subst (λ (r : Rule). IsGreatest (Completes r x.0.0.len []) (whole_worth cuts prices.cuts s day sums r x.0.0.len []) v) (shift_at o x.0 (λ y. rule ≡ y.1) x.1 own_rule)
+      (subst (λ (z : Shift). IsGreatest (Completes rule z.len []) (whole_worth cuts prices.cuts s day sums rule z.len []) v) x.2
+      (subst (λ (qs : List ℕ). IsGreatest (Completes rule shift.len []) (whole_worth cuts qs s day sums rule shift.len []) v) same_prices
+      (subst (λ (ds : List Cut). IsGreatest (Completes rule shift.len []) (whole_worth ds ps s day sums rule shift.len []) v) same_cuts g)))) size

@@ -1,9 +1,8 @@
 -- The values of the nodes, one after another.
-use Rattle.std.proofs.Common.{◌≡◌, ℕ, zero, suc, ◌+◌, ◌*◌, ◌<◌, ◌≤◌, ℤ, ◌+ℤ◌, ◌-ℤ◌, List, [], ◌∷◌, ◌++◌, length, map, take, refl, sym, ap, ◌∙◌, subst, arith, Option, Some, FitsSigned, get_or, to_z, of_z}
+use Rattle.std.proofs.Common.{◌≡◌, ℕ, zero, suc, ◌+◌, ◌*◌, ◌<◌, ◌≤◌, ℤ, ◌+ℤ◌, ◌-ℤ◌, List, [], ◌∷◌, ◌++◌, length, map, take, refl, sym, ap, ◌∙◌, subst, arith, Some, get_or}
 use Rattle.std.specs.Prelude.{slice_get}
-use Rattle.std.specs.Int.{w64}
 use Rattle.std.specs.Int.RustNames.{unsigned_abs}
-use Rattle.std.proofs.lemmas.Int.{ints, fits_signed_from_abs, to_z-of_z}
+use Rattle.std.proofs.lemmas.Int.{ints}
 use Rattle.std.proofs.lemmas.List.{take_more, take_all, get_or_default}
 use Rattle.std.proofs.lemmas.List.Sums.{fold-append}
 use Rattle.break_rules.specs.declared.Break.{Break}
@@ -18,10 +17,10 @@ use Rattle.break_graph.specs.declared.Edge.{Edge}
 use Rattle.break_graph.specs.declared.Node.{Node}
 use Rattle.break_graph.specs.Graph.{StandsAt, IsGraph, node_at, live_nexts}
 use Rattle.price_sums.specs.Along.{sum_at, price_in, AreSums, resumes, earned_from, Completes}
-use Rattle.cert_check.specs.Rests.{rest_worth, Through, IsGreatest, IsGreatestOf, greater_of}
+use Rattle.cert_check.specs.Rests.{rest_worth, IsGreatest}
 use Rattle.price_sums.proofs.Stretches.{earned_more, earned_end, earned_small, spaced_rest, resumes_behind}
 use Rattle.break_rules.proofs.Sizes.{abs_sub}
-use Rattle.cert_check.proofs.Greatest.{longer, greatest_more}
+use Rattle.cert_check.proofs.Greatest.{longer}
 
 -- what a rest earns is small
 pub rest_small : (sums : List ℤ) (rule : Rule) (len : ℕ) (list rest : List Break) → AreSums len sums → unsigned_abs (rest_worth sums rule len list rest) ≤ 10000000000 * 65535
@@ -50,12 +49,6 @@ module _ (sums : List ℤ) (rule : Rule) (len : ℕ) (list : List Break) (r : Is
   -- the empty rest earns the stretch to the end
   pub worth_end : Completes rule len list [] → rest_worth sums rule len list [] ≡ sum_at sums len -ℤ sum_at sums (resumes rule (end_of_all list))
   worth_end h = earned_end sums rule len (resumes rule (end_of_all list)) (spaced_rest rule len list [] r h)
-
-  pub end_fits : AreSums len sums → Completes rule len list [] → FitsSigned w64 (sum_at sums len -ℤ sum_at sums (resumes rule (end_of_all list)))
-  end_fits s h =
-      let small = rest_small sums rule len list [] s in
-      let one : unsigned_abs (sum_at sums len -ℤ sum_at sums (resumes rule (end_of_all list))) ≤ 10000000000 * 65535 = subst (λ (z : ℤ). unsigned_abs z ≤ 10000000000 * 65535) (worth_end h) small in
-      fits_signed_from_abs w64 _ (omega arith)
 
   -- the numbers of a rest through a break fit
   pub via_fits : (b : Break) (v : ℤ) → AreSums len sums → IsGreatest (Completes rule len (list ++ b ∷ [])) (rest_worth sums rule len (list ++ b ∷ [])) v
@@ -115,23 +108,6 @@ module _ (rule : Rule) (len : ℕ) (nodes : List Node) (k : ℕ) (edges : List E
 pub resumes_at : (rule : Rule) (len : ℕ) (nodes : List Node) (k : ℕ) (n : Node) (list : List Break) → n ≡ node_at nodes k → StandsAt rule len nodes k list → resumes rule n.spot.offset ≡ resumes rule (end_of_all list)
 resumes_at rule len nodes k n list is at = ap (λ (n : Node). resumes rule n.spot.offset) is ∙ ap (λ (s : Spot). resumes rule s.offset) at.spot
 
--- the greatest worth through one edge more
-pub value_more : (rule : Rule) (len : ℕ) (sums : List ℤ) (list done : List Break) (b : Break) (best : Option ℤ) (w v : ℤ) → IsRule rule → AreSums len sums
-    → IsGreatestOf (Through rule len list done) (rest_worth sums rule len list) best
-    → IsGreatest (Completes rule len (list ++ b ∷ [])) (rest_worth sums rule len (list ++ b ∷ [])) w
-    → (FitsSigned w64 (before_of sums rule list b) → FitsSigned w64 (before_of sums rule list b +ℤ w) → v ≡ before_of sums rule list b +ℤ w)
-    → IsGreatest (Through rule len list (done ++ b ∷ [])) (rest_worth sums rule len list) (greater_of best v)
-value_more rule len sums list done b best w v r s so_far behind is =
-    let f = via_fits sums rule len list r b w s behind in
-    greatest_more rule len list (rest_worth sums rule len list) (rest_worth sums rule len (list ++ b ∷ [])) done b w (before_of sums rule list b) v behind (worth_more sums rule len list r b)
-    (is (fits_signed_from_abs w64 _ (omega (arith, f.1))) (fits_signed_from_abs w64 _ (omega (arith, f.2)))) best so_far
-
--- the greatest worth is small, and so it is kept
+-- the greatest worth is small
 pub greatest_small : (sums : List ℤ) (rule : Rule) (len : ℕ) (list : List Break) (v : ℤ) → AreSums len sums → IsGreatest (Completes rule len list) (rest_worth sums rule len list) v → unsigned_abs v ≤ 10000000000 * 65535
 greatest_small sums rule len list v s g = subst (λ (z : ℤ). unsigned_abs z ≤ 10000000000 * 65535) g.reached.2 (rest_small sums rule len list g.reached.0 s)
-
-pub greatest_kept : (sums : List ℤ) (rule : Rule) (len : ℕ) (list : List Break) (v : ℤ) → AreSums len sums → IsGreatest (Completes rule len list) (rest_worth sums rule len list) v
-    → IsGreatest (Completes rule len list) (rest_worth sums rule len list) (to_z w64 (of_z w64 v))
-greatest_kept sums rule len list v s g =
-    let small = greatest_small sums rule len list v s g in
-    subst (IsGreatest (Completes rule len list) (rest_worth sums rule len list)) (sym (to_z-of_z w64 v (fits_signed_from_abs w64 v (omega arith)))) g

@@ -1,5 +1,5 @@
 -- What can still be earned behind the first breaks of a duty.
-use Rattle.std.specs.Prelude.{◌≡◌, ℕ, ◌<◌, ℤ, ◌≤ℤ◌, List, ◌∷◌, Option, Some, None, MatchOption}
+use Rattle.std.specs.Prelude.{◌≡◌, ℕ, ◌<◌, ℤ, ◌+ℤ◌, ◌≤ℤ◌, List, ◌∷◌, Option, Some, None, MatchOption}
 use Rattle.std.specs.Int.{int_max}
 use Rattle.break_rules.specs.declared.Break.{Break}
 use Rattle.break_rules.specs.declared.Rule.{Rule}
@@ -13,7 +13,11 @@ use Rattle.price_sums.specs.Along.{sum_at, price_in, resumes, earned_from, Compl
 abbrev pub rest_worth : List ℤ → Rule → ℕ → List Break → List Break → ℤ
 rest_worth sums rule len list rest = earned_from (price_in sums) rule len (resumes rule (end_of_all list)) rest
 
--- the same, where the first of those breaks is one of some breaks
+-- the same, and the sum of the prices before the offset where work counts again behind the list
+abbrev pub worth_with_start : List ℤ → Rule → ℕ → List Break → List Break → ℤ
+worth_with_start sums rule len list rest = sum_at sums (resumes rule (end_of_all list)) +ℤ rest_worth sums rule len list rest
+
+-- breaks that make a list legal, the first of which is one of some breaks
 abbrev pub Through : Rule → ℕ → List Break → List Break → List Break → Type 0
 Through rule len list firsts rest = (b : Break) × (bs : List Break) × (rest ≡ b ∷ bs) × Has firsts b × Completes rule len list rest
 

@@ -1,12 +1,14 @@
 //! The most that a duty of a shift on a day is worth at the prices of slots and cuts.
 
-ghost use Rattle.std.specs.Prelude.{◌≡◌, ◌+ℤ◌, ◌<◌, ◌≤◌, ◌+◌, ◌*◌, ◌^◌, ◌++◌, ◌∷◌, [], ℕ, ◌-ℤ◌, List, length, slice_index, IfOk};
+ghost use Rattle.std.specs.Prelude.{◌≡◌, ◌+ℤ◌, ◌<◌, ◌≤◌, ◌+◌, ◌*◌, ◌^◌, ◌++◌, ◌∷◌, [], ℕ, ◌-ℤ◌, List, length, slice_index, IfOk, FitsSigned};
+ghost use Rattle.std.specs.Int.{w64};
 ghost use Rattle.std.specs.Int.RustNames.{unsigned_abs};
 ghost use Rattle.break_rules.specs.declared.Break.{Break};
 ghost use Rattle.break_rules.specs.Ranges.{IsRule};
 ghost use Rattle.break_graph.specs.Graph.{IsGraph, StandsAt};
 ghost use Rattle.head_splits.specs.Bound.{bonus, signed_price};
-ghost use Rattle.price_sums.specs.Along.{AreSums, Completes};
+ghost use Rattle.price_sums.specs.Along.{sum_at, AreSums, Completes};
+ghost use Rattle.price_sums.specs.Days.{sums_on};
 ghost use Rattle.cert_check.specs.Rests.{AreValues, IsGreatest, greater_of};
 ghost use Rattle.cert_check.specs.Below.{bonuses, duty_with, goes_further, is_further, whole_worth};
 
@@ -14,7 +16,7 @@ use bound_sums::signed_price;
 use break_graph::Node;
 use break_rules::{Break, NoMemory, Rule};
 use head_splits::Cut;
-use price_sums::{resumption, stretch, sum_before};
+use price_sums::{Lane, lane_at, resumption};
 use std::alloc::Global;
 
 /// The cuts of a node with their prices, and the shift and day whose duties are looked at.
@@ -30,7 +32,7 @@ pub struct Duties<'a> {
     pub day: u8,
 }
 
-/// What rests earn in the shifts of a rule and a length, at the prices of a shift on a day.
+/// What rests earn in the shifts of a rule and a length, at the prices of a shift on each day.
 #[derive(Drop)]
 pub struct Rests<'a> {
     /// The break rule of the shift.
@@ -39,10 +41,10 @@ pub struct Rests<'a> {
     pub len: u16,
     /// The graph of the shift's break lists.
     pub nodes: &'a [Node],
-    /// The sums of the prices of the shift's first offsets.
-    pub sums: Vec<i64>,
-    /// For each node, the most that a rest earns behind it.
-    pub values: Vec<i64>,
+    /// The sums of the prices of the shift's first offsets, on all days side by side.
+    pub sums: &'a [Lane],
+    /// For each node, the most that a rest earns behind it, on all days side by side.
+    pub values: Vec<Lane>,
 }
 
 /// What a cut with its price adds to a duty.
@@ -122,6 +124,22 @@ fn greater(best: Option<i128>, value: i128) -> i128
     }
 }
 
+/// The number of a day in the lane at a place.
+fn number_on(lanes: &[Lane], at: usize, day: u8) -> i64
+    requires { day < 8 }
+    ensures { result ≡ sum_at (sums_on day lanes.now) at }
+{
+    lane_at(lanes, at)[usize::from(day)]
+}
+
+/// The sum of the prices of a stretch of work on a day.
+fn stretch_on(sums: &[Lane], from: usize, to: usize, day: u8) -> i64
+    requires { day < 8 }
+    ensures { FitsSigned w64 (sum_at (sums_on day sums.now) to -ℤ sum_at (sums_on day sums.now) from) → result ≡ sum_at (sums_on day sums.now) to -ℤ sum_at (sums_on day sums.now) from }
+{
+    number_on(sums, to, day).wrapping_sub(number_on(sums, from, day))
+}
+
 /// What a stretch of work earns, and what is had beside it.
 fn earned_and(earned: i64, other: i128) -> i128
     requires { unsigned_abs other ≤ 2 ^ 74 }
@@ -140,17 +158,19 @@ pub fn best_below(
     k: usize,
 ) -> Result<i128, NoMemory>
     requires rule { IsRule rests.now.rule.now }
-    requires sums { AreSums rests.now.len rests.now.sums.items }
+    requires day { duties.now.day < 8 }
+    requires sums { AreSums rests.now.len (sums_on duties.now.day rests.now.sums.now) }
     requires graph { IsGraph rests.now.rule.now rests.now.len rests.now.nodes.now }
-    requires values { AreValues rests.now.rule.now rests.now.len rests.now.sums.items rests.now.nodes.now (length rests.now.nodes.now) rests.now.values.items }
+    requires values { AreValues rests.now.rule.now rests.now.len (sums_on duties.now.day rests.now.sums.now) rests.now.nodes.now (length rests.now.nodes.now) (sums_on duties.now.day rests.now.values.items) }
     requires count { length duties.now.prices.now ≡ length duties.now.cuts.now }
     requires few { length duties.now.cuts.now ≤ 2 ^ 33 }
     requires small { (k : ℕ) → slice_index duties.now.prices.now k ≤ 1000000000000 }
     requires stands { StandsAt rests.now.rule.now rests.now.len rests.now.nodes.now k list.now }
-    ensures greatest { IfOk result (λ v. IsGreatest (Completes rests.now.rule.now rests.now.len list.now) (whole_worth duties.now.cuts.now duties.now.prices.now duties.now.shift duties.now.day rests.now.sums.items rests.now.rule.now rests.now.len list.now) v) }
+    ensures greatest { IfOk result (λ v. IsGreatest (Completes rests.now.rule.now rests.now.len list.now) (whole_worth duties.now.cuts.now duties.now.prices.now duties.now.shift duties.now.day (sums_on duties.now.day rests.now.sums.now) rests.now.rule.now rests.now.len list.now) v) }
     ensures size { IfOk result (λ v. unsigned_abs v ≤ 2 ^ 74) }
 {
-    let alone = earned_and(sum_before(&rests.values, k), bonuses(duties, list));
+    let day = duties.day;
+    let alone = earned_and(number_on(&rests.values, k, day), bonuses(duties, list));
     if !goes_further(duties, list) {
         return Ok(alone);
     }
@@ -162,7 +182,7 @@ pub fn best_below(
     for edge in edges {
         let longer = longer(alloc, list, edge.stop)?;
         let behind = best_below(alloc, duties, rests, &longer, edge.next as usize)?;
-        let before = stretch(&rests.sums, from, usize::from(edge.stop.start));
+        let before = stretch_on(rests.sums, from, usize::from(edge.stop.start), day);
         best = Some(greater(best, earned_and(before, behind)));
     }
     match best {

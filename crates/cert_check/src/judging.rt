@@ -10,9 +10,8 @@ ghost use Rattle.cert_check.specs.Judged.{bad_line, line_cause, IsFirstBad};
 use crate::judged::Refused;
 use crate::prices::are_prices;
 use crate::settled::settled_floor;
-use crate::terms::ByWalk;
+use crate::terms::bound_by_walk;
 use crate::tree::Tree;
-use bound_sums::bound_by;
 use break_rules::NoMemory;
 use certificate::{Line, Lines};
 use head_splits::{Class, Prices};
@@ -67,7 +66,7 @@ fn price_node(
     if !are_prices(instance, &cuts, prices) {
         return Ok(false);
     }
-    let bound = bound_by(alloc, &ByWalk, instance, &cuts, prices)?;
+    let bound = bound_by_walk(alloc, instance, &cuts, prices)?;
     tree.raise_floor(node, bound);
     Ok(true)
 }

@@ -1,76 +1,89 @@
-//! For each node of the graph of a shift's break lists, the most that a rest earns behind it.
+//! For each node of the graph of a shift's break lists, the most that a rest earns behind it: on all days side by side.
 
-ghost use Rattle.std.specs.Prelude.{◌≡◌, ◌<◌, ◌-ℤ◌, ◌+ℤ◌, List, Option, None, length, IfOk, FitsSigned};
+ghost use Rattle.std.specs.Prelude.{◌≡◌, ◌<◌, ◌+ℤ◌, ℕ, List, length, IfOk, FitsSigned};
 ghost use Rattle.std.specs.Int.{w64};
 ghost use Rattle.break_rules.specs.declared.Break.{Break};
 ghost use Rattle.break_rules.specs.Ranges.{IsRule};
 ghost use Rattle.break_graph.specs.Graph.{IsGraph, StandsAt};
-ghost use Rattle.price_sums.specs.Along.{sum_at, resumes, AreSums, Completes};
-ghost use Rattle.cert_check.specs.Rests.{rest_worth, greater_of, AreValues, IsGreatest};
+ghost use Rattle.price_sums.specs.Along.{sum_at, AreSums, Completes};
+ghost use Rattle.price_sums.specs.Days.{sums_on};
+ghost use Rattle.cert_check.specs.Rests.{rest_worth, worth_with_start, AreValues, IsGreatest};
 
-use break_graph::Node;
+use break_graph::{Edge, Node};
 use break_rules::{NoMemory, Rule};
-use price_sums::{resumption, stretch, sum_before};
+use price_sums::{Lane, lane_at, lane_difference, lane_total, raise_lane, resumption};
 use std::alloc::Global;
 
-/// What a rest earns that begins with a break: the stretch of work before the break, and what is earned behind it.
-fn earned_via(sums: &[i64], from: usize, start: usize, behind: i64) -> i64
-    ensures { FitsSigned w64 (sum_at sums.now start -ℤ sum_at sums.now from) → FitsSigned w64 ((sum_at sums.now start -ℤ sum_at sums.now from) +ℤ behind) → result ≡ (sum_at sums.now start -ℤ sum_at sums.now from) +ℤ behind }
+/// What is had by an edge on each day: the sum of the prices before its break, and the most that a rest earns behind it.
+fn had_by(sums: &[Lane], values: &[Lane], edge: Edge) -> Lane
+    ensures { (day : ℕ) → day < 8 → FitsSigned w64 (sum_at (sums_on day sums.now) edge.stop.start +ℤ sum_at (sums_on day values.now) edge.next) → sum_at result day ≡ sum_at (sums_on day sums.now) edge.stop.start +ℤ sum_at (sums_on day values.now) edge.next }
 {
-    stretch(sums, from, start).wrapping_add(behind)
+    lane_total(
+        lane_at(sums, usize::from(edge.stop.start)),
+        lane_at(values, edge.next as usize),
+    )
 }
 
-/// The greater of two values, the first of which may be none.
-fn greater(best: Option<i64>, value: i64) -> i64
-    ensures { result ≡ greater_of best value }
-{
-    match best {
-        Some(best) => best.max(value),
-        None => value,
-    }
-}
-
-/// The most that a rest earns behind a node, by the nodes before it.
-fn rest_value(rule: &Rule, len: u16, sums: &[i64], nodes: &[Node], k: usize, values: &[i64]) -> i64
+/// The most that is had behind a node on each day, with the sum of the prices before it, by the nodes before it.
+fn most_with_start(
+    rule: &Rule,
+    len: u16,
+    sums: &[Lane],
+    nodes: &[Node],
+    k: usize,
+    values: &[Lane],
+) -> Lane
     requires rule { IsRule rule.now }
-    requires sums { AreSums len sums.now }
     requires graph { IsGraph rule.now len nodes.now }
     requires node { k < length nodes.now }
-    requires known { AreValues rule.now len sums.now nodes.now k values.now }
-    ensures { (list : List Break) → StandsAt rule.now len nodes.now k list → IsGreatest (Completes rule.now len list) (rest_worth sums.now rule.now len list) result }
+    ensures { (day : ℕ) → day < 8 → AreSums len (sums_on day sums.now) → AreValues rule.now len (sums_on day sums.now) nodes.now k (sums_on day values.now) → (list : List Break) → StandsAt rule.now len nodes.now k list → IsGreatest (Completes rule.now len list) (worth_with_start (sums_on day sums.now) rule.now len list) (sum_at result day) }
 {
     let node = &nodes[k];
-    let from = resumption(rule, node.spot);
     let edges = &node.edges;
-    let edges = edges.as_slice();
-    let mut best = None;
-    for edge in edges {
-        let behind = sum_before(values, edge.next as usize);
-        let value = earned_via(sums, from, usize::from(edge.stop.start), behind);
-        best = Some(greater(best, value));
+    let Some((first, others)) = edges.as_slice().split_first() else {
+        return *lane_at(sums, usize::from(len));
+    };
+    let mut most = had_by(sums, values, *first);
+    for edge in others {
+        raise_lane(&mut most, &had_by(sums, values, *edge));
     }
-    match best {
-        Some(value) => value,
-        None => stretch(sums, from, usize::from(len)),
-    }
+    most
 }
 
-/// For each node, the most that a rest earns with which a list that stands there is legal.
-pub fn rest_values(
+/// The most that a rest earns behind a node on each day, by the nodes before it.
+fn rest_lane(
+    rule: &Rule,
+    len: u16,
+    sums: &[Lane],
+    nodes: &[Node],
+    k: usize,
+    values: &[Lane],
+) -> Lane
+    requires rule { IsRule rule.now }
+    requires graph { IsGraph rule.now len nodes.now }
+    requires node { k < length nodes.now }
+    ensures { (day : ℕ) → day < 8 → AreSums len (sums_on day sums.now) → AreValues rule.now len (sums_on day sums.now) nodes.now k (sums_on day values.now) → (list : List Break) → StandsAt rule.now len nodes.now k list → IsGreatest (Completes rule.now len list) (rest_worth (sums_on day sums.now) rule.now len list) (sum_at result day) }
+{
+    let node = &nodes[k];
+    let most = most_with_start(rule, len, sums, nodes, k, values);
+    lane_difference(&most, lane_at(sums, resumption(rule, node.spot)))
+}
+
+/// For each node, the most that a rest earns on each day with which a list that stands there is legal.
+pub fn rest_lanes(
     alloc: Global,
     rule: &Rule,
     len: u16,
-    sums: &[i64],
+    sums: &[Lane],
     nodes: &[Node],
-) -> Result<Vec<i64>, NoMemory>
+) -> Result<Vec<Lane>, NoMemory>
     requires rule { IsRule rule.now }
-    requires sums { AreSums len sums.now }
     requires graph { IsGraph rule.now len nodes.now }
-    ensures { IfOk result (λ values. AreValues rule.now len sums.now nodes.now (length nodes.now) values.items) }
+    ensures { IfOk result (λ values. (day : ℕ) → day < 8 → AreSums len (sums_on day sums.now) → AreValues rule.now len (sums_on day sums.now) nodes.now (length nodes.now) (sums_on day values.items)) }
 {
     let mut values = Vec::with_capacity(alloc, nodes.len())?;
     for k in 0..nodes.len() {
-        let value = rest_value(rule, len, sums, nodes, k, &values);
+        let value = rest_lane(rule, len, sums, nodes, k, &values);
         values.push(value)?;
     }
     Ok(values)

@@ -1,3 +1,3 @@
 pub mod Stretches
 pub mod Prices
-pub mod Lanes
+pub mod Windows

@@ -2,7 +2,9 @@
 #![tactic(auto)]
 
 mod days;
+mod lanes;
 mod sums;
 
 pub use days::{DaySums, LANES, Lane};
-pub use sums::{price_sums, resumption, stretch, sum_before};
+pub use lanes::{lane_at, lane_difference, lane_total, raise_lane};
+pub use sums::{price_sums, resumption, sum_before};

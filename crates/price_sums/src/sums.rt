@@ -1,7 +1,6 @@
 //! Sums of slot prices along a shift.
 
-ghost use Rattle.std.specs.Prelude.{◌≡◌, ◌+◌, ◌%◌, ◌<◌, ◌-ℤ◌, length, slice_get, Some, IfOk, FitsSigned};
-ghost use Rattle.std.specs.Int.{w64};
+ghost use Rattle.std.specs.Prelude.{◌≡◌, ◌+◌, ◌%◌, ◌<◌, length, slice_get, Some, IfOk};
 ghost use Rattle.break_rules.specs.declared.Rule.{Rule};
 ghost use Rattle.shift_instance.specs.declared.Shift.{Shift};
 ghost use Rattle.shift_instance.specs.Problem.{shift_list, slots};
@@ -63,11 +62,4 @@ pub fn resumption(rule: &Rule, spot: Spot) -> usize
     } else {
         usize::from(spot.offset) + usize::from(rule.resettle)
     }
-}
-
-/// The sum of the prices of a stretch of work.
-pub fn stretch(sums: &[i64], from: usize, to: usize) -> i64
-    ensures { FitsSigned w64 (sum_at sums.now to -ℤ sum_at sums.now from) → result ≡ sum_at sums.now to -ℤ sum_at sums.now from }
-{
-    sum_before(sums, to).wrapping_sub(sum_before(sums, from))
 }

@@ -9,10 +9,9 @@ ghost use Rattle.price_sums.specs.Along.{sum_at, AreSums};
 ghost use Rattle.price_sums.specs.Days.{sums_on};
 ghost use Rattle.pricing.specs.Values.{reach_of, AreFit, IsMostReached, IsValue, AreValues};
 
-use crate::lanes::{lane_at, lane_difference, lane_total, raise_lane};
 use break_graph::{Edge, Node};
 use break_rules::{NoMemory, Rule};
-use price_sums::{Lane, resumption};
+use price_sums::{Lane, lane_at, lane_difference, lane_total, raise_lane, resumption};
 
 /// What an edge reaches on each day.
 fn reach_by_day(sums: &[Lane], values: &[Lane], edge: Edge) -> Lane

@@ -9,10 +9,9 @@ ghost use Rattle.price_sums.specs.Along.{sum_at};
 ghost use Rattle.pricing.specs.Days.{AreMostByDay};
 
 use crate::day_values::set_values_by_day;
-use crate::lanes::lane_at;
 use break_graph::Graph;
 use break_rules::NoMemory;
-use price_sums::{DaySums, Lane};
+use price_sums::{DaySums, Lane, lane_at};
 use shift_instance::Instance;
 use std::alloc::Global;
 

@@ -4,7 +4,6 @@
 mod day_values;
 mod days;
 mod found;
-mod lanes;
 mod rests;
 mod search;
 mod values;

@@ -8,6 +8,7 @@ use Rattle.break_graph.specs.declared.Edge.{Edge}
 use Rattle.break_graph.specs.declared.Node.{Node}
 use Rattle.break_graph.specs.Graph.{node_at, live_nexts, StandsAt}
 use Rattle.price_sums.specs.Along.{sum_at, resumes, Completes}
+use Rattle.price_sums.specs.Days.{sums_on}
 use Rattle.cert_check.specs.Rests.{Through, IsGreatest, IsGreatestOf}
 use Rattle.cert_check.specs.Below.{whole_worth, bonuses, duty_with, goes_further}
 use Rattle.cert_check.proofs.Greatest.{greatest_some, legal_alone}
@@ -23,11 +24,11 @@ returns-then-not-goes_further-clause-greatest t c =
     let day = c.args.duties.now.day in
     let rule = c.args.rests.now.rule.now in
     let len = c.args.rests.now.len in
-    let sums = c.args.rests.now.sums.items in
+    let sums = sums_on c.args.duties.now.day c.args.rests.now.sums.now in
     let list = c.args.list.now in
-    let v : ℤ = sum_at c.args.rests.now.values.items c.args.k in
+    let v : ℤ = sum_at (sums_on c.args.duties.now.day c.args.rests.now.values.items) c.args.k in
     let g = c.requires.values c.args.k list c.requires.stands.within c.requires.stands in
-    let read : to_z w64 (of_z w64 c.sum_before.result) ≡ v = to_z-of_z w64 _ (record { sfits = c.sum_before.type_inv }) ∙ c.sum_before.ensures ∙ ap (λ (xs : List ℤ). sum_at xs c.args.k) c.deref.ensures.value in
+    let read : to_z w64 (of_z w64 c.number_on.result) ≡ v = to_z-of_z w64 _ (record { sfits = c.number_on.type_inv }) ∙ c.number_on.ensures ∙ ap (λ (xs : List (List ℤ)). sum_at (sums_on c.args.duties.now.day xs) c.args.k) c.deref.ensures.value in
     let added : to_z w128 (of_z w128 c.bonuses.result) ≡ bonuses cuts prices (duty_with s day list) = to_z-of_z w128 _ (record { sfits = c.bonuses.type_inv }) ∙ c.bonuses.ensures.bonuses in
     let alone : to_z w128 (of_z w128 c.earned_and-alone.result) ≡ v +ℤ bonuses cuts prices (duty_with s day list) =
     to_z-of_z w128 _ (record { sfits = c.earned_and-alone.type_inv }) ∙ c.earned_and-alone.ensures ∙ ap (λ (z : ℤ). z +ℤ to_z w128 (of_z w128 c.bonuses.result)) read ∙ ap (λ (z : ℤ). v +ℤ z) added in
@@ -50,7 +51,7 @@ best_below-requires t c =
     let at = edge_behind rule len nodes c.args.k edges c.requires.graph within are i c.args.list.now inside c.requires.stands in
     let same : c.deref-in-loop-edge.result.now ≡ c.args.list.now ++ (get_or edges i no_edge).stop ∷ [] = c.deref-in-loop-edge.ensures.value ∙ c.in_ok-longer.ensures in
     let smaller : (get_or edges i no_edge).next < t = omega (arith, less, c.decreases) in
-    (smaller, (c.requires.rule, (c.requires.sums, (c.requires.graph, (c.requires.values, (c.requires.count, (c.requires.few, (c.requires.small, subst (StandsAt rule len nodes (get_or edges i no_edge).next) (sym same) at))))))))
+    (smaller, (c.requires.rule, (c.requires.day, (c.requires.sums, (c.requires.graph, (c.requires.values, (c.requires.count, (c.requires.few, (c.requires.small, subst (StandsAt rule len nodes (get_or edges i no_edge).next) (sym same) at)))))))))
 
 pub loop-edge-preserved : goal.loop-edge-preserved
 loop-edge-preserved t c =
@@ -60,7 +61,7 @@ loop-edge-preserved t c =
     let day = c.args.duties.now.day in
     let rule = c.args.rests.now.rule.now in
     let len = c.args.rests.now.len in
-    let sums = c.args.rests.now.sums.items in
+    let sums = sums_on c.args.duties.now.day c.args.rests.now.sums.now in
     let list = c.args.list.now in
     let nodes = c.args.rests.now.nodes.now in
     let edges = c.as_slice-edges.result.now in
@@ -78,12 +79,11 @@ loop-edge-preserved t c =
     let same : c.deref-in-loop-edge.result.now ≡ list ++ b ∷ [] = c.deref-in-loop-edge.ensures.value ∙ c.in_ok-longer.ensures in
     let from : c.resumption-from.result ≡ resumes rule (end_of_all list) = c.resumption-from.ensures ∙ resumes_at rule len nodes c.args.k n list node c.requires.stands in
     let w : ℤ = to_z w128 (of_z w128 c.in_ok-behind.behind) in
-    let step : sum_at c.deref-in-loop-edge-2.result.now c.from.result -ℤ sum_at c.deref-in-loop-edge-2.result.now c.resumption-from.result ≡ before_of sums rule list b =
-    ap (λ (xs : List ℤ). sum_at xs c.from.result -ℤ sum_at xs c.resumption-from.result) c.deref-in-loop-edge-2.ensures.value
-    ∙ ap (λ (n : ℕ). sum_at sums n -ℤ sum_at sums c.resumption-from.result) c.from.ensures ∙ ap (λ (n : ℕ). sum_at sums b.start -ℤ sum_at sums n) from in
+    let step : sum_at sums c.from.result -ℤ sum_at sums c.resumption-from.result ≡ before_of sums rule list b =
+    ap (λ (n : ℕ). sum_at sums n -ℤ sum_at sums c.resumption-from.result) c.from.ensures ∙ ap (λ (n : ℕ). sum_at sums b.start -ℤ sum_at sums n) from in
     let fit : FitsSigned w64 (before_of sums rule list b) = fits_signed_from_abs w64 _ (omega (arith, fits.1)) in
-    let before : to_z w64 (of_z w64 c.stretch-before.result) ≡ before_of sums rule list b =
-    to_z-of_z w64 _ (record { sfits = c.stretch-before.type_inv }) ∙ c.stretch-before.ensures (subst (FitsSigned w64) (sym step) fit) ∙ step in
+    let before : to_z w64 (of_z w64 c.stretch_on-before.result) ≡ before_of sums rule list b =
+    to_z-of_z w64 _ (record { sfits = c.stretch_on-before.type_inv }) ∙ c.stretch_on-before.ensures (subst (FitsSigned w64) (sym step) fit) ∙ step in
     let v : ℤ = to_z w128 (of_z w128 c.earned_and.result) in
     let is : v ≡ before_of sums rule list b +ℤ w =
     to_z-of_z w128 _ (record { sfits = c.earned_and.type_inv }) ∙ c.earned_and.ensures ∙ ap (λ (z : ℤ). z +ℤ w) before in
@@ -97,7 +97,7 @@ loop-edge-preserved t c =
 
 -- all edges of the node are looked at
 all : (t : ℕ) (c : goal.In-Some t) → IsGreatest (Completes c.args.rests.now.rule.now c.args.rests.now.len c.args.list.now)
-    (whole_worth c.args.duties.now.cuts.now c.args.duties.now.prices.now c.args.duties.now.shift c.args.duties.now.day c.args.rests.now.sums.items c.args.rests.now.rule.now c.args.rests.now.len c.args.list.now) c.in-Some.value
+    (whole_worth c.args.duties.now.cuts.now c.args.duties.now.prices.now c.args.duties.now.shift c.args.duties.now.day (sums_on c.args.duties.now.day c.args.rests.now.sums.now) c.args.rests.now.rule.now c.args.rests.now.len c.args.list.now) c.in-Some.value
 all t c =
     let rule = c.args.rests.now.rule.now in
     let len = c.args.rests.now.len in
@@ -109,14 +109,14 @@ all t c =
     let node : n ≡ node_at nodes c.args.k = sym c.index-rests-k.is ∙ node_is nodes c.args.k c.index-rests-k.result within c.index-rests-k.is in
     let are : edges ≡ (node_at nodes c.args.k).edges = c.as_slice-edges.ensures ∙ ap (λ (n : Node). n.edges) node in
     let stops = all_stops rule len nodes c.args.k edges c.requires.graph within are c.loop-edge.edge-index list c.loop-edge-test.false c.requires.stands in
-    let worth : List Break → ℤ = whole_worth c.args.duties.now.cuts.now c.args.duties.now.prices.now c.args.duties.now.shift c.args.duties.now.day c.args.rests.now.sums.items rule len list in
+    let worth : List Break → ℤ = whole_worth c.args.duties.now.cuts.now c.args.duties.now.prices.now c.args.duties.now.shift c.args.duties.now.day (sums_on c.args.duties.now.day c.args.rests.now.sums.now) rule len list in
     greatest_some rule len list worth c.in-Some.value
     (subst (λ (bs : List Break). IsGreatestOf (Through rule len list bs) worth (Some c.in-Some.value)) stops
     (subst (IsGreatestOf (Through rule len list (map (λ (e : Edge). e.stop) (take c.loop-edge.edge-index edges))) worth) c.in-Some.is c.loop-edge.invariant))
 
 size : (t : ℕ) (c : goal.In-Some t) → unsigned_abs c.in-Some.value ≤ 2 ^ 74
 size t c =
-    greatest_whole_small c.args.duties.now.cuts.now c.args.duties.now.prices.now c.args.duties.now.shift c.args.duties.now.day c.args.rests.now.sums.items c.args.rests.now.rule.now c.args.rests.now.len c.args.list.now
+    greatest_whole_small c.args.duties.now.cuts.now c.args.duties.now.prices.now c.args.duties.now.shift c.args.duties.now.day (sums_on c.args.duties.now.day c.args.rests.now.sums.now) c.args.rests.now.rule.now c.args.rests.now.len c.args.list.now
     c.in-Some.value c.requires.sums c.requires.few c.requires.small (all t c)
 
 kept : (v : ℤ) → unsigned_abs v ≤ 2 ^ 74 → to_z w128 (of_z w128 v) ≡ v
@@ -125,7 +125,7 @@ kept v small = to_z-of_z w128 v (fits_signed_from_abs w128 v (omega arith))
 pub returns-in-Some-clause-greatest : goal.returns-in-Some-clause-greatest
 returns-in-Some-clause-greatest t c =
     subst (IsGreatest (Completes c.args.rests.now.rule.now c.args.rests.now.len c.args.list.now)
-    (whole_worth c.args.duties.now.cuts.now c.args.duties.now.prices.now c.args.duties.now.shift c.args.duties.now.day c.args.rests.now.sums.items c.args.rests.now.rule.now c.args.rests.now.len c.args.list.now))
+    (whole_worth c.args.duties.now.cuts.now c.args.duties.now.prices.now c.args.duties.now.shift c.args.duties.now.day (sums_on c.args.duties.now.day c.args.rests.now.sums.now) c.args.rests.now.rule.now c.args.rests.now.len c.args.list.now))
     (sym (kept c.in-Some.value (size t c))) (all t c)
 
 pub returns-in-Some-clause-size : goal.returns-in-Some-clause-size
@@ -139,7 +139,7 @@ returns-in-None-clause-greatest t c =
     let day = c.args.duties.now.day in
     let rule = c.args.rests.now.rule.now in
     let len = c.args.rests.now.len in
-    let sums = c.args.rests.now.sums.items in
+    let sums = sums_on c.args.duties.now.day c.args.rests.now.sums.now in
     let list = c.args.list.now in
     let nodes = c.args.rests.now.nodes.now in
     let edges = c.as_slice-edges.result.now in
@@ -152,9 +152,9 @@ returns-in-None-clause-greatest t c =
     let none : IsGreatestOf (Through rule len list (live_nexts rule len list)) worth None =
     subst (λ (bs : List Break). IsGreatestOf (Through rule len list bs) worth None) stops
     (subst (IsGreatestOf (Through rule len list (map (λ (e : Edge). e.stop) (take c.loop-edge.edge-index edges))) worth) c.in-None.is c.loop-edge.invariant) in
-    let v : ℤ = sum_at c.args.rests.now.values.items c.args.k in
+    let v : ℤ = sum_at (sums_on c.args.duties.now.day c.args.rests.now.values.items) c.args.k in
     let g = c.requires.values c.args.k list within c.requires.stands in
-    let read : to_z w64 (of_z w64 c.sum_before.result) ≡ v = to_z-of_z w64 _ (record { sfits = c.sum_before.type_inv }) ∙ c.sum_before.ensures ∙ ap (λ (xs : List ℤ). sum_at xs c.args.k) c.deref.ensures.value in
+    let read : to_z w64 (of_z w64 c.number_on.result) ≡ v = to_z-of_z w64 _ (record { sfits = c.number_on.type_inv }) ∙ c.number_on.ensures ∙ ap (λ (xs : List (List ℤ)). sum_at (sums_on c.args.duties.now.day xs) c.args.k) c.deref.ensures.value in
     let added : to_z w128 (of_z w128 c.bonuses.result) ≡ bonuses cuts prices (duty_with s day list) = to_z-of_z w128 _ (record { sfits = c.bonuses.type_inv }) ∙ c.bonuses.ensures.bonuses in
     let alone : to_z w128 (of_z w128 c.earned_and-alone.result) ≡ v +ℤ bonuses cuts prices (duty_with s day list) =
     to_z-of_z w128 _ (record { sfits = c.earned_and-alone.type_inv }) ∙ c.earned_and-alone.ensures ∙ ap (λ (z : ℤ). z +ℤ to_z w128 (of_z w128 c.bonuses.result)) read ∙ ap (λ (z : ℤ). v +ℤ z) added in

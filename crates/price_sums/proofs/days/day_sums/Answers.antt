@@ -7,7 +7,7 @@ use Rattle.shift_instance.specs.Worth.{price_of}
 use Rattle.price_sums.specs.Along.{sum_at, price_in}
 use Rattle.price_sums.specs.Days.{sums_on}
 use Rattle.price_sums.proofs.Prices.{price_small, next_size, last_sum, prices_more, sizes_more}
-use Rattle.price_sums.proofs.Lanes.{behind_slot, before_slot, sums_more}
+use Rattle.price_sums.proofs.Windows.{behind_slot, before_slot, sums_more}
 use Rattle.price_sums.proofs.days.day_sums.Goals as goal
 
 pub loop-preserved : goal.loop-preserved

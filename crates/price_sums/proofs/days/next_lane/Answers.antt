@@ -4,7 +4,7 @@ use Rattle.std.proofs.lemmas.Nat.{mod_below}
 use Rattle.shift_instance.specs.Worth.{price_of}
 use Rattle.price_sums.specs.Along.{sum_at}
 use Rattle.price_sums.proofs.Prices.{price_small}
-use Rattle.price_sums.proofs.Lanes.{behind_day, kept_sum, lane_more}
+use Rattle.price_sums.proofs.Windows.{behind_day, kept_sum, lane_more}
 use Rattle.price_sums.proofs.days.next_lane.Goals as goal
 
 pub loop-day-preserved : goal.loop-day-preserved

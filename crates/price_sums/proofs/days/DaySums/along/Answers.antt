@@ -8,7 +8,7 @@ use Rattle.shift_instance.specs.Worth.{price_of}
 use Rattle.price_sums.specs.Along.{ArePricesOf}
 use Rattle.price_sums.specs.Days.{Priced, sums_on, AreDaySums, AreSumsByDay}
 use Rattle.price_sums.proofs.Prices.{price_small, some_at}
-use Rattle.price_sums.proofs.Lanes.{window_price, window_size}
+use Rattle.price_sums.proofs.Windows.{window_price, window_size}
 use Rattle.price_sums.proofs.days.DaySums.along.Goals as goal
 
 module _ (p : Priced) (lanes : List (List ℤ)) (held : AreDaySums p lanes) (shift : Shift) (early : shift.start < 2 * day_slots p.instance) (short : shift.len ≤ day_slots p.instance) where

@@ -1,0 +1,13 @@
+use Rattle.std.proofs.Common.{ℕ, ◌<◌, ◌+◌, List, map, take}
+use Rattle.break_rules.specs.declared.Break.{Break}
+use Rattle.break_graph.specs.declared.Edge.{Edge}
+use Rattle.break_graph.specs.Graph.{StandsAt, node_at}
+use Rattle.price_sums.specs.Along.{sum_at, AreSums}
+use Rattle.price_sums.specs.Days.{sums_on}
+use Rattle.cert_check.specs.Rests.{worth_with_start, Through, AreValues, IsGreatest}
+use Rattle.cert_check.proofs.rests.most_with_start.Given as goal
+
+abbrev pub invariant-loop-edge : goal.invariant-loop-edge
+invariant-loop-edge l =
+    (day : ℕ) → day < 8 → AreSums l.len (sums_on day l.sums) → AreValues l.rule l.len (sums_on day l.sums) l.nodes l.k (sums_on day l.values) → (list : List Break) → StandsAt l.rule l.len l.nodes l.k list
+    → IsGreatest (Through l.rule l.len list (map (λ (e : Edge). e.stop) (take (l.edge-index + 1) (node_at l.nodes l.k).edges))) (worth_with_start (sums_on day l.sums) l.rule l.len list) (sum_at l.most day)

@@ -1,0 +1,26 @@
+use Rattle.std.proofs.Common.{◌≡◌, ℤ, ◌-ℤ◌, sym, ap, subst, ◌∙◌, arith, FitsSigned}
+use Rattle.std.specs.Int.{w64}
+use Rattle.std.proofs.lemmas.Int.{fits_signed_from_abs}
+use Rattle.break_rules.specs.Walk.{end_of_all}
+use Rattle.price_sums.specs.Along.{sum_at, resumes, Completes}
+use Rattle.price_sums.specs.Days.{sums_on}
+use Rattle.cert_check.specs.Rests.{rest_worth, IsGreatest}
+use Rattle.cert_check.proofs.Values.{node_is, resumes_at, greatest_small}
+use Rattle.cert_check.proofs.WithStart.{less_start}
+use Rattle.cert_check.proofs.rests.rest_lane.Goals as goal
+
+pub returns : goal.returns
+returns c = λ day less small known list st.
+    let rule = c.args.rule.now in
+    let len = c.args.len in
+    let nodes = c.args.nodes.now in
+    let sums = sums_on day c.args.sums.now in
+    let node = node_is nodes c.args.k c.index-nodes-k.result c.requires.node c.index-nodes-k.is in
+    let start : ℤ = sum_at sums (resumes rule (end_of_all list)) in
+    let from : sum_at c.lane_at.result.now day ≡ start = c.lane_at.ensures day ∙ ap (sum_at sums) (c.resumption.ensures ∙ resumes_at rule len nodes c.args.k c.index-nodes-k.result list node st) in
+    let most : ℤ = sum_at c.most_with_start-most.result day in
+    let g : IsGreatest (Completes rule len list) (rest_worth sums rule len list) (most -ℤ start) = less_start sums rule len list most (c.most_with_start-most.ensures day less small known list st) in
+    let size = greatest_small sums rule len list (most -ℤ start) small g in
+    let step : most -ℤ sum_at c.lane_at.result.now day ≡ most -ℤ start = ap (λ (z : ℤ). most -ℤ z) from in
+    let fit : FitsSigned w64 (most -ℤ start) = fits_signed_from_abs w64 _ (omega (arith, size)) in
+    subst (IsGreatest (Completes rule len list) (rest_worth sums rule len list)) (sym (c.lane_difference.ensures day less (subst (FitsSigned w64) (sym step) fit) ∙ step)) g

@@ -1,0 +1,27 @@
+use Rattle.std.proofs.Common.{◌≡◌, ◌+◌, ◌++◌, ◌∷◌, [], ℤ, List, length, length-append, sym, ap, subst, ◌∙◌, arith}
+use Rattle.price_sums.specs.Along.{sum_at}
+use Rattle.price_sums.specs.Days.{sums_on}
+use Rattle.price_sums.proofs.Windows.{sums_more}
+use Rattle.cert_check.specs.Rests.{AreValues}
+use Rattle.cert_check.proofs.WithStart.{values_more}
+use Rattle.std.proofs.lemmas.List.{length-map}
+use Rattle.cert_check.proofs.rests.rest_lanes.Goals as goal
+
+pub loop-k-preserved : goal.loop-k-preserved
+loop-k-preserved c =
+    let values = c.loop-k.values.items in
+    let x = c.rest_lane-value.result in
+    let i = c.loop-k.invariant in
+    let items : c.push.new.self.items ≡ values ++ x ∷ [] = c.in_ok-push.ensures.items in
+    record {
+      many = ap length items ∙ length-append values (x ∷ []) ∙ omega (arith, i.many);
+      known = λ day less small.
+          let sums = sums_on day c.args.sums.now in
+          let kept : c.deref.result.now ≡ values = c.deref.ensures.value in
+          let own = subst (λ (vs : List (List ℤ)). AreValues c.args.rule.now c.args.len sums c.args.nodes.now c.loop-k.k (sums_on day vs)) (sym kept) (i.known day less small) in
+          subst (AreValues c.args.rule.now c.args.len sums c.args.nodes.now (c.loop-k.k + 1)) (sym (ap (sums_on day) items ∙ sums_more values x day))
+          (values_more c.args.rule.now c.args.len sums c.args.nodes.now c.loop-k.k (sums_on day values) (sum_at x day) (length-map values (λ (lane : List ℤ). sum_at lane day) ∙ i.many) (i.known day less small) (c.rest_lane-value.ensures day less small own));
+    }
+
+pub returns : goal.returns
+returns c = λ day less small k list inside st. c.loop-k.invariant.known day less small k list (omega (arith, inside, c.loop-k-test.false)) st
