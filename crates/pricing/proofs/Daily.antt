@@ -39,7 +39,7 @@ some_nodes : (nodes : List Node) (k : ℕ) → k + 1 ≡ length nodes → nodes 
 some_nodes [] k h e = absurd (omega (arith, h))
 some_nodes (n ∷ ns) k h e = absurd (cc)
 
-opening_at : (rule : Rule) (len : ℕ) (nodes : List Node) (k : ℕ) → IsGraph rule len nodes → k + 1 ≡ length nodes → StandsAt rule len nodes k []
+pub opening_at : (rule : Rule) (len : ℕ) (nodes : List Node) (k : ℕ) → IsGraph rule len nodes → k + 1 ≡ length nodes → StandsAt rule len nodes k []
 opening_at rule len nodes k g last =
     let at : k ≡ length nodes - 1 = omega (arith, last) in
     subst (λ n. StandsAt rule len nodes n []) (sym at) (g.opening (some_nodes nodes k last))

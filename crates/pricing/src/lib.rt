@@ -1,6 +1,7 @@
 //! The best break list of a duty at given prices.
 #![tactic(auto)]
 
+mod day_lists;
 mod day_values;
 mod days;
 mod found;
@@ -8,5 +9,6 @@ mod rests;
 mod search;
 mod values;
 
+pub use day_lists::best_by_day;
 pub use days::most_by_day;
 pub use search::best_pattern;

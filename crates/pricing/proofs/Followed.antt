@@ -1,0 +1,66 @@
+-- The lists that are followed along a graph, day by day, are the best ones.
+use Rattle.std.proofs.Common.{◌≡◌, inl, inr, ℕ, ◌+◌, ◌<◌, ◌≤◌, ℤ, pos, get_or, List, [], ◌∷◌, ◌++◌, length, sym, ap, ◌∙◌, subst, arith, Some}
+use Rattle.std.specs.Prelude.{slice_get, IsSomeAnd}
+use Rattle.std.proofs.Math.ListN.{get_or-append}
+use Rattle.std.proofs.Math.Seq.{get_or-append_seam}
+use Rattle.std.proofs.lemmas.Bool.{cases_lt}
+use Rattle.break_rules.specs.declared.Break.{Break}
+use Rattle.break_rules.specs.declared.Rule.{Rule}
+use Rattle.break_rules.specs.Ranges.{IsRule}
+use Rattle.shift_instance.specs.declared.Shift.{Shift}
+use Rattle.shift_instance.specs.Problem.{Problem, shift_list}
+use Rattle.shift_instance.specs.Valid.{IsValid, IsShift}
+use Rattle.break_graph.specs.declared.Node.{Node}
+use Rattle.break_graph.specs.Graph.{IsGraph}
+use Rattle.price_sums.specs.Along.{AreSums}
+use Rattle.price_sums.specs.Days.{sums_on, AreSumsByDay}
+use Rattle.price_sums.proofs.Prices.{some_at}
+use Rattle.pricing.specs.Values.{AreValues, AreBestRests}
+use Rattle.pricing.specs.Days.{AreBestByDay, IsBestBy, best_at}
+use Rattle.pricing.proofs.Worths.{some_of, short_shift, best_is}
+
+-- the best lists of the days so far, and that of one day more
+pub bests_more : (P : ℕ → List Break × ℤ → Type 0) (bests : List (List Break × ℤ)) (best : List Break × ℤ) (many : ℕ) → length bests ≡ many → ((day : ℕ) → day < many → P day (best_at bests day)) → P many best
+    → (day : ℕ) → day < many + 1 → P day (best_at (bests ++ best ∷ []) day)
+bests_more P bests best many count before here day less =
+    elim (cases_lt day many) [
+      | inl l ↦ subst (P day) (sym (get_or-append bests (best ∷ []) ([], pos 0) day (omega arith))) (before day l)
+      | inr g ↦
+          let same : day ≡ many = omega arith in
+          subst (P day) (sym (ap (λ n. get_or (bests ++ best ∷ []) n ([], pos 0)) (same ∙ sym count) ∙ get_or-append_seam bests best [] ([], pos 0)))
+          (subst (λ n. P n best) (sym same) here)
+    ]
+
+-- what is known of the best rests along a shift, on each day
+pub rests_of_days : (i : Problem) (s : ℕ) (prices : List ℤ) (lanes values : List (List ℤ)) (shift : Shift) (rule : Rule) (nodes : List Node)
+    → IsSomeAnd (slice_get (shift_list i) s) (λ y. shift ≡ y.0) → IsRule rule → IsGraph rule shift.len nodes
+    → ((x : Shift × Rule) → slice_get (shift_list i) s ≡ Some x → AreSumsByDay i x.0 prices lanes)
+    → ((day : ℕ) → day < 8 → AreSums shift.len (sums_on day lanes) → AreValues rule shift.len (sums_on day lanes) nodes (length nodes) (sums_on day values))
+    → i.days ≤ 8 → (day : ℕ) → day < i.days → AreBestRests rule shift.len nodes (sums_on day lanes) (sums_on day values)
+rests_of_days i s prices lanes values shift rule nodes own_shift well graph of known few day less =
+    let some = some_of (slice_get (shift_list i) s) (λ y. shift ≡ y.0) own_shift in
+    let x = some.0 in
+    let same : shift ≡ x.0 = some_at (slice_get (shift_list i) s) x (λ y. shift ≡ y.0) some.1 own_shift in
+    let small : AreSums shift.len (sums_on day lanes) = subst (λ (z : Shift). AreSums z.len (sums_on day lanes)) (sym same) ((of x some.1).small day less) in
+    record { well_formed = well; graph = graph; small = small; known = known day (omega (arith, less, few)) small }
+
+-- the best lists for a shift's rule and length are the shift's
+pub bests_of_days : (i : Problem) (s : ℕ) (prices : List ℤ) (lanes : List (List ℤ)) (shift : Shift) (rule : Rule) (nodes : List Node) (bests : List (List Break × ℤ))
+    → IsSomeAnd (slice_get (shift_list i) s) (λ y. shift ≡ y.0) → IsSomeAnd (slice_get (shift_list i) s) (λ y. rule ≡ y.1) → IsValid i → IsShift i shift
+    → ((x : Shift × Rule) → slice_get (shift_list i) s ≡ Some x → AreSumsByDay i x.0 prices lanes)
+    → length bests ≡ i.days → ((day : ℕ) → day < i.days → IsBestBy rule shift.len nodes (sums_on day lanes) (best_at bests day))
+    → AreBestByDay i s prices i.days bests
+bests_of_days i s prices lanes shift rule nodes bests own_shift own_rule valid inside of many each =
+    let some = some_of (slice_get (shift_list i) s) (λ y. shift ≡ y.0) own_shift in
+    let x = some.0 in
+    let same_shift : shift ≡ x.0 = some_at (slice_get (shift_list i) s) x (λ y. shift ≡ y.0) some.1 own_shift in
+    let same_rule : rule ≡ x.1 = some_at (slice_get (shift_list i) s) x (λ y. rule ≡ y.1) some.1 own_rule in
+    record {
+      count = many;
+      each = λ day less.
+          let sums : List ℤ = sums_on day lanes in
+          let best = best_at bests day in
+          let own : IsBestBy x.1 x.0.len nodes sums best =
+          subst (λ (z : Shift). IsBestBy x.1 z.len nodes sums best) same_shift (subst (λ (r : Rule). IsBestBy r shift.len nodes sums best) same_rule (each day less)) in
+          best_is i s day prices sums x some.1 (short_shift i x.0 valid (subst (IsShift i) same_shift inside)) ((of x some.1).each day less) nodes [] best.0 best.1 own;
+    }

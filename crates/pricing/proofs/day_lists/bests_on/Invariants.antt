@@ -1,0 +1,10 @@
+use Rattle.std.proofs.Common.{◌≡◌, ◌<◌, ℕ, length}
+use Rattle.price_sums.specs.Days.{sums_on}
+use Rattle.pricing.specs.Days.{IsBestBy, best_at}
+use Rattle.pricing.proofs.day_lists.bests_on.Given as goal
+
+abbrev pub invariant-loop-day : goal.invariant-loop-day
+invariant-loop-day l = record {
+  many : length l.bests.items ≡ l.day;
+  done : (day : ℕ) → day < l.day → IsBestBy l.rests.rule.now l.rests.len l.rests.nodes.now (sums_on day l.rests.sums.now) (best_at l.bests.items day);
+}

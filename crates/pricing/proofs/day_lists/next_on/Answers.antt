@@ -1,0 +1,52 @@
+use Rattle.std.proofs.Common.{◌≡◌, ◌+ℤ◌, ℤ, List, [], get_or, sym, ap, subst, ◌∙◌, to_z, of_z, FitsSigned}
+use Rattle.std.specs.Prelude.{MatchOption}
+use Rattle.std.specs.Int.{w64}
+use Rattle.std.proofs.lemmas.Int.{to_z-of_z}
+use Rattle.std.proofs.lemmas.List.{get_or_default}
+use Rattle.break_rules.specs.Walk.{end_of_all}
+use Rattle.break_rules.proofs.Lists.{Has}
+use Rattle.break_graph.specs.declared.Edge.{Edge}
+use Rattle.break_graph.specs.declared.Node.{Node}
+use Rattle.break_graph.specs.Graph.{node_at}
+use Rattle.price_sums.specs.Along.{sum_at, resumes}
+use Rattle.price_sums.specs.Days.{sums_on}
+use Rattle.pricing.specs.Values.{reach_of, AreFit, IsFirstWith}
+use Rattle.pricing.proofs.Walks.{whole_fits, first_leads, leads_back}
+use Rattle.pricing.proofs.day_lists.next_on.Goals as goal
+
+pub returns-clause-leads : goal.returns-clause-leads
+returns-clause-leads c =
+    let s = c.args.rests.now in
+    let inv = c.requires.rests in
+    let day = c.args.day in
+    let rule = s.rule.now in
+    let sums = sums_on day s.sums.now in
+    let values = sums_on day s.values.now in
+    let nodes = s.nodes.now in
+    let at = c.args.at in
+    let node : get_or nodes at c.index-rests-at.result ≡ node_at nodes at = get_or_default nodes at c.index-rests-at.result (record { spot = record { offset = 0; used = 0; lunches = 0 }; edges = [] }) c.requires.at in
+    let edges : c.as_slice.result.now ≡ (node_at nodes at).edges = c.as_slice.ensures ∙ ap (λ (n : Node). n.edges) node in
+    let first : AreFit (reach_of sums values) (node_at nodes at).edges
+    → MatchOption c.first_reaching_on.result ((e : Edge) → Has (node_at nodes at).edges e → reach_of sums values e ≡ to_z w64 (of_z w64 c.total-whole.result) → ⊥) (λ e. (f : IsFirstWith (reach_of sums values) (node_at nodes at).edges (to_z w64 (of_z w64 c.total-whole.result))) × (f.edge ≡ e)) =
+    subst (λ (es : List Edge). AreFit (reach_of sums values) es → MatchOption c.first_reaching_on.result ((e : Edge) → Has es e → reach_of sums values e ≡ to_z w64 (of_z w64 c.total-whole.result) → ⊥) (λ e. (f : IsFirstWith (reach_of sums values) es (to_z w64 (of_z w64 c.total-whole.result))) × (f.edge ≡ e))) edges
+    c.first_reaching_on.ensures.first in
+    λ list st.
+    let start : to_z w64 (of_z w64 c.number_on-start.result) ≡ sum_at sums (resumes rule (end_of_all list)) =
+    to_z-of_z w64 c.number_on-start.result (record { sfits = c.number_on-start.type_inv }) ∙ c.number_on-start.ensures
+    ∙ ap (sum_at sums) (c.resumption.ensures ∙ ap (λ (n : Node). resumes rule n.spot.offset) node ∙ ap (λ p. resumes rule p.offset) st.spot) in
+    let value : to_z w64 (of_z w64 c.number_on.result) ≡ sum_at values at =
+    to_z-of_z w64 c.number_on.result (record { sfits = c.number_on.type_inv }) ∙ c.number_on.ensures in
+    let both : to_z w64 (of_z w64 c.number_on.result) +ℤ to_z w64 (of_z w64 c.number_on-start.result) ≡ sum_at values at +ℤ sum_at sums (resumes rule (end_of_all list)) =
+    ap (λ (z : ℤ). z +ℤ to_z w64 (of_z w64 c.number_on-start.result)) value ∙ ap (λ (z : ℤ). sum_at values at +ℤ z) start in
+    let whole : to_z w64 (of_z w64 c.total-whole.result) ≡ sum_at values at +ℤ sum_at sums (resumes rule (end_of_all list)) =
+    to_z-of_z w64 c.total-whole.result (record { sfits = c.total-whole.type_inv })
+    ∙ c.total-whole.ensures (subst (FitsSigned w64) (sym both) (whole_fits rule s.len sums nodes at values list inv.well_formed inv.graph inv.small inv.known st)) ∙ both in
+    first_leads rule s.len sums nodes at values list inv.well_formed inv.graph inv.small inv.known st c.first_reaching_on.result _ whole first
+
+pub returns-clause-back : goal.returns-clause-back
+returns-clause-back c =
+    let s = c.args.rests.now in
+    let node : get_or s.nodes.now c.args.at c.index-rests-at.result ≡ node_at s.nodes.now c.args.at = get_or_default s.nodes.now c.args.at c.index-rests-at.result (record { spot = record { offset = 0; used = 0; lunches = 0 }; edges = [] }) c.requires.at in
+    let edges : c.as_slice.result.now ≡ (node_at s.nodes.now c.args.at).edges = c.as_slice.ensures ∙ ap (λ (n : Node). n.edges) node in
+    leads_back s.rule.now s.len s.nodes.now c.args.at c.first_reaching_on.result c.requires.rests.graph c.requires.at
+    (subst (λ (es : List Edge). MatchOption c.first_reaching_on.result (Unit {0}) (Has es)) edges c.first_reaching_on.ensures.has)
