@@ -97,7 +97,7 @@ struct ByWalk {
 impl DayValues for ByWalk {
     ghost use Rattle.std.specs.Prelude.{◌≡◌};
 
-    ghost serves = { λ values i prices. values.sums ≡ record { instance = i; prices = prices.slots } };
+    ghost serves = { λ values i _ prices. values.sums ≡ record { instance = i; prices = prices.slots } };
 
     fn of_shift(
         &self,
