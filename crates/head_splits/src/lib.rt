@@ -4,6 +4,7 @@
 mod cuts;
 mod hint;
 pub mod laws;
+mod live;
 mod meeting;
 mod price_lists;
 mod ranges;
@@ -13,6 +14,7 @@ mod table;
 use break_rules::Breaks;
 pub use cuts::Cuts;
 pub use hint::Hint;
+pub use live::is_live_class;
 pub use meeting::{duties_in_class, meets};
 pub use price_lists::{CutPrices, SlotPrices};
 pub use ranges::{range, whole_range};

@@ -1,14 +1,10 @@
-//! Why plans and splits aren't allowed.
-ghost use Rattle.std.specs.Prelude.{◌≡◌, IfOk};
-ghost use Rattle.head_splits.specs.Settled.{is_live_class};
+//! Why plans aren't allowed.
+ghost use Rattle.std.specs.Prelude.{◌≡◌};
 ghost use Rattle.search_core.specs.Faults.{plan_fault};
 
 use crate::fault::StepFault;
-use break_rules::{NoMemory, live};
-use head_splits::Class;
 use rota_cost::{legal_rows, recount};
 use shift_instance::{Instance, Rows};
-use std::alloc::Global;
 
 /// Why rows with that cost aren't better than a best rota, if they aren't.
 pub(crate) fn plan_fault(
@@ -30,24 +26,4 @@ pub(crate) fn plan_fault(
         return Some(StepFault::NotBetter { best });
     }
     None
-}
-
-/// Whether some legal duty is of a class.
-pub(crate) fn is_live_class(
-    alloc: Global,
-    instance: &Instance,
-    class: &Class,
-) -> Result<bool, NoMemory>
-    ensures { IfOk result (λ answer. answer ≡ is_live_class instance.now class.now) }
-{
-    if instance.days() <= class.day || instance.shifts().len() <= usize::from(class.shift) {
-        return Ok(false);
-    }
-    let len = instance.shift(class.shift).len;
-    live(
-        alloc,
-        instance.rule_of(class.shift),
-        len,
-        class.prefix.as_slice(),
-    )
 }
