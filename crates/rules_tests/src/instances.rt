@@ -3,10 +3,11 @@
 ghost use Rattle.std.specs.Prelude.{◌<◌, length};
 ghost use Rattle.shift_instance.specs.Problem.{shift_list};
 
-use crate::fixtures::eighth;
-use break_rules::{NoMemory, Rule};
+use crate::fixtures::{eighth, short};
+use break_rules::{Break, NoMemory, Rule};
 use shift_instance::{Instance, Parts, TypeParts};
 use std::alloc::Global;
+use std::sync::Arc;
 use std::test::Fail;
 
 /// A type of shifts without breaks that start at slot 8 and have 4 slots.
@@ -64,5 +65,46 @@ fn graphs_are_kept(rt: HostRuntime) -> Result<(), Fail> {
     assert!(rt; instance.shifts().len() == 3);
     assert!(rt; node_count(&instance, 0) == 1 && node_count(&instance, 1) == 0);
     assert!(rt; node_count(&instance, 2) == 5);
+    Ok(())
+}
+
+/// Whether two shifts share one graph.
+fn share(instance: &Instance, shift: u16, other: u16) -> Result<bool, NoMemory>
+    requires first { shift < length (shift_list instance.now) }
+    requires second { other < length (shift_list instance.now) }
+{
+    let (first, second) = (instance.shared_graph(shift)?, instance.shared_graph(other)?);
+    match (first, second) {
+        (Some(first), Some(second)) => Ok(Arc::as_ptr(&first) == Arc::as_ptr(&second)),
+        _ => Ok(false),
+    }
+}
+
+// The shifts are those of two types with one rule, of 7 and 8 slots each, and one of 4 slots without breaks.
+#[test]
+fn types_of_one_rule_share_graphs(rt: HostRuntime) -> Result<(), Fail> {
+    let alloc = rt.alloc();
+    let mut late = day_type(alloc)?;
+    late.name = String::from_str(alloc, "L")?;
+    late.start_min = 9;
+    late.start_max = 9;
+    let types = vec![in alloc; day_type(alloc)?, late, type_of(alloc, "M")?]?;
+    let instance = Instance::new(alloc, morning(alloc, types)?)?;
+    assert!(rt; instance.shifts().len() == 5);
+    assert!(rt; share(&instance, 0, 2)? && share(&instance, 1, 3)?);
+    assert!(rt; !share(&instance, 0, 1)? && !share(&instance, 3, 4)?);
+    Ok(())
+}
+
+#[test]
+fn live_breaks_are_told(rt: HostRuntime) -> Result<(), Fail> {
+    let alloc = rt.alloc();
+    let types = vec![in alloc; day_type(alloc)?]?;
+    let instance = Instance::new(alloc, morning(alloc, types)?)?;
+    assert!(rt; instance.shifts().len() == 2);
+    assert!(rt; !instance.is_live(alloc, 0, &[])? && instance.is_live(alloc, 1, &[])?);
+    assert!(rt; instance.is_live(alloc, 1, &[short(3)])?);
+    let long = Break { start: 3, len: 2 };
+    assert!(rt; !instance.is_live(alloc, 1, &[long])?);
     Ok(())
 }
