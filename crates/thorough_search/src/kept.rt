@@ -5,11 +5,12 @@ use crate::prices::{SCALE, begin_prices, cut_prices, slot_prices};
 use crate::splits::{HeadSplit, NodeView, best_split};
 use advice::Ask;
 use break_rules::NoMemory;
+use greedy::greedy_plan;
 use head_splits::{CutPrices, Prices, SlotPrices};
 use plan_search::{Guide, PlanSearch};
 use price_climb::{Climb, Limits, Ranges};
-use rota_cost::{Costed, legal_rows};
-use shift_instance::Instance;
+use rota_cost::{Costed, cost_rows, legal_rows};
+use shift_instance::{Instance, Rows};
 use shift_tables::Tables;
 use std::alloc::Global;
 use std::cmp::OrderedFloat;
@@ -38,6 +39,10 @@ pub(crate) struct Kept {
     climb: Climb,
     /// What the cheapest plan of hints costs that was offered to the plan search.
     offered: u64,
+    /// Whether the greedy plan was made.
+    is_greedy_made: bool,
+    /// The rows of the greedy plan, where it wasn't advised yet.
+    greedy: Option<Rows>,
     /// The work on plans when the best one was found.
     work_at_best: u64,
     /// The work of climbs when plans were looked for last.
@@ -99,6 +104,8 @@ impl Kept {
             plans,
             climb,
             offered: u64::MAX,
+            is_greedy_made: false,
+            greedy: None,
             work_at_best: 0,
             climbed: 0,
         })
@@ -114,6 +121,18 @@ impl Kept {
         ensures { IfOk result (λ plan. IfSome plan (λ c. c.instance ≡ instance.now)) }
     {
         self.plans.best_plan(instance)
+    }
+
+    /// The greedy plan, with its cost, judged, where it was made and not taken out yet.
+    pub(crate) fn take_greedy(&mut self, instance: &Instance) -> Option<Costed>
+        ensures plan { IfSome result (λ c. c.instance ≡ instance.now) }
+        ensures text { self.new.text ≡ self.old.text }
+    {
+        let rows = self.greedy.take()?;
+        match cost_rows(instance, rows) {
+            Ok(plan) => Some(plan),
+            Err(_) => None,
+        }
     }
 
     /// Has the plan search go on from the hint's rows, where they are legal and cheaper than its best and than all that it was
@@ -156,6 +175,22 @@ impl Kept {
         if self.plans.best_cost() < before {
             self.work_at_best = self.plans.work();
         }
+        Ok(())
+    }
+
+    /// Makes the greedy plan and offers it to the plan search, once, and only where neither that search has a plan that is cheaper
+    /// than the best rota nor the best rota has a duty. Where a duty has too many breaks, the plan search doesn't take it.
+    fn make_greedy(&mut self, instance: &Instance, ask: &Ask) -> Result<(), NoMemory>
+        ensures { self.new.text ≡ self.old.text }
+    {
+        let is_plan_known = self.is_cheaper_than(ask.best) || !ask.hint.rows.as_slice().is_empty();
+        if self.is_greedy_made || is_plan_known {
+            return Ok(());
+        }
+        self.is_greedy_made = true;
+        let rows = greedy_plan(self.alloc, instance)?;
+        self.plans.offer(&self.tables, &rows)?;
+        self.greedy = Some(rows);
         Ok(())
     }
 
@@ -213,7 +248,8 @@ impl Kept {
         Ok(best_split(&self.tables, &view, room))
     }
 
-    /// Climbs for a node and searches for plans: the prices, and a split where the climb doesn't clearly close the node.
+    /// Climbs for a node and searches for plans, and makes the greedy plan where none is known: the prices, and a split where the
+    /// climb doesn't clearly close the node.
     pub(crate) fn look(
         &mut self,
         instance: &Instance,
@@ -226,6 +262,7 @@ impl Kept {
         let value = self.climb_from(ask, &ranges)?;
         self.guide_plans(ask)?;
         self.search_plans()?;
+        self.make_greedy(instance, ask)?;
         let prices = self.prices(&ranges, ask.cuts.len())?;
         let room = self.closing_value(ask.best) - value;
         if room <= -CLEAR {
