@@ -1,10 +1,11 @@
 //! The bound of a price set, by the values of the duties of its shifts.
-ghost use Rattle.std.specs.Prelude.{◌≡◌, ◌≤◌, ◌<◌, ◌^◌, ⊤, IfOk, IsTrue, MatchOption, length};
+ghost use Rattle.std.specs.Prelude.{◌≡◌, ◌≤◌, ◌<◌, ◌^◌, ⊤, List, IfOk, IsTrue, MatchOption, length};
 ghost use Rattle.std.specs.Int.RustNames.{unsigned_abs};
 ghost use Rattle.break_rules.specs.Sums.{int_sum_by};
 ghost use Rattle.shift_instance.specs.Problem.{Problem, below, shift_list};
 ghost use Rattle.shift_instance.specs.Rota.{lists_of};
 ghost use Rattle.shift_instance.specs.Valid.{IsValid};
+ghost use Rattle.head_splits.specs.declared.Cut.{Cut};
 ghost use Rattle.head_splits.specs.declared.Prices.{Prices};
 ghost use Rattle.head_splits.specs.Bound.{are_prices, bound_of, is_nil, term};
 ghost use Rattle.bound_sums.specs.Values.{AreValues};
@@ -18,8 +19,9 @@ use std::alloc::Global;
 
 /// A way to find what the duties of a shift are worth at prices.
 pub trait DayValues {
-    /// Whether it finds what duties of an instance are worth at these prices. A way that serves for all prices leaves this out.
-    ghost serves: { Self → Problem → Prices → Type 0 } = { λ _ _ _. ⊤ };
+    /// Whether it finds what duties of an instance are worth for these cuts and at these prices. A way that serves for all leaves
+    /// this out.
+    ghost serves: { Self → Problem → List Cut → Prices → Type 0 } = { λ _ _ _ _. ⊤ };
 
     /// The greatest reduced values of the duties of a shift, day by day, and `None` where no break list is legal.
     fn of_shift(
@@ -31,7 +33,7 @@ pub trait DayValues {
         shift: u16,
     ) -> Result<Option<Vec<i128>>, NoMemory>
         requires shift { shift < length (shift_list instance.now) }
-        requires serves { serves self.now instance.now prices.now }
+        requires serves { serves self.now instance.now cuts.now prices.now }
         requires few { length cuts.now ≤ 2 ^ 33 }
         requires passes { IsTrue (are_prices instance.now cuts.now prices.now) }
         ensures { IfOk result (λ found. MatchOption found (IsTrue (is_nil (lists_of instance.now shift))) (λ values. AreValues instance.now cuts.now prices.now shift instance.now.days values.items)) };
@@ -47,7 +49,7 @@ fn shift_term<V: DayValues>(
     shift: u16,
 ) -> Result<i128, NoMemory>
     requires shift { shift < length (shift_list instance.now) }
-    requires serves { V.serves values.now instance.now prices.now }
+    requires serves { V.serves values.now instance.now cuts.now prices.now }
     requires few { length cuts.now ≤ 2 ^ 33 }
     requires passes { IsTrue (are_prices instance.now cuts.now prices.now) }
     ensures term { IfOk result (λ z. z ≡ term instance.now cuts.now prices.now shift) }
@@ -67,7 +69,7 @@ fn terms<V: DayValues>(
     cuts: &Cuts,
     prices: &Prices,
 ) -> Result<i128, NoMemory>
-    requires serves { V.serves values.now instance.now prices.now }
+    requires serves { V.serves values.now instance.now cuts.now prices.now }
     requires few { length cuts.now ≤ 2 ^ 33 }
     requires passes { IsTrue (are_prices instance.now cuts.now prices.now) }
     ensures terms { IfOk result (λ z. z ≡ int_sum_by (term instance.now cuts.now prices.now) (below (length (shift_list instance.now)))) }
@@ -89,7 +91,7 @@ pub fn bound_by<V: DayValues>(
     prices: &Prices,
 ) -> Result<u64, NoMemory>
     requires valid { IsValid instance.now }
-    requires serves { V.serves values.now instance.now prices.now }
+    requires serves { V.serves values.now instance.now cuts.now prices.now }
     requires few { length cuts.now ≤ 2 ^ 33 }
     requires passes { IsTrue (are_prices instance.now cuts.now prices.now) }
     ensures { IfOk result (λ b. b ≡ bound_of instance.now cuts.now prices.now) }
