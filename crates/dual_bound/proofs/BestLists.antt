@@ -47,7 +47,7 @@ lt_false : (a b : ℤ) → int_lt a b ≡ false → b ≤ℤ a
 lt_false a b h = grind (arith, ints)
 
 -- a list that is the least of greatest worth is the best list
-best_found : (i : Problem) (cuts : List Cut) (prices : Prices) (s day : ℕ) (list : List Break) (value : ℤ) → IsBest i s day prices.slots (entries_of (zip cuts prices.cuts) s day) list value → best_list i cuts prices s day ≡ Some list
+pub best_found : (i : Problem) (cuts : List Cut) (prices : Prices) (s day : ℕ) (list : List Break) (value : ℤ) → IsBest i s day prices.slots (entries_of (zip cuts prices.cuts) s day) list value → best_list i cuts prices s day ≡ Some list
 unfolding best_list
 best_found i cuts prices s day list value b =
     let f : List Break → ℤ = value_with i cuts prices s day in

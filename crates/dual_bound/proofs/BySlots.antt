@@ -8,12 +8,15 @@ use Rattle.shift_instance.specs.Problem.{Problem}
 use Rattle.shift_instance.specs.Rota.{is_list_of, lists_of}
 use Rattle.shift_instance.specs.Valid.{IsValid}
 use Rattle.shift_instance.specs.Worth.{IsBest}
-use Rattle.pricing.specs.Days.{AreMostByDay, IsMostOn}
+use Rattle.pricing.specs.Days.{AreMostByDay, IsMostOn, AreBestByDay, best_at}
 use Rattle.head_splits.specs.declared.Cut.{Cut}
 use Rattle.head_splits.specs.declared.Prices.{Prices}
 use Rattle.head_splits.specs.Bound.{are_prices, entries_of, is_nil}
 use Rattle.bound_sums.specs.Values.{AreValues, IsValue}
 use Rattle.dual_bound.proofs.Entries.{entry_of, is_of}
+use Rattle.dual_bound.specs.BestLists.{IsBestOn}
+use Rattle.dual_bound.specs.Pricer.{AreBestsOf}
+use Rattle.dual_bound.proofs.BestLists.{best_found}
 use Rattle.dual_bound.proofs.Values.{nil_without, value_of_best}
 
 -- whether a cut is one of a shift, with some prefix
@@ -46,4 +49,22 @@ module _ (i : Problem) (cuts : List Cut) (prices : Prices) (s : ℕ) (valid : Is
       record {
         count = at_prices.count;
         each = λ day less. value_of_most day _ (at_prices.each day less);
+      }
+
+  -- the best list by the prices of slots is the best one
+  best_of_slots : (day : ℕ) (b : List Break × ℤ) → IsBest i s day prices.slots [] b.0 b.1 → IsBestOn i cuts prices s day b.0 b.1
+  best_of_slots day b best =
+      let own : IsBest i s day prices.slots (entries_of (zip cuts prices.cuts) s day) b.0 b.1 =
+      subst (λ (entries : List (List Break × ℤ)). IsBest i s day prices.slots entries b.0 b.1) (sym (entries_none cuts prices.cuts s day none)) best in
+      record { best = best_found i cuts prices s day b.0 b.1 own; valued = value_of_best i cuts prices s day b.0 b.1 valid h few own }
+
+  -- the best lists by the prices of slots, day by day, are the best ones, and without a list there is none
+  pub bests_of_slots : (slots : List ℤ) (found : Option (List (List Break × ℤ))) → slots ≡ prices.slots
+      → MatchOption found ((list : List Break) → is_list_of i s list ≡ false) (AreBestByDay i s slots i.days) → AreBestsOf i cuts prices s found
+  bests_of_slots slots None same no_list = nil_without i s no_list
+  bests_of_slots slots (Some bests) same best =
+      let at_prices : AreBestByDay i s prices.slots i.days bests = subst (λ (xs : List ℤ). AreBestByDay i s xs i.days bests) same best in
+      record {
+        count = at_prices.count;
+        each = λ day less. best_of_slots day (best_at bests day) (at_prices.each day less);
       }

@@ -5,3 +5,4 @@ pub mod Splitting
 pub mod Entries
 pub mod BestLists
 pub mod BySlots
+mod Kept

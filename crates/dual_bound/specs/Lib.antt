@@ -3,3 +3,4 @@ pub mod Proved
 pub mod Settling
 pub mod Fixing
 pub mod BestLists
+pub mod Pricer

@@ -4,12 +4,14 @@
 mod best_lists;
 mod faults;
 mod laws;
+mod pricer;
 mod proving;
 mod settling;
 mod terms;
 
 pub use best_lists::best_of_day;
 pub use laws::faultless_prices;
+pub use pricer::Pricer;
 pub use proving::{Proved, prove};
 pub use settling::{Fixing, SettledNode, settle};
 use std::error::Error;

@@ -81,7 +81,7 @@ fn is_on_prefix(cut: &Cut, shift: u16) -> bool
 }
 
 /// Whether some cut bounds duties of a shift that begin with some break.
-fn has_prefix(cuts: &Cuts, shift: u16) -> bool
+pub(crate) fn has_prefix(cuts: &Cuts, shift: u16) -> bool
     ensures { result ≡ list_any (λ c. not (is_nil c.class.prefix) && (shift == c.class.shift)) cuts.now }
 {
     cuts.as_slice().iter().any(|cut| is_on_prefix(cut, shift))

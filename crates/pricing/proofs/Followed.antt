@@ -19,16 +19,16 @@ use Rattle.pricing.specs.Values.{AreValues, AreBestRests}
 use Rattle.pricing.specs.Days.{AreBestByDay, IsBestBy, best_at}
 use Rattle.pricing.proofs.Worths.{some_of, short_shift, best_is}
 
--- the best lists of the days so far, and that of one day more
-pub bests_more : (P : ℕ → List Break × ℤ → Type 0) (bests : List (List Break × ℤ)) (best : List Break × ℤ) (many : ℕ) → length bests ≡ many → ((day : ℕ) → day < many → P day (best_at bests day)) → P many best
-    → (day : ℕ) → day < many + 1 → P day (best_at (bests ++ best ∷ []) day)
-bests_more P bests best many count before here day less =
-    elim (cases_lt day many) [
-      | inl l ↦ subst (P day) (sym (get_or-append bests (best ∷ []) ([], pos 0) day (omega arith))) (before day l)
+-- what holds of each of some elements by its place, and of one more behind them
+pub each_more : {X : Type 0} (P : ℕ → X → Type 0) (d : X) (xs : List X) (x : X) (many : ℕ) → length xs ≡ many → ((k : ℕ) → k < many → P k (get_or xs k d)) → P many x
+    → (k : ℕ) → k < many + 1 → P k (get_or (xs ++ x ∷ []) k d)
+each_more P d xs x many count before here k less =
+    elim (cases_lt k many) [
+      | inl l ↦ subst (P k) (sym (get_or-append xs (x ∷ []) d k (omega arith))) (before k l)
       | inr g ↦
-          let same : day ≡ many = omega arith in
-          subst (P day) (sym (ap (λ n. get_or (bests ++ best ∷ []) n ([], pos 0)) (same ∙ sym count) ∙ get_or-append_seam bests best [] ([], pos 0)))
-          (subst (λ n. P n best) (sym same) here)
+          let same : k ≡ many = omega arith in
+          subst (P k) (sym (ap (λ n. get_or (xs ++ x ∷ []) n d) (same ∙ sym count) ∙ get_or-append_seam xs x [] d))
+          (subst (λ n. P n x) (sym same) here)
     ]
 
 -- what is known of the best rests along a shift, on each day

@@ -10,4 +10,4 @@ pub mod Tries
 pub mod Beyond
 pub mod Worths
 mod Daily
-mod Followed
+pub mod Followed

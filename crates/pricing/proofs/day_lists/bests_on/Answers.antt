@@ -1,8 +1,8 @@
-use Rattle.std.proofs.Common.{◌≡◌, ◌++◌, ◌∷◌, [], ℕ, ℤ, List, length, length-append, sym, ap, subst, ◌∙◌, arith}
+use Rattle.std.proofs.Common.{◌≡◌, ◌++◌, ◌∷◌, [], ℕ, ℤ, pos, List, length, length-append, sym, ap, subst, ◌∙◌, arith}
 use Rattle.break_rules.specs.declared.Break.{Break}
 use Rattle.price_sums.specs.Days.{sums_on}
 use Rattle.pricing.specs.Days.{IsBestBy, best_at}
-use Rattle.pricing.proofs.Followed.{bests_more}
+use Rattle.pricing.proofs.Followed.{each_more}
 use Rattle.pricing.proofs.day_lists.bests_on.Goals as goal
 
 pub loop-day-preserved : goal.loop-day-preserved
@@ -16,5 +16,5 @@ loop-day-preserved c =
     let here : P c.loop-day.day best = subst (λ n. P n best) c.from-in-loop-day.ensures c.in_ok-best.ensures in
     record {
       many = ap length items ∙ length-append bests (best ∷ []) ∙ omega (arith, i.many);
-      done = λ day less. subst (λ (xs : List (List Break × ℤ)). P day (best_at xs day)) (sym items) (bests_more P bests best c.loop-day.day i.many i.done here day less);
+      done = λ day less. subst (λ (xs : List (List Break × ℤ)). P day (best_at xs day)) (sym items) (each_more P ([], pos 0) bests best c.loop-day.day i.many i.done here day less);
     }

@@ -1,0 +1,301 @@
+//! Prices with the best break lists at them, kept while the prices change.
+ghost use Rattle.std.specs.Prelude.{◌≡◌, ◌≤◌, ◌<◌, ◌^◌, IfOk, OnOk, OnErr, IsTrue, List, MatchOption, MatchResult, None, false, length, map};
+ghost use Rattle.break_rules.specs.declared.Break.{Break};
+ghost use Rattle.break_rules.specs.Causes.{first_cause};
+ghost use Rattle.shift_instance.specs.Problem.{shift_list};
+ghost use Rattle.shift_instance.specs.Rota.{is_list_of, lists_of};
+ghost use Rattle.shift_instance.specs.Valid.{IsValid};
+ghost use Rattle.head_splits.specs.Bound.{are_prices, bound_of, is_nil};
+ghost use Rattle.pricing.specs.Days.{AreBestByDay};
+ghost use Rattle.dual_bound.specs.BestLists.{IsBestOn};
+ghost use Rattle.dual_bound.specs.Faults.{Answers, price_causes};
+ghost use Rattle.dual_bound.specs.Pricer.{AreAllBests, AreBests, AreBestsOf, IsPriced};
+
+use crate::PriceFault;
+use crate::best_lists::best_of_day;
+use crate::faults::first_fault;
+use crate::terms::has_prefix;
+use bound_sums::{DayValues, bound_by};
+use break_rules::{Break, Breaks, NoMemory, Sequence};
+use head_splits::{Cuts, Prices};
+use price_sums::DaySums;
+use pricing::best_by_day;
+use shift_instance::Instance;
+use std::alloc::Global;
+use std::marker::Model;
+use std::snapshot::Snapshot;
+
+/// The best break lists of a shift, day by day, each with its reduced value.
+type ShiftBests = Sequence<(Breaks, i128)>;
+
+/// The best break lists of all shifts, one shift after another, with `None` where no list is legal.
+#[derive(Drop)]
+struct Bests {
+    shifts: Vec<Option<ShiftBests>>,
+}
+
+/// The best break lists of a shift on the first days, each by its own search, and `None` only where no list is legal.
+fn bests_by_lists(
+    alloc: Global,
+    instance: &Instance,
+    cuts: &Cuts,
+    prices: &Prices,
+    shift: u16,
+    days: u8,
+) -> Result<Option<ShiftBests>, NoMemory>
+    requires valid { IsValid instance.now }
+    requires shift { shift < length (shift_list instance.now) }
+    requires few { length cuts.now ≤ 2 ^ 33 }
+    requires passes { IsTrue (are_prices instance.now cuts.now prices.now) }
+    ensures { IfOk result (λ found. MatchOption found (IsTrue (is_nil (lists_of instance.now shift))) (AreBests instance.now cuts.now prices.now shift days)) }
+{
+    let mut bests = Vec::with_capacity(alloc, usize::from(days))?;
+    for day in 0..days {
+        let best = match best_of_day(alloc, instance, cuts, prices, shift, day)? {
+            Some(best) => best,
+            None => return Ok(None),
+        };
+        bests.push(best)?;
+    }
+    Ok(Some(Sequence::new(bests)))
+}
+
+/// The best break lists of a shift on all days, in one walk, where no cut bounds duties of it that begin with some break.
+fn bests_by_walk(
+    alloc: Global,
+    instance: &Instance,
+    shift: u16,
+    sums: &DaySums,
+) -> Result<Option<ShiftBests>, NoMemory>
+    requires shift { shift < length (shift_list instance.now) }
+    requires sums { sums.now.instance ≡ instance.now }
+    ensures { IfOk result (λ found. MatchOption found ((list : List Break) → is_list_of instance.now shift list ≡ false) (AreBestByDay instance.now shift sums.now.prices instance.now.days)) }
+{
+    match best_by_day(alloc, instance, shift, sums)? {
+        Some(bests) => Ok(Some(Sequence::new(bests))),
+        None => Ok(None),
+    }
+}
+
+/// The best break lists of a shift, and `None` where no list is legal. The sums are those of the slots' prices.
+fn shift_bests(
+    alloc: Global,
+    instance: &Instance,
+    cuts: &Cuts,
+    prices: &Prices,
+    sums: &DaySums,
+    shift: u16,
+) -> Result<Option<ShiftBests>, NoMemory>
+    requires shift { shift < length (shift_list instance.now) }
+    requires few { length cuts.now ≤ 2 ^ 33 }
+    requires passes { IsTrue (are_prices instance.now cuts.now prices.now) }
+    requires sums { sums.now ≡ record { instance = instance.now; prices = prices.now.slots } }
+    ensures bests { IfOk result (AreBestsOf instance.now cuts.now prices.now shift) }
+{
+    let days = instance.days();
+    if has_prefix(cuts, shift) {
+        return bests_by_lists(alloc, instance, cuts, prices, shift, days);
+    }
+    bests_by_walk(alloc, instance, shift, sums)
+}
+
+/// The best break lists of all shifts.
+fn all_bests(
+    alloc: Global,
+    instance: &Instance,
+    cuts: &Cuts,
+    prices: &Prices,
+) -> Result<Bests, NoMemory>
+    requires valid { IsValid instance.now }
+    requires few { length cuts.now ≤ 2 ^ 33 }
+    requires passes { IsTrue (are_prices instance.now cuts.now prices.now) }
+    ensures { IfOk result (λ bests. AreAllBests instance.now cuts.now prices.now bests.shifts.items) }
+{
+    let sums = DaySums::new(alloc, instance, prices.slots.as_slice())?;
+    let mut shifts = Vec::with_capacity(alloc, instance.shifts().len())?;
+    for shift in 0..instance.shifts().len() as u16 {
+        let bests = shift_bests(alloc, instance, cuts, prices, &sums, shift)?;
+        shifts.push(bests)?;
+    }
+    Ok(Bests { shifts })
+}
+
+/// The values alone.
+fn values_of(alloc: Global, bests: &[(Breaks, i128)]) -> Result<Vec<i128>, NoMemory>
+    ensures { IfOk result (λ values. values.items ≡ map (λ best. best.1) bests.now) }
+{
+    let mut values = Vec::with_capacity(alloc, bests.len())?;
+    for best in bests {
+        values.push(best.1)?;
+    }
+    Ok(values)
+}
+
+impl DayValues for Bests {
+    ghost use Rattle.dual_bound.specs.Pricer.{AreAllBests};
+
+    ghost serves = { λ bests i cuts prices. AreAllBests i cuts prices bests.shifts.items };
+
+    fn of_shift(
+        &self,
+        alloc: Global,
+        _instance: &Instance,
+        _cuts: &Cuts,
+        _prices: &Prices,
+        shift: u16,
+    ) -> Result<Option<Vec<i128>>, NoMemory> {
+        match &self.shifts[usize::from(shift)] {
+            Some(bests) => Ok(Some(values_of(alloc, bests.as_slice())?)),
+            None => Ok(None),
+        }
+    }
+}
+
+/// Best break lists with the bound that they give.
+#[derive(Drop)]
+struct Bounded {
+    bound: u64,
+    bests: Bests,
+}
+
+/// The best break lists of all shifts with the bound that they give.
+fn bests_with_bound(
+    alloc: Global,
+    instance: &Instance,
+    cuts: &Cuts,
+    prices: &Prices,
+) -> Result<Bounded, NoMemory>
+    requires valid { IsValid instance.now }
+    requires few { length cuts.now ≤ 2 ^ 33 }
+    requires passes { IsTrue (are_prices instance.now cuts.now prices.now) }
+    ensures { IfOk result (λ b. IsPriced (record { instance = instance.now; cuts = cuts.now; prices = prices.now }) b.bound b.bests.shifts.items) }
+{
+    let bests = all_bests(alloc, instance, cuts, prices)?;
+    let bound = bound_by(alloc, &bests, instance, cuts, prices)?;
+    Ok(Bounded { bound, bests })
+}
+
+/// The same, or the first fault of the prices.
+fn priced(
+    alloc: Global,
+    instance: &Instance,
+    cuts: &Cuts,
+    prices: &Prices,
+) -> Result<Bounded, PriceFault>
+    requires { length cuts.now ≤ 2 ^ 33 }
+    ensures ok { IfOk result (λ b. IsPriced (record { instance = instance.now; cuts = cuts.now; prices = prices.now }) b.bound b.bests.shifts.items) }
+    ensures fault { MatchResult result (λ _. first_cause (price_causes instance.now cuts.now prices.now) ≡ None) (λ e. Answers e (first_cause (price_causes instance.now cuts.now prices.now))) }
+{
+    match first_fault(instance, cuts, prices) {
+        Some(fault) => return Err(fault),
+        None => {}
+    }
+    match bests_with_bound(alloc, instance, cuts, prices) {
+        Ok(bounded) => Ok(bounded),
+        Err(_) => Err(PriceFault::NoMemory),
+    }
+}
+
+/// A price set for the cuts of a node, with its bound and with the best break list of each shift on each day at it. The prices
+/// may be changed, for the same cuts, and then all of it is of the new ones.
+#[derive(Drop)]
+pub struct Pricer {
+    alloc: Global,
+    cuts: Cuts,
+    prices: Prices,
+    bound: u64,
+    bests: Bests,
+    instance: Snapshot<Instance>,
+}
+
+impl Model for Pricer {
+    ghost use Rattle.dual_bound.specs.Pricer.{IsPriced, Pricing};
+
+    ghost Value = { Pricing };
+
+    ghost view = { λ p. record { instance = p.instance.value; cuts = p.cuts; prices = p.prices } };
+
+    ghost invariant = { λ p. IsPriced (record { instance = p.instance.value; cuts = p.cuts; prices = p.prices }) p.bound p.bests.shifts.items };
+}
+
+impl Pricer {
+    /// Prices an instance's duties for some cuts. It answers the first fault of the prices, in the order of
+    /// [`prove`](crate::prove), and where none applies only want of memory is left as a refusal.
+    pub fn new(
+        alloc: Global,
+        instance: &Instance,
+        cuts: &Cuts,
+        prices: Prices,
+    ) -> Result<Pricer, PriceFault>
+        requires { length cuts.now ≤ 2 ^ 33 }
+        ensures ok { IfOk result (λ p. p ≡ record { instance = instance.now; cuts = cuts.now; prices = prices }) }
+        ensures fault { MatchResult result (λ _. first_cause (price_causes instance.now cuts.now prices) ≡ None) (λ e. Answers e (first_cause (price_causes instance.now cuts.now prices))) }
+    {
+        let bounded = match priced(alloc, instance, cuts, &prices) {
+            Ok(bounded) => bounded,
+            Err(fault) => return Err(fault),
+        };
+        let Ok(cuts) = cuts.clone() else {
+            return Err(PriceFault::NoMemory);
+        };
+        let Bounded { bound, bests } = bounded;
+        Ok(Pricer {
+            alloc,
+            cuts,
+            prices,
+            bound,
+            bests,
+            instance: Snapshot::of(instance),
+        })
+    }
+
+    /// Changes the prices. It answers their first fault as [`new`](Pricer::new) does, and then nothing has changed.
+    pub fn reprice(&mut self, instance: &Instance, prices: Prices) -> Result<(), PriceFault>
+        requires { self.old.instance ≡ instance.now }
+        ensures ok { OnOk result (self.new ≡ record self.old { prices = prices }) }
+        ensures fault { MatchResult result (λ _. first_cause (price_causes instance.now self.old.cuts prices) ≡ None) (λ e. Answers e (first_cause (price_causes instance.now self.old.cuts prices))) }
+        ensures unchanged { OnErr result (self.new ≡ self.old) }
+    {
+        match priced(self.alloc, instance, &self.cuts, &prices) {
+            Ok(bounded) => {
+                let Bounded { bound, bests } = bounded;
+                self.prices = prices;
+                self.bound = bound;
+                self.bests = bests;
+                Ok(())
+            }
+            Err(fault) => Err(fault),
+        }
+    }
+
+    /// The prices, which are a price set for the cuts.
+    pub fn prices(&self) -> &Prices
+        ensures prices { result.now ≡ self.now.prices }
+        ensures passes { IsTrue (are_prices self.now.instance self.now.cuts self.now.prices) }
+    {
+        &self.prices
+    }
+
+    /// The bound of the prices. It takes no memory.
+    pub fn value(&self) -> u64
+        ensures { result ≡ bound_of self.now.instance self.now.cuts self.now.prices }
+    {
+        self.bound
+    }
+
+    /// The break list of greatest reduced value of a duty of a shift on a day, the least among equals, with that value, and
+    /// `None` where no list is legal. It takes no memory.
+    pub fn best(&self, shift: u16, day: u8) -> Option<(&[Break], i128)>
+        requires shift { shift < length (shift_list self.now.instance) }
+        requires day { day < self.now.instance.days }
+        ensures best { MatchOption result (IsTrue (is_nil (lists_of self.now.instance shift))) (λ b. IsBestOn self.now.instance self.now.cuts self.now.prices shift day b.0.now b.1) }
+    {
+        match &self.bests.shifts[usize::from(shift)] {
+            Some(bests) => {
+                let (list, value) = &bests.as_slice()[usize::from(day)];
+                Some((list.as_slice(), *value))
+            }
+            None => None,
+        }
+    }
+}
