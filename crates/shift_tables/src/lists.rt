@@ -4,8 +4,8 @@ use break_graph::{Edge, Graph};
 use break_rules::{Break, NoMemory};
 use std::alloc::Global;
 
-/// The most breaks of a duty that a search considers.
-pub const PAUSES: usize = 8;
+/// The most breaks of a duty that a search considers: some more than the best lists of five-minute slots have.
+pub const PAUSES: usize = 24;
 
 /// How many windows are valued in one walk along a graph.
 pub const LANES: usize = 8;

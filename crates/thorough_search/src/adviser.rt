@@ -49,18 +49,16 @@ fn rows_below(instance: &Instance, plan: Costed, best: u64) -> Option<Rows>
     None
 }
 
-/// The best plan of the search, or else the greedy one where that was made in this advice, if it is legal and cheaper than
-/// `best`.
+/// The greedy plan where it was made in this advice and the search has none that is cheaper, and else the best plan of the search,
+/// if it is legal and cheaper than `best`.
 fn cheaper_plan(kept: &mut Kept, instance: &Instance, best: u64) -> Result<Option<Rows>, NoMemory>
     ensures legal { IfOk result (λ plan. IfSome plan (λ rows. IsTrue (are_legal_rows instance.now rows))) }
     ensures cheaper { IfOk result (λ plan. IfSome plan (λ rows. cost instance.now (rota_of rows) < best)) }
     ensures text { kept.new.text ≡ kept.old.text }
 {
-    let greedy = kept.take_greedy(instance);
-    let plan = if kept.is_cheaper_than(best) {
-        kept.best_plan(instance)?
-    } else {
-        greedy
+    let plan = match kept.take_greedy(instance) {
+        Some(greedy) => Some(greedy),
+        None => kept.best_plan_below(instance, best)?,
     };
     match plan {
         Some(plan) => Ok(rows_below(instance, plan, best)),
@@ -125,8 +123,8 @@ impl Adviser for Thorough {
 
     /// Advises for a node: prices by a climb along rays from the hint's prices, the best plan so far where it is legal and cheaper
     /// than the best rota, and where the climb doesn't close the node the split of the duties of a shift on a day that promises
-    /// most. Where the search for plans has none yet and the best rota has no duty, it tries the greedy plan, once for an instance.
-    /// From then on it keeps something of this instance alone, and nothing where memory was wanting.
+    /// most. At first, where the best rota has no duty, it tries the greedy plan too. From then on it keeps something of this instance
+    /// alone, and nothing where memory was wanting.
     fn advise(&mut self, instance: &Instance, ask: &Ask) -> Result<Advice, NoMemory>
         ensures legal { IfOk result (λ a. IfSome a.plan (λ rows. IsTrue (are_legal_rows instance.now rows))) }
         ensures cheaper { IfOk result (λ a. IfSome a.plan (λ rows. cost instance.now (rota_of rows) < ask.now.best)) }

@@ -9,7 +9,7 @@ use greedy::greedy_plan;
 use head_splits::{CutPrices, Prices, SlotPrices};
 use plan_search::{Guide, PlanSearch};
 use price_climb::{Climb, Limits, Ranges};
-use rota_cost::{Costed, cost_rows, legal_rows};
+use rota_cost::{Costed, cost_rows, legal_rows, recount};
 use shift_instance::{Instance, Rows};
 use shift_tables::Tables;
 use std::alloc::Global;
@@ -112,14 +112,21 @@ impl Kept {
     }
 
     /// Whether the best plan so far is cheaper than a cost.
-    pub(crate) fn is_cheaper_than(&self, cost: u64) -> bool {
+    fn is_cheaper_than(&self, cost: u64) -> bool {
         self.plans.best_cost() < nearest_u64_to_f64(cost)
     }
 
-    /// The best plan so far, with its cost, judged.
-    pub(crate) fn best_plan(&self, instance: &Instance) -> Result<Option<Costed>, NoMemory>
+    /// The best plan of the search so far, with its cost, judged, where it is cheaper than a cost.
+    pub(crate) fn best_plan_below(
+        &self,
+        instance: &Instance,
+        cost: u64,
+    ) -> Result<Option<Costed>, NoMemory>
         ensures { IfOk result (λ plan. IfSome plan (λ c. c.instance ≡ instance.now)) }
     {
+        if !self.is_cheaper_than(cost) {
+            return Ok(None);
+        }
         self.plans.best_plan(instance)
     }
 
@@ -178,17 +185,19 @@ impl Kept {
         Ok(())
     }
 
-    /// Makes the greedy plan and offers it to the plan search, once, and only where neither that search has a plan that is cheaper
-    /// than the best rota nor the best rota has a duty. Where a duty has too many breaks, the plan search doesn't take it.
+    /// Makes the greedy plan, once and only where the best rota has no duty. Where the plan search has none that is cheaper, that plan
+    /// is kept to be advised, and offered to the search, which doesn't take it where a duty has too many breaks.
     fn make_greedy(&mut self, instance: &Instance, ask: &Ask) -> Result<(), NoMemory>
         ensures { self.new.text ≡ self.old.text }
     {
-        let is_plan_known = self.is_cheaper_than(ask.best) || !ask.hint.rows.as_slice().is_empty();
-        if self.is_greedy_made || is_plan_known {
+        if self.is_greedy_made || !ask.hint.rows.as_slice().is_empty() {
             return Ok(());
         }
         self.is_greedy_made = true;
         let rows = greedy_plan(self.alloc, instance)?;
+        if self.is_cheaper_than(recount(instance, &rows)) {
+            return Ok(());
+        }
         self.plans.offer(&self.tables, &rows)?;
         self.greedy = Some(rows);
         Ok(())
@@ -248,8 +257,8 @@ impl Kept {
         Ok(best_split(&self.tables, &view, room))
     }
 
-    /// Climbs for a node and searches for plans, and makes the greedy plan where none is known: the prices, and a split where the
-    /// climb doesn't clearly close the node.
+    /// Climbs for a node and searches for plans, with the greedy plan at first: the prices, and a split where the climb doesn't
+    /// clearly close the node.
     pub(crate) fn look(
         &mut self,
         instance: &Instance,

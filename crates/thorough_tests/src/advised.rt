@@ -21,10 +21,10 @@ const MORNING: &str =
 const TWO: &str =
     "{\"slot_minutes\":60,\"days\":1,\"need\":[0,0,0,0,0,0,0,0,1,1,1,1,0,0,0,0,0,0,0,0,0,0,0,0],\"max_heads\":2,\"weights\":{\"excess\":1,\"shortage\":2,\"shift\":3},\"types\":[{\"name\":\"M\",\"start_min\":8,\"start_max\":8,\"len_min\":4,\"len_max\":4,\"breaks\":null}]}";
 
-/// Hour slots of one day. The one shift has 19 hours from midnight on, in which an hour of work and an hour of break take turns, and at most
-/// one duty on a day; one employee is needed where it works. Excess costs 1, shortage 2 and the shift 3.
-const NINE_BREAKS: &str =
-    "{\"slot_minutes\":60,\"days\":1,\"need\":[1,0,1,0,1,0,1,0,1,0,1,0,1,0,1,0,1,0,1,0,0,0,0,0],\"max_heads\":1,\"weights\":{\"excess\":1,\"shortage\":2,\"shift\":3},\"types\":[{\"name\":\"L\",\"start_min\":0,\"start_max\":0,\"len_min\":19,\"len_max\":19,\"breaks\":{\"lead\":1,\"tail\":1,\"work_min\":1,\"work_max\":1,\"long_work\":1,\"long_rest\":1,\"size_min\":1,\"size_max\":1,\"totals\":[[19,9]],\"lunches\":[],\"resettle\":0}}]}";
+/// Slots of a quarter of an hour, of one day. The one shift has 51 slots from midnight on, in which a slot of work and a slot of break take
+/// turns, and at most one duty on a day; one employee is needed where it works. Excess costs 1, shortage 2 and the shift 3.
+const MANY_BREAKS: &str =
+    "{\"slot_minutes\":15,\"days\":1,\"need\":[1,0,1,0,1,0,1,0,1,0,1,0,1,0,1,0,1,0,1,0,1,0,1,0,1,0,1,0,1,0,1,0,1,0,1,0,1,0,1,0,1,0,1,0,1,0,1,0,1,0,1,0,0,0,0,0,0,0,0,0,0,0,0,0,0,0,0,0,0,0,0,0,0,0,0,0,0,0,0,0,0,0,0,0,0,0,0,0,0,0,0,0,0,0,0,0],\"max_heads\":1,\"weights\":{\"excess\":1,\"shortage\":2,\"shift\":3},\"types\":[{\"name\":\"L\",\"start_min\":0,\"start_max\":0,\"len_min\":51,\"len_max\":51,\"breaks\":{\"lead\":1,\"tail\":1,\"work_min\":1,\"work_max\":1,\"long_work\":1,\"long_rest\":1,\"size_min\":1,\"size_max\":1,\"totals\":[[51,25]],\"lunches\":[],\"resettle\":0}}]}";
 
 /// One cut: at least one duty of the shift.
 fn used(alloc: Global) -> Result<Cuts, NoMemory>
@@ -131,14 +131,14 @@ fn another_instance_is_begun_anew(rt: HostRuntime) -> Result<(), Fail> {
     Ok(())
 }
 
-// A duty has nine breaks, more than the search for plans puts into one, so the greedy plan is advised: the duty is just what is needed and
-// costs the shift, where the ten hours without anybody cost 20.
+// A duty has 25 breaks, more than the search for plans puts into one, so the greedy plan is advised: the duty is just what is needed and
+// costs the shift, where the 26 slots without anybody cost 52.
 #[test]
 fn the_greedy_plan_is_advised_where_the_search_has_none(rt: HostRuntime) -> Result<(), Fail> {
     let alloc = rt.alloc();
-    let instance = read(alloc, NINE_BREAKS.as_bytes())?;
+    let instance = read(alloc, MANY_BREAKS.as_bytes())?;
     let mut ask = asked(alloc, Cuts::new(Vec::new(alloc)));
-    ask.best = 20;
+    ask.best = 52;
     let advice = Thorough::new(alloc, 1).advise(&instance, &ask)?;
     assert_eq!(rt; seen_of(alloc, &instance, advice).cost, Some(3));
     Ok(())
