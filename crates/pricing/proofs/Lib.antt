@@ -1,5 +1,5 @@
 pub mod Best
-pub mod Steps
+pub mod ByEdges
 pub mod Fronts
 pub mod Walks
 pub mod Most
@@ -9,4 +9,5 @@ pub mod Leaving
 pub mod Tries
 pub mod Beyond
 pub mod Worths
+pub mod Behind
 mod Daily

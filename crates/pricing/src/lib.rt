@@ -7,7 +7,11 @@ mod found;
 mod lanes;
 mod rests;
 mod search;
+mod spots;
+mod steps;
 mod values;
 
 pub use days::most_by_day;
 pub use search::best_pattern;
+pub use spots::value_of_spot;
+pub use steps::Steps;
