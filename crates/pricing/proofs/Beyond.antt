@@ -18,7 +18,7 @@ use Rattle.pricing.specs.Rests.{IsBestRest}
 use Rattle.pricing.specs.Values.{Priced, rest_worth, IsValue, IsBestFrom}
 use Rattle.pricing.specs.Found.{IsLegal, worth_of, IsFound, Covers, Keeps, CoversFrom, CoversAlong, IsBestFound, leads_further}
 use Rattle.pricing.proofs.Best.{best_more}
-use Rattle.pricing.proofs.Steps.{same_worth}
+use Rattle.pricing.proofs.ByEdges.{same_worth}
 use Rattle.pricing.proofs.Covered.{keeps_from, best_found}
 use Rattle.pricing.proofs.Leaving.{covers_tail, all_covered, first_of, place_in}
 

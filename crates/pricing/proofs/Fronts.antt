@@ -12,7 +12,7 @@ use Rattle.break_rules.proofs.Reaching.{rest_first}
 use Rattle.break_graph.specs.declared.Edge.{Edge}
 use Rattle.break_graph.specs.declared.Node.{Node}
 use Rattle.break_graph.specs.Graph.{IsGraph, StandsAt, node_at}
-use Rattle.pricing.proofs.Steps.{has_place}
+use Rattle.pricing.proofs.ByEdges.{has_place}
 
 -- some legal list begins with the first of some breaks with which some legal list begins
 pub live_front : (rule : Rule) (len : ℕ) (xs ys : List Break) → is_live rule len (xs ++ ys) ≡ true → is_live rule len xs ≡ true

@@ -17,7 +17,7 @@ use Rattle.price_sums.specs.Along.{sum_at, price_in, earned_from, resumes, Compl
 use Rattle.pricing.specs.Values.{Priced, rest_worth, IsBestTail}
 use Rattle.pricing.specs.Found.{IsLegal, Covers, CoversFrom, IsLeaving, leads_further}
 use Rattle.pricing.proofs.Lesser.{less_behind}
-use Rattle.pricing.proofs.Steps.{worth_more}
+use Rattle.pricing.proofs.ByEdges.{worth_more}
 use Rattle.pricing.proofs.Covered.{covers_on}
 
 -- of two beginnings of a list one is a beginning of the other

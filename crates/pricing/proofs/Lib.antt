@@ -1,5 +1,5 @@
 pub mod Best
-pub mod Steps
+pub mod ByEdges
 pub mod Fronts
 pub mod Walks
 pub mod Most
@@ -9,5 +9,6 @@ pub mod Leaving
 pub mod Tries
 pub mod Beyond
 pub mod Worths
+pub mod Behind
 mod Daily
 pub mod Followed

@@ -20,7 +20,7 @@ has_got [] i x e = absurd (cc)
 has_got (y ∷ ys) zero x e = let s : y ≡ x = cc in inl s
 has_got (y ∷ ys) (suc i) x e = inr (has_got ys i x e)
 
-max_cases : (x y : ℤ) → (int_max x y ≡ x) ⊎ (int_max x y ≡ y)
+pub max_cases : (x y : ℤ) → (int_max x y ≡ x) ⊎ (int_max x y ≡ y)
 max_cases x y = cond_both (int_lt y x) x y (λ z. (z ≡ x) ⊎ (z ≡ y)) (λ t. inl refl) (λ f. inr refl)
 
 -- what some edge reaches, and no edge before a place exceeds

@@ -14,7 +14,7 @@ use Rattle.break_graph.specs.declared.Node.{Node}
 use Rattle.break_graph.specs.Graph.{IsGraph, StandsAt, node_at}
 use Rattle.price_sums.specs.Along.{sum_at, AreSums, resumes}
 use Rattle.pricing.specs.Values.{AreValues, reach_of, AreFit, IsFirstWith, LeadsOn, IsBestTail, IsBestFrom}
-use Rattle.pricing.proofs.Steps.{fits, leads_by, legal_without, best_at_end, value_size, has_place}
+use Rattle.pricing.proofs.ByEdges.{fits, leads_by, legal_without, best_at_end, value_size, has_place}
 use Rattle.break_rules.proofs.Sizes.{abs_add}
 
 module _ (rule : Rule) (len : ℕ) (sums : List ℤ) (nodes : List Node) (k : ℕ) (values : List ℤ) (list : List Break)

@@ -2,3 +2,4 @@ pub mod Rests
 pub mod Values
 pub mod Found
 pub mod Days
+pub mod Spots

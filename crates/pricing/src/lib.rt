@@ -7,8 +7,12 @@ mod days;
 mod found;
 mod rests;
 mod search;
+mod spots;
+mod steps;
 mod values;
 
 pub use day_lists::best_by_day;
 pub use days::most_by_day;
 pub use search::best_pattern;
+pub use spots::value_of_spot;
+pub use steps::Steps;

@@ -2,7 +2,7 @@ use Rattle.std.proofs.Common.{◌≡◌, ◌+◌, ◌++◌, ◌∷◌, [], ℤ, 
 use Rattle.price_sums.specs.Along.{sum_at}
 use Rattle.price_sums.specs.Days.{sums_on}
 use Rattle.pricing.specs.Values.{AreValues}
-use Rattle.pricing.proofs.Steps.{values_more, map-append}
+use Rattle.pricing.proofs.ByEdges.{values_more, map-append}
 use Rattle.std.proofs.lemmas.List.{length-map}
 use Rattle.pricing.proofs.day_values.set_values_by_day.Goals as goal
 

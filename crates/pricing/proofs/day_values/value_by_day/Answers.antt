@@ -9,7 +9,7 @@ use Rattle.std.proofs.lemmas.List.{get_or_default}
 use Rattle.price_sums.specs.Along.{sum_at, resumes}
 use Rattle.price_sums.specs.Days.{sums_on}
 use Rattle.pricing.specs.Values.{reach_of, AreFit, IsMostReached, IsValue}
-use Rattle.pricing.proofs.Steps.{fits, value_by_edges, value_at_end, value_small}
+use Rattle.pricing.proofs.ByEdges.{fits, value_by_edges, value_at_end, value_small}
 use Rattle.pricing.proofs.day_values.value_by_day.Goals as goal
 
 empty_or : (xs : List Edge) → (xs ≡ []) ⊎ (xs ≢ [])

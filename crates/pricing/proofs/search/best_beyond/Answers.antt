@@ -5,7 +5,7 @@ use Rattle.break_rules.proofs.Lists.{Has}
 use Rattle.break_graph.specs.declared.Edge.{Edge}
 use Rattle.break_graph.specs.Graph.{StandsAt, node_at}
 use Rattle.pricing.proofs.Most.{has_at}
-use Rattle.pricing.proofs.Steps.{behind_node, not_legal, map-append}
+use Rattle.pricing.proofs.ByEdges.{behind_node, not_legal, map-append}
 use Rattle.pricing.proofs.Beyond.{covers_next, covers_more, covers_nexts}
 use Rattle.pricing.proofs.search.best_beyond.Goals as goal
 

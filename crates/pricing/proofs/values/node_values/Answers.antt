@@ -2,7 +2,7 @@ use Rattle.std.proofs.Common.{◌≡◌, ◌+◌, ◌++◌, ◌∷◌, [], ℤ, 
 use Rattle.std.specs.Int.{w64}
 use Rattle.std.proofs.lemmas.Int.{to_z-of_z}
 use Rattle.pricing.specs.Values.{AreValues}
-use Rattle.pricing.proofs.Steps.{values_more}
+use Rattle.pricing.proofs.ByEdges.{values_more}
 use Rattle.pricing.proofs.values.node_values.Goals as goal
 
 pub loop-k-init : goal.loop-k-init

@@ -9,7 +9,7 @@ use Rattle.std.proofs.lemmas.List.{get_or_default}
 use Rattle.std.proofs.lemmas.Int.{to_z-of_z}
 use Rattle.price_sums.specs.Along.{sum_at, resumes}
 use Rattle.pricing.specs.Values.{reach_of, AreFit, IsMostReached, IsValue}
-use Rattle.pricing.proofs.Steps.{fits, value_by_edges, value_at_end, value_small}
+use Rattle.pricing.proofs.ByEdges.{fits, value_by_edges, value_at_end, value_small}
 use Rattle.pricing.proofs.values.value_of.Goals as goal
 
 empty_or : (xs : List Edge) → (xs ≡ []) ⊎ (xs ≢ [])
