@@ -16,7 +16,6 @@ pub use proving::{Proved, prove};
 pub use settling::{Fixing, SettledNode, settle};
 use std::error::Error;
 use std::fmt;
-pub use terms::best_values;
 
 /// Why prices aren't a price set for some cuts.
 #[derive(Clone, Copy, Debug, PartialEq, Eq, Drop)]

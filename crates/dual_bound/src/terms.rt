@@ -90,7 +90,7 @@ pub(crate) fn has_prefix(cuts: &Cuts, shift: u16) -> bool
 /// The greatest reduced values of the duties of a shift, day by day, and `None` where no break list is legal. The sums are those of
 /// the slots' prices. Where no cut bounds duties of the shift that begin with some break, all days are priced in one walk, and
 /// otherwise each by its best break list.
-pub fn best_values(
+fn best_values(
     alloc: Global,
     instance: &Instance,
     cuts: &Cuts,
