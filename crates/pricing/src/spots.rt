@@ -120,11 +120,11 @@ fn value_by_nexts(
     best
 }
 
-/// What a duty of a shift on a day earns at most from a spot on: the greatest price of the slots in which it works from there to
-/// the end of the shift, over the ways to go on to a legal break list. `None` where there is no such way. It goes by the values of
-/// the spots to which one break leads, which the caller has: each such spot from which some legal list goes on stands in `later`
-/// with its value. There is a price for each slot of the planning period, of at most 10^10 in size. It counts one step and takes no
-/// memory.
+/// What a duty of a shift on a day earns at most from a spot on: the greatest price of the slots in which it works from there
+/// to the end of the shift, over the ways to go on to a legal break list. `None` where there is no such way. It goes by the
+/// values of the spots to which one break leads, which the caller has: each such spot from which some legal list goes on
+/// stands in `later` with its value. There is a price for each slot of the planning period, of at most 10^10 in size. It
+/// counts one step and takes no memory.
 pub fn value_of_spot<L: Ledger>(
     instance: &Instance,
     shift: u16,
