@@ -15,11 +15,10 @@ ghost use Rattle.pricing.specs.Days.{AreBestByDay, IsBestBy, best_at};
 ghost use Rattle.pricing.specs.Values.{AreBestRests, AreFit, IsBestFrom, IsFirstWith, LeadsOn, reach_of};
 
 use crate::day_values::set_values_by_day;
-use crate::lanes::lane_at;
 use crate::values::total;
 use break_graph::{Edge, Graph, Node};
 use break_rules::{Break, Breaks, NoMemory, Rule};
-use price_sums::{DaySums, Lane, resumption};
+use price_sums::{DaySums, Lane, lane_at, resumption};
 use shift_instance::Instance;
 use std::alloc::Global;
 
