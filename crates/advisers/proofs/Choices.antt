@@ -1,12 +1,12 @@
 -- The solution that prices choose, found shift by shift and day by day.
-use Rattle.std.proofs.Common.{◌≡◌, ℕ, ◌+◌, ◌*◌, ℤ, pos, Bool, true, false, cond, ◌||◌, List, [], ◌∷◌, ◌++◌, length, replicate, append-nil, Option, Some, None, refl, sym, ap, ◌∙◌, subst}
-use Rattle.std.specs.Prelude.{int_lt, MatchOption}
+use Rattle.std.proofs.Common.{◌≡◌, ℕ, ◌+◌, ◌*◌, ℤ, pos, Bool, true, false, cond, ◌||◌, List, [], ◌∷◌, ◌++◌, length, map, replicate, append-nil, Option, Some, None, refl, sym, ap, ◌∙◌, subst}
+use Rattle.std.specs.Prelude.{int_lt}
 use Rattle.std.specs.Option.{option_map_or}
 use Rattle.std.specs.List.{find, flat_map}
 use Rattle.std.proofs.lemmas.Bool.{false≢true}
 use Rattle.std.proofs.lemmas.Grind.{flat_map-append}
 use Rattle.break_rules.specs.declared.Break.{Break}
-use Rattle.break_rules.specs.Sums.{int_sum_by}
+use Rattle.break_rules.specs.Sums.{greatest, int_sum_by}
 use Rattle.shift_instance.specs.declared.Duty.{Duty}
 use Rattle.shift_instance.specs.declared.Row.{Row}
 use Rattle.shift_instance.specs.Problem.{Problem, shift_list, below}
@@ -14,10 +14,12 @@ use Rattle.shift_instance.specs.Rota.{duty_of, lists_of, rota_of}
 use Rattle.head_splits.specs.declared.Cut.{Cut}
 use Rattle.head_splits.specs.declared.Prices.{Prices}
 use Rattle.head_splits.specs.Cuts.{low, high, whole_class}
-use Rattle.head_splits.specs.Bound.{best_value, free_day_value, is_forced, is_nil}
+use Rattle.head_splits.specs.Bound.{are_prices, best_value, free_day_value, is_forced, is_nil, reduced}
 use Rattle.bound_sums.specs.Values.{IsValue}
 use Rattle.greedy.specs.Greedy.{duty}
+use Rattle.dual_bound.specs.Pricer.{Pricing}
 use Rattle.dual_bound.specs.BestLists.{best_list, is_greatest, IsBestOn}
+use Rattle.advisers.specs.Chosen.{IsFor}
 use Rattle.advisers.specs.Solutions.{duties_of, duties_on, is_chosen, number_of, number_on, solution}
 use Rattle.advisers.proofs.Forcing.{flat_more_alone}
 
@@ -76,22 +78,6 @@ unfolding duties_on best_list
 duties_on_none i cuts prices s day e =
     ap (λ (lists : List (List Break)). option_map_or (λ l. replicate (number_on i cuts prices s day) (duty s day l)) (find (is_greatest i cuts prices s day) lists) []) (nil_is (lists_of i s) e)
 
-same_either : {X : Type 0} (b : Bool) (x : X) → cond b x x ≡ x
-same_either true x = refl
-same_either false x = refl
-
-no_lists : (i : Problem) (cuts : List Cut) (prices : Prices) (s : ℕ) → is_nil (lists_of i s) ≡ true → [] ≡ duties_of i cuts prices s
-unfolding duties_of
-no_lists i cuts prices s e =
-    sym (ap (λ (l : List Duty). cond (is_chosen i cuts prices s) l []) (none_flat (duties_on i cuts prices s) (below i.days) (λ day. duties_on_none i cuts prices s day e)) ∙ same_either (is_chosen i cuts prices s) [])
-
-pub no_rows : (i : Problem) (cuts : List Cut) (prices : Prices) (s : ℕ) (rows : List Row) → is_nil (lists_of i s) ≡ true → rows ≡ [] → rota_of rows ≡ duties_of i cuts prices s
-no_rows i cuts prices s rows none are = ap rota_of are ∙ no_lists i cuts prices s none
-
--- what is known where nothing was found
-pub at_none : {A : Type 0} (o : Option A) (P : Type 0) (Q : A → Type 0) → o ≡ None → MatchOption o P Q → P
-at_none o P Q is h = subst (λ (o : Option _). MatchOption o P Q) is h
-
 -- whether a shift is used, by the sums over its days
 pub chosen_is : (i : Problem) (cuts : List Cut) (prices : Prices) (s : ℕ) (used forced : Bool) (paid : ℕ) (free : ℤ) → used ≡ (forced || int_lt (pos paid) free) → forced ≡ is_forced i cuts s → paid ≡ prices.q * i.shift
     → free ≡ int_sum_by (free_day_value i cuts prices s) (below i.days) → used ≡ is_chosen i cuts prices s
@@ -117,3 +103,18 @@ shifts_more i cuts prices s rows more so_far are =
 pub solution_is : (i : Problem) (cuts : List Cut) (prices : Prices) (n : ℕ) (rota : List Duty) → rota ≡ flat_map (duties_of i cuts prices) (below n) → n ≡ length (shift_list i) → rota ≡ solution i cuts prices
 unfolding solution
 solution_is i cuts prices n rota are all = are ∙ ap (λ (k : ℕ). flat_map (duties_of i cuts prices) (below k)) all
+
+-- the greatest reduced value of a day without a legal list
+pub none_valued : (i : Problem) (cuts : List Cut) (prices : Prices) (s day : ℕ) → is_nil (lists_of i s) ≡ true → pos 0 ≡ best_value i cuts prices s day
+none_valued i cuts prices s day e =
+    sym (ap (λ (lists : List (List Break)). greatest (map (λ list. reduced i cuts prices (record { shift = s; day = day; breaks = list })) lists)) (nil_is (lists_of i s) e))
+
+-- the prices of a pricer are a price set for its cuts
+pub passes_of : (p : Pricing) (i : Problem) (cuts : List Cut) → IsFor p i cuts → are_prices p.instance p.cuts p.prices ≡ true → are_prices i cuts p.prices ≡ true
+passes_of p i cuts own passes =
+    subst (λ (cs : List Cut). are_prices i cs p.prices ≡ true) own.1 (subst (λ (j : Problem). are_prices j p.cuts p.prices ≡ true) own.0 passes)
+
+-- the best list of a pricer's
+pub best_of : (p : Pricing) (i : Problem) (cuts : List Cut) → IsFor p i cuts → (s day : ℕ) (list : List Break) (value : ℤ) → IsBestOn p.instance p.cuts p.prices s day list value → IsBestOn i cuts p.prices s day list value
+best_of p i cuts own s day list value best =
+    subst (λ (cs : List Cut). IsBestOn i cs p.prices s day list value) own.1 (subst (λ (j : Problem). IsBestOn j p.cuts p.prices s day list value) own.0 best)

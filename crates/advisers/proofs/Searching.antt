@@ -7,12 +7,10 @@ use Rattle.std.proofs.lemmas.Bool.{cases_Bool, cases_eq, lt-ltb, ltb-true, leb-t
 use Rattle.break_rules.proofs.Lists.{Has-below, from_below, any_at, any_some}
 use Rattle.shift_instance.specs.Problem.{Problem, below}
 use Rattle.head_splits.specs.declared.Cut.{Cut}
-use Rattle.head_splits.specs.declared.Prices.{Prices}
-use Rattle.head_splits.specs.Bound.{are_prices, bound_of}
 use Rattle.greedy.proofs.Leading.{find_none}
 use Rattle.advisers.specs.declared.rounds.Valued.{Valued}
 use Rattle.advisers.specs.Subgradient.{best_prices, first_prices, greatest_round, next_prices, prices_in, rounds_made, step_in, value_in}
-use Rattle.advisers.specs.Rounds.{IsRound, IsSearched, Leads, better}
+use Rattle.advisers.specs.Rounds.{IsRound, IsSearched, Leads, better, pricing_in, valued_of}
 
 not_less : (a b : ℕ) → b ≤ a → nat_lt a b ≡ false
 not_less a b h = grind arith
@@ -110,45 +108,39 @@ pub next_round : (i : Problem) (cuts : List Cut) (q round : ℕ) → prices_in i
 unfolding prices_in
 next_round i cuts q round = ap (prices_in i cuts q) (let e : round + 1 ≡ suc round = omega arith in e)
 
-pub is_round : (i : Problem) (cuts : List Cut) (q round : ℕ) (v : Valued) (prices : Prices) → v.prices ≡ prices → v.value ≡ bound_of i cuts prices → prices ≡ prices_in i cuts q round → IsRound i cuts q round v
-is_round i cuts q round v prices same value are = record {
-  prices = same ∙ are;
-  value = value ∙ ap (bound_of i cuts) are;
+-- a pricer of a round has the round's prices with their value
+pub round_of : (i : Problem) (cuts : List Cut) (q round : ℕ) (v : Valued) → v ≡ valued_of (pricing_in i cuts q round) → IsRound i cuts q round v
+round_of i cuts q round v same = record {
+  prices = ap (λ (w : Valued). w.prices) same;
+  value = ap (λ (w : Valued). w.value) same;
 }
 
-pub searched_first : (i : Problem) (cuts : List Cut) (q goal : ℕ) (now best : Valued) → IsRound i cuts q 0 now → are_prices i cuts now.prices ≡ true → best ≡ now → IsSearched i cuts q goal 0 now best
-searched_first i cuts q goal now best here passes same = record {
-  here = here;
-  passes = passes;
+pub searched_first : (i : Problem) (cuts : List Cut) (q goal : ℕ) (best : Valued) → IsRound i cuts q 0 best → IsSearched i cuts q goal 0 best
+searched_first i cuts q goal best here = record {
   leader = 0;
-  led = subst (λ (v : Valued). IsRound i cuts q 0 v) (sym same) here;
+  led = here;
   leads = leads_first (value_in i cuts q);
   short = λ k h. absurd (omega arith);
 }
 
-pub searched_next : (i : Problem) (cuts : List Cut) (q goal round : ℕ) (now best next new : Valued) → IsSearched i cuts q goal round now best → now.value < goal → IsRound i cuts q (round + 1) next → are_prices i cuts next.prices ≡ true
-    → new ≡ better best next → IsSearched i cuts q goal (round + 1) next new
-searched_next i cuts q goal round now best next new h below_goal there passes is =
+pub searched_next : (i : Problem) (cuts : List Cut) (q goal round : ℕ) (best next new : Valued) → IsSearched i cuts q goal round best → value_in i cuts q round < goal → IsRound i cuts q (round + 1) next
+    → new ≡ better best next → IsSearched i cuts q goal (round + 1) new
+searched_next i cuts q goal round best next new h below_goal there is =
     let value : ℕ → ℕ = value_in i cuts q in
-    let one : now.value ≡ value round = h.here.value in
     let two : best.value ≡ value h.leader = h.led.value in
     let three : next.value ≡ value (round + 1) = there.value in
     let short : (k : ℕ) → k < round + 1 → value k < goal = λ k l. elim (cases_eq k round) [
-      | inl e ↦ subst (λ (n : ℕ). value n < goal) (sym e) (omega arith)
+      | inl e ↦ subst (λ (n : ℕ). value n < goal) (sym e) below_goal
       | inr ne ↦ h.short k (omega arith)
     ] in
     elim (cases_Bool (nat_lt best.value next.value)) [
       | inl t ↦ record {
-        here = there;
-        passes = passes;
         leader = round + 1;
         led = subst (λ (v : Valued). IsRound i cuts q (round + 1) v) (sym (is ∙ ap (λ (b : Bool). cond b next best) t)) there;
         leads = leads_more value round h.leader h.leads (let m : best.value < next.value = ltb-true best.value next.value t in omega arith);
         short = short;
       }
       | inr e ↦ record {
-        here = there;
-        passes = passes;
         leader = h.leader;
         led = subst (λ (v : Valued). IsRound i cuts q h.leader v) (sym (is ∙ ap (λ (b : Bool). cond b next best) e)) h.led;
         leads = leads_still value round h.leader h.leads (let m : next.value ≤ best.value = no_less best.value next.value e in omega arith);
@@ -159,17 +151,16 @@ searched_next i cuts q goal round now best next new h below_goal there passes is
     no_less : (a b : ℕ) → nat_lt a b ≡ false → b ≤ a
     no_less a b e = grind arith
 
-pub searched_reached : (i : Problem) (cuts : List Cut) (q goal round most : ℕ) (now best : Valued) → IsSearched i cuts q goal round now best → goal ≤ now.value → round < most → best.prices ≡ best_prices i cuts q goal most
+pub searched_reached : (i : Problem) (cuts : List Cut) (q goal round most : ℕ) (best : Valued) → IsSearched i cuts q goal round best → goal ≤ value_in i cuts q round → round < most → best.prices ≡ best_prices i cuts q goal most
 unfolding best_prices
-searched_reached i cuts q goal round most now best h reached inside =
+searched_reached i cuts q goal round most best h reached inside =
     let value : ℕ → ℕ = value_in i cuts q in
-    let one : now.value ≡ value round = h.here.value in
-    let made : rounds_made value goal most ≡ round + 1 = made_at value goal most round h.short (omega arith) inside in
+    let made : rounds_made value goal most ≡ round + 1 = made_at value goal most round h.short reached inside in
     h.led.prices ∙ sym (ap (λ (n : ℕ). prices_in i cuts q (greatest_round value n)) made ∙ ap (prices_in i cuts q) (greatest_is value round h.leader h.leads))
 
-pub searched_last : (i : Problem) (cuts : List Cut) (q goal last most : ℕ) (now best : Valued) → IsSearched i cuts q goal last now best → most ≡ last + 1 → best.prices ≡ best_prices i cuts q goal most
+pub searched_last : (i : Problem) (cuts : List Cut) (q goal last most : ℕ) (best : Valued) → IsSearched i cuts q goal last best → most ≡ last + 1 → best.prices ≡ best_prices i cuts q goal most
 unfolding best_prices
-searched_last i cuts q goal last most now best h all =
+searched_last i cuts q goal last most best h all =
     let value : ℕ → ℕ = value_in i cuts q in
     h.led.prices
     ∙ sym (ap (λ (n : ℕ). prices_in i cuts q (greatest_round value (rounds_made value goal n))) all

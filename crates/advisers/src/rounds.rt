@@ -1,14 +1,13 @@
 //! The rounds of the subgradient method.
-ghost use Rattle.std.specs.Prelude.{◌≡◌, ◌<◌, ◌≤◌, ◌+◌, ◌^◌, pos, ◌*ℤ◌, IfOk, IsTrue, length};
+ghost use Rattle.std.specs.Prelude.{◌≡◌, ◌<◌, ◌≤◌, ◌+◌, ◌^◌, pos, ◌*ℤ◌, IfOk, OnOk, length};
 ghost use Rattle.std.specs.Int.RustNames.{unsigned_abs};
-ghost use Rattle.head_splits.specs.Bound.{are_prices, bound_of};
-ghost use Rattle.advisers.specs.Rounds.{IsRound, better};
+ghost use Rattle.advisers.specs.Rounds.{better, pricing_in, valued_of};
 ghost use Rattle.advisers.specs.Subgradient.{best_prices, first_prices, step_in};
 
 use crate::forced::forced_prices;
 use crate::stepping::next_prices;
 use break_rules::NoMemory;
-use dual_bound::prove;
+use dual_bound::Pricer;
 use head_splits::{CutPrices, Cuts, Prices, SlotPrices};
 use shift_instance::Instance;
 use std::alloc::{AllocError, Global};
@@ -59,25 +58,6 @@ fn copy_of(prices: &Prices) -> Result<Prices, NoMemory>
     Ok(copy)
 }
 
-/// The bound that prices give.
-fn value_of(
-    alloc: Global,
-    instance: &Instance,
-    cuts: &Cuts,
-    prices: &Prices,
-) -> Result<u64, NoMemory>
-    requires few { length cuts.now ≤ 2 ^ 33 }
-    requires passes { IsTrue (are_prices instance.now cuts.now prices.now) }
-    ensures { IfOk result (λ value. value ≡ bound_of instance.now cuts.now prices.now) }
-{
-    let cuts = cuts.clone()?;
-    match prove(alloc, instance, cuts, copy_of(prices)?) {
-        Ok(proved) => Ok(proved.bound()),
-        // these prices have no fault
-        Err(_) => Err(AllocError),
-    }
-}
-
 /// The step of a round at a scale.
 fn step_in(q: u16, round: u16) -> u16
     requires { round < 65535 }
@@ -87,73 +67,59 @@ fn step_in(q: u16, round: u16) -> u16
 }
 
 impl Valued {
-    /// Prices with their value.
-    fn of(
-        alloc: Global,
-        instance: &Instance,
-        cuts: &Cuts,
-        prices: Prices,
-    ) -> Result<Valued, NoMemory>
-        requires few { length cuts.now ≤ 2 ^ 33 }
-        requires passes { IsTrue (are_prices instance.now cuts.now prices) }
-        ensures prices { IfOk result (λ v. v.prices ≡ prices) }
-        ensures value { IfOk result (λ v. v.value ≡ bound_of instance.now cuts.now prices) }
+    /// A pricer's prices with their value.
+    fn of(pricer: &Pricer) -> Result<Valued, NoMemory>
+        ensures { IfOk result (λ v. v ≡ valued_of pricer.now) }
     {
-        let value = value_of(alloc, instance, cuts, &prices)?;
-        Ok(Valued { prices, value })
-    }
-
-    /// The prices of the first round.
-    fn first(alloc: Global, instance: &Instance, cuts: &Cuts, q: u16) -> Result<Valued, NoMemory>
-        requires few { length cuts.now ≤ 2 ^ 33 }
-        requires scale { (1 ≤ q) × (q ≤ 10000) }
-        ensures round { IfOk result (IsRound instance.now cuts.now q 0) }
-        ensures passes { IfOk result (λ v. IsTrue (are_prices instance.now cuts.now v.prices)) }
-    {
-        let prices = first_prices(alloc, instance, cuts, q)?;
-        let valued = Valued::of(alloc, instance, cuts, prices)?;
-        Ok(valued)
-    }
-
-    /// The prices of the round after this one.
-    fn next(
-        &self,
-        alloc: Global,
-        instance: &Instance,
-        cuts: &Cuts,
-        q: u16,
-        round: u16,
-    ) -> Result<Valued, NoMemory>
-        requires few { length cuts.now ≤ 2 ^ 33 }
-        requires not_last { round < 39 }
-        requires round { IsRound instance.now cuts.now q round self.now }
-        requires passes { IsTrue (are_prices instance.now cuts.now self.now.prices) }
-        ensures round { IfOk result (IsRound instance.now cuts.now q (round + 1)) }
-        ensures passes { IfOk result (λ v. IsTrue (are_prices instance.now cuts.now v.prices)) }
-    {
-        let prices = next_prices(alloc, instance, cuts, step_in(q, round), &self.prices)?;
-        let valued = Valued::of(alloc, instance, cuts, prices)?;
-        Ok(valued)
-    }
-
-    /// The same once more.
-    fn copy(&self) -> Result<Valued, NoMemory>
-        ensures { IfOk result (λ v. v ≡ self.now) }
-    {
-        let prices = copy_of(&self.prices)?;
+        let prices = copy_of(pricer.prices())?;
         Ok(Valued {
             prices,
-            value: self.value,
+            value: pricer.value(),
         })
     }
 }
 
-/// The better of the best prices so far and others: the others where they are worth more.
-fn better(best: Valued, other: &Valued) -> Result<Valued, NoMemory>
-    ensures { IfOk result (λ v. v ≡ better best other.now) }
+/// A pricer at the prices of the first round.
+fn first_round(alloc: Global, instance: &Instance, cuts: &Cuts, q: u16) -> Result<Pricer, NoMemory>
+    requires few { length cuts.now ≤ 2 ^ 33 }
+    requires scale { (1 ≤ q) × (q ≤ 10000) }
+    ensures { IfOk result (λ pricer. pricer ≡ pricing_in instance.now cuts.now q 0) }
 {
-    if best.value < other.value {
-        return other.copy();
+    let prices = first_prices(alloc, instance, cuts, q)?;
+    match Pricer::new(alloc, instance, cuts, prices) {
+        Ok(pricer) => Ok(pricer),
+        // these prices have no fault
+        Err(_) => Err(AllocError),
+    }
+}
+
+/// Brings a pricer to the prices of the round after its own.
+fn next_round(
+    alloc: Global,
+    instance: &Instance,
+    cuts: &Cuts,
+    q: u16,
+    round: u16,
+    pricer: &mut Pricer,
+) -> Result<(), NoMemory>
+    requires not_last { round < 39 }
+    requires round { pricer.old ≡ pricing_in instance.now cuts.now q round }
+    ensures { OnOk result (pricer.new ≡ pricing_in instance.now cuts.now q (round + 1)) }
+{
+    let prices = next_prices(alloc, instance, cuts, step_in(q, round), pricer)?;
+    match pricer.reprice(instance, prices) {
+        Ok(()) => Ok(()),
+        // these prices have no fault
+        Err(_) => Err(AllocError),
+    }
+}
+
+/// The better of the best prices so far and those of a pricer: the pricer's where they are worth more.
+fn better(best: Valued, pricer: &Pricer) -> Result<Valued, NoMemory>
+    ensures { IfOk result (λ v. v ≡ better best (valued_of pricer.now)) }
+{
+    if best.value < pricer.value() {
+        return Valued::of(pricer);
     }
     Ok(best)
 }
@@ -171,17 +137,15 @@ pub(crate) fn best_prices(
     requires scale { (1 ≤ q) × (q ≤ 10000) }
     ensures { IfOk result (λ prices. prices ≡ best_prices instance.now cuts.now q goal 40) }
 {
-    let first = Valued::first(alloc, instance, cuts, q)?;
-    let mut best = first.copy()?;
-    let mut now = first;
+    let mut pricer = first_round(alloc, instance, cuts, q)?;
+    let mut best = Valued::of(&pricer)?;
     for round in 0..STEPS {
-        if goal <= now.value {
+        if goal <= pricer.value() {
             return Ok(best.prices);
         }
-        let next = now.next(alloc, instance, cuts, q, round)?;
-        let leader = better(best, &next)?;
+        next_round(alloc, instance, cuts, q, round, &mut pricer)?;
+        let leader = better(best, &pricer)?;
         best = leader;
-        now = next;
     }
     Ok(best.prices)
 }

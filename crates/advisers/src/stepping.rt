@@ -1,17 +1,17 @@
 //! Prices after a step, by the solution that they choose.
-ghost use Rattle.std.specs.Prelude.{◌≡◌, ℕ, ◌<◌, ◌≤◌, ◌+◌, ◌*◌, ◌^◌, pos, neg_ℤ, ◌+ℤ◌, ◌-ℤ◌, ◌*ℤ◌, IfOk, IsTrue, List, length, map, slice_index, if◌then◌else◌};
+ghost use Rattle.std.specs.Prelude.{◌≡◌, ℕ, ◌<◌, ◌≤◌, ◌+◌, ◌*◌, ◌^◌, pos, neg_ℤ, ◌+ℤ◌, ◌-ℤ◌, ◌*ℤ◌, IfOk, List, length, map, slice_index, if◌then◌else◌};
 ghost use Rattle.std.specs.List.{zip};
 ghost use Rattle.std.specs.Int.RustNames.{unsigned_abs};
 ghost use Rattle.shift_instance.specs.declared.Duty.{Duty};
 ghost use Rattle.shift_instance.specs.Problem.{below, shift_list, slots};
 ghost use Rattle.shift_instance.specs.Rota.{cover, duty_of, rota_of, works};
 ghost use Rattle.shift_instance.specs.Worth.{price_of};
-ghost use Rattle.head_splits.specs.Bound.{are_prices};
-ghost use Rattle.advisers.specs.Chosen.{AreRows};
+ghost use Rattle.advisers.specs.Chosen.{AreRows, IsFor};
 ghost use Rattle.advisers.specs.Subgradient.{brought_into, next_cut_price, next_prices, next_slot_price, stepped};
 
 use crate::choosing::solution;
 use break_rules::NoMemory;
+use dual_bound::Pricer;
 use head_splits::{CUT_PRICE_MAX, Cut, CutPrices, Cuts, Prices, Side, SlotPrices, duties_in_class};
 use patterns::works;
 use shift_instance::{Instance, Row};
@@ -161,20 +161,20 @@ fn next_cut_prices(
     Ok(next)
 }
 
-/// The prices after a step.
+/// The prices after a step from those of a pricer.
 pub(crate) fn next_prices(
     alloc: Global,
     instance: &Instance,
     cuts: &Cuts,
     step: u16,
-    prices: &Prices,
+    pricer: &Pricer,
 ) -> Result<Prices, NoMemory>
-    requires few { length cuts.now ≤ 2 ^ 33 }
-    requires passes { IsTrue (are_prices instance.now cuts.now prices.now) }
-    ensures { IfOk result (λ next. next ≡ next_prices instance.now cuts.now step prices.now) }
+    requires { IsFor pricer.now instance.now cuts.now }
+    ensures { IfOk result (λ next. next ≡ next_prices instance.now cuts.now step pricer.now.prices) }
 {
-    let chosen = solution(alloc, instance, cuts, prices)?;
+    let chosen = solution(alloc, instance, cuts, pricer)?;
     let rows = chosen.as_slice();
+    let prices = pricer.prices();
     let slots = next_slot_prices(
         alloc,
         instance,

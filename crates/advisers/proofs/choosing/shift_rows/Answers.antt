@@ -1,18 +1,14 @@
 use Rattle.std.proofs.Common.{sym, ap, ◌∙◌}
 use Rattle.shift_instance.specs.Rota.{rota_of}
 use Rattle.head_splits.proofs.Walked.{map_ok}
-use Rattle.advisers.proofs.Choices.{all_used, at_none, no_rows, unused}
+use Rattle.advisers.proofs.Choices.{all_used, unused}
 use Rattle.advisers.proofs.choosing.shift_rows.Goals as goal
-
-pub returns-in-None-clause-duties : goal.returns-in-None-clause-duties
-returns-in-None-clause-duties c =
-    no_rows c.args.instance.now c.args.cuts.now c.args.prices.now c.args.shift c.new.result.items (at_none c.in_ok-values.field-0 _ _ c.in-None.is c.in_ok-values.ensures.values) c.new.ensures.items
 
 pub returns-then-is_used-clause-duties : goal.returns-then-is_used-clause-duties
 returns-then-is_used-clause-duties c =
     map_ok c.used_rows.result _ _ c.used_rows.ensures.duties
-    (λ rows are. all_used c.args.instance.now c.args.cuts.now c.args.prices.now c.args.shift (sym c.is_used.ensures ∙ c.if-is_used.true) (rota_of rows.items) are)
+    (λ rows are. all_used c.args.instance.now c.args.cuts.now c.args.pricer.now.prices c.args.shift (sym c.is_used.ensures ∙ c.if-is_used.true) (rota_of rows.items) are)
 
-pub returns-clause-duties : goal.returns-clause-duties
-returns-clause-duties c =
-    ap rota_of c.new-else-is_used.ensures.items ∙ unused c.args.instance.now c.args.cuts.now c.args.prices.now c.args.shift (sym c.is_used.ensures ∙ c.if-is_used.false)
+pub returns-else-is_used-clause-duties : goal.returns-else-is_used-clause-duties
+returns-else-is_used-clause-duties c =
+    ap rota_of c.new.ensures.items ∙ unused c.args.instance.now c.args.cuts.now c.args.pricer.now.prices c.args.shift (sym c.is_used.ensures ∙ c.if-is_used.false)

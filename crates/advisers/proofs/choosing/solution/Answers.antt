@@ -1,16 +1,10 @@
-use Rattle.std.proofs.Common.{◌≡◌, ◌≤◌, ◌<◌, ◌*◌, List, ◌++◌, length, length-append, sym, ap, ◌∙◌, subst, arith}
+use Rattle.std.proofs.Common.{◌≡◌, ◌≤◌, ◌<◌, ◌*◌, List, ◌++◌, length, length-append, ap, ◌∙◌, arith}
 use Rattle.std.proofs.lemmas.List.Elements.{All-append, All-same}
 use Rattle.shift_instance.specs.declared.Row.{Row}
 use Rattle.shift_instance.specs.Problem.{shift_list}
 use Rattle.shift_instance.specs.Rota.{rota_of}
-use Rattle.price_sums.specs.Along.{AreSmallPrices}
-use Rattle.bound_sums.proofs.Priced.{slots_small}
 use Rattle.advisers.proofs.Choices.{shifts_more, solution_is}
 use Rattle.advisers.proofs.choosing.solution.Goals as goal
-
-pub new-requires-clause-prices : goal.new-requires-clause-prices
-new-requires-clause-prices c =
-    subst AreSmallPrices (sym c.as_slice.ensures) (slots_small c.args.instance.now c.args.cuts.now c.args.prices.now c.shifts.ensures.valid c.requires.passes)
 
 pub loop-shift-preserved : goal.loop-shift-preserved
 loop-shift-preserved c =
@@ -21,7 +15,7 @@ loop-shift-preserved c =
     let few : length rows ≤ c.loop-shift.shift * 7 = c.loop-shift.invariant.few in
     let some : length more ≤ 7 = c.in_ok-more.ensures.few in
     record {
-      rota = ap rota_of pushed ∙ shifts_more i c.args.cuts.now c.args.prices.now c.loop-shift.shift rows more c.loop-shift.invariant.rota c.in_ok-more.ensures.duties;
+      rota = ap rota_of pushed ∙ shifts_more i c.args.cuts.now c.args.pricer.now.prices c.loop-shift.shift rows more c.loop-shift.invariant.rota c.in_ok-more.ensures.duties;
       known = All-same (λ (r : Row). r.shift < length (shift_list i)) c.add_rows.new.rows.items (rows ++ more) pushed
           (All-append (λ (r : Row). r.shift < length (shift_list i)) rows more c.loop-shift.invariant.known c.in_ok-more.ensures.known);
       few = omega (arith, ap length pushed, length-append rows more);
@@ -30,4 +24,4 @@ loop-shift-preserved c =
 pub returns-clause-duties : goal.returns-clause-duties
 returns-clause-duties c =
     let i = c.args.instance.now in
-    solution_is i c.args.cuts.now c.args.prices.now c.loop-shift.shift (rota_of c.loop-shift.rows.items) c.loop-shift.invariant.rota (omega (arith, c.shifts.ensures.count))
+    solution_is i c.args.cuts.now c.args.pricer.now.prices c.loop-shift.shift (rota_of c.loop-shift.rows.items) c.loop-shift.invariant.rota (omega (arith, c.shifts.ensures.count))

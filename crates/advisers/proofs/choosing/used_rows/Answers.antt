@@ -1,29 +1,12 @@
-use Rattle.std.proofs.Common.{◌≡◌, ◌≤◌, ◌<◌, ◌^◌, ℕ, ℤ, pos, List, ◌++◌, Option, Some, None, length, length-append, get_or, sym, ap, ◌∙◌, subst, arith}
-use mir.Syntax.{w128}
+use Rattle.std.proofs.Common.{◌≡◌, ◌≤◌, ◌<◌, ℕ, List, ◌++◌, Option, Some, None, length, length-append, ap, ◌∙◌, arith}
 use Rattle.std.specs.List.{flat_map}
 use Rattle.std.specs.Option.{option_to_list}
-use Rattle.std.proofs.lemmas.Int.{to_z-of_z}
 use Rattle.std.proofs.lemmas.List.Elements.{All-append, All-same}
 use Rattle.shift_instance.specs.declared.Row.{Row}
 use Rattle.shift_instance.specs.Problem.{below, shift_list}
-use Rattle.bound_sums.specs.Values.{IsValue}
-use Rattle.bound_sums.proofs.Sizes.{fits}
 use Rattle.advisers.specs.Solutions.{duties_on}
 use Rattle.advisers.proofs.Choices.{rows_more}
 use Rattle.advisers.proofs.choosing.used_rows.Goals as goal
-
-pub day_row-requires-clause-value : goal.day_row-requires-clause-value
-day_row-requires-clause-value c =
-    let i = c.args.instance.now in
-    let cuts = c.args.cuts.now in
-    let prices = c.args.prices.now in
-    let s = c.args.shift in
-    let day = c.loop-day.day in
-    let end = c.days-day-end.ensures.days in
-    let inside = c.loop-day-test.true in
-    let v : ℤ = get_or c.args.values.now c.from.result (pos 0) in
-    let value : IsValue i cuts prices s day v = subst (λ (n : ℕ). IsValue i cuts prices s day (get_or c.args.values.now n (pos 0))) (sym c.from.ensures) (c.requires.values.each day (omega arith)) in
-    subst (IsValue i cuts prices s day) (sym (to_z-of_z w128 v (fits v (2 ^ 74) value.small (omega arith)))) value
 
 at_most_one : (row : Option Row) → length (option_to_list row) ≤ 1
 at_most_one None = omega arith
@@ -38,7 +21,7 @@ loop-day-preserved c =
     let few : length rows ≤ c.loop-day.day = c.loop-day.invariant.few in
     let one : length more ≤ 1 = at_most_one c.in_ok-row.row in
     record {
-      rota = rows_more i c.args.cuts.now c.args.prices.now c.args.shift c.loop-day.day rows more c.add_row.new.rows.items c.loop-day.invariant.rota c.in_ok-row.ensures.duties pushed;
+      rota = rows_more i c.args.cuts.now c.args.pricer.now.prices c.args.shift c.loop-day.day rows more c.add_row.new.rows.items c.loop-day.invariant.rota c.in_ok-row.ensures.duties pushed;
       known = All-same (λ (r : Row). r.shift < length (shift_list i)) c.add_row.new.rows.items (rows ++ more) pushed
           (All-append (λ (r : Row). r.shift < length (shift_list i)) rows more c.loop-day.invariant.known c.in_ok-row.ensures.known);
       few = omega (arith, ap length pushed, length-append rows more);
@@ -51,7 +34,7 @@ returns-clause-duties c =
     let last = c.loop-day-test.false in
     let first = c.loop-day.auto.day-end in
     let all : c.loop-day.day ≡ i.days = omega arith in
-    c.loop-day.invariant.rota ∙ ap (λ (n : ℕ). flat_map (duties_on i c.args.cuts.now c.args.prices.now c.args.shift) (below n)) all
+    c.loop-day.invariant.rota ∙ ap (λ (n : ℕ). flat_map (duties_on i c.args.cuts.now c.args.pricer.now.prices c.args.shift) (below n)) all
 
 pub returns-clause-few : goal.returns-clause-few
 returns-clause-few c =

@@ -7,7 +7,7 @@ use Rattle.advisers.proofs.choosing.used_rows.Given as goal
 
 abbrev pub invariant-loop-day : goal.invariant-loop-day
 invariant-loop-day l = record {
-  rota : rota_of l.rows.items ≡ flat_map (duties_on l.instance l.cuts l.prices l.shift) (below l.day);
+  rota : rota_of l.rows.items ≡ flat_map (duties_on l.instance l.cuts l.pricer.prices l.shift) (below l.day);
   known : All (λ r. r.shift < length (shift_list l.instance)) l.rows.items;
   few : length l.rows.items ≤ l.day;
 }
