@@ -1,6 +1,6 @@
 -- The solution that prices choose, found shift by shift and day by day.
 use Rattle.std.proofs.Common.{◌≡◌, ℕ, ◌+◌, ◌*◌, ℤ, pos, Bool, true, false, cond, ◌||◌, List, [], ◌∷◌, ◌++◌, length, map, replicate, append-nil, Option, Some, None, refl, sym, ap, ◌∙◌, subst}
-use Rattle.std.specs.Prelude.{int_lt, MatchOption}
+use Rattle.std.specs.Prelude.{int_lt}
 use Rattle.std.specs.Option.{option_map_or}
 use Rattle.std.specs.List.{find, flat_map}
 use Rattle.std.proofs.lemmas.Bool.{false≢true}

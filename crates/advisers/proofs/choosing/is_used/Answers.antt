@@ -6,6 +6,7 @@ use Rattle.std.proofs.lemmas.Int.{to_z-of_z}
 use Rattle.break_rules.specs.Sums.{int_sum_by}
 use Rattle.shift_instance.specs.Problem.{Problem, below, shift_list}
 use Rattle.head_splits.specs.declared.Cut.{Cut}
+use Rattle.head_splits.specs.declared.Prices.{Prices}
 use Rattle.head_splits.specs.Cuts.{low, whole_class}
 use Rattle.head_splits.specs.Bound.{best_value, free_day_value}
 use Rattle.bound_sums.proofs.Sizes.{fits, added, added_small}
@@ -64,9 +65,10 @@ returns c =
     let last = c.loop-day-test.false in
     let first = c.loop-day.auto.day-end in
     let all : c.loop-day.day ≡ i.days = omega arith in
-    let paid : c.from-2.result * c.from-3.result ≡ prices.q * i.shift =
-    ap (λ (n : ℕ). n * c.from-3.result) c.from-2.ensures ∙ ap (λ (n : ℕ). prices.q * n) (c.from-3.ensures ∙ ap (λ (w : ℕ × ℕ × ℕ). w.2) c.weights-cost.ensures.weights) in
-    chosen_is i cuts prices s c.is_chosen.result c.loop-day.is_forced (c.from-2.result * c.from-3.result) _ c.is_chosen.ensures
+    let paid : c.from.result * c.from-2.result ≡ prices.q * i.shift =
+    ap (λ (n : ℕ). n * c.from-2.result) (c.from.ensures ∙ ap (λ (p : Prices). p.q) c.prices.ensures.prices)
+    ∙ ap (λ (n : ℕ). prices.q * n) (c.from-2.ensures ∙ ap (λ (w : ℕ × ℕ × ℕ). w.2) c.weights-cost.ensures.weights) in
+    chosen_is i cuts prices s c.is_chosen.result c.loop-day.is_forced (c.from.result * c.from-2.result) _ c.is_chosen.ensures
     (c.loop-day.invariant.forced ∙ ap (λ (n : ℕ). list_any (λ (d : ℕ). nat_lt 0 (low cuts (whole_class s d))) (below n)) all)
     paid
     (c.loop-day.invariant.worth ∙ ap (λ (n : ℕ). int_sum_by (free_day_value i cuts prices s) (below n)) all)

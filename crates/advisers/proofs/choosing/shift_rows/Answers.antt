@@ -9,6 +9,6 @@ returns-then-is_used-clause-duties c =
     map_ok c.used_rows.result _ _ c.used_rows.ensures.duties
     (λ rows are. all_used c.args.instance.now c.args.cuts.now c.args.pricer.now.prices c.args.shift (sym c.is_used.ensures ∙ c.if-is_used.true) (rota_of rows.items) are)
 
-pub returns-clause-duties : goal.returns-clause-duties
-returns-clause-duties c =
-    ap rota_of c.new-else-is_used.ensures.items ∙ unused c.args.instance.now c.args.cuts.now c.args.pricer.now.prices c.args.shift (sym c.is_used.ensures ∙ c.if-is_used.false)
+pub returns-else-is_used-clause-duties : goal.returns-else-is_used-clause-duties
+returns-else-is_used-clause-duties c =
+    ap rota_of c.new.ensures.items ∙ unused c.args.instance.now c.args.cuts.now c.args.pricer.now.prices c.args.shift (sym c.is_used.ensures ∙ c.if-is_used.false)

@@ -1,9 +1,6 @@
-use Rattle.std.proofs.Common.{◌≡◌, ℕ, List, sym, ap, ◌∙◌}
-use Rattle.shift_instance.specs.Problem.{Problem}
-use Rattle.head_splits.specs.declared.Cut.{Cut}
+use Rattle.std.proofs.Common.{ℕ, sym, ap, ◌∙◌}
 use Rattle.head_splits.specs.declared.Prices.{Prices}
 use Rattle.dual_bound.specs.Pricer.{Pricing}
-use Rattle.advisers.specs.Rounds.{pricing_in}
 use Rattle.advisers.specs.Subgradient.{next_prices, step_in}
 use Rattle.advisers.proofs.Searching.{next_round}
 use Rattle.advisers.proofs.rounds.next_round.Goals as goal
