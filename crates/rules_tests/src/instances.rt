@@ -68,15 +68,13 @@ fn graphs_are_kept(rt: HostRuntime) -> Result<(), Fail> {
     Ok(())
 }
 
-/// Whether two shifts share one graph.
-fn share(instance: &Instance, shift: u16, other: u16) -> Result<bool, NoMemory>
-    requires first { shift < length (shift_list instance.now) }
-    requires second { other < length (shift_list instance.now) }
+/// How many hold the graph of a shift: the instance for each type that has it, and whoever asks.
+fn holders(instance: &Instance, shift: u16) -> Result<usize, NoMemory>
+    requires { shift < length (shift_list instance.now) }
 {
-    let (first, second) = (instance.shared_graph(shift)?, instance.shared_graph(other)?);
-    match (first, second) {
-        (Some(first), Some(second)) => Ok(Arc::as_ptr(&first) == Arc::as_ptr(&second)),
-        _ => Ok(false),
+    match instance.shared_graph(shift)? {
+        Some(graph) => Ok(Arc::strong_count(&graph)),
+        None => Ok(0),
     }
 }
 
@@ -91,8 +89,8 @@ fn types_of_one_rule_share_graphs(rt: HostRuntime) -> Result<(), Fail> {
     let types = vec![in alloc; day_type(alloc)?, late, type_of(alloc, "M")?]?;
     let instance = Instance::new(alloc, morning(alloc, types)?)?;
     assert!(rt; instance.shifts().len() == 5);
-    assert!(rt; share(&instance, 0, 2)? && share(&instance, 1, 3)?);
-    assert!(rt; !share(&instance, 0, 1)? && !share(&instance, 3, 4)?);
+    assert!(rt; holders(&instance, 0)? == 3 && holders(&instance, 3)? == 3);
+    assert!(rt; holders(&instance, 4)? == 2);
     Ok(())
 }
 
