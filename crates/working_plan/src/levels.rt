@@ -1,7 +1,7 @@
 //! How many employees work in each slot beyond those that are wanted there.
 
 use break_rules::NoMemory;
-use shift_tables::{Pauses, Tables};
+use shift_tables::{PAUSES, Pauses, Tables};
 use std::alloc::Global;
 
 /// The employees of each slot less those wanted. Two tables of bytes tell the slots with enough employees and those with
@@ -20,10 +20,13 @@ struct Stretch {
     to: usize,
 }
 
+/// The most stretches of work of a duty: one before each break, and one behind the last.
+const STRETCHES: usize = PAUSES + 1;
+
 /// The stretches of work of a duty, from the first slot of its window on.
 #[derive(Clone, Copy)]
 pub struct Stretches {
-    list: [Stretch; 9],
+    list: [Stretch; STRETCHES],
     count: usize,
 }
 
@@ -37,7 +40,7 @@ impl Stretches {
             None => 0,
         };
         let mut found = Stretches {
-            list: [Stretch { from: 0, to: 0 }; 9],
+            list: [Stretch { from: 0, to: 0 }; STRETCHES],
             count: 0,
         };
         let mut from = base;
