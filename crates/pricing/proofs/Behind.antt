@@ -1,5 +1,5 @@
 -- What is earned behind a list, by sums of the prices along a shift.
-use Rattle.std.proofs.Common.{◌≡◌, ◌⊎◌, inl, inr, ℕ, zero, suc, ◌+◌, ◌-◌, ◌*◌, ◌<◌, ◌≤◌, ℤ, pos, ◌+ℤ◌, ◌-ℤ◌, ◌≤ℤ◌, true, false, cond, ◌&&◌, ◌==◌, eq-eqb, List, [], ◌∷◌, ◌++◌, length, length-append, append_assoc, append-nil, refl, sym, ap, ◌∙◌, subst, arith, Option, Some, None, IsTrue, FitsSigned}
+use Rattle.std.proofs.Common.{◌≡◌, ◌⊎◌, inl, inr, ℕ, zero, suc, ◌+◌, ◌-◌, ◌*◌, ◌<◌, ◌≤◌, ℤ, pos, ◌+ℤ◌, ◌-ℤ◌, ◌≤ℤ◌, true, false, cond, ◌&&◌, ◌==◌, eq-eqb, List, [], ◌∷◌, ◌++◌, length, length-append, append_assoc, append-nil, refl, sym, ap, ◌∙◌, subst, arith, Option, Some, None, FitsSigned}
 use mir.Syntax.{w128}
 use Rattle.std.specs.Prelude.{slice_get, MatchOption}
 use Rattle.std.specs.Int.{int_max}
@@ -13,23 +13,21 @@ use Rattle.break_rules.specs.declared.Rule.{Rule}
 use Rattle.break_rules.specs.declared.Spot.{Spot}
 use Rattle.break_rules.specs.Breaks.{is_legal, is_live, works_at}
 use Rattle.break_rules.specs.Ranges.{IsRule}
-use Rattle.break_rules.specs.Sums.{int_sum_by}
-use Rattle.break_rules.specs.Walk.{end_of_all, spot_of, nexts_of, is_walk}
+use Rattle.break_rules.specs.Walk.{end_of_all, spot_of, nexts_of}
 use Rattle.break_rules.proofs.Lists.{Has, Has-append_cases, Has-append_left, Has-append_right, from_range}
 use Rattle.break_rules.proofs.LegalLists.{live_rest, live_from}
 use Rattle.break_rules.proofs.Reaching.{rest_first}
-use Rattle.break_rules.proofs.Sizes.{abs_add}
 use Rattle.break_rules.proofs.Sums.{int_sum_by-same}
 use Rattle.shift_instance.specs.declared.Shift.{Shift}
 use Rattle.shift_instance.specs.Problem.{Problem, shift_list, slots, slot_of}
 use Rattle.shift_instance.specs.Valid.{IsValid}
 use Rattle.shift_instance.proofs.Shifts.{shift_short}
 use Rattle.shift_instance.specs.Worth.{price_of}
-use Rattle.price_sums.specs.Along.{sum_at, price_in, AreSums, AreSmallPrices, ArePricesOf, earned_from, resumes, Completes}
+use Rattle.price_sums.specs.Along.{sum_at, price_in, AreSums, AreSmallPrices, ArePricesOf, resumes, Completes}
 use Rattle.price_sums.proofs.Prices.{price_small, next_size, last_sum, prices_more, sizes_more}
-use Rattle.price_sums.proofs.Stretches.{Spaced, earned_small, spaced_rest}
+use Rattle.price_sums.proofs.Stretches.{earned_small, spaced_rest}
 use Rattle.pricing.specs.Values.{rest_worth}
-use Rattle.pricing.specs.Spots.{IsMost, IsMostIfAny, most_of, worth_behind, IsMostBehind, CompletesBy, AreLater}
+use Rattle.pricing.specs.Spots.{IsMost, IsMostIfAny, most_of, worth_behind, IsMostBehind, CompletesBy}
 use Rattle.pricing.proofs.Most.{max_cases, has_got}
 use Rattle.pricing.proofs.ByEdges.{worth_more, best_at_end}
 

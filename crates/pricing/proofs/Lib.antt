@@ -1,6 +1,5 @@
 pub mod Best
 pub mod ByEdges
-pub mod Fronts
 pub mod Walks
 pub mod Most
 pub mod Lesser

@@ -8,11 +8,9 @@ ghost use Rattle.break_rules.specs.Ranges.{IsRule};
 ghost use Rattle.break_graph.specs.Graph.{IsGraph, StandsAt, node_at};
 ghost use Rattle.price_sums.specs.Along.{AreSums, earned_from, price_in};
 ghost use Rattle.pricing.specs.Values.{IsValue, LeadsOn, IsBestFrom};
-ghost use Rattle.break_rules.proofs.Lists.{Has};
-ghost use Rattle.break_graph.specs.declared.Edge.{Edge};
 
 use crate::values::{difference, first_reaching, node_values, total};
-use break_graph::{Edge, Node};
+use break_graph::{Edge, Graph, Node};
 use break_rules::{Break, NoMemory, Rule};
 use price_sums::{resumption, sum_before};
 use std::alloc::Global;
@@ -23,7 +21,7 @@ use std::marker::Model;
 pub struct BestRests<'a> {
     rule: &'a Rule,
     len: u16,
-    nodes: &'a [Node],
+    graph: &'a Graph,
     sums: Vec<i64>,
     values: Vec<i64>,
 }
@@ -33,21 +31,9 @@ impl<'a> Model for BestRests<'a> {
 
     ghost Value = { Priced };
 
-    ghost view = { λ r. record { rule = r.rule.now; len = r.len; nodes = r.nodes.now; sums = r.sums.items } };
+    ghost view = { λ r. record { rule = r.rule.now; len = r.len; nodes = r.graph.now; sums = r.sums.items } };
 
-    ghost invariant = { λ r. AreBestRests r.rule.now r.len r.nodes.now r.sums.items r.values.items };
-}
-
-/// The edge with a break, and `None` where there is none.
-fn edge_with(edges: &[Edge], stop: Break) -> Option<Edge>
-    ensures { MatchOption result ((e : Edge) → Has edges.now e → e.stop ≡ stop → ⊥) (λ e. Has edges.now e × (e.stop ≡ stop)) }
-{
-    for edge in edges {
-        if edge.stop == stop {
-            return Some(*edge);
-        }
-    }
-    None
+    ghost invariant = { λ r. AreBestRests r.rule.now r.len r.graph.now r.sums.items r.values.items };
 }
 
 /// The prices of the offsets at which a duty with a legal list of breaks works, by the sums of the prices before each
@@ -77,32 +63,32 @@ fn earned_along(rule: &Rule, len: u16, sums: &[i64], list: &[Break]) -> i64
 }
 
 /// The node of a number.
-fn node_of(nodes: &[Node], at: usize) -> &Node
-    requires { at < length nodes.now }
-    ensures { result.now ≡ node_at nodes.now at }
+fn node_of(graph: &Graph, at: usize) -> &Node
+    requires { at < length graph.now }
+    ensures { result.now ≡ node_at graph.now at }
 {
-    &nodes[at]
+    &graph.nodes()[at]
 }
 
 impl<'a> BestRests<'a> {
-    /// The best rests in shifts of `len` slots with these nodes, by the sums of the prices of the offsets below each one.
+    /// The best rests in shifts of `len` slots with this graph, by the sums of the prices of the offsets below each one.
     pub fn new(
         alloc: Global,
         rule: &'a Rule,
         len: u16,
-        nodes: &'a [Node],
+        graph: &'a Graph,
         sums: Vec<i64>,
     ) -> Result<BestRests<'a>, NoMemory>
         requires rule { IsRule rule.now }
-        requires graph { IsGraph rule.now len nodes.now }
+        requires graph { IsGraph rule.now len graph.now }
         requires sums { AreSums len sums.items }
-        ensures { IfOk result (λ r. r ≡ record { rule = rule.now; len = len; nodes = nodes.now; sums = sums.items }) }
+        ensures { IfOk result (λ r. r ≡ record { rule = rule.now; len = len; nodes = graph.now; sums = sums.items }) }
     {
-        let values = node_values(alloc, rule, len, nodes, &sums)?;
+        let values = node_values(alloc, rule, len, graph.nodes(), &sums)?;
         Ok(BestRests {
             rule,
             len,
-            nodes,
+            graph,
             sums,
             values,
         })
@@ -112,7 +98,7 @@ impl<'a> BestRests<'a> {
     pub fn opening(&self) -> Option<usize>
         ensures { MatchOption result (is_live self.now.rule self.now.len [] ≡ false) (λ k. StandsAt self.now.rule self.now.len self.now.nodes k []) }
     {
-        self.nodes.len().checked_sub(1)
+        self.graph.nodes().len().checked_sub(1)
     }
 
     /// The edges of a node. It takes no memory.
@@ -122,7 +108,7 @@ impl<'a> BestRests<'a> {
         ensures graph { IsGraph self.now.rule self.now.len self.now.nodes }
         ensures rule { IsRule self.now.rule }
     {
-        let node = node_of(self.nodes, at);
+        let node = node_of(self.graph, at);
         let edges = &node.edges;
         edges.as_slice()
     }
@@ -143,7 +129,7 @@ impl<'a> BestRests<'a> {
         ensures rule { IsRule self.now.rule }
         ensures back { MatchOption result (Unit {0}) (λ e. e.next < at) }
     {
-        let node = node_of(self.nodes, at);
+        let node = node_of(self.graph, at);
         let start = sum_before(&self.sums, resumption(self.rule, node.spot));
         let whole = total(sum_before(&self.values, at), start);
         let edges = &node.edges;
@@ -168,17 +154,7 @@ impl<'a> BestRests<'a> {
     pub fn node_behind(&self, front: &[Break]) -> Option<usize>
         ensures { MatchOption result (is_live self.now.rule self.now.len front.now ≡ false) (λ k. StandsAt self.now.rule self.now.len self.now.nodes k front.now) }
     {
-        let Some(opening) = self.opening() else {
-            return None;
-        };
-        let mut at = opening;
-        for stop in front {
-            let Some(edge) = edge_with(self.edges_at(at), *stop) else {
-                return None;
-            };
-            at = edge.next as usize;
-        }
-        Some(at)
+        self.graph.node_behind(front)
     }
 
     /// The prices of the offsets at which a duty with these breaks works. It takes no memory.

@@ -177,7 +177,7 @@ fn best_over(
     let rule = instance.rule_of(shift);
     let len = instance.shift(shift).len;
     let sums = price_sums(alloc, instance, shift, day, prices)?;
-    let rests = BestRests::new(alloc, rule, len, graph.nodes(), sums)?;
+    let rests = BestRests::new(alloc, rule, len, graph, sums)?;
     match best_list(alloc, &rests, bonus)? {
         Some(found) => {
             let Found { list, value } = found;

@@ -4,7 +4,7 @@ use Rattle.std.specs.Int.RustNames.{unsigned_abs}
 use Rattle.std.proofs.lemmas.Int.{ints}
 use Rattle.shift_instance.specs.Problem.{slot_of}
 use Rattle.shift_instance.specs.Worth.{price_of}
-use Rattle.price_sums.specs.Along.{sum_at, price_in}
+use Rattle.price_sums.specs.Along.{sum_at}
 use Rattle.price_sums.proofs.Prices.{price_small, next_size, next_sum, some_at}
 use Rattle.pricing.proofs.spots.stretch_price.Goals as goal
 

@@ -1,8 +1,7 @@
-use Rattle.std.proofs.Common.{◌≡◌, ◌+◌, ◌<◌, ◌≤◌, ◌++◌, ◌∷◌, [], ℤ, ◌+ℤ◌, ◌-ℤ◌, true, ap, sym, subst, ◌∙◌, arith, to_z, of_z, List, FitsSigned}
+use Rattle.std.proofs.Common.{◌≡◌, ◌≤◌, ◌++◌, ◌∷◌, [], ℤ, ◌-ℤ◌, true, ap, sym, subst, ◌∙◌, arith, to_z, of_z, FitsSigned}
 use mir.Syntax.{w128}
 use Rattle.std.specs.Int.{w64}
 use Rattle.std.proofs.lemmas.Int.{to_z-of_z}
-use Rattle.break_rules.specs.declared.Break.{Break}
 use Rattle.break_rules.specs.declared.Rule.{Rule}
 use Rattle.break_rules.specs.Next.{IsNext}
 use Rattle.break_rules.specs.Ranges.{IsRule}
@@ -10,7 +9,6 @@ use Rattle.break_rules.specs.Walk.{spot_of, nexts_of, is_walk}
 use Rattle.break_rules.proofs.Lists.{Has}
 use Rattle.break_rules.proofs.Reaching.{walk_on}
 use Rattle.break_rules.proofs.Steps.{bounds, from_next}
-use Rattle.shift_instance.specs.declared.Shift.{Shift}
 use Rattle.price_sums.specs.Along.{resumes, sum_at}
 use Rattle.price_sums.proofs.Prices.{some_at}
 use Rattle.pricing.specs.Spots.{IsMost, IsMostBehind, CompletesBy, worth_behind}

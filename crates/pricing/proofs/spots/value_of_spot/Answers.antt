@@ -1,4 +1,4 @@
-use Rattle.std.proofs.Common.{◌≡◌, ◌<◌, ◌≤◌, ℤ, ◌-ℤ◌, true, false, ap, sym, subst, ◌∙◌, arith, to_z, of_z, IsTrue}
+use Rattle.std.proofs.Common.{◌≡◌, ◌≤◌, ◌-ℤ◌, true, false, ap, sym, subst, ◌∙◌, arith, to_z, of_z, IsTrue}
 use mir.Syntax.{w128}
 use Rattle.std.specs.Int.{w64}
 use Rattle.std.proofs.lemmas.Int.{to_z-of_z}

@@ -21,7 +21,7 @@ returns-clause-leads c =
     let rule = s.rule.now in
     let sums = s.sums.items in
     let values = s.values.items in
-    let nodes = s.nodes.now in
+    let nodes = s.graph.now in
     let at = c.args.at in
     let edges : c.as_slice.result.now ≡ (node_at nodes at).edges = c.as_slice.ensures ∙ ap (λ (n : Node). n.edges) c.node_of-node.ensures in
     let first : AreFit (reach_of sums values) (node_at nodes at).edges
@@ -49,7 +49,7 @@ returns-clause-leads c =
 pub returns-clause-back : goal.returns-clause-back
 returns-clause-back c =
     let s = c.self.inside in
-    let edges : c.as_slice.result.now ≡ (node_at s.nodes.now c.args.at).edges = c.as_slice.ensures ∙ ap (λ (n : Node). n.edges) c.node_of-node.ensures in
-    leads_back s.rule.now s.len s.nodes.now c.args.at c.first_reaching.result c.self.invariant.graph
+    let edges : c.as_slice.result.now ≡ (node_at s.graph.now c.args.at).edges = c.as_slice.ensures ∙ ap (λ (n : Node). n.edges) c.node_of-node.ensures in
+    leads_back s.rule.now s.len s.graph.now c.args.at c.first_reaching.result c.self.invariant.graph
     (subst (λ (v : Priced). c.args.at < length v.nodes) (sym c.self.view_is) c.requires)
     (subst (λ (es : List Edge). MatchOption c.first_reaching.result (Unit {0}) (Has es)) edges c.first_reaching.ensures.has)

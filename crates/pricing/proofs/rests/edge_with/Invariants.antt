@@ -1,7 +1,0 @@
-use Rattle.std.proofs.Common.{◌≡◌, take}
-use Rattle.break_rules.proofs.Lists.{Has}
-use Rattle.break_graph.specs.declared.Edge.{Edge}
-use Rattle.pricing.proofs.rests.edge_with.Given as goal
-
-abbrev pub invariant-loop-edge : goal.invariant-loop-edge
-invariant-loop-edge l = record { others : (e : Edge) → Has (take l.edge-index l.edges) e → e.stop ≡ l.stop → ⊥ }
