@@ -3,13 +3,9 @@
 #![tactic(auto)]
 
 mod planning;
-mod reading;
-mod refusal;
-mod saying;
 mod showing;
-mod telling;
 
-use crate::refusal::{Cause, Refusal};
+use planning_refusals::{Cause, Refusal};
 use planning_words::{Wanted, wanted_by};
 use std::alloc::AllocError;
 use std::process::ExitCode;

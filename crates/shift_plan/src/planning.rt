@@ -1,15 +1,14 @@
 //! A search for a plan.
 
-use crate::reading::read_document;
-use crate::refusal::{Cause, Refusal};
-use crate::telling::{ready_folder, show_plan};
 use advice::Adviser;
 use instance_warnings::warnings;
 use journal_texts::full_sentence;
 use plan_base::MemSink;
 use planning_files::{LockedJournal, set_aside};
 use planning_progress::{Progress, Shown, Watched};
+use planning_refusals::{Cause, Refusal, read_document};
 use planning_runs::{Plan, Slices, cert_of, instance_of, run_until, steps_in};
+use planning_sheets::{ready_folder, show_plan};
 use planning_words::{PlanWords, folder_beside, is_same_file, journal_beside};
 use refusal_texts::Role;
 use shift_instance::Instance;
@@ -207,10 +206,7 @@ fn bytes_of(report: &Option<MemSink>) -> &[u8] {
 
 /// The instance of a document.
 fn instance_in(alloc: Global, document: &[u8]) -> Result<Instance, Refusal> {
-    match instance_of(alloc, document) {
-        Ok(instance) => Ok(instance),
-        Err(why) => Err(Refusal::unshown(alloc, document, &why)),
-    }
+    instance_of(alloc, document).map_err(|why| Refusal::unshown(alloc, document, &why))
 }
 
 /// The plan that a search's report shows.

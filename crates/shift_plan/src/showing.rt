@@ -1,10 +1,9 @@
 //! A report that stands, shown once more.
 
 use crate::planning::folder_of;
-use crate::reading::{read_document, read_report};
-use crate::refusal::Refusal;
-use crate::telling::{ready_folder, show_plan};
+use planning_refusals::{Refusal, read_document, read_report};
 use planning_runs::judged_plan;
+use planning_sheets::{ready_folder, show_plan};
 use planning_words::ShowWords;
 
 /// Judges the report that the words name and, where it is accepted, writes its plan.

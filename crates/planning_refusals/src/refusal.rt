@@ -1,5 +1,10 @@
 //! Why there is no plan, and the sentence that says so.
 
+ghost use Rattle.std.specs.Prelude.{◌≡◌, MatchOption, MatchResult, None, Some};
+ghost use Rattle.planning_refusals.specs.declared.refusal.Cause.{Cause};
+ghost use Rattle.planning_refusals.specs.declared.refusal.Cause.TheVariants.{Document, NoMemory, Report, System, Unread, Unwritten};
+ghost use Rattle.planning_refusals.specs.Causes.{IsFor, cause_of, number_of, status_cause};
+
 use cert_check::Refused;
 use certificate::BUNDLE_MAX;
 use instance_json::ReadRefusal;
@@ -10,11 +15,12 @@ use refusal_texts::{Role, document_sentence, file_sentence};
 use search_book::OpenFault;
 use solve_runs::Status;
 use std::alloc::{AllocError, AllocFailed, Global};
+use std::marker::Model;
 use std::{fmt, io};
 
 /// What kind of thing stands against a plan.
 #[derive(Clone, Copy, Debug, PartialEq, Eq)]
-pub(crate) enum Cause {
+pub enum Cause {
     /// The report isn't accepted.
     Refused,
     /// The words of the command line can't be met.
@@ -37,7 +43,9 @@ pub(crate) enum Cause {
 
 impl Cause {
     /// The number with which the program ends.
-    fn number(self) -> u8 {
+    pub fn number(self) -> u8
+        ensures { result ≡ number_of self }
+    {
         match self {
             Cause::Refused => 1,
             Cause::Words => 2,
@@ -52,15 +60,25 @@ impl Cause {
     }
 }
 
-/// Why there is no plan.
+/// Why there is no plan: a cause, with the sentence that says so.
 #[derive(Debug, Drop)]
-pub(crate) struct Refusal {
+pub struct Refusal {
     cause: Cause,
     /// The sentence that says why; none where there was no memory for one.
     sentence: Option<String>,
 }
 
+impl Model for Refusal {
+    ghost use Rattle.planning_refusals.specs.declared.refusal.Cause.{Cause};
+
+    ghost Value = { Cause };
+
+    ghost view = { λ r. r.cause };
+}
+
 impl From<AllocError> for Refusal {
+    ghost from_gives = { λ _ refusal. refusal ≡ NoMemory };
+
     fn from(_: AllocError) -> Refusal {
         Refusal {
             cause: Cause::NoMemory,
@@ -70,6 +88,8 @@ impl From<AllocError> for Refusal {
 }
 
 impl<T: Drop> From<AllocFailed<T>> for Refusal {
+    ghost from_gives = { λ _ refusal. refusal ≡ NoMemory };
+
     fn from(_: AllocFailed<T>) -> Refusal {
         Refusal::from(AllocError)
     }
@@ -86,7 +106,9 @@ impl fmt::Display for Refusal {
 
 impl Refusal {
     /// A refusal for a cause, with its sentence if there was memory for it.
-    pub(crate) fn said(cause: Cause, sentence: Result<String, AllocError>) -> Refusal {
+    pub fn said(cause: Cause, sentence: Result<String, AllocError>) -> Refusal
+        ensures { MatchResult sentence (λ _. result ≡ cause) (λ _. result ≡ NoMemory) }
+    {
         match sentence {
             Ok(sentence) => Refusal {
                 cause,
@@ -97,22 +119,30 @@ impl Refusal {
     }
 
     /// The number with which the program ends.
-    pub(crate) fn number(&self) -> u8 {
+    pub fn number(&self) -> u8
+        ensures { result ≡ number_of self.now }
+    {
         self.cause.number()
     }
 
     /// A file can't be read.
-    pub(crate) fn unread(alloc: Global, role: Role, path: &str, kind: io::ErrorKind) -> Refusal {
+    pub fn unread(alloc: Global, role: Role, path: &str, kind: io::ErrorKind) -> Refusal
+        ensures { IsFor Unread result }
+    {
         Refusal::said(Cause::Unread, file_sentence(alloc, role, path, kind))
     }
 
     /// A file or the folder of the plan can't be written.
-    pub(crate) fn unwritten(alloc: Global, role: Role, path: &str, kind: io::ErrorKind) -> Refusal {
+    pub fn unwritten(alloc: Global, role: Role, path: &str, kind: io::ErrorKind) -> Refusal
+        ensures { IsFor Unwritten result }
+    {
         Refusal::said(Cause::Unwritten, file_sentence(alloc, role, path, kind))
     }
 
     /// The instance document is refused.
-    pub(crate) fn document(alloc: Global, document: &[u8], why: &ReadRefusal) -> Refusal {
+    pub fn document(alloc: Global, document: &[u8], why: &ReadRefusal) -> Refusal
+        ensures { IsFor Document result }
+    {
         match why {
             ReadRefusal::NoMemory => Refusal::from(AllocError),
             _ => Refusal::said(Cause::Document, document_sentence(alloc, document, why)),
@@ -120,7 +150,9 @@ impl Refusal {
     }
 
     /// The file that is named as the instance is a report.
-    pub(crate) fn report_for_instance(alloc: Global, path: &str) -> Refusal {
+    pub fn report_for_instance(alloc: Global, path: &str) -> Refusal
+        ensures { IsFor Document result }
+    {
         Refusal::said(
             Cause::Document,
             format!(in alloc;
@@ -130,7 +162,9 @@ impl Refusal {
     }
 
     /// The report's file is longer than reports may be.
-    pub(crate) fn long_report(alloc: Global) -> Refusal {
+    pub fn long_report(alloc: Global) -> Refusal
+        ensures { IsFor Report result }
+    {
         Refusal::said(
             Cause::Report,
             format!(in alloc;
@@ -140,7 +174,9 @@ impl Refusal {
     }
 
     /// A report shows no plan for the instance of a document.
-    pub(crate) fn unshown(alloc: Global, document: &[u8], why: &Unshown) -> Refusal {
+    pub fn unshown(alloc: Global, document: &[u8], why: &Unshown) -> Refusal
+        ensures { IsFor (cause_of why.now) result }
+    {
         match why {
             Unshown::Document(why) => Refusal::document(alloc, document, why),
             Unshown::Report { line } => Refusal::said(
@@ -155,7 +191,9 @@ impl Refusal {
     }
 
     /// The journal isn't this run's.
-    pub(crate) fn locked(alloc: Global, path: &str, why: &LockFault) -> Refusal {
+    pub fn locked(alloc: Global, path: &str, why: &LockFault) -> Refusal
+        ensures { IsFor System result }
+    {
         let sentence = match why {
             LockFault::InUse => format!(in alloc;
                 "another run has the journal `{path}`: wait until it ends, or name another one with --journal"
@@ -168,8 +206,10 @@ impl Refusal {
         Refusal::said(Cause::System, sentence)
     }
 
-    /// Why a run has no report that ended so, if it has none.
-    pub(crate) fn of_status(alloc: Global, document: &[u8], status: &Status) -> Option<Refusal> {
+    /// Why a run that ended so has no report, and `None` where it has one.
+    pub fn of_status(alloc: Global, document: &[u8], status: &Status) -> Option<Refusal>
+        ensures { MatchOption result (status_cause status.now ≡ None) (λ refusal. (cause : Cause) × (status_cause status.now ≡ Some cause) × IsFor cause refusal) }
+    {
         match status {
             Status::Optimal | Status::Budget | Status::Full { .. } => None,
             Status::Input(why) => Some(Refusal::document(alloc, document, why)),

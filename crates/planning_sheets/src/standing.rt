@@ -5,7 +5,7 @@ use planning_progress::gap_of;
 use std::alloc::{AllocError, Global};
 
 /// How a plan of a cost stands, in words.
-pub(crate) fn standing(alloc: Global, cert: &Cert, cost: u64) -> Result<String, AllocError> {
+pub fn standing(alloc: Global, cert: &Cert, cost: u64) -> Result<String, AllocError> {
     let bound = cert.bound;
     if cert.status == CertStatus::Optimal {
         return format!(in alloc;

@@ -49,8 +49,9 @@ fn is_report(rt: HostRuntime, path: &str) -> bool {
     }
 }
 
-/// The bytes of an instance document.
-pub(crate) fn read_document(rt: HostRuntime, path: &str) -> Result<Vec<u8>, Refusal> {
+/// The bytes of the instance document in a file. It is refused where the file can't be read, begins as a report does or is longer than
+/// documents may be.
+pub fn read_document(rt: HostRuntime, path: &str) -> Result<Vec<u8>, Refusal> {
     let alloc = rt.alloc();
     match read_within(rt, Role::Instance, path, INSTANCE_MAX)? {
         Some(document) if document.starts_with(REPORT) => {
@@ -62,8 +63,8 @@ pub(crate) fn read_document(rt: HostRuntime, path: &str) -> Result<Vec<u8>, Refu
     }
 }
 
-/// The bytes of a report.
-pub(crate) fn read_report(rt: HostRuntime, path: &str) -> Result<Vec<u8>, Refusal> {
+/// The bytes of the report in a file. It is refused where the file can't be read or is longer than reports may be.
+pub fn read_report(rt: HostRuntime, path: &str) -> Result<Vec<u8>, Refusal> {
     let limit = usize::try_from(certificate::BUNDLE_MAX).unwrap_or(usize::MAX);
     match read_within(rt, Role::Report, path, limit)? {
         Some(report) => Ok(report),

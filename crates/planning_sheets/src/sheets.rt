@@ -3,11 +3,11 @@
 ghost use Rattle.std.specs.Prelude.{IsTrue};
 ghost use Rattle.shift_instance.specs.Rota.{are_legal_rows};
 
-use crate::refusal::{Cause, Refusal};
-use crate::saying::standing;
+use crate::standing::standing;
 use plan_page::plan_page;
 use plan_tables::{Summary, cover_csv, duties_csv, duties_table, summary_text};
 use planning_files::{make_folder, write_whole};
+use planning_refusals::{Cause, Refusal};
 use planning_runs::Plan;
 use refusal_texts::Role;
 use rota_cost::legal_rows;
@@ -16,7 +16,7 @@ use std::alloc::{AllocError, Global};
 use std::io::{self, Write};
 
 /// Makes the folder of a plan, where it isn't there.
-pub(crate) fn ready_folder(rt: HostRuntime, folder: &str) -> Result<(), Refusal> {
+pub fn ready_folder(rt: HostRuntime, folder: &str) -> Result<(), Refusal> {
     let alloc = rt.alloc();
     match make_folder(&rt, folder) {
         Ok(()) => Ok(()),
@@ -97,7 +97,7 @@ fn not_legal(alloc: Global) -> Refusal {
 
 /// Writes the plan of a report to a folder, each file whole or not at all, and says it on standard output. `instance` is the word that
 /// names the instance's file.
-pub(crate) fn show_plan(
+pub fn show_plan(
     rt: HostRuntime,
     instance: &str,
     folder: &str,

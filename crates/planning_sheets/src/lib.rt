@@ -1,0 +1,7 @@
+//! The files of a plan that a report shows, and what is said of it.
+#![tactic(auto)]
+
+mod sheets;
+mod standing;
+
+pub use sheets::{ready_folder, show_plan};
