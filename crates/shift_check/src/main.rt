@@ -2,22 +2,11 @@
 //! `shift_check recount INSTANCE REPORT` judges the rows alone and counts their cost again.
 #![tactic(auto)]
 
-mod certifying;
-mod checking;
-mod recounting;
-mod status;
-#[cfg(test)]
-mod tests;
-mod verdict;
-mod words;
-
-pub use checking::check_run;
+use check_runs::{CheckStatus, Files, check_run, request_of};
 use plan_base::{FileSource, StdSink};
-pub use status::{BundleFault, CheckStatus};
 use std::alloc::AllocError;
 use std::process::ExitCode;
 use std::{env, io};
-pub use words::{Command, Files, Request, request_of};
 
 /// Files without a name.
 const NO_FILES: Files<'static> = Files {

@@ -12,13 +12,13 @@ use Rattle.certificate.specs.declared.Cert.{Cert}
 use Rattle.certificate.specs.declared.CertText.TheVariants.{Departs}
 use Rattle.certificate.specs.Departing.{IsFaultOf, Spells}
 use Rattle.certificate.specs.LineText.{line_text}
-use Rattle.shift_check.specs.declared.status.BundleFault.{BundleFault}
-use Rattle.shift_check.specs.declared.status.BundleFault.TheVariants.{TooLong, Text}
-use Rattle.shift_check.specs.declared.status.CheckStatus.{CheckStatus}
-use Rattle.shift_check.specs.declared.status.CheckStatus.TheVariants.{Accepted, Refused, Usage, Input, Bundle, ReadFault, WriteFault, NoMemory}
-use Rattle.shift_check.specs.declared.words.Command.{Command}
-use Rattle.shift_check.specs.Verdict.{accepts, verdict_text, Shows}
-use Rattle.shift_check.specs.Words.{request_of}
+use Rattle.check_runs.specs.declared.status.BundleFault.{BundleFault}
+use Rattle.check_runs.specs.declared.status.BundleFault.TheVariants.{TooLong, Text}
+use Rattle.check_runs.specs.declared.status.CheckStatus.{CheckStatus}
+use Rattle.check_runs.specs.declared.status.CheckStatus.TheVariants.{Accepted, Refused, Usage, Input, Bundle, ReadFault, WriteFault, NoMemory}
+use Rattle.check_runs.specs.declared.words.Command.{Command}
+use Rattle.check_runs.specs.Verdict.{accepts, verdict_text, Shows}
+use Rattle.check_runs.specs.Words.{request_of}
 
 -- what shows of a source: what it has left before the run (none where it doesn't tell), and its counts of faults before and after
 pub record SourceMet : Type 0 where

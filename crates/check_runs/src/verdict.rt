@@ -1,8 +1,8 @@
 //! What a command says of a report.
 
 ghost use Rattle.std.specs.Prelude.{◌≡◌, IfOk, string_bytes, true};
-ghost use Rattle.shift_check.specs.Check.{verdict_line};
-ghost use Rattle.shift_check.specs.Verdict.{accepts, verdict_text, Shows};
+ghost use Rattle.check_runs.specs.Check.{verdict_line};
+ghost use Rattle.check_runs.specs.Verdict.{accepts, verdict_text, Shows};
 
 use crate::certifying::judge_cert;
 use crate::recounting::judge_plan;

@@ -1,7 +1,7 @@
-use Rattle.std.proofs.Common.{◌≡◌, map, string_bytes}
-use Rattle.shift_check.specs.Check.{Met}
-use Rattle.shift_check.proofs.Endings.{asked_for, explained}
-use Rattle.shift_check.proofs.checking.check_run.Goals as goal
+use Rattle.std.proofs.Common.{map, string_bytes}
+use Rattle.check_runs.specs.Check.{Met}
+use Rattle.check_runs.proofs.Endings.{asked_for, explained}
+use Rattle.check_runs.proofs.checking.check_run.Goals as goal
 
 pub returns-in-Ok-clause-status : goal.returns-in-Ok-clause-status
 returns-in-Ok-clause-status g c =

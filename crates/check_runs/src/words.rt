@@ -2,7 +2,7 @@
 
 ghost use Rattle.std.specs.Prelude.{◌≡◌, map, string_bytes};
 ghost use Rattle.std.specs.Option.{option_map};
-ghost use Rattle.shift_check.specs.Words.{command_of, is_file, request_of};
+ghost use Rattle.check_runs.specs.Words.{command_of, is_file, request_of};
 
 /// What is done with a report.
 #[derive(Clone, Copy, Debug, PartialEq, Eq, Drop)]

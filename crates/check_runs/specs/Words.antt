@@ -2,8 +2,8 @@
 use Rattle.std.specs.Prelude.{ℕ, List, [], ◌∷◌, Bool, false, ◌&&◌, not, ◌==◌, if◌then◌else◌, Option, Some, None, codes}
 use Rattle.std.specs.Option.{option_and_then}
 use Rattle.std.specs.Cmp.Lexicographic.{pointwise}
-use Rattle.shift_check.specs.declared.words.Command.{Command}
-use Rattle.shift_check.specs.declared.words.Command.TheVariants.{Check, Recount}
+use Rattle.check_runs.specs.declared.words.Command.{Command}
+use Rattle.check_runs.specs.declared.words.Command.TheVariants.{Check, Recount}
 
 -- whether two words are the same
 abbrev pub is_word : List ℕ → List ℕ → Bool

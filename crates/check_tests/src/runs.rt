@@ -2,7 +2,7 @@
 
 ghost use Rattle.std.specs.Prelude.{◌<◌};
 
-use crate::{CheckStatus, check_run};
+use check_runs::{CheckStatus, check_run};
 use plan_base::{MemSink, MemSource};
 use std::alloc::{AllocError, Global};
 use std::test::Fail;

@@ -1,5 +1,5 @@
 -- What a command says of a report. Source: this project's profile.
-use Rattle.std.specs.Prelude.{◌≡◌, ℕ, ◌≤◌, Bool, IsTrue, List, [], ◌∷◌, ◌++◌, Option, Some, None, codes}
+use Rattle.std.specs.Prelude.{◌≡◌, ℕ, ◌≤◌, Bool, IsTrue, List, [], ◌++◌, Option, Some, None, codes}
 use Rattle.std.specs.Option.{option_map, option_map_or}
 use Rattle.std.specs.Fmt.{decimal}
 use Rattle.shift_instance.specs.declared.Duty.{Duty}
@@ -11,9 +11,9 @@ use Rattle.certificate.specs.Accepted.{is_accepted}
 use Rattle.cert_check.specs.declared.judged.Refused.{Refused}
 use Rattle.cert_check.specs.declared.judged.Refused.TheVariants.{BadSplit, BadPrice, NotSettled, BoundTooHigh, BadPlan, WrongCost, NoMemory}
 use Rattle.cert_check.specs.Judged.{cause_of}
-use Rattle.shift_check.specs.declared.words.Command.{Command}
-use Rattle.shift_check.specs.declared.words.Command.TheVariants.{Check, Recount}
-use Rattle.shift_check.specs.Recount.{are_accepted, recount_text}
+use Rattle.check_runs.specs.declared.words.Command.{Command}
+use Rattle.check_runs.specs.declared.words.Command.TheVariants.{Check, Recount}
+use Rattle.check_runs.specs.Recount.{are_accepted, recount_text}
 
 -- the rows of a certificate's plan, where it has one
 abbrev pub plan_rows : Cert → Option (List Row)

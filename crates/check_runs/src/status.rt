@@ -1,7 +1,7 @@
 //! How a run of the checker ends.
 
 ghost use Rattle.std.specs.Prelude.{◌≡◌};
-ghost use Rattle.shift_check.specs.Status.{status_number};
+ghost use Rattle.check_runs.specs.Status.{status_number};
 
 use instance_json::ReadRefusal;
 

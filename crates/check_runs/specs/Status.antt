@@ -1,7 +1,7 @@
 -- The numbers of the statuses, and which ends write nothing.
 use Rattle.std.specs.Prelude.{ℕ}
-use Rattle.shift_check.specs.declared.status.CheckStatus.{CheckStatus}
-use Rattle.shift_check.specs.declared.status.CheckStatus.TheVariants.{Accepted, Refused, Usage, Input, Bundle, ReadFault, WriteFault, NoMemory}
+use Rattle.check_runs.specs.declared.status.CheckStatus.{CheckStatus}
+use Rattle.check_runs.specs.declared.status.CheckStatus.TheVariants.{Accepted, Refused, Usage, Input, Bundle, ReadFault, WriteFault, NoMemory}
 
 -- the number with which the program ends
 abbrev pub status_number : CheckStatus → ℕ

@@ -1,8 +1,8 @@
 //! The run of `shift_check`.
 
 ghost use Rattle.std.specs.Prelude.{◌≡◌, map, string_bytes, IfOk, IfErr};
-ghost use Rattle.shift_check.specs.Check.{EndsOver, Explains, IsReportOf, ReportUnread, Told};
-ghost use Rattle.shift_check.specs.Status.{EndsEarly, EndsUnwritten};
+ghost use Rattle.check_runs.specs.Check.{EndsOver, Explains, IsReportOf, ReportUnread, Told};
+ghost use Rattle.check_runs.specs.Status.{EndsEarly, EndsUnwritten};
 
 use crate::status::{BundleFault, CheckStatus};
 use crate::verdict::{Verdict, judge};

@@ -2,7 +2,7 @@
 
 ghost use Rattle.std.specs.Prelude.{◌≡◌, IfOk, string_bytes, true};
 ghost use Rattle.certificate.specs.Accepted.{is_accepted};
-ghost use Rattle.shift_check.specs.Verdict.{accepted_text, check_text, refused_text, BoundIsTrue, IsCause, PlanIsTrue};
+ghost use Rattle.check_runs.specs.Verdict.{accepted_text, check_text, refused_text, BoundIsTrue, IsCause, PlanIsTrue};
 
 use crate::verdict::Verdict;
 use cert_check::{Accepted, Refused, check};

@@ -3,11 +3,11 @@ use Rattle.std.proofs.Common.{◌≡◌, inr, sym, subst, refl, ℕ, List, arith
 use Rattle.std.specs.Prelude.{Option, Some, None, IsSome}
 use Rattle.std.specs.Option.{option_map}
 use Rattle.shift_instance.specs.Problem.{Problem}
-use Rattle.shift_check.specs.declared.words.Command.{Command}
-use Rattle.shift_check.specs.declared.status.CheckStatus.{CheckStatus}
-use Rattle.shift_check.specs.declared.status.CheckStatus.TheVariants.{Accepted, Refused, Usage, Input, Bundle, ReadFault, WriteFault, NoMemory}
-use Rattle.shift_check.specs.Check.{Met, ReadsInstance, EndsOver, Explains}
-use Rattle.shift_check.specs.Words.{Asked, request_of}
+use Rattle.check_runs.specs.declared.words.Command.{Command}
+use Rattle.check_runs.specs.declared.status.CheckStatus.{CheckStatus}
+use Rattle.check_runs.specs.declared.status.CheckStatus.TheVariants.{Accepted, Refused, Usage, Input, Bundle, ReadFault, WriteFault, NoMemory}
+use Rattle.check_runs.specs.Check.{Met, ReadsInstance, EndsOver, Explains}
+use Rattle.check_runs.specs.Words.{Asked, request_of}
 
 -- the words' command, where what they ask for was seen
 pub asked_for : {R : Type 0} → (seen : R → Asked) (o : Option R) (r : R) (words : List (List ℕ)) → option_map seen o ≡ request_of words → o ≡ Some r → option_map (λ a. a.command) (request_of words) ≡ Some (seen r).command

@@ -7,7 +7,7 @@ use Rattle.certificate.specs.Accepted.{is_accepted}
 use Rattle.cert_check.specs.declared.judged.Refused.{Refused}
 use Rattle.cert_check.specs.declared.judged.Refused.TheVariants.{BadSplit, BadPrice, NotSettled, BoundTooHigh, BadPlan, WrongCost, NoMemory}
 use Rattle.cert_check.specs.Judged.{cause_of, IsRefused}
-use Rattle.shift_check.specs.Verdict.{IsCause}
+use Rattle.check_runs.specs.Verdict.{IsCause}
 
 -- both facts of a refusal
 both : (i : Problem) (c : Cert) (why : Refused) → IsRefused i c why → IsCause why → (cause_of i c ≡ Some why) × IsFalse (is_accepted i c)

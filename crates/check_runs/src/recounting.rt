@@ -1,8 +1,8 @@
 //! The rows of a report, judged and counted again.
 
 ghost use Rattle.std.specs.Prelude.{◌≡◌, Some, true, IfOk, string_bytes, codes};
-ghost use Rattle.shift_check.specs.Recount.{are_accepted, recount_text};
-ghost use Rattle.shift_check.specs.Verdict.{plan_rows};
+ghost use Rattle.check_runs.specs.Recount.{are_accepted, recount_text};
+ghost use Rattle.check_runs.specs.Verdict.{plan_rows};
 
 use crate::verdict::Verdict;
 use certificate::Cert;
