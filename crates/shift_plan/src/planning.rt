@@ -206,7 +206,10 @@ fn bytes_of(report: &Option<MemSink>) -> &[u8] {
 
 /// The instance of a document.
 fn instance_in(alloc: Global, document: &[u8]) -> Result<Instance, Refusal> {
-    instance_of(alloc, document).map_err(|why| Refusal::unshown(alloc, document, &why))
+    match instance_of(alloc, document) {
+        Ok(instance) => Ok(instance),
+        Err(why) => Err(Refusal::unshown(alloc, document, &why)),
+    }
 }
 
 /// The plan that a search's report shows.
@@ -222,20 +225,16 @@ fn plan_in(
     }
 }
 
-/// Searches for a plan as the words say, slice by slice until the search is finished or its time is over, and writes the last one.
-pub(crate) fn plan<R: Threads + Wait + Sync>(
+/// The report of a search as the words say, slice by slice until it is finished or its time is over; none where no slice wrote one.
+fn searched<R: Threads + Wait + Sync>(
     host: HostRuntime,
     rt: &R,
     words: &PlanWords,
-) -> Result<(), Refusal> {
+    document: &[u8],
+    journal: &mut LockedJournal<HostRuntime>,
+) -> Result<Option<MemSink>, Refusal> {
     let alloc = host.alloc();
-    let document = read_document(host, words.instance)?;
-    let instance = instance_in(alloc, document.as_slice())?;
-    warn(host, &instance)?;
-    let folder = folder_of(alloc, words.out, words.instance)?;
-    let mut journals = locked_journal(host, words)?;
-    let journal = &mut journals.now;
-    ready_folder(host, folder.as_str())?;
+    let document = Vec::from_slice(alloc, document)?;
     let progress = progress_of(host, words.workers)?;
     let shown = shown_on(host);
     let mut advisers: Vec<Box<dyn Adviser + Send>> = Vec::new(alloc);
@@ -247,8 +246,8 @@ pub(crate) fn plan<R: Threads + Wait + Sync>(
     }
     let mut slices = Slices::new(document, words.workers, advisers);
     let found = slices.add(rt, alloc, 0, journal, &Open)?;
-    let document = slices.document.as_slice();
-    tell_begun(host, &progress, document, bytes_of(&slices.report), &found)?;
+    let text = slices.document.as_slice();
+    tell_begun(host, &progress, text, bytes_of(&slices.report), &found)?;
     if let Status::Budget = found {
         let limit = words.seconds.saturating_mul(SECOND);
         let ended = run_until(
@@ -263,7 +262,38 @@ pub(crate) fn plan<R: Threads + Wait + Sync>(
         );
         tell_end(host, slices.document.as_slice(), &ended);
     }
-    let report = bytes_of(&slices.report);
-    let plan = plan_in(alloc, instance, slices.document.as_slice(), report)?;
-    show_plan(host, words.instance, folder.as_str(), report, &plan)
+    let Slices { report, .. } = slices;
+    Ok(report)
+}
+
+/// Writes the plan that a search's report shows for the instance of a document.
+fn show_found(
+    rt: HostRuntime,
+    words: &PlanWords,
+    folder: &str,
+    instance: Instance,
+    document: &[u8],
+    report: &[u8],
+) -> Result<(), Refusal> {
+    let plan = plan_in(rt.alloc(), instance, document, report)?;
+    show_plan(rt, words.instance, folder, report, &plan)
+}
+
+/// Searches for a plan as the words say, and writes the last one.
+pub(crate) fn plan<R: Threads + Wait + Sync>(
+    host: HostRuntime,
+    rt: &R,
+    words: &PlanWords,
+) -> Result<(), Refusal> {
+    let alloc = host.alloc();
+    let folder = folder_of(alloc, words.out, words.instance)?;
+    let document = read_document(host, words.instance)?;
+    let instance = instance_in(alloc, document.as_slice())?;
+    warn(host, &instance)?;
+    let mut journals = locked_journal(host, words)?;
+    ready_folder(host, folder.as_str())?;
+    let document = document.as_slice();
+    let report = searched(host, rt, words, document, &mut journals.now)?;
+    let report = bytes_of(&report);
+    show_found(host, words, folder.as_str(), instance, document, report)
 }
