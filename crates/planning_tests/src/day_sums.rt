@@ -35,22 +35,40 @@ fn gained(lanes: &[Lane], place: usize) -> Option<(i64, i64)> {
     ))
 }
 
+/// What the sums of the first two days gain along the one shift, hour by hour; nothing where there isn't one shift, with a price for each
+/// hour.
+fn gains(
+    alloc: Global,
+    instance: &Instance,
+    prices: &[i64],
+) -> Result<Vec<Option<(i64, i64)>>, NoMemory> {
+    let mut list = Vec::new(alloc);
+    if instance.shifts().len() == 1
+        && prices.len() == instance.slots()
+        && prices.iter().all(|p| p.unsigned_abs() <= 10_000_000_000)
+    {
+        let sums = DaySums::new(alloc, instance, prices)?;
+        let lanes = sums.along(instance, 0);
+        for place in 1..lanes.len() {
+            list.push(gained(lanes, place))?;
+        }
+    }
+    Ok(list)
+}
+
 // The shift of the first day has the hours of the prices 1, 2, 4 and 8, that of the last day those of 16 and 32, and then the
 // first two of the planning period, of 64 and 128.
 #[test]
 fn the_sums_of_a_night_go_round_the_end(rt: HostRuntime) -> Result<(), Fail> {
     let alloc = rt.alloc();
     let instance = Instance::new(alloc, two_days(alloc)?)?;
-    let prices = night_prices();
-    assert_eq!(rt; instance.shifts().len(), 1);
-    assert_eq!(rt; prices.len(), instance.slots());
-    assert!(rt; prices.iter().all(|p| p.unsigned_abs() <= 10_000_000_000));
-    let sums = DaySums::new(alloc, &instance, &prices)?;
-    let lanes = sums.along(&instance, 0);
-    assert_eq!(rt; lanes.len(), 5);
-    assert_eq!(rt; gained(lanes, 1), Some((1, 16)));
-    assert_eq!(rt; gained(lanes, 2), Some((3, 48)));
-    assert_eq!(rt; gained(lanes, 3), Some((7, 112)));
-    assert_eq!(rt; gained(lanes, 4), Some((15, 240)));
+    let found = gains(alloc, &instance, &night_prices())?;
+    let wanted = [
+        Some((1, 16)),
+        Some((3, 48)),
+        Some((7, 112)),
+        Some((15, 240)),
+    ];
+    assert_eq!(rt; found.as_slice(), wanted.as_slice());
     Ok(())
 }
