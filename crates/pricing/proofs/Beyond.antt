@@ -17,6 +17,7 @@ use Rattle.price_sums.specs.Along.{Completes}
 use Rattle.pricing.specs.Rests.{IsBestRest}
 use Rattle.pricing.specs.Values.{Priced, rest_worth, IsValue, IsBestFrom}
 use Rattle.pricing.specs.Found.{IsLegal, worth_of, IsFound, Covers, Keeps, CoversFrom, CoversAlong, IsBestFound, leads_further}
+use Rattle.pricing.specs.Keeping.{AreBeginnings}
 use Rattle.pricing.proofs.Best.{best_more}
 use Rattle.pricing.proofs.ByEdges.{same_worth}
 use Rattle.pricing.proofs.Covered.{keeps_from, best_found}
@@ -87,12 +88,12 @@ covers_legal p entries best front list legal is c rest whole leaving =
 pub covers_none : (p : Priced) (entries : List (List Break × ℤ)) (best : Option Found) (front : List Break) → is_live p.rule p.len front ≡ false → CoversFrom p entries best front
 covers_none p entries best front dead rest whole leaving = absurd (false≢true (sym dead ∙ live_from p.rule p.len front rest whole))
 
-any_default : {X : Type 0} (xs : List X) (i : ℕ) (d e : X) → i < length xs → get_or xs i d ≡ get_or xs i e
+pub any_default : {X : Type 0} (xs : List X) (i : ℕ) (d e : X) → i < length xs → get_or xs i d ≡ get_or xs i e
 any_default [] i d e h = absurd (omega arith)
 any_default (x ∷ xs) zero d e h = refl
 any_default (x ∷ xs) (suc i) d e h = any_default xs i d e (omega arith)
 
-below_or_at : (j i : ℕ) → j < i + 1 → (j < i) ⊎ (j ≡ i)
+pub below_or_at : (j i : ℕ) → j < i + 1 → (j < i) ⊎ (j ≡ i)
 below_or_at j i h = grind arith
 
 -- one beginning more of a prefix
@@ -137,6 +138,18 @@ best_of_all p entries bonus best d many all found start along prefixes =
     from front h = elim h [
       | inl none ↦ subst (CoversFrom p entries best) (sym none) start
       | inr leads ↦ let e = any_some (λ (e : List Break × ℤ). begins_with e.0 front) bonus (prefixes front leads) in along_of front e.0 e.1 e.2
+    ]
+
+-- what covers from none and from each beginning is the best
+pub best_of_beginnings : (p : Priced) (entries : List (List Break × ℤ)) (best : Option Found) (lists : List (List Break)) (many : ℕ) → length lists ≤ many → AreBeginnings entries lists → IsFound p entries best → CoversFrom p entries best []
+    → ((j : ℕ) → j < many → CoversFrom p entries best (get_or lists j [])) → IsBestFound p entries best
+best_of_beginnings p entries best lists many all are found start along = best_found p entries best found (all_covered p entries best from)
+  where
+    from : (front : List Break) → (front ≡ []) ⊎ (leads_further entries front ≡ true) → CoversFrom p entries best front
+    from [] h = start
+    from (b ∷ bs) h = elim h [
+      | inl none ↦ absurd (cc)
+      | inr leads ↦ let at = place_in lists (b ∷ bs) [] (are.all b bs leads) in subst (CoversFrom p entries best) at.2 (along at.0 (omega (arith, at.1)))
     ]
 
 pub ok_map : {X E : Type 0} (r : Result X E) (P Q : X → Type 0) → ((x : X) → P x → Q x) → IfOk r P → IfOk r Q

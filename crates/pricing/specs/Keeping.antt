@@ -1,7 +1,9 @@
 -- What tables keep from one change of prices to the next.
-use Rattle.std.specs.Prelude.{◌≡◌, ℕ, ◌+◌, ◌<◌, ◌≤◌, ℤ, true, List, ◌∷◌, length, Option, Some, None}
+use Rattle.std.specs.Prelude.{◌≡◌, ℕ, ◌+◌, ◌<◌, ◌≤◌, ℤ, true, List, ◌∷◌, length, take, Option, Some, None}
 use Rattle.break_rules.specs.declared.Break.{Break}
 use Rattle.break_rules.specs.declared.Rule.{Rule}
+use Rattle.std.specs.List.{IsDistinct}
+use Rattle.break_rules.specs.Breaks.{same_list}
 use Rattle.break_rules.proofs.Lists.{Has}
 use Rattle.break_graph.specs.declared.Node.{Node}
 use Rattle.break_graph.specs.Graph.{IsGraph, StandsAt, node_at}
@@ -18,6 +20,15 @@ use Rattle.pricing.specs.Tables.{Tabled, IsShiftOf}
 pub record AreBeginnings (bonus : List (List Break × ℤ)) (lists : List (List Break)) : Type 0 where
   pub each : (list : List Break) → Has lists list → (b : Break) × (bs : List Break) × (list ≡ b ∷ bs) × (leads_further bonus list ≡ true)
   pub all : (b : Break) (bs : List Break) → leads_further bonus (b ∷ bs) ≡ true → Has lists (b ∷ bs)
+  pub once : IsDistinct same_list lists
+
+-- the beginnings of a prefix but the empty one
+abbrev pub IsBeginning : List Break → List Break → Type 0
+IsBeginning prefix list = (k : ℕ) × (k < length prefix) × (list ≡ take (k + 1) prefix)
+
+-- among some lists are the first beginnings of a prefix, up to a length
+abbrev pub HaveFirst : List (List Break) → List Break → ℕ → Type 0
+HaveFirst lists prefix many = (k : ℕ) → k < many → Has lists (take (k + 1) prefix)
 
 -- two price lists have the same price at an offset of a shift on a day
 abbrev pub HaveSamePrice : Problem → Shift → ℕ → List ℤ → List ℤ → ℕ → Type 0
@@ -36,9 +47,9 @@ AreValuesAbove rule len sums nodes last values =
 
 -- what is known of a shift at some prices: the sums of the prices, the values of the nodes, and the best list
 pub record IsFoundAt (i : Problem) (x : Shift × Rule) (day : ℕ) (prices : List ℤ) (bonus : List (List Break × ℤ)) (nodes : List Node) (sums values : List ℤ) (best : Option Found) : Type 0 where
-  pub prices : ArePricesOf i x.0 day prices sums
+  pub sums_of : ArePricesOf i x.0 day prices sums
   pub rests : AreBestRests x.1 x.0.len nodes sums values
-  pub best : IsBestFound (record { rule = x.1; len = x.0.len; nodes = nodes; sums = sums }) bonus best
+  pub is_best : IsBestFound (record { rule = x.1; len = x.0.len; nodes = nodes; sums = sums }) bonus best
 
 -- what tables keep
 pub record AreTables (t : Tabled) (nodes : List Node) (lists : List (List Break)) (sums values : List ℤ) (best : Option Found) : Type 0 where

@@ -1,12 +1,11 @@
 //! The beginnings of the prefixes of bonuses, each once.
 
-ghost use Rattle.std.specs.Prelude.{◌≡◌, ◌+◌, ◌<◌, List, ℤ, IfOk, OnOk, OnErr, length, take, map, ◌∷◌, true};
+ghost use Rattle.std.specs.Prelude.{◌≡◌, ◌+◌, ◌<◌, ◌⊎◌, List, [], IfOk, OnOk, length, map};
 ghost use Rattle.std.specs.List.{IsDistinct};
 ghost use Rattle.break_rules.specs.declared.Break.{Break};
-ghost use Rattle.break_rules.specs.Breaks.{same_list, begins_with};
+ghost use Rattle.break_rules.specs.Breaks.{same_list};
 ghost use Rattle.break_rules.proofs.Lists.{Has};
-ghost use Rattle.pricing.specs.Keeping.{AreBeginnings};
-ghost use Rattle.pricing.specs.Found.{leads_further};
+ghost use Rattle.pricing.specs.Keeping.{AreBeginnings, HaveFirst, IsBeginning};
 
 use break_rules::{Break, Breaks, NoMemory};
 use indexmap::IndexSet;
@@ -61,6 +60,9 @@ impl Beginnings {
 
     /// Adds the beginnings of a prefix.
     fn add_along(&mut self, prefix: &[Break]) -> Result<(), NoMemory>
+        ensures has { OnOk result (HaveFirst self.new prefix.now (length prefix.now)) }
+        ensures keeps { (other : List Break) → Has self.old other → Has self.new other }
+        ensures only { (other : List Break) → Has self.new other → Has self.old other ⊎ IsBeginning prefix.now other }
     {
         for end in 0..prefix.len() {
             self.add(&prefix[..end + 1])?;
@@ -76,6 +78,7 @@ impl Beginnings {
         for (prefix, _) in bonus {
             beginnings.add_along(prefix.as_slice())?;
         }
+        let _once = beginnings.lists();
         Ok(beginnings)
     }
 }

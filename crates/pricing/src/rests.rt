@@ -116,8 +116,8 @@ impl<'a> BestRests<'a> {
 
     /// The sums of the prices and the values of the nodes, given back. It takes no memory.
     pub fn into_sums_and_values(self) -> (Vec<i64>, Vec<i64>)
-        ensures sums { result.0.items ≡ self.sums }
-        ensures rests { AreBestRests self.rule self.len self.nodes result.0.items result.1.items }
+        ensures sums { result.0.items ≡ self.entry.sums }
+        ensures rests { AreBestRests self.entry.rule self.entry.len self.entry.nodes result.0.items result.1.items }
     {
         let BestRests {
             rule: _,
