@@ -15,3 +15,4 @@ pub mod Changes
 pub mod Firsts
 pub mod Reached
 pub mod Reused
+pub mod Tabling

@@ -1,9 +1,9 @@
 -- How many nodes and beginnings there are, each counted once.
-use Rattle.std.proofs.Common.{◌≡◌, ◌⊎◌, inl, inr, ℕ, zero, suc, ◌+◌, ◌-◌, ◌<◌, ◌≤◌, Bool, true, false, List, [], ◌∷◌, ◌++◌, map, filter, length, get_or, refl, sym, ap, ◌∙◌, subst, arith, nat_le, length-append, leb-true, IsTrue, ℤ}
+use Rattle.std.proofs.Common.{◌≡◌, ◌⊎◌, inl, inr, ℕ, zero, suc, ◌+◌, ◌-◌, ◌<◌, ◌≤◌, Bool, true, false, List, [], ◌∷◌, ◌++◌, map, filter, length, take, cond, get_or, refl, sym, ap, ◌∙◌, subst, arith, nat_le, length-append, leb-true, IsTrue, ℤ}
 use Rattle.std.specs.List.{count_by, IsDistinct, AllByRecursion}
 use Rattle.std.proofs.lemmas.Bool.{false≢true, cond_both}
 use Rattle.std.proofs.lemmas.List.{length-map}
-use Rattle.std.proofs.lemmas.List.Sums.{length-filter, fold-append}
+use Rattle.std.proofs.lemmas.List.Sums.{length-filter, sum_by-take-drop}
 use Rattle.std.proofs.lemmas.Map.Keys.{IsDistinct-head, IsDistinct-tail}
 use Rattle.break_rules.specs.declared.Break.{Break}
 use Rattle.break_rules.specs.declared.Rule.{Rule}
@@ -19,6 +19,12 @@ use Rattle.pricing.specs.Found.{leads_further}
 use Rattle.pricing.specs.Tables.{HaveSpotsUpTo, HaveBeginnings, AreStepsUpTo}
 use Rattle.pricing.specs.Keeping.{AreBeginnings}
 use Rattle.pricing.proofs.Leaving.{place_in}
+
+-- the first elements that pass a test are no more than all that do
+pub count_first : {X : Type 0} (p : X → Bool) (i : ℕ) (xs : List X) → count_by p (take i xs) ≤ count_by p xs
+count_first p i xs =
+    let parts = sum_by-take-drop (λ x. cond (p x) 1 0) xs i in
+    omega (arith, parts)
 
 -- no element stands twice
 abbrev StandOnce : {X : Type 0} → List X → Type 0

@@ -16,8 +16,8 @@ loop-prefix-preserved c =
     c.as_slice.ensures ∙ ap (λ (e : List Break × ℤ). e.0) (c.loop-prefix-item.is ∙ any_default bonus i item ([], pos 0) c.loop-prefix-test.true) in
     record {
       each = λ list m. elim (added.only list m) [
-        | inl old ↦ let f = inv.each list old in (f.0, (omega (arith, f.1), f.2))
-        | inr new ↦ (i, (omega arith, subst (λ (l : List Break). IsBeginning l list) here new))
+        | inl old ↦ let f = inv.each list old in (f.0, omega (arith, f.1), f.2)
+        | inr new ↦ (i, omega arith, subst (λ (l : List Break). IsBeginning l list) here new)
       ];
       all = λ j l. elim (below_or_at j i l) [
         | inl b ↦ λ k m. added.keeps _ (inv.all j b k m)
