@@ -7,7 +7,7 @@ use Rattle.break_graph.specs.declared.Node.{Node}
 use Rattle.break_graph.specs.Graph.{IsGraph}
 use Rattle.shift_instance.specs.declared.Shift.{Shift}
 use Rattle.shift_instance.specs.Problem.{shift_list}
-use Rattle.price_sums.specs.Along.{AreSums}
+use Rattle.price_sums.specs.Along.{AreSums, ArePricesOf}
 use Rattle.price_sums.proofs.Prices.{some_at}
 use Rattle.pricing.specs.Values.{AreBestRests, AreValues, Priced}
 use Rattle.pricing.specs.Found.{IsBestFound}
@@ -63,4 +63,21 @@ with_values-rests-requires g c =
     }
 
 pub returns-clause-found : goal.returns-clause-found
-returns-clause-found g c = λ x e. ?
+returns-clause-found g c = λ x e.
+    let own = (goal.at.returns-clause-found g c).In_ok-sums in
+    let is = the_shift g own x e in
+    let nodes = arc_value c.args.subject.now.graph in
+    let sums = c.in_ok-sums.sums.items in
+    let back = c.into_sums_and_values-sums.result.0.items in
+    let made : c.with_values-rests.result ≡ record { rule = x.1; len = x.0.len; nodes = nodes; sums = sums } =
+    c.with_values-rests.ensures ∙ ap (λ (r : Rule). record { rule = r; len = c.shift-len.result.len; nodes = c.deref-graph.result.now; sums = sums }) is.rule
+    ∙ ap (λ (n : ℕ). record { rule = x.1; len = n; nodes = c.deref-graph.result.now; sums = sums }) is.len
+    ∙ ap (λ (l : List Node). record { rule = x.1; len = x.0.len; nodes = l; sums = sums }) c.deref-graph.ensures in
+    let same : back ≡ sums = c.into_sums_and_values-sums.ensures.sums ∙ ap (λ (p : Priced). p.sums) made in
+    let best : IsBestFound (record { rule = x.1; len = x.0.len; nodes = nodes; sums = sums }) c.args.subject.now.trie.entries c.in_ok-best.best =
+    subst (λ (p : Priced). IsBestFound p c.args.subject.now.trie.entries c.in_ok-best.best) made c.in_ok-best.ensures.best in
+    record {
+      sums_of = subst (ArePricesOf c.args.instance.now x.0 c.args.subject.now.day c.args.prices.now) (sym same) (c.in_ok-sums.ensures.prices x e);
+      rests = subst (λ (p : Priced). AreBestRests p.rule p.len p.nodes back c.into_sums_and_values-sums.result.1.items) made c.into_sums_and_values-sums.ensures.rests;
+      is_best = subst (λ (l : List ℤ). IsBestFound (record { rule = x.1; len = x.0.len; nodes = nodes; sums = l }) c.args.subject.now.trie.entries c.in_ok-best.best) (sym same) best;
+    }
