@@ -1,9 +1,14 @@
-//! A best list that was worked out by hand.
+//! Best lists that were worked out by hand.
+ghost use Rattle.std.specs.Prelude.{◌≡◌, ◌<◌};
+
 use crate::fixtures::day;
 use break_rules::{Break, Breaks, NoMemory, Rule, Totals};
-use pricing::best_pattern;
+use pricing::{Steps, Tables, best_pattern};
 use shift_instance::{Instance, Parts};
 use std::alloc::Global;
+use std::marker::Brand;
+use std::process::Abort;
+use std::sync::ledger::{Blank, Ledger};
 use std::test::Fail;
 
 /// A shift from 8 to 16 that has a break of one hour after at least two hours of work.
@@ -41,4 +46,34 @@ fn the_best_break_is_taken(rt: HostRuntime) -> Result<(), Fail> {
         [Break { start: 2, len: 1 }].as_slice()
     );
     Ok(())
+}
+
+/// The best break of the shift while prices change, with each hour of the shift but that from 12 on worth 2 at first.
+fn follow_prices<L: Ledger>(rt: &impl Abort, alloc: Global, blank: Blank) -> Result<(), Fail>
+    requires name { blank.name ≡ L.name }
+    requires parts { blank.parts ≡ L.parts }
+    requires some { 0 < L.parts }
+{
+    let mut steps = Steps::<L>::new(blank);
+    let instance = Instance::new(alloc, long_day(alloc)?)?;
+    let mut prices = [0i64; 24];
+    prices[8..16].fill(2);
+    prices[12] = 0;
+    assert_eq!(rt; (instance.shifts().len(), instance.slots()), (1, 24));
+    assert!(rt; prices.iter().all(|p| p.unsigned_abs() <= 10_000_000_000));
+    let mut tables = Tables::new(alloc, &instance, 0, 0, &prices, &[], &mut steps)?;
+    let late = [Break { start: 4, len: 1 }];
+    assert_eq!(rt; tables.best(), Some((late.as_slice(), 14)));
+    // A slot behind the shift changes nothing, and with all hours worth the same the least break is best.
+    tables.reprice(&instance, &[(20, 7)], &mut steps)?;
+    assert_eq!(rt; tables.best(), Some((late.as_slice(), 14)));
+    tables.reprice(&instance, &[(12, 5), (12, 2)], &mut steps)?;
+    let early = [Break { start: 2, len: 1 }];
+    assert_eq!(rt; tables.best(), Some((early.as_slice(), 14)));
+    Ok(())
+}
+
+#[test]
+fn tables_follow_the_prices(rt: HostRuntime) -> Result<(), Fail> {
+    follow_prices::<Brand>(&rt, rt.alloc(), Blank::new(1))
 }
