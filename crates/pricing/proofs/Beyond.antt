@@ -1,10 +1,11 @@
 -- The breaks that may come next behind some breaks, and the best lists that go on with one.
-use Rattle.std.proofs.Common.{◌≡◌, ◌⊎◌, inl, inr, ℕ, zero, suc, ◌+◌, ◌<◌, ◌≤◌, get_or, ℤ, pos, ◌+ℤ◌, true, false, List, [], ◌∷◌, ◌++◌, length, take, refl, sym, ap, ◌∙◌, subst, arith, append_assoc, append-nil, Option}
+use Rattle.std.proofs.Common.{◌≡◌, ◌⊎◌, inl, inr, ℕ, zero, suc, ◌+◌, ◌<◌, ◌≤◌, get_or, ℤ, pos, ◌+ℤ◌, ◌≤ℤ◌, true, false, List, [], ◌∷◌, ◌++◌, length, take, refl, sym, ap, ◌∙◌, subst, arith, append_assoc, append-nil, Option}
 use Rattle.std.proofs.lemmas.Int.{ints}
 use Rattle.std.proofs.lemmas.Bool.{false≢true, false_from_ne_true}
 use Rattle.break_rules.specs.declared.Break.{Break}
 use Rattle.break_rules.specs.declared.Rule.{Rule}
 use Rattle.break_rules.specs.Breaks.{is_legal, is_live, begins_with}
+use Rattle.break_rules.specs.Bonuses.{bonus_of}
 use Rattle.break_rules.specs.Ranges.{IsRule}
 use Rattle.break_rules.specs.Walk.{nexts_of, spot_of}
 use Rattle.std.specs.Prelude.{Result, Ok, Err, IfOk}
@@ -20,7 +21,7 @@ use Rattle.pricing.specs.Found.{IsLegal, worth_of, IsFound, Covers, Keeps, Cover
 use Rattle.pricing.specs.Keeping.{AreBeginnings}
 use Rattle.pricing.proofs.Best.{best_more}
 use Rattle.pricing.proofs.ByEdges.{same_worth}
-use Rattle.pricing.proofs.Covered.{keeps_from, best_found}
+use Rattle.pricing.proofs.Covered.{keeps_from, best_found, covers_on}
 use Rattle.pricing.proofs.Leaving.{covers_tail, all_covered, first_of, place_in}
 
 -- where no legal list begins with none, none is legal
@@ -151,6 +152,22 @@ best_of_beginnings p entries best lists many all are found start along = best_fo
       | inl none ↦ absurd (cc)
       | inr leads ↦ let at = place_in lists (b ∷ bs) [] (are.all b bs leads) in subst (CoversFrom p entries best) at.2 (along at.0 (omega (arith, at.1)))
     ]
+
+-- where all lists get the same bonuses the best list by prices is the best
+pub best_where_alike : (p : Priced) (entries : List (List Break × ℤ)) (best : Option Found) (new list : List Break) → new ≡ [] → ((l : List Break) → bonus_of entries l ≡ bonus_of entries [])
+    → IsFound p entries best → Covers p entries best list → IsBestFrom p.rule p.len p.sums new list → IsBestFound p entries best
+best_where_alike p entries best new list none alike found covers from =
+    let own : IsBestFrom p.rule p.len p.sums [] list = subst (λ (l : List Break). IsBestFrom p.rule p.len p.sums l list) none from in
+    let rest = own.0 in
+    let value : ℤ = own.2.0 in
+    let b : IsBestRest (Completes p.rule p.len []) (rest_worth p.sums p.rule p.len []) value rest = own.2.1 in
+    let worth : rest_worth p.sums p.rule p.len [] rest ≡ value = b.is_worth in
+    best_found p entries best found (λ other legal.
+    let most : rest_worth p.sums p.rule p.len [] other ≤ℤ value = b.greatest other legal in
+    let same : bonus_of entries other ≡ bonus_of entries rest = alike other ∙ sym (alike rest) in
+    covers_on p entries best rest other (subst (Covers p entries best) own.1 covers)
+    (omega (arith, ints))
+    (λ e. b.least other legal (let s : rest_worth p.sums p.rule p.len [] other ≡ value = omega (arith, ints) in s)))
 
 pub ok_map : {X E : Type 0} (r : Result X E) (P Q : X → Type 0) → ((x : X) → P x → Q x) → IfOk r P → IfOk r Q
 ok_map (Ok x) P Q f h = f x h

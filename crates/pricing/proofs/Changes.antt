@@ -1,11 +1,10 @@
 -- Prices after changes, and the last offset that they reach.
-use Rattle.std.proofs.Common.{◌≡◌, ◌⊎◌, inl, inr, ℕ, ◌+◌, ◌<◌, ◌≤◌, ◌==◌, ℤ, pos, Bool, true, false, List, [], ◌∷◌, ◌++◌, length, take, get_or, refl, sym, ap, ◌∙◌, subst, arith, fold, Some, None, Option, eq-eqb}
+use Rattle.std.proofs.Common.{◌≡◌, inl, inr, ℕ, ◌≤◌, ◌==◌, ℤ, pos, true, false, List, [], ◌∷◌, length, refl, sym, ◌∙◌, arith, Some, eq-eqb}
 use Rattle.std.specs.Prelude.{slice_set, All}
 use Rattle.std.specs.List.{list_any}
 use Rattle.std.specs.Int.RustNames.{unsigned_abs}
 use Rattle.std.proofs.lemmas.Bool.{false≢true, cases_Bool, or_parts, cases_lt}
-use Rattle.std.proofs.lemmas.List.{take_more, length-set, get_or-set_other}
-use Rattle.std.proofs.lemmas.List.Sums.{fold-append}
+use Rattle.std.proofs.lemmas.List.{length-set, get_or-set_other}
 use Rattle.std.proofs.lemmas.List.Elements.{All-set, All-tail}
 use Rattle.shift_instance.specs.declared.Shift.{Shift}
 use Rattle.shift_instance.specs.Problem.{Problem, slot_of}

@@ -1,12 +1,14 @@
 -- The beginnings of the prefixes of bonuses.
-use Rattle.std.proofs.Common.{◌≡◌, ◌⊎◌, inl, inr, ℕ, zero, suc, ◌+◌, ◌<◌, ◌≤◌, ℤ, pos, Bool, true, false, List, [], ◌∷◌, ◌++◌, map, length, take, drop, get_or, refl, sym, ap, ◌∙◌, subst, arith, add-one}
+use Rattle.std.proofs.Common.{◌≡◌, ◌⊎◌, inl, inr, ℕ, ◌+◌, ◌<◌, ◌≤◌, ℤ, pos, Bool, true, false, cond, append-nil, List, [], ◌∷◌, ◌++◌, map, length, take, drop, get_or, refl, sym, ap, ◌∙◌, subst, arith, add-one}
 use Rattle.std.specs.List.{list_any, IsDistinct, AllByRecursion}
-use Rattle.std.proofs.lemmas.Bool.{false≢true, cond_both}
+use Rattle.std.proofs.lemmas.Bool.{cond_both}
 use Rattle.std.proofs.lemmas.List.{take-append-drop}
 use Rattle.std.proofs.lemmas.Map.Keys.{IsDistinct-head, IsDistinct-tail}
 use Rattle.indexmap.specs.IndexSet.{insert_key}
 use Rattle.break_rules.specs.declared.Break.{Break}
 use Rattle.break_rules.specs.Breaks.{begins_with}
+use Rattle.break_rules.specs.Bonuses.{share_of, bonus_of}
+use Rattle.break_rules.proofs.Sums.{int_sum_by-same}
 use Rattle.break_rules.proofs.Lists.{Has, Has-map, Has-append_cases, Has-append_left, Has-append_right, any_at, any_some}
 use Rattle.break_rules.proofs.LegalLists.{begins_from}
 use Rattle.pricing.specs.Found.{leads_further}
@@ -53,6 +55,17 @@ beginnings_of bonus many lists some all each first = (
       ],
 )
 
+-- where no prefix has a beginning all lists get the same bonuses
+pub alike_without : (bonus : List (List Break × ℤ)) (lists : List (List Break)) → AreBeginnings bonus lists → length lists ≡ 0 → (list : List Break) → bonus_of bonus list ≡ bonus_of bonus []
+alike_without bonus lists are none list = int_sum_by-same (share_of list) (share_of []) bonus (λ e m. one e.0 e.1 m)
+  where
+    one : (prefix : List Break) (x : ℤ) → Has bonus (prefix, x) → share_of list (prefix, x) ≡ share_of [] (prefix, x)
+    one [] x m = ap (λ t. cond t x (pos 0)) (begins_from list [] list refl ∙ sym (begins_from [] [] [] refl))
+    one (b ∷ bs) x m =
+        let leads : leads_further bonus (b ∷ bs) ≡ true = any_at (λ (e : List Break × ℤ). begins_with e.0 (b ∷ bs)) bonus (b ∷ bs, x) m (begins_from (b ∷ bs) (b ∷ bs) [] (sym (append-nil (b ∷ bs)))) in
+        let at = place_in lists (b ∷ bs) [] (are.all b bs leads) in
+        absurd (omega (arith, at.1, none))
+
 -- lists that differ by a test of what they are seen as
 pub distinct_map : {X Y : Type 0} (f : X → Y) (eq : Y → Y → Bool) (xs : List X) → IsDistinct (λ a b. eq (f a) (f b)) xs → IsDistinct eq (map f xs)
 unfolding IsDistinct
@@ -85,6 +98,6 @@ module _ {K : Type 0} (items : K → List Break) (eq : K → K → Bool) (same :
       cond_both (list_any (eq key) keys) keys (keys ++ key ∷ []) (λ ks. Has (map items ks) other → Has (map items keys) other ⊎ (other ≡ items key))
       (λ t m. inl m)
       (λ n m. elim (Has-append_cases (map items keys) (items key ∷ []) other (subst (λ l. Has l other) longer m)) [
-      | inl a ↦ inl a
-      | inr b ↦ elim b [ inl e ↦ inr (sym e) | inr none ↦ absurd none ]
+        | inl a ↦ inl a
+        | inr b ↦ elim b [ inl e ↦ inr (sym e) | inr none ↦ absurd none ]
       ])

@@ -1,5 +1,5 @@
 -- How many nodes and beginnings there are, each counted once.
-use Rattle.std.proofs.Common.{◌≡◌, ◌⊎◌, inl, inr, ℕ, zero, suc, ◌+◌, ◌-◌, ◌<◌, ◌≤◌, Bool, true, false, List, [], ◌∷◌, ◌++◌, map, filter, length, take, cond, get_or, refl, sym, ap, ◌∙◌, subst, arith, nat_le, length-append, leb-true, IsTrue, ℤ}
+use Rattle.std.proofs.Common.{◌≡◌, inl, inr, ℕ, suc, ◌+◌, ◌-◌, ◌<◌, ◌≤◌, Bool, true, false, List, [], ◌∷◌, ◌++◌, map, filter, length, take, cond, get_or, refl, sym, ap, ◌∙◌, subst, arith, nat_le, length-append, leb-true, ℤ}
 use Rattle.std.specs.List.{count_by, IsDistinct, AllByRecursion}
 use Rattle.std.proofs.lemmas.Bool.{false≢true, cond_both}
 use Rattle.std.proofs.lemmas.List.{length-map}
@@ -10,7 +10,7 @@ use Rattle.break_rules.specs.declared.Rule.{Rule}
 use Rattle.break_rules.specs.declared.Spot.{Spot}
 use Rattle.break_rules.specs.Breaks.{same_list}
 use Rattle.break_rules.specs.Live.{place_of}
-use Rattle.break_rules.specs.Walk.{end_of_all, spot_of, is_walk}
+use Rattle.break_rules.specs.Walk.{end_of_all, spot_of}
 use Rattle.break_rules.proofs.Lists.{Has, Has-append_cases, Has-append_left, Has-append_right, from_map, from_filter}
 use Rattle.break_rules.proofs.LegalLists.{same_list_decides}
 use Rattle.break_graph.specs.declared.Node.{Node}

@@ -1,5 +1,5 @@
 -- Values that no changed price reaches.
-use Rattle.std.proofs.Common.{◌≡◌, ℕ, ◌+◌, ◌-◌, ◌<◌, ◌≤◌, ℤ, ◌≤ℤ◌, pos, cond, List, length, sym, ap, ◌∙◌, subst, arith}
+use Rattle.std.proofs.Common.{◌≡◌, ℕ, ◌-◌, ◌<◌, ◌≤◌, ℤ, ◌≤ℤ◌, pos, cond, List, length, sym, ap, ◌∙◌, subst, arith}
 use Rattle.std.specs.List.{range_with_len}
 use Rattle.break_rules.specs.declared.Break.{Break}
 use Rattle.break_rules.specs.declared.Rule.{Rule}
@@ -9,7 +9,7 @@ use Rattle.break_rules.specs.Walk.{end_of_all}
 use Rattle.break_rules.proofs.Lists.{from_range}
 use Rattle.break_rules.proofs.Sums.{int_sum_by-same}
 use Rattle.break_graph.specs.declared.Node.{Node}
-use Rattle.break_graph.specs.Graph.{StandsAt, node_at}
+use Rattle.break_graph.specs.Graph.{node_at}
 use Rattle.price_sums.specs.Along.{sum_at, price_in, resumes}
 use Rattle.price_sums.proofs.Stretches.{resumes_skip}
 use Rattle.pricing.specs.Values.{rest_worth, IsValue, AreValues}
@@ -29,12 +29,15 @@ module _ (rule : Rule) (len : ℕ) (sums other : List ℤ) (list : List Break) (
 
   pub same_value : (v : ℤ) → IsValue rule len sums list v → IsValue rule len other list v
   same_value v h =
-      let b = h.1 in (h.0, record {
-        allowed = b.allowed;
-        is_worth = same_rest h.0 ∙ b.is_worth;
-        greatest = λ r c. subst (λ (z : ℤ). z ≤ℤ v) (sym (same_rest r)) (b.greatest r c);
-        least = λ r c e. b.least r c (sym (same_rest r) ∙ e);
-      })
+      let b = h.1 in (
+        h.0,
+        record {
+          allowed = b.allowed;
+          is_worth = same_rest h.0 ∙ b.is_worth;
+          greatest = λ r c. subst (λ (z : ℤ). z ≤ℤ v) (sym (same_rest r)) (b.greatest r c);
+          least = λ r c e. b.least r c (sym (same_rest r) ∙ e);
+        },
+      )
 
 -- the values of the nodes behind an offset are the same where the prices there are
 pub values_above : (rule : Rule) (len last : ℕ) (sums other values : List ℤ) (nodes : List Node) → ((o : ℕ) → last < o → o < len → price_in other o ≡ price_in sums o) → AreValues rule len sums nodes (length nodes) values

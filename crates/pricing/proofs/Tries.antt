@@ -60,8 +60,8 @@ leads_kept (e ∷ es) prefix x front h =
     cond_both (same_list prefix e.0) ((e.0, e.1 +ℤ x) ∷ es) (e ∷ with_added es prefix x) (λ l. leads_further l front ≡ true)
     (λ s. h)
     (λ s. elim (or_cases (begins_with e.0 front) (leads_further es front) h) [
-    | inl a ↦ or_left (begins_with e.0 front) (leads_further (with_added es prefix x) front) a
-    | inr b ↦ or_right (begins_with e.0 front) (leads_further (with_added es prefix x) front) (leads_kept es prefix x front b)
+      | inl a ↦ or_left (begins_with e.0 front) (leads_further (with_added es prefix x) front) a
+      | inr b ↦ or_right (begins_with e.0 front) (leads_further (with_added es prefix x) front) (leads_kept es prefix x front b)
     ])
 
 leads_new : (es : List (List Break × ℤ)) (prefix : List Break) (x : ℤ) (front : List Break) → begins_with prefix front ≡ true → leads_further (with_added es prefix x) front ≡ true

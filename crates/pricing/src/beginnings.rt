@@ -1,6 +1,6 @@
 //! The beginnings of the prefixes of bonuses, each once.
 
-ghost use Rattle.std.specs.Prelude.{◌≡◌, ◌+◌, ◌<◌, ◌⊎◌, List, [], IfOk, OnOk, length, map};
+ghost use Rattle.std.specs.Prelude.{◌≡◌, ◌==◌, ◌⊎◌, List, [], IfOk, OnOk, length, map};
 ghost use Rattle.std.specs.List.{IsDistinct};
 ghost use Rattle.break_rules.specs.declared.Break.{Break};
 ghost use Rattle.break_rules.specs.Breaks.{same_list};
@@ -45,6 +45,13 @@ impl Beginnings {
         ensures once { IsDistinct same_list self.now }
     {
         self.set.as_slice()
+    }
+
+    /// Whether there is no list.
+    pub fn is_empty(&self) -> bool
+        ensures { result ≡ (length self.now == 0) }
+    {
+        self.set.as_slice().is_empty()
     }
 
     /// Adds a list, unless it is there.

@@ -143,6 +143,18 @@ fn best_with(
     Ok(best)
 }
 
+/// The best list where all lists get the same bonuses.
+fn best_alike(alloc: Global, rests: &BestRests<'_>, trie: &Trie) -> Result<Option<Found>, NoMemory>
+    requires { (list : List Break) → bonus_of trie.now.entries list ≡ bonus_of trie.now.entries [] }
+    ensures { IfOk result (IsBestFound rests.now trie.now.entries) }
+{
+    let Some(at) = rests.opening() else {
+        return Ok(None);
+    };
+    let list = rests.completed(at, Vec::new(alloc))?;
+    Ok(better(rests, trie, list, None))
+}
+
 /// The best list by prices and by the bonuses of a trie, with a step for each of the beginnings of its prefixes but the
 /// empty one.
 pub fn best_by_beginnings<L: Ledger>(
@@ -156,6 +168,9 @@ pub fn best_by_beginnings<L: Ledger>(
     ensures best { IfOk result (IsBestFound rests.now trie.now.entries) }
     ensures steps { steps.new ≤ steps.old + length beginnings.now }
 {
+    if beginnings.is_empty() {
+        return best_alike(alloc, rests, trie);
+    }
     let mut best = best_around(alloc, rests, trie, &[], None)?;
     for front in beginnings.lists() {
         steps.tick();

@@ -105,7 +105,15 @@ impl Tables {
             return Ok(());
         };
         let kept = &self.found.values;
-        let found = AtPrices::find(self.alloc, instance, &self.subject, &prices, kept, last, steps)?;
+        let found = AtPrices::find(
+            self.alloc,
+            instance,
+            &self.subject,
+            &prices,
+            kept,
+            last,
+            steps,
+        )?;
         self.prices = prices;
         self.found = found;
         Ok(())

@@ -1,9 +1,10 @@
-use Rattle.std.proofs.Common.{◌≡◌, inl, inr, ◌+◌, ◌<◌, ◌≤◌, ℕ, List, [], length, map, get_or, sym, ap, subst, ◌∙◌, arith}
+use Rattle.std.proofs.Common.{◌≡◌, inl, inr, ℕ, List, [], length, get_or, sym, ap, subst, ◌∙◌, arith, eqb-true}
 use Rattle.std.proofs.lemmas.List.{get_or-map, length-map}
 use Rattle.break_rules.specs.declared.Break.{Break}
 use Rattle.pricing.specs.Found.{CoversFrom}
 use Rattle.pricing.proofs.Beyond.{below_or_at, best_of_beginnings}
 use Rattle.pricing.proofs.Covered.{keeps_from}
+use Rattle.pricing.proofs.Firsts.{alike_without}
 use Rattle.pricing.proofs.search.best_by_beginnings.Goals as goal
 
 pub loop-front-preserved : goal.loop-front-preserved
@@ -32,3 +33,8 @@ returns-clause-best g c =
     let inv = c.loop-front.invariant in
     let many : length c.args.beginnings.now ≡ length c.lists-front-items.result.now = ap length (sym c.lists-front-items.ensures.lists) ∙ length-map c.lists-front-items.result.now (λ v. v.items) in
     best_of_beginnings c.args.rests.now c.args.trie.now.entries c.loop-front.best c.args.beginnings.now c.loop-front.front-index (omega (arith, many, c.loop-front-test.false)) c.requires.beginnings inv.found inv.start inv.along
+
+pub best_alike-requires : goal.best_alike-requires
+best_alike-requires g c =
+    let none : length c.args.beginnings.now ≡ 0 = eqb-true (length c.args.beginnings.now) 0 (sym c.is_empty.ensures ∙ c.if-is_empty.true) in
+    alike_without c.args.trie.now.entries c.args.beginnings.now c.requires.beginnings none

@@ -1,5 +1,4 @@
-use Rattle.std.proofs.Common.{◌≡◌, ◌⊎◌, Bool, List, map, sym, subst, ◌∙◌}
-use Rattle.break_rules.specs.declared.Break.{Break}
+use Rattle.std.proofs.Common.{◌≡◌, ◌⊎◌, map, sym, subst}
 use Rattle.break_rules.specs.Breaks.{same_list}
 use Rattle.break_rules.proofs.Lists.{Has}
 use Rattle.break_rules.proofs.LegalLists.{same_list_decides}

@@ -1,4 +1,4 @@
-use Rattle.std.proofs.Common.{◌≡◌, inl, inr, ◌+◌, ◌<◌, ◌≤◌, ℕ, ℤ, pos, List, [], length, get_or, sym, ap, subst, ◌∙◌, arith}
+use Rattle.std.proofs.Common.{◌≡◌, inl, inr, ◌≤◌, ℕ, ℤ, pos, List, [], length, get_or, sym, ap, subst, ◌∙◌, arith}
 use Rattle.break_rules.specs.declared.Break.{Break}
 use Rattle.pricing.specs.Keeping.{HaveFirst, IsBeginning}
 use Rattle.pricing.proofs.Beyond.{any_default, below_or_at}
@@ -22,7 +22,7 @@ loop-prefix-preserved c =
       all = λ j l. elim (below_or_at j i l) [
         | inl b ↦ λ k m. added.keeps _ (inv.all j b k m)
         | inr e ↦ subst (λ (n : ℕ). HaveFirst c.add_along.new.self (get_or bonus n ([], pos 0)).0 (length (get_or bonus n ([], pos 0)).0)) (sym e)
-        (subst (λ (l : List Break). HaveFirst c.add_along.new.self l (length l)) here added.has)
+            (subst (λ (l : List Break). HaveFirst c.add_along.new.self l (length l)) here added.has)
       ];
     }
 

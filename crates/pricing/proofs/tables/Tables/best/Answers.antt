@@ -1,4 +1,4 @@
-use Rattle.std.proofs.Common.{rules, ◌≡◌, List, ℤ, sym, subst, FitsSigned, to_z, of_z, false}
+use Rattle.std.proofs.Common.{rules, ◌≡◌, List, sym, subst, FitsSigned, to_z, of_z, false}
 use mir.Syntax.{w128}
 use Rattle.std.proofs.lemmas.Int.{to_z-of_z}
 use Rattle.break_rules.specs.declared.Break.{Break}

@@ -1,8 +1,8 @@
-use Rattle.std.proofs.Common.{◌≡◌, ◌≤◌, ◌<◌, ◌+◌, ◌∙◌, sym, ap, subst, List, [], ℕ, ℤ, true, length, ◌-◌, arith}
+use Rattle.std.proofs.Common.{◌≡◌, ◌<◌, ◌∙◌, sym, ap, subst, List, [], ℕ, ℤ, length, ◌-◌, arith}
 use Rattle.std.specs.Arc.{arc_value}
 use Rattle.break_rules.specs.declared.Rule.{Rule}
 use Rattle.shift_instance.specs.declared.Shift.{Shift}
-use Rattle.shift_instance.specs.Problem.{Problem, shift_list, slots}
+use Rattle.shift_instance.specs.Problem.{Problem, shift_list}
 use Rattle.shift_instance.specs.Valid.{IsShift}
 use Rattle.price_sums.specs.Along.{AreSmallPrices}
 use Rattle.price_sums.proofs.Prices.{some_at}
@@ -14,7 +14,6 @@ use Rattle.pricing.proofs.Worths.{short_shift}
 use Rattle.pricing.proofs.tables.Tables.new.Given.{Over}
 use Rattle.pricing.proofs.tables.Tables.new.Goals as goal
 use Rattle.pricing.proofs.tables.Tables.new.Goals.{After-find}
-
 
 -- the steps are few, with or without memory
 few_steps : (g : Over) (c : After-find g) (x : Shift × Rule) → IsShiftOf c.args.instance.now c.args.shift x → AreStepsUpTo x.1 x.0.len x.0.len c.args.bonus.now (c.find.new.steps - c.args.steps.now)

@@ -1,9 +1,8 @@
-use Rattle.std.proofs.Common.{◌≡◌, ◌≤◌, ◌<◌, ◌+◌, ◌-◌, ◌∙◌, sym, ap, subst, List, ℕ, ℤ, true, length, arith, Some, None, Option}
-use Rattle.std.specs.Prelude.{slice_get}
+use Rattle.std.proofs.Common.{◌≡◌, ◌-◌, ◌∙◌, sym, ap, subst, List, ℕ, ℤ, length, Some, None, Option}
 use Rattle.std.specs.Arc.{arc_value}
 use Rattle.break_rules.specs.declared.Rule.{Rule}
 use Rattle.shift_instance.specs.declared.Shift.{Shift}
-use Rattle.shift_instance.specs.Problem.{Problem, shift_list, slots}
+use Rattle.shift_instance.specs.Problem.{Problem}
 use Rattle.price_sums.specs.Along.{AreSmallPrices, ArePricesOf}
 use Rattle.pricing.specs.declared.found.Found.{Found}
 use Rattle.pricing.specs.Tables.{Tabled, IsShiftOf, repriced, NameNone, NameNoneAbove, AreStepsUpTo}
@@ -63,40 +62,40 @@ module _ (g : Over) (c : After-last_change g) where
       (subst (λ (l : List ℤ). IsLastChange c.args.instance.now x.0 c.self.inside.subject.day l c.deref-3.result.now x.0.len c.last_change.result) c.deref-2.ensures.value (c.last_change.ensures x e))
 
 module _
-  (g : Over)
-  (c : In-Some g)
-  (whole : (x : Shift × Rule) → IsShiftOf c.args.instance.now c.self.inside.subject.shift x
-      → IsLastChange c.args.instance.now x.0 c.self.inside.subject.day c.self.inside.prices.items (repriced c.self.inside.prices.items c.args.changes.now) x.0.len c.last_change.result)
+    (g : Over)
+    (c : In-Some g)
+    (whole : (x : Shift × Rule) → IsShiftOf c.args.instance.now c.self.inside.subject.shift x
+    → IsLastChange c.args.instance.now x.0 c.self.inside.subject.day c.self.inside.prices.items (repriced c.self.inside.prices.items c.args.changes.now) x.0.len c.last_change.result)
   where
-  seen_some : (x : Shift × Rule) → IsShiftOf c.args.instance.now c.self.inside.subject.shift x
-      → IsLastChange c.args.instance.now x.0 c.self.inside.subject.day c.self.inside.prices.items (repriced c.self.inside.prices.items c.args.changes.now) x.0.len (Some c.in-Some.last)
-  seen_some x e =
-      subst (λ o. IsLastChange c.args.instance.now x.0 c.self.inside.subject.day c.self.inside.prices.items (repriced c.self.inside.prices.items c.args.changes.now) x.0.len o) c.in-Some.is
-      (whole x e)
+    seen_some : (x : Shift × Rule) → IsShiftOf c.args.instance.now c.self.inside.subject.shift x
+        → IsLastChange c.args.instance.now x.0 c.self.inside.subject.day c.self.inside.prices.items (repriced c.self.inside.prices.items c.args.changes.now) x.0.len (Some c.in-Some.last)
+    seen_some x e =
+        subst (λ o. IsLastChange c.args.instance.now x.0 c.self.inside.subject.day c.self.inside.prices.items (repriced c.self.inside.prices.items c.args.changes.now) x.0.len o) c.in-Some.is
+        (whole x e)
 
 -- what was found anew
 module _
-  (g : Over)
-  (c : After-find g)
-  (kept : AreTables (record { instance = c.args.instance.now; shift = c.self.inside.subject.shift; day = c.self.inside.subject.day; prices = c.self.inside.prices.items; bonus = c.self.inside.subject.trie.entries })
-      (arc_value c.self.inside.subject.graph) c.self.inside.subject.beginnings c.self.inside.found.sums.items c.self.inside.found.values.items c.self.inside.found.best)
-  (change : (x : Shift × Rule) → IsShiftOf c.args.instance.now c.self.inside.subject.shift x
-      → IsLastChange c.args.instance.now x.0 c.self.inside.subject.day c.self.inside.prices.items (repriced c.self.inside.prices.items c.args.changes.now) x.0.len (Some c.in-Some.last))
+    (g : Over)
+    (c : After-find g)
+    (kept : AreTables (record { instance = c.args.instance.now; shift = c.self.inside.subject.shift; day = c.self.inside.subject.day; prices = c.self.inside.prices.items; bonus = c.self.inside.subject.trie.entries })
+    (arc_value c.self.inside.subject.graph) c.self.inside.subject.beginnings c.self.inside.found.sums.items c.self.inside.found.values.items c.self.inside.found.best)
+    (change : (x : Shift × Rule) → IsShiftOf c.args.instance.now c.self.inside.subject.shift x
+    → IsLastChange c.args.instance.now x.0 c.self.inside.subject.day c.self.inside.prices.items (repriced c.self.inside.prices.items c.args.changes.now) x.0.len (Some c.in-Some.last))
   where
-  -- some changed slot is named
-  none_unreached : (x : Shift × Rule) → IsShiftOf c.args.instance.now c.args.self.now.shift x → NameNone c.args.instance.now x.0 c.args.self.now.day c.args.changes.now → c.find.new.steps ≡ c.args.steps.now
-  none_unreached =
-      subst (λ (t : Tabled). (x : Shift × Rule) → IsShiftOf c.args.instance.now t.shift x → NameNone c.args.instance.now x.0 t.day c.args.changes.now → c.find.new.steps ≡ c.args.steps.now) c.self.view_is
-      (λ x e none. absurd (none_named (record { instance = c.args.instance.now; shift = c.self.inside.subject.shift; day = c.self.inside.subject.day; prices = c.self.inside.prices.items; bonus = c.self.inside.subject.trie.entries }) _ _ _ _ _ kept c.args.changes.now x c.in-Some.last (change x e) none))
+    -- some changed slot is named
+    none_unreached : (x : Shift × Rule) → IsShiftOf c.args.instance.now c.args.self.now.shift x → NameNone c.args.instance.now x.0 c.args.self.now.day c.args.changes.now → c.find.new.steps ≡ c.args.steps.now
+    none_unreached =
+        subst (λ (t : Tabled). (x : Shift × Rule) → IsShiftOf c.args.instance.now t.shift x → NameNone c.args.instance.now x.0 t.day c.args.changes.now → c.find.new.steps ≡ c.args.steps.now) c.self.view_is
+        (λ x e none. absurd (none_named (record { instance = c.args.instance.now; shift = c.self.inside.subject.shift; day = c.self.inside.subject.day; prices = c.self.inside.prices.items; bonus = c.self.inside.subject.trie.entries }) _ _ _ _ _ kept c.args.changes.now x c.in-Some.last (change x e) none))
 
-  few_steps : (x : Shift × Rule) → IsShiftOf c.args.instance.now c.args.self.now.shift x → (bound : ℕ) → NameNoneAbove c.args.instance.now x.0 c.args.self.now.day c.args.changes.now bound
-      → AreStepsUpTo x.1 x.0.len bound c.args.self.now.bonus (c.find.new.steps - c.args.steps.now)
-  few_steps =
-      subst
-      (λ (t : Tabled). (x : Shift × Rule) → IsShiftOf c.args.instance.now t.shift x → (bound : ℕ) → NameNoneAbove c.args.instance.now x.0 t.day c.args.changes.now bound
-      → AreStepsUpTo x.1 x.0.len bound t.bonus (c.find.new.steps - c.args.steps.now))
-      c.self.view_is
-      (λ x e bound none. steps_after (record { instance = c.args.instance.now; shift = c.self.inside.subject.shift; day = c.self.inside.subject.day; prices = c.self.inside.prices.items; bonus = c.self.inside.subject.trie.entries }) _ _ _ _ _ kept c.args.changes.now x e c.in-Some.last bound c.args.steps.now c.find.new.steps (change x e) none c.find.ensures.steps)
+    few_steps : (x : Shift × Rule) → IsShiftOf c.args.instance.now c.args.self.now.shift x → (bound : ℕ) → NameNoneAbove c.args.instance.now x.0 c.args.self.now.day c.args.changes.now bound
+        → AreStepsUpTo x.1 x.0.len bound c.args.self.now.bonus (c.find.new.steps - c.args.steps.now)
+    few_steps =
+        subst
+        (λ (t : Tabled). (x : Shift × Rule) → IsShiftOf c.args.instance.now t.shift x → (bound : ℕ) → NameNoneAbove c.args.instance.now x.0 t.day c.args.changes.now bound
+        → AreStepsUpTo x.1 x.0.len bound t.bonus (c.find.new.steps - c.args.steps.now))
+        c.self.view_is
+        (λ x e bound none. steps_after (record { instance = c.args.instance.now; shift = c.self.inside.subject.shift; day = c.self.inside.subject.day; prices = c.self.inside.prices.items; bonus = c.self.inside.subject.trie.entries }) _ _ _ _ _ kept c.args.changes.now x e c.in-Some.last bound c.args.steps.now c.find.new.steps (change x e) none c.find.ensures.steps)
 
 pub last_change-requires-clause-new : goal.last_change-requires-clause-new
 last_change-requires-clause-new g c =
