@@ -1,5 +1,5 @@
 -- What tables say of the best list, and what stays when prices change.
-use Rattle.std.proofs.Common.{◌≡◌, ℕ, zero, suc, ◌+◌, ◌-◌, ◌<◌, ◌≤◌, ℤ, true, false, nat_le, List, [], ◌∷◌, length, fold, refl, sym, ap, ◌∙◌, subst, arith, Option, Some, None}
+use Rattle.std.proofs.Common.{◌≡◌, ℕ, zero, suc, ◌+◌, ◌-◌, ◌<◌, ◌≤◌, ℤ, ◌+ℤ◌, ◌≤ℤ◌, true, false, nat_le, List, [], ◌∷◌, length, fold, refl, sym, ap, ◌∙◌, subst, arith, Option, Some, None}
 use Rattle.std.specs.Prelude.{slice_get, All}
 use Rattle.std.specs.List.{count_by}
 use Rattle.std.specs.Int.RustNames.{unsigned_abs}
@@ -12,19 +12,32 @@ use Rattle.break_rules.specs.declared.Spot.{Spot}
 use Rattle.break_rules.proofs.Steps.{bounds}
 use Rattle.break_graph.specs.declared.Node.{Node}
 use Rattle.break_graph.specs.Graph.{node_at}
+use Rattle.shift_instance.specs.declared.Duty.{Duty}
 use Rattle.shift_instance.specs.declared.Shift.{Shift}
 use Rattle.shift_instance.specs.Problem.{shift_list, slots}
 use Rattle.shift_instance.specs.Rota.{is_list_of}
-use Rattle.shift_instance.specs.Worth.{IsBest}
+use Rattle.shift_instance.specs.Worth.{IsBest, worth, earned}
 use Rattle.price_sums.specs.Along.{ArePricesOf, AreSmallPrices}
 use Rattle.pricing.specs.declared.found.Found.{Found}
 use Rattle.pricing.specs.Found.{IsBestFound}
-use Rattle.pricing.specs.Tables.{Tabled, IsShiftOf, repriced, NameNone, NameNoneAbove, AreStepsUpTo}
+use Rattle.pricing.specs.Tables.{Tabled, MeanTheSame, IsShiftOf, repriced, NameNone, NameNoneAbove, AreStepsUpTo}
 use Rattle.pricing.specs.Keeping.{AreTables, AreValuesAbove, IsFoundAt, IsLastChange}
 use Rattle.pricing.proofs.Changes.{length-repriced, small_repriced, some_named, last_within}
 use Rattle.pricing.proofs.Reached.{steps_within}
 use Rattle.pricing.proofs.Reused.{values_above}
 use Rattle.pricing.proofs.Worths.{best_is, list_is, found_some}
+
+-- the best list is so at other bonuses that mean the same
+pub best_at_same : (t : Tabled) (bonus : List (List Break × ℤ)) (list : List Break) (value : ℤ) → MeanTheSame t.bonus bonus → IsBest t.instance t.shift t.day t.prices t.bonus list value → IsBest t.instance t.shift t.day t.prices bonus list value
+best_at_same t bonus list value same b =
+    let duty : List Break → Duty = λ l. record { shift = t.shift; day = t.day; breaks = l } in
+    let worths : (l : List Break) → worth t.instance t.prices t.bonus (duty l) ≡ worth t.instance t.prices bonus (duty l) = λ l. ap (λ (z : ℤ). earned t.instance t.prices (duty l) +ℤ z) (same.sums l) in
+    record {
+      legal = b.legal;
+      is_worth = b.is_worth ∙ worths list;
+      greatest = λ other h. subst (λ (z : ℤ). z ≤ℤ value) (worths other) (b.greatest other h);
+      least = λ other h e. b.least other h (worths other ∙ e);
+    }
 
 pub some_got : {X : Type 0} (xs : List X) (i : ℕ) → i < length xs → (x : X) × (slice_get xs i ≡ Some x)
 some_got [] i l = absurd (omega arith)

@@ -1,6 +1,6 @@
 //! The best break list of a shift on a day at prices that change.
 
-ghost use Rattle.std.specs.Prelude.{◌≡◌, ◌^◌, ◌-◌, ◌<◌, ◌≤◌, List, ℕ, length, false, All, IfOk, OnOk, OnErr, MatchOption};
+ghost use Rattle.std.specs.Prelude.{◌≡◌, ◌^◌, ◌-◌, ◌<◌, ◌≤◌, List, ℕ, ℤ, length, false, All, IfOk, OnOk, OnErr, MatchOption};
 ghost use Rattle.std.specs.Int.RustNames.{unsigned_abs};
 ghost use Rattle.break_rules.specs.declared.Break.{Break};
 ghost use Rattle.break_rules.specs.declared.Rule.{Rule};
@@ -120,9 +120,10 @@ impl Tables {
     }
 
     /// The least legal break list of greatest reduced value at the prices as they are now, with that value, as
-    /// [`best_pattern`](crate::best_pattern) finds it. `None` where no list is legal. It takes no memory.
+    /// [`best_pattern`](crate::best_pattern) finds it at the bonuses that were given. `None` where no list is legal. It takes
+    /// no memory.
     pub fn best(&self) -> Option<(&[Break], i128)>
-        ensures { MatchOption result ((list : List Break) → is_list_of self.now.instance self.now.shift list ≡ false) (λ p. IsBest self.now.instance self.now.shift self.now.day self.now.prices self.now.bonus p.0.now p.1) }
+        ensures { (bonus : List (List Break × ℤ)) → MeanTheSame self.now.bonus bonus → MatchOption result ((list : List Break) → is_list_of self.now.instance self.now.shift list ≡ false) (λ p. IsBest self.now.instance self.now.shift self.now.day self.now.prices bonus p.0.now p.1) }
     {
         match &self.found.best {
             Some(best) => Some((best.list.as_slice(), best.value)),
