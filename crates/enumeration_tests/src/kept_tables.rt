@@ -1,9 +1,10 @@
 //! Tables of small pseudo-random rules that are repriced again and again, by the best list that the prices have each time.
-ghost use Rattle.std.specs.Prelude.{◌≡◌, ◌<◌};
+ghost use Rattle.std.specs.Prelude.{◌≡◌, ◌<◌, length, IfOk};
+ghost use Rattle.shift_instance.specs.Problem.{shift_list};
 
 use crate::best_lists::legal_lists;
 use crate::draws::Draws;
-use break_rules::NoMemory;
+use break_rules::{Breaks, NoMemory};
 use patterns::Pattern;
 use pricing::{Steps, Tables, best_pattern};
 use shift_instance::Instance;
@@ -34,6 +35,67 @@ fn have_best(tables: &Tables, best: &Option<(Pattern, i128)>) -> bool {
     }
 }
 
+/// The best list of the first shift on the first day.
+fn best_list(
+    rt: &impl Abort,
+    alloc: Global,
+    instance: &Instance,
+    prices: &[i64],
+    bonus: &[(Breaks, i64)],
+) -> Result<Option<(Pattern, i128)>, NoMemory>
+    requires { 0 < length (shift_list instance.now) }
+{
+    assert_eq!(rt; prices.len(), instance.slots());
+    assert!(rt; prices.iter().all(|p| p.unsigned_abs() <= 10_000_000_000));
+    assert!(rt; bonus.len() <= 1_000);
+    assert!(rt;
+        bonus
+            .iter()
+            .all(|e| e.1.unsigned_abs() <= 1_000_000_000_000)
+    );
+    best_pattern(alloc, instance, 0, 0, prices, bonus)
+}
+
+/// The tables of the first shift on the first day.
+fn first_tables<L: Ledger>(
+    rt: &impl Abort,
+    alloc: Global,
+    instance: &Instance,
+    prices: &[i64],
+    bonus: &[(Breaks, i64)],
+    steps: &mut Steps<L>,
+) -> Result<Tables, NoMemory>
+    requires { 0 < length (shift_list instance.now) }
+    ensures { IfOk result (λ t. t.instance ≡ instance.now) }
+{
+    assert_eq!(rt; prices.len(), instance.slots());
+    assert!(rt; prices.iter().all(|p| p.unsigned_abs() <= 10_000_000_000));
+    assert!(rt; bonus.len() <= 1_000);
+    assert!(rt;
+        bonus
+            .iter()
+            .all(|e| e.1.unsigned_abs() <= 1_000_000_000_000)
+    );
+    Tables::new(alloc, instance, 0, 0, prices, bonus, steps)
+}
+
+/// Changes prices of a day of hours.
+fn reprice<L: Ledger>(
+    rt: &impl Abort,
+    tables: &mut Tables,
+    instance: &Instance,
+    changes: &[(u32, i64)],
+    steps: &mut Steps<L>,
+) -> Result<(), NoMemory>
+    requires { tables.old.instance ≡ instance.now }
+    ensures { tables.new.instance ≡ instance.now }
+{
+    assert_eq!(rt; instance.slots(), 24);
+    assert!(rt; changes.iter().all(|c| c.0 < 24));
+    assert!(rt; changes.iter().all(|c| c.1.unsigned_abs() <= 10_000_000_000));
+    tables.reprice(instance, changes, steps)
+}
+
 /// Compares the best list of the tables of a day with that of the prices, each time that some of these have changed.
 fn follow_prices<L: Ledger>(
     rt: &impl Abort,
@@ -46,24 +108,14 @@ fn follow_prices<L: Ledger>(
     let lists = legal_lists(alloc, instance.rule_of(0), instance.shift(0).len)?;
     let bonus = draws.bonus(alloc, &lists)?;
     let mut prices = draws.prices();
-    assert_eq!(rt; prices.len(), instance.slots());
-    assert!(rt; prices.iter().all(|p| p.unsigned_abs() <= 10_000_000_000));
-    assert!(rt; bonus.len() <= 1_000);
-    assert!(rt;
-        bonus
-            .iter()
-            .all(|e| e.1.unsigned_abs() <= 1_000_000_000_000)
-    );
-    let mut tables = Tables::new(alloc, instance, 0, 0, &prices, &bonus, steps)?;
+    let mut tables = first_tables(rt, alloc, instance, &prices, &bonus, steps)?;
     for _ in 0..6 {
         let changes = draws.changes();
         for (slot, price) in changes {
             prices[slot as usize % 24] = price;
         }
-        assert!(rt; changes.iter().all(|c| c.0 < 24 && c.1.unsigned_abs() <= 3));
-        assert!(rt; prices.iter().all(|p| p.unsigned_abs() <= 10_000_000_000));
-        tables.reprice(instance, &changes, steps)?;
-        let best = best_pattern(alloc, instance, 0, 0, &prices, &bonus)?;
+        reprice(rt, &mut tables, instance, &changes, steps)?;
+        let best = best_list(rt, alloc, instance, &prices, &bonus)?;
         assert!(rt; have_best(&tables, &best));
     }
     Ok(())

@@ -48,6 +48,23 @@ fn the_best_break_is_taken(rt: HostRuntime) -> Result<(), Fail> {
     Ok(())
 }
 
+/// Changes prices of a day of hours.
+fn reprice<L: Ledger>(
+    rt: &impl Abort,
+    tables: &mut Tables,
+    instance: &Instance,
+    changes: &[(u32, i64)],
+    steps: &mut Steps<L>,
+) -> Result<(), NoMemory>
+    requires { tables.old.instance ≡ instance.now }
+    ensures { tables.new.instance ≡ instance.now }
+{
+    assert_eq!(rt; instance.slots(), 24);
+    assert!(rt; changes.iter().all(|c| c.0 < 24));
+    assert!(rt; changes.iter().all(|c| c.1.unsigned_abs() <= 10_000_000_000));
+    tables.reprice(instance, changes, steps)
+}
+
 /// The best break of the shift while prices change, with each hour of the shift but that from 12 on worth 2 at first.
 fn follow_prices<L: Ledger>(rt: &impl Abort, alloc: Global, blank: Blank) -> Result<(), Fail>
     requires name { blank.name ≡ L.name }
@@ -59,15 +76,16 @@ fn follow_prices<L: Ledger>(rt: &impl Abort, alloc: Global, blank: Blank) -> Res
     let mut prices = [0i64; 24];
     prices[8..16].fill(2);
     prices[12] = 0;
-    assert_eq!(rt; (instance.shifts().len(), instance.slots()), (1, 24));
+    assert_eq!(rt; instance.shifts().len(), 1);
+    assert_eq!(rt; prices.len(), instance.slots());
     assert!(rt; prices.iter().all(|p| p.unsigned_abs() <= 10_000_000_000));
     let mut tables = Tables::new(alloc, &instance, 0, 0, &prices, &[], &mut steps)?;
     let late = [Break { start: 4, len: 1 }];
     assert_eq!(rt; tables.best(), Some((late.as_slice(), 14)));
     // A slot behind the shift changes nothing, and with all hours worth the same the least break is best.
-    tables.reprice(&instance, &[(20, 7)], &mut steps)?;
+    reprice(rt, &mut tables, &instance, &[(20, 7)], &mut steps)?;
     assert_eq!(rt; tables.best(), Some((late.as_slice(), 14)));
-    tables.reprice(&instance, &[(12, 5), (12, 2)], &mut steps)?;
+    reprice(rt, &mut tables, &instance, &[(12, 5), (12, 2)], &mut steps)?;
     let early = [Break { start: 2, len: 1 }];
     assert_eq!(rt; tables.best(), Some((early.as_slice(), 14)));
     Ok(())
