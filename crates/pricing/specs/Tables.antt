@@ -52,8 +52,8 @@ HaveSpotsUpTo rule len last spots = (list : List Break) → IsTrue (is_walk rule
 abbrev pub HaveBeginnings : List (List Break × ℤ) → List (List Break) → Type 0
 HaveBeginnings bonus lists = (b : Break) (bs : List Break) → leads_further bonus (b ∷ bs) ≡ true → Has lists (b ∷ bs)
 
--- so many steps are no more than one for each spot up to an offset to which a walk leads, and one for each beginning of a bonus's prefix but
--- the empty one
+-- so many steps are no more than one for each different spot up to an offset to which a walk leads, and one for each different beginning of a
+-- bonus's prefix but the empty one: the shortest lists that have all of these have each of them once
 abbrev pub AreStepsUpTo : Rule → ℕ → ℕ → List (List Break × ℤ) → ℕ → Type 0
 AreStepsUpTo rule len last bonus steps =
     (spots : List Spot) (lists : List (List Break)) → HaveSpotsUpTo rule len last spots → HaveBeginnings bonus lists → steps ≤ length spots + length lists
