@@ -14,7 +14,7 @@ use std::test::Fail;
 
 impl Draws {
     /// A number from -3 to 3.
-    fn small(&mut self) -> i64 {
+    pub fn small(&mut self) -> i64 {
         i64::from(self.below(7)).saturating_sub(3)
     }
 
@@ -37,7 +37,7 @@ impl Draws {
     }
 
     /// A day of hours with one shift of that length, and `None` where the rule isn't well formed.
-    fn instance(&mut self, alloc: Global, len: u16) -> Result<Option<Instance>, NoMemory> {
+    pub fn instance(&mut self, alloc: Global, len: u16) -> Result<Option<Instance>, NoMemory> {
         let start = self.below(24);
         let rule = self.short_rule(alloc, len)?;
         let parts = day(alloc, 1, start, len, rule)?;
@@ -45,7 +45,7 @@ impl Draws {
     }
 
     /// A price for each hour of a day.
-    fn prices(&mut self) -> [i64; 24] {
+    pub fn prices(&mut self) -> [i64; 24] {
         let mut prices = [0; 24];
         for hour in 0..24 {
             prices[hour] = self.small();
@@ -54,7 +54,7 @@ impl Draws {
     }
 
     /// A bonus on each of some of these lists.
-    fn bonus(
+    pub fn bonus(
         &mut self,
         alloc: Global,
         lists: &[Vec<Break>],
@@ -70,7 +70,7 @@ impl Draws {
 }
 
 /// The legal lists of at most two breaks, which are all where at most two slots are breaks.
-fn legal_lists(alloc: Global, rule: &Rule, len: u16) -> Result<Vec<Vec<Break>>, NoMemory> {
+pub fn legal_lists(alloc: Global, rule: &Rule, len: u16) -> Result<Vec<Vec<Break>>, NoMemory> {
     let mut lists = Vec::new(alloc);
     for list in every_list(alloc, &every_break(alloc, len, 2)?)? {
         if legal(rule, len, &list) {

@@ -9,6 +9,8 @@ mod days;
 #[cfg(test)]
 mod draws;
 #[cfg(test)]
+mod kept_tables;
+#[cfg(test)]
 mod legal_lists;
 #[cfg(test)]
 mod lists;

@@ -1,10 +1,11 @@
 -- The breaks that may come next behind some breaks, and the best lists that go on with one.
-use Rattle.std.proofs.Common.{◌≡◌, ◌⊎◌, inl, inr, ℕ, zero, suc, ◌+◌, ◌<◌, ◌≤◌, get_or, ℤ, pos, ◌+ℤ◌, true, false, List, [], ◌∷◌, ◌++◌, length, take, refl, sym, ap, ◌∙◌, subst, arith, append_assoc, append-nil, Option}
+use Rattle.std.proofs.Common.{◌≡◌, ◌⊎◌, inl, inr, ℕ, zero, suc, ◌+◌, ◌<◌, ◌≤◌, get_or, ℤ, pos, ◌+ℤ◌, ◌≤ℤ◌, true, false, List, [], ◌∷◌, ◌++◌, length, take, refl, sym, ap, ◌∙◌, subst, arith, append_assoc, append-nil, Option}
 use Rattle.std.proofs.lemmas.Int.{ints}
 use Rattle.std.proofs.lemmas.Bool.{false≢true, false_from_ne_true}
 use Rattle.break_rules.specs.declared.Break.{Break}
 use Rattle.break_rules.specs.declared.Rule.{Rule}
 use Rattle.break_rules.specs.Breaks.{is_legal, is_live, begins_with}
+use Rattle.break_rules.specs.Bonuses.{bonus_of}
 use Rattle.break_rules.specs.Ranges.{IsRule}
 use Rattle.break_rules.specs.Walk.{nexts_of, spot_of}
 use Rattle.std.specs.Prelude.{Result, Ok, Err, IfOk}
@@ -17,9 +18,10 @@ use Rattle.price_sums.specs.Along.{Completes}
 use Rattle.pricing.specs.Rests.{IsBestRest}
 use Rattle.pricing.specs.Values.{Priced, rest_worth, IsValue, IsBestFrom}
 use Rattle.pricing.specs.Found.{IsLegal, worth_of, IsFound, Covers, Keeps, CoversFrom, CoversAlong, IsBestFound, leads_further}
+use Rattle.pricing.specs.Keeping.{AreBeginnings}
 use Rattle.pricing.proofs.Best.{best_more}
 use Rattle.pricing.proofs.ByEdges.{same_worth}
-use Rattle.pricing.proofs.Covered.{keeps_from, best_found}
+use Rattle.pricing.proofs.Covered.{keeps_from, best_found, covers_on}
 use Rattle.pricing.proofs.Leaving.{covers_tail, all_covered, first_of, place_in}
 
 -- where no legal list begins with none, none is legal
@@ -87,12 +89,12 @@ covers_legal p entries best front list legal is c rest whole leaving =
 pub covers_none : (p : Priced) (entries : List (List Break × ℤ)) (best : Option Found) (front : List Break) → is_live p.rule p.len front ≡ false → CoversFrom p entries best front
 covers_none p entries best front dead rest whole leaving = absurd (false≢true (sym dead ∙ live_from p.rule p.len front rest whole))
 
-any_default : {X : Type 0} (xs : List X) (i : ℕ) (d e : X) → i < length xs → get_or xs i d ≡ get_or xs i e
+pub any_default : {X : Type 0} (xs : List X) (i : ℕ) (d e : X) → i < length xs → get_or xs i d ≡ get_or xs i e
 any_default [] i d e h = absurd (omega arith)
 any_default (x ∷ xs) zero d e h = refl
 any_default (x ∷ xs) (suc i) d e h = any_default xs i d e (omega arith)
 
-below_or_at : (j i : ℕ) → j < i + 1 → (j < i) ⊎ (j ≡ i)
+pub below_or_at : (j i : ℕ) → j < i + 1 → (j < i) ⊎ (j ≡ i)
 below_or_at j i h = grind arith
 
 -- one beginning more of a prefix
@@ -138,6 +140,34 @@ best_of_all p entries bonus best d many all found start along prefixes =
       | inl none ↦ subst (CoversFrom p entries best) (sym none) start
       | inr leads ↦ let e = any_some (λ (e : List Break × ℤ). begins_with e.0 front) bonus (prefixes front leads) in along_of front e.0 e.1 e.2
     ]
+
+-- what covers from none and from each beginning is the best
+pub best_of_beginnings : (p : Priced) (entries : List (List Break × ℤ)) (best : Option Found) (lists : List (List Break)) (many : ℕ) → length lists ≤ many → AreBeginnings entries lists → IsFound p entries best → CoversFrom p entries best []
+    → ((j : ℕ) → j < many → CoversFrom p entries best (get_or lists j [])) → IsBestFound p entries best
+best_of_beginnings p entries best lists many all are found start along = best_found p entries best found (all_covered p entries best from)
+  where
+    from : (front : List Break) → (front ≡ []) ⊎ (leads_further entries front ≡ true) → CoversFrom p entries best front
+    from [] h = start
+    from (b ∷ bs) h = elim h [
+      | inl none ↦ absurd (cc)
+      | inr leads ↦ let at = place_in lists (b ∷ bs) [] (are.all b bs leads) in subst (CoversFrom p entries best) at.2 (along at.0 (omega (arith, at.1)))
+    ]
+
+-- where all lists get the same bonuses the best list by prices is the best
+pub best_where_alike : (p : Priced) (entries : List (List Break × ℤ)) (best : Option Found) (new list : List Break) → new ≡ [] → ((l : List Break) → bonus_of entries l ≡ bonus_of entries [])
+    → IsFound p entries best → Covers p entries best list → IsBestFrom p.rule p.len p.sums new list → IsBestFound p entries best
+best_where_alike p entries best new list none alike found covers from =
+    let own : IsBestFrom p.rule p.len p.sums [] list = subst (λ (l : List Break). IsBestFrom p.rule p.len p.sums l list) none from in
+    let rest = own.0 in
+    let value : ℤ = own.2.0 in
+    let b : IsBestRest (Completes p.rule p.len []) (rest_worth p.sums p.rule p.len []) value rest = own.2.1 in
+    let worth : rest_worth p.sums p.rule p.len [] rest ≡ value = b.is_worth in
+    best_found p entries best found (λ other legal.
+    let most : rest_worth p.sums p.rule p.len [] other ≤ℤ value = b.greatest other legal in
+    let same : bonus_of entries other ≡ bonus_of entries rest = alike other ∙ sym (alike rest) in
+    covers_on p entries best rest other (subst (Covers p entries best) own.1 covers)
+    (omega (arith, ints))
+    (λ e. b.least other legal (let s : rest_worth p.sums p.rule p.len [] other ≡ value = omega (arith, ints) in s)))
 
 pub ok_map : {X E : Type 0} (r : Result X E) (P Q : X → Type 0) → ((x : X) → P x → Q x) → IfOk r P → IfOk r Q
 ok_map (Ok x) P Q f h = f x h

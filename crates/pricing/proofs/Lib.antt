@@ -11,3 +11,8 @@ pub mod Worths
 pub mod Behind
 mod Daily
 pub mod Followed
+pub mod Changes
+pub mod Firsts
+pub mod Reached
+pub mod Reused
+pub mod Tabling

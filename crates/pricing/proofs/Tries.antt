@@ -1,8 +1,8 @@
 -- Bonuses that are added one after another.
-use Rattle.std.proofs.Common.{◌≡◌, ◌⊎◌, inl, inr, ℕ, ◌+◌, ◌<◌, ℤ, pos, ◌+ℤ◌, Bool, true, false, cond, List, [], ◌∷◌, ◌++◌, length, take, get_or, refl, sym, ap, ◌∙◌, arith}
+use Rattle.std.proofs.Common.{◌≡◌, ◌⊎◌, inl, inr, ℕ, ◌+◌, ◌<◌, ℤ, pos, ◌+ℤ◌, Bool, true, false, cond, ◌||◌, List, [], ◌∷◌, ◌++◌, length, take, get_or, refl, sym, ap, ◌∙◌, arith}
 use Rattle.std.specs.List.{list_any}
 use Rattle.std.proofs.lemmas.Int.{ints}
-use Rattle.std.proofs.lemmas.Bool.{cases_Bool, cond-true, cond-false, or_cases, or_left, or_right, false≢true}
+use Rattle.std.proofs.lemmas.Bool.{cases_Bool, cond-true, cond-false, cond_both, or_cases, or_left, or_right, false≢true}
 use Rattle.std.proofs.lemmas.List.{take_more}
 use Rattle.std.proofs.lemmas.List.Folds.{list_any-append}
 use Rattle.break_rules.specs.declared.Break.{Break}
@@ -53,6 +53,24 @@ leads_added (e ∷ es) prefix x front h =
           ]
     ]
 
+-- what prefixes begin with stays when a number is added
+leads_kept : (es : List (List Break × ℤ)) (prefix : List Break) (x : ℤ) (front : List Break) → leads_further es front ≡ true → leads_further (with_added es prefix x) front ≡ true
+leads_kept [] prefix x front h = absurd (false≢true h)
+leads_kept (e ∷ es) prefix x front h =
+    cond_both (same_list prefix e.0) ((e.0, e.1 +ℤ x) ∷ es) (e ∷ with_added es prefix x) (λ l. leads_further l front ≡ true)
+    (λ s. h)
+    (λ s. elim (or_cases (begins_with e.0 front) (leads_further es front) h) [
+      | inl a ↦ or_left (begins_with e.0 front) (leads_further (with_added es prefix x) front) a
+      | inr b ↦ or_right (begins_with e.0 front) (leads_further (with_added es prefix x) front) (leads_kept es prefix x front b)
+    ])
+
+leads_new : (es : List (List Break × ℤ)) (prefix : List Break) (x : ℤ) (front : List Break) → begins_with prefix front ≡ true → leads_further (with_added es prefix x) front ≡ true
+leads_new [] prefix x front h = or_left (begins_with prefix front) false h
+leads_new (e ∷ es) prefix x front h =
+    cond_both (same_list prefix e.0) ((e.0, e.1 +ℤ x) ∷ es) (e ∷ with_added es prefix x) (λ l. leads_further l front ≡ true)
+    (λ s. or_left (begins_with e.0 front) (leads_further es front) (ap (λ (l : List Break). begins_with l front) (sym ((same_list_decides prefix e.0).0 s)) ∙ h))
+    (λ s. or_right (begins_with e.0 front) (leads_further (with_added es prefix x) front) (leads_new es prefix x front h))
+
 -- one bonus more
 module _ (bonus : List (List Break × ℤ)) (i : ℕ) (d : List Break × ℤ) (inside : i < length bonus) (es : List (List Break × ℤ)) where
   pub sums_more : ((list : List Break) → bonus_of es list ≡ bonus_of (take i bonus) list)
@@ -75,4 +93,16 @@ module _ (bonus : List (List Break × ℤ)) (i : ℕ) (d : List Break × ℤ) (i
       ∙ elim (leads_added es e.0 e.1 front h) [
         | inl a ↦ or_left (list_any test (take i bonus)) (list_any test (e ∷ [])) (before front a)
         | inr b ↦ or_right (list_any test (take i bonus)) (list_any test (e ∷ [])) (or_left (begins_with e.0 front) false b)
+      ]
+
+  -- the prefixes of the entries begin with whatever the prefixes of the bonuses begin with
+  pub prefixes_kept : ((front : List Break) → leads_further (take i bonus) front ≡ true → leads_further es front ≡ true)
+      → (front : List Break) → leads_further (take (i + 1) bonus) front ≡ true → leads_further (with_added es (get_or bonus i d).0 (get_or bonus i d).1) front ≡ true
+  prefixes_kept before front h =
+      let e = get_or bonus i d in
+      let test : List Break × ℤ → Bool = λ e. begins_with e.0 front in
+      let parts : (list_any test (take i bonus) || list_any test (e ∷ [])) ≡ true = sym (list_any-append test (take i bonus) (e ∷ [])) ∙ sym (ap (λ (l : List (List Break × ℤ)). leads_further l front) (take_more bonus i d inside)) ∙ h in
+      elim (or_cases (list_any test (take i bonus)) (list_any test (e ∷ [])) parts) [
+        | inl a ↦ leads_kept es e.0 e.1 front (before front a)
+        | inr b ↦ elim (or_cases (begins_with e.0 front) false b) [ inl begins ↦ leads_new es e.0 e.1 front begins | inr none ↦ absurd (false≢true none) ]
       ]

@@ -47,7 +47,7 @@ module _ (i : Problem) (s day : ℕ) (prices sums : List ℤ) (x : Shift × Rule
       ∙ int_sum_by-same _ f (below x.0.len) (λ o m. ap (λ (z : ℤ). cond (works_at x.1 x.0.len list o) z (pos 0)) (sym (of o (from_below x.0.len o m))))
       ∙ ap (λ n. int_sum_by f (range_with_len 0 n)) whole
 
-  list_is : (list : List Break) → is_list_of i s list ≡ is_legal x.1 x.0.len list
+  pub list_is : (list : List Break) → is_list_of i s list ≡ is_legal x.1 x.0.len list
   list_is list = ap (λ o. option_map_or (λ (x : Shift × Rule). is_legal x.1 x.0.len list) o false) e
 
   -- the best list for the rule, the length and the sums is the best one

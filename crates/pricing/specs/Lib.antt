@@ -3,3 +3,5 @@ pub mod Values
 pub mod Found
 pub mod Days
 pub mod Spots
+pub mod Tables
+pub mod Keeping

@@ -1,6 +1,8 @@
 //! The best break list of a duty at given prices.
 #![tactic(auto)]
 
+mod anew;
+mod beginnings;
 mod day_lists;
 mod day_values;
 mod days;
@@ -9,6 +11,8 @@ mod rests;
 mod search;
 mod spots;
 mod steps;
+mod subject;
+mod tables;
 mod values;
 
 pub use day_lists::best_by_day;
@@ -16,3 +20,4 @@ pub use days::most_by_day;
 pub use search::best_pattern;
 pub use spots::value_of_spot;
 pub use steps::Steps;
+pub use tables::Tables;

@@ -7,7 +7,7 @@ ghost use Rattle.break_rules.specs.Breaks.{is_legal, is_live};
 ghost use Rattle.break_rules.specs.Ranges.{IsRule};
 ghost use Rattle.break_graph.specs.Graph.{IsGraph, StandsAt, node_at};
 ghost use Rattle.price_sums.specs.Along.{AreSums, earned_from, price_in};
-ghost use Rattle.pricing.specs.Values.{IsValue, LeadsOn, IsBestFrom};
+ghost use Rattle.pricing.specs.Values.{IsValue, LeadsOn, IsBestFrom, AreBestRests};
 
 use crate::values::{difference, first_reaching, node_values, total};
 use break_graph::{Edge, Graph, Node};
@@ -92,6 +92,41 @@ impl<'a> BestRests<'a> {
             sums,
             values,
         })
+    }
+
+    /// The same, with the values of the nodes that are known. It takes no memory.
+    pub fn with_values(
+        rule: &'a Rule,
+        len: u16,
+        graph: &'a Graph,
+        sums: Vec<i64>,
+        values: Vec<i64>,
+    ) -> BestRests<'a>
+        requires { AreBestRests rule.now len graph.now sums.items values.items }
+        ensures { result ≡ record { rule = rule.now; len = len; nodes = graph.now; sums = sums.items } }
+    {
+        BestRests {
+            rule,
+            len,
+            graph,
+            sums,
+            values,
+        }
+    }
+
+    /// The sums of the prices and the values of the nodes, given back. It takes no memory.
+    pub fn into_sums_and_values(self) -> (Vec<i64>, Vec<i64>)
+        ensures sums { result.0.items ≡ self.entry.sums }
+        ensures rests { AreBestRests self.entry.rule self.entry.len self.entry.nodes result.0.items result.1.items }
+    {
+        let BestRests {
+            rule: _,
+            len: _,
+            graph: _,
+            sums,
+            values,
+        } = self;
+        (sums, values)
     }
 
     /// The node where the empty list stands, and `None` where no list is legal. It takes no memory.

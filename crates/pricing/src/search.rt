@@ -12,15 +12,19 @@ ghost use Rattle.shift_instance.specs.Rota.{is_list_of};
 ghost use Rattle.shift_instance.specs.Worth.{IsBest};
 ghost use Rattle.price_sums.specs.Along.{AreSmallPrices};
 ghost use Rattle.pricing.specs.Found.{IsFound, Keeps, CoversFrom, CoversAlong, IsBestFound, leads_further};
+ghost use Rattle.pricing.specs.Keeping.{AreBeginnings};
 
+use crate::beginnings::Beginnings;
 use crate::found::{Found, better};
 use crate::rests::BestRests;
+use crate::steps::Steps;
 use break_graph::Graph;
 use break_rules::{Break, Breaks, NoMemory};
 use patterns::{Pattern, Trie};
 use price_sums::price_sums;
 use shift_instance::Instance;
 use std::alloc::Global;
+use std::sync::ledger::Ledger;
 
 /// The best list of those so far and of the best ones by prices that go on from some breaks in each way that there is.
 fn best_around(
@@ -108,11 +112,12 @@ fn best_by_prices(alloc: Global, rests: &BestRests<'_>) -> Result<Option<Found>,
 }
 
 /// The bonuses by their prefixes.
-fn trie_of(alloc: Global, bonus: &[(Breaks, i64)]) -> Result<Trie, NoMemory>
+pub fn trie_of(alloc: Global, bonus: &[(Breaks, i64)]) -> Result<Trie, NoMemory>
     requires few { length bonus.now ≤ 2 ^ 33 }
     requires small { All (λ e. unsigned_abs e.1 ≤ 1000000000000) bonus.now }
     ensures sums { IfOk result (λ t. (list : List Break) → bonus_of t.entries list ≡ bonus_of bonus.now list) }
     ensures prefixes { IfOk result (λ t. (front : List Break) → leads_further t.entries front ≡ true → leads_further bonus.now front ≡ true) }
+    ensures kept { IfOk result (λ t. (front : List Break) → leads_further bonus.now front ≡ true → leads_further t.entries front ≡ true) }
 {
     let mut trie = Trie::new(alloc)?;
     for (prefix, x) in bonus {
@@ -134,6 +139,42 @@ fn best_with(
     let mut best = best_around(alloc, rests, trie, &[], None)?;
     for (prefix, _) in bonus {
         best = best_along(alloc, rests, trie, prefix.as_slice(), best)?;
+    }
+    Ok(best)
+}
+
+/// The best list where all lists get the same bonuses.
+fn best_alike(alloc: Global, rests: &BestRests<'_>, trie: &Trie) -> Result<Option<Found>, NoMemory>
+    requires { (list : List Break) → bonus_of trie.now.entries list ≡ bonus_of trie.now.entries [] }
+    ensures { IfOk result (IsBestFound rests.now trie.now.entries) }
+{
+    let Some(at) = rests.opening() else {
+        return Ok(None);
+    };
+    let list = rests.completed(at, Vec::new(alloc))?;
+    Ok(better(rests, trie, list, None))
+}
+
+/// The best list by prices and by the bonuses of a trie, with a step for each of the beginnings of its prefixes but the
+/// empty one.
+pub fn best_by_beginnings<L: Ledger>(
+    alloc: Global,
+    rests: &BestRests<'_>,
+    trie: &Trie,
+    beginnings: &Beginnings,
+    steps: &mut Steps<L>,
+) -> Result<Option<Found>, NoMemory>
+    requires beginnings { AreBeginnings trie.now.entries beginnings.now }
+    ensures best { IfOk result (IsBestFound rests.now trie.now.entries) }
+    ensures steps { steps.new ≤ steps.old + length beginnings.now }
+{
+    if beginnings.is_empty() {
+        return best_alike(alloc, rests, trie);
+    }
+    let mut best = best_around(alloc, rests, trie, &[], None)?;
+    for front in beginnings.lists() {
+        steps.tick();
+        best = best_around(alloc, rests, trie, front.as_slice(), best)?;
     }
     Ok(best)
 }

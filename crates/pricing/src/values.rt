@@ -1,6 +1,6 @@
 //! The values of the nodes of a graph: what the best rests of the break lists that stand there earn.
 
-ghost use Rattle.std.specs.Prelude.{◌≡◌, ◌≢◌, ◌<◌, ◌≤◌, ◌++◌, ◌+ℤ◌, ◌-ℤ◌, [], List, MatchOption, length, IfOk, FitsSigned, Some, slice_get};
+ghost use Rattle.std.specs.Prelude.{◌≡◌, ◌≢◌, ◌<◌, ◌≤◌, ◌++◌, ◌+ℤ◌, ◌-ℤ◌, ◌+◌, [], List, MatchOption, count_by, nat_le, length, IfOk, FitsSigned, Some, slice_get};
 ghost use Rattle.std.specs.Int.{w64};
 ghost use Rattle.break_rules.specs.declared.Break.{Break};
 ghost use Rattle.break_rules.specs.Ranges.{IsRule};
@@ -9,11 +9,14 @@ ghost use Rattle.break_graph.specs.declared.Edge.{Edge};
 ghost use Rattle.break_graph.specs.Graph.{IsGraph, StandsAt, node_at};
 ghost use Rattle.price_sums.specs.Along.{sum_at, AreSums};
 ghost use Rattle.pricing.specs.Values.{reach_of, AreFit, IsFirstWith, IsMostReached, IsValue, AreValues};
+ghost use Rattle.pricing.specs.Keeping.{AreValuesAbove};
 
+use crate::steps::Steps;
 use break_graph::{Edge, Node};
 use break_rules::{NoMemory, Rule};
 use price_sums::{resumption, sum_before};
 use std::alloc::Global;
+use std::sync::ledger::Ledger;
 
 /// What an edge reaches: the sum of the prices before its break, and the value of the node behind it.
 pub fn reach(sums: &[i64], values: &[i64], edge: Edge) -> i64
@@ -106,6 +109,38 @@ pub fn node_values(
     let mut values = Vec::with_capacity(alloc, nodes.len())?;
     for k in 0..nodes.len() {
         let value = value_of(rule, len, nodes, k, sums, &values);
+        values.push(value)?;
+    }
+    Ok(values)
+}
+
+/// The value of each node of a graph: those of the nodes behind an offset as they were kept, and those of the others found
+/// anew, with a step for each of these.
+pub fn values_anew<L: Ledger>(
+    alloc: Global,
+    rule: &Rule,
+    len: u16,
+    nodes: &[Node],
+    sums: &[i64],
+    kept: &[i64],
+    last: u16,
+    steps: &mut Steps<L>,
+) -> Result<Vec<i64>, NoMemory>
+    requires rule { IsRule rule.now }
+    requires graph { IsGraph rule.now len nodes.now }
+    requires sums { AreSums len sums.now }
+    requires kept { AreValuesAbove rule.now len sums.now nodes.now last kept.now }
+    ensures values { IfOk result (λ values. AreValues rule.now len sums.now nodes.now (length nodes.now) values.items) }
+    ensures steps { steps.new ≤ steps.old + count_by (λ n. nat_le n.spot.offset last) nodes.now }
+{
+    let mut values = Vec::with_capacity(alloc, nodes.len())?;
+    for k in 0..nodes.len() {
+        let value = if nodes[k].spot.offset <= last {
+            steps.tick();
+            value_of(rule, len, nodes, k, sums, &values)
+        } else {
+            sum_before(kept, k)
+        };
         values.push(value)?;
     }
     Ok(values)

@@ -8,7 +8,7 @@ use Rattle.break_rules.specs.Bonuses.{bonus_of}
 use Rattle.pricing.specs.Found.{leads_further}
 use Rattle.std.specs.Int.{w64}
 use Rattle.price_sums.proofs.Prices.{kept_small}
-use Rattle.pricing.proofs.Tries.{sums_more, prefixes_more}
+use Rattle.pricing.proofs.Tries.{sums_more, prefixes_more, prefixes_kept}
 use Rattle.pricing.proofs.search.trie_of.Goals as goal
 
 pub loop-prefix-preserved : goal.loop-prefix-preserved
@@ -26,6 +26,7 @@ loop-prefix-preserved c =
       count = c.in_ok-add.ensures.additions ∙ ap (λ n. n + 1) inv.count;
       sums = λ list. ap (λ (l : List (List Break × ℤ)). bonus_of l list) entries ∙ sums_more bonus i item c.loop-prefix-test.true c.loop-prefix.trie.entries inv.sums list;
       prefixes = λ front h. prefixes_more bonus i item c.loop-prefix-test.true c.loop-prefix.trie.entries inv.prefixes front (sym (ap (λ (l : List (List Break × ℤ)). leads_further l front) entries) ∙ h);
+      kept = λ front h. ap (λ (l : List (List Break × ℤ)). leads_further l front) entries ∙ prefixes_kept bonus i item c.loop-prefix-test.true c.loop-prefix.trie.entries inv.kept front h;
     }
 
 pub returns-clause-sums : goal.returns-clause-sums
@@ -37,3 +38,8 @@ pub returns-clause-prefixes : goal.returns-clause-prefixes
 returns-clause-prefixes c =
     let all : length c.args.bonus.now ≤ c.loop-prefix.prefix-index = omega arith in
     λ front h. sym (ap (λ l. leads_further l front) (take_all c.loop-prefix.prefix-index c.args.bonus.now all)) ∙ c.loop-prefix.invariant.prefixes front h
+
+pub returns-clause-kept : goal.returns-clause-kept
+returns-clause-kept c =
+    let all : length c.args.bonus.now ≤ c.loop-prefix.prefix-index = omega arith in
+    λ front h. c.loop-prefix.invariant.kept front (ap (λ l. leads_further l front) (take_all c.loop-prefix.prefix-index c.args.bonus.now all) ∙ h)

@@ -1,0 +1,128 @@
+-- What tables say of the best list, and what stays when prices change.
+use Rattle.std.proofs.Common.{◌≡◌, ℕ, zero, suc, ◌+◌, ◌-◌, ◌<◌, ◌≤◌, ℤ, ◌+ℤ◌, ◌≤ℤ◌, true, false, nat_le, List, [], ◌∷◌, length, fold, refl, sym, ap, ◌∙◌, subst, arith, Option, Some, None}
+use Rattle.std.specs.Prelude.{slice_get, All}
+use Rattle.std.specs.List.{count_by}
+use Rattle.std.specs.Int.RustNames.{unsigned_abs}
+use Rattle.std.proofs.lemmas.Bool.{and_parts}
+use Rattle.break_rules.specs.declared.Break.{Break}
+use Rattle.break_rules.specs.declared.Rule.{Rule}
+use Rattle.break_rules.specs.Breaks.{end_of}
+use Rattle.break_rules.specs.Walk.{may_follow, is_walk_from, end_of_all}
+use Rattle.break_rules.specs.declared.Spot.{Spot}
+use Rattle.break_rules.proofs.Steps.{bounds}
+use Rattle.break_graph.specs.declared.Node.{Node}
+use Rattle.break_graph.specs.Graph.{node_at}
+use Rattle.shift_instance.specs.declared.Duty.{Duty}
+use Rattle.shift_instance.specs.declared.Shift.{Shift}
+use Rattle.shift_instance.specs.Problem.{shift_list, slots}
+use Rattle.shift_instance.specs.Rota.{is_list_of}
+use Rattle.shift_instance.specs.Worth.{IsBest, worth, earned}
+use Rattle.price_sums.specs.Along.{ArePricesOf, AreSmallPrices}
+use Rattle.pricing.specs.declared.found.Found.{Found}
+use Rattle.pricing.specs.Found.{IsBestFound}
+use Rattle.pricing.specs.Tables.{Tabled, MeanTheSame, IsShiftOf, repriced, NameNone, NameNoneAbove, AreStepsUpTo}
+use Rattle.pricing.specs.Keeping.{AreTables, AreValuesAbove, IsFoundAt, IsLastChange}
+use Rattle.pricing.proofs.Changes.{length-repriced, small_repriced, some_named, last_within}
+use Rattle.pricing.proofs.Reached.{steps_within}
+use Rattle.pricing.proofs.Reused.{values_above}
+use Rattle.pricing.proofs.Worths.{best_is, list_is, found_some}
+
+-- the best list is so at other bonuses that mean the same
+pub best_at_same : (t : Tabled) (bonus : List (List Break × ℤ)) (list : List Break) (value : ℤ) → MeanTheSame t.bonus bonus → IsBest t.instance t.shift t.day t.prices t.bonus list value → IsBest t.instance t.shift t.day t.prices bonus list value
+best_at_same t bonus list value same b =
+    let duty : List Break → Duty = λ l. record { shift = t.shift; day = t.day; breaks = l } in
+    let worths : (l : List Break) → worth t.instance t.prices t.bonus (duty l) ≡ worth t.instance t.prices bonus (duty l) = λ l. ap (λ (z : ℤ). earned t.instance t.prices (duty l) +ℤ z) (same.sums l) in
+    record {
+      legal = b.legal;
+      is_worth = b.is_worth ∙ worths list;
+      greatest = λ other h. subst (λ (z : ℤ). z ≤ℤ value) (worths other) (b.greatest other h);
+      least = λ other h e. b.least other h (worths other ∙ e);
+    }
+
+pub some_got : {X : Type 0} (xs : List X) (i : ℕ) → i < length xs → (x : X) × (slice_get xs i ≡ Some x)
+some_got [] i l = absurd (omega arith)
+some_got (x ∷ xs) zero l = (x, refl)
+some_got (x ∷ xs) (suc i) l = some_got xs i (omega arith)
+
+module _ (t : Tabled) (nodes : List Node) (lists : List (List Break)) (sums values : List ℤ) (best : Option Found) (h : AreTables t nodes lists sums values best) where
+  pub best_some : (f : Found) → best ≡ Some f → IsBest t.instance t.shift t.day t.prices t.bonus f.list f.value
+  best_some f is =
+      let s = some_got (shift_list t.instance) t.shift h.shift in
+      let x = s.0 in
+      let found = h.found x s.1 in
+      best_is t.instance t.shift t.day t.prices sums x s.1 (h.short x s.1) found.sums_of nodes t.bonus f.list f.value
+      (found_some (record { rule = x.1; len = x.0.len; nodes = nodes; sums = sums }) t.bonus best f is found.is_best)
+
+  pub best_none : best ≡ None → (list : List Break) → is_list_of t.instance t.shift list ≡ false
+  best_none is list =
+      let s = some_got (shift_list t.instance) t.shift h.shift in
+      let x = s.0 in
+      let found = h.found x s.1 in
+      list_is t.instance t.shift t.day t.prices sums x s.1 (h.short x s.1) found.sums_of nodes list
+      ∙ subst (IsBestFound (record { rule = x.1; len = x.0.len; nodes = nodes; sums = sums }) t.bonus) is found.is_best list
+
+  module _ (changes : List (ℕ × ℤ)) where
+    pub count_after : length (repriced t.prices changes) ≡ slots t.instance
+    count_after = length-repriced t.prices changes ∙ h.count
+
+    pub small_after : All (λ change. unsigned_abs change.1 ≤ 10000000000) changes → AreSmallPrices (repriced t.prices changes)
+    small_after small = small_repriced t.prices changes h.small small
+
+    -- the values behind the last change are kept
+    pub kept_after : (last : ℕ) (x : Shift × Rule) → IsShiftOf t.instance t.shift x → IsLastChange t.instance x.0 t.day t.prices (repriced t.prices changes) x.0.len (Some last)
+        → (other : List ℤ) → ArePricesOf t.instance x.0 t.day (repriced t.prices changes) other → AreValuesAbove x.1 x.0.len other nodes last values
+    kept_after last x e change other of =
+        let found = h.found x e in
+        values_above x.1 x.0.len last sums other values nodes (λ o above inside. of o inside ∙ change.2 o above inside ∙ sym (found.sums_of o inside)) found.rests.known
+
+    -- where no price of the duties changed all of it is kept
+    pub same_after : All (λ change. unsigned_abs change.1 ≤ 10000000000) changes → ((x : Shift × Rule) → IsShiftOf t.instance t.shift x → IsLastChange t.instance x.0 t.day t.prices (repriced t.prices changes) x.0.len None)
+        → AreTables (record { instance = t.instance; shift = t.shift; day = t.day; prices = repriced t.prices changes; bonus = t.bonus }) nodes lists sums values best
+    same_after small none = record {
+      shift = h.shift;
+      count = count_after;
+      small = small_after small;
+      beginnings = h.beginnings;
+      graph = h.graph;
+      short = h.short;
+      found = λ x e. let found = h.found x e in record { sums_of = λ o inside. found.sums_of o inside ∙ sym (none x e o inside); rests = found.rests; is_best = found.is_best };
+    }
+
+    -- what was found anew
+    pub anew_after : All (λ change. unsigned_abs change.1 ≤ 10000000000) changes → (sums' values' : List ℤ) (best' : Option Found)
+        → ((x : Shift × Rule) → IsShiftOf t.instance t.shift x → IsFoundAt t.instance x t.day (repriced t.prices changes) t.bonus nodes sums' values' best')
+        → AreTables (record { instance = t.instance; shift = t.shift; day = t.day; prices = repriced t.prices changes; bonus = t.bonus }) nodes lists sums' values' best'
+    anew_after small sums' values' best' found = record {
+      shift = h.shift;
+      count = count_after;
+      small = small_after small;
+      beginnings = h.beginnings;
+      graph = h.graph;
+      short = h.short;
+      found = found;
+    }
+
+    -- where something changed some slot of the duties is named
+    pub none_named : (x : Shift × Rule) (last : ℕ) → IsLastChange t.instance x.0 t.day t.prices (repriced t.prices changes) x.0.len (Some last) → NameNone t.instance x.0 t.day changes → ⊥
+    none_named x last change none = some_named t.instance x.0 t.day t.prices changes last change none
+
+    -- the steps up to the last change
+    pub steps_after : (x : Shift × Rule) → IsShiftOf t.instance t.shift x → (last bound old new : ℕ) → IsLastChange t.instance x.0 t.day t.prices (repriced t.prices changes) x.0.len (Some last)
+        → NameNoneAbove t.instance x.0 t.day changes bound → new ≤ old + (count_by (λ n. nat_le n.spot.offset last) nodes + length lists) → AreStepsUpTo x.1 x.0.len bound t.bonus (new - old)
+    steps_after x e last bound old new change none steps =
+        steps_within x.1 x.0.len last bound nodes t.bonus t.bonus lists old new (h.graph x e) (last_within t.instance x.0 t.day t.prices changes last bound change none) h.beginnings (λ front leads. leads) steps
+
+-- a walk ends within its shift
+walk_within : (rule : Rule) (len offset used : ℕ) (list : List Break) → is_walk_from rule len offset used list ≡ true → offset ≤ len → fold (λ at b. end_of b) offset list ≤ len
+walk_within rule len offset used [] w l = l
+walk_within rule len offset used (b ∷ bs) w l =
+    let p = and_parts (may_follow rule len offset used b) (is_walk_from rule len (end_of b) (used + b.len) bs) w in
+    let f = bounds rule len offset used b p.0 in
+    walk_within rule len (end_of b) (used + b.len) bs p.1 (omega (arith, f.tail))
+
+-- so no node stands behind it
+pub none_above : (rule : Rule) (len : ℕ) (sums : List ℤ) (nodes : List Node) (kept : List ℤ) → AreValuesAbove rule len sums nodes len kept
+none_above rule len sums nodes kept k list above st =
+    let end : (node_at nodes k).spot.offset ≡ end_of_all list = ap (λ (s : Spot). s.offset) st.spot in
+    let within : end_of_all list ≤ len = walk_within rule len 0 0 list st.walk (omega arith) in
+    absurd (omega (arith, above, end, within))

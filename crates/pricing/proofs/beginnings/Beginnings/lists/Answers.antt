@@ -1,0 +1,8 @@
+use Rattle.std.proofs.Common.{subst}
+use Rattle.std.specs.List.{IsDistinct}
+use Rattle.break_rules.specs.Breaks.{same_list}
+use Rattle.pricing.proofs.Firsts.{distinct_map}
+use Rattle.pricing.proofs.beginnings.Beginnings.lists.Goals as goal
+
+pub returns-clause-once : goal.returns-clause-once
+returns-clause-once c = subst (IsDistinct same_list) c.self.view_is (distinct_map (λ k. k.items) same_list c.self.inside.set.keys c.as_slice.ensures.unique)
