@@ -4,6 +4,8 @@
 #[cfg(test)]
 mod break_graphs;
 #[cfg(test)]
+mod break_layers;
+#[cfg(test)]
 mod break_lists;
 #[cfg(test)]
 mod break_patterns;

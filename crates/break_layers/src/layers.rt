@@ -1,0 +1,105 @@
+//! The table of what is earned at most behind each spot, layer by layer.
+
+ghost use Rattle.std.specs.Prelude.{◌≡◌, ℕ, ◌+◌, ◌*◌, ◌<◌, ◌≤◌, List, IfOk, IsTrue, length};
+ghost use Rattle.break_rules.specs.declared.Break.{Break};
+ghost use Rattle.break_rules.specs.Ranges.{IsRule};
+ghost use Rattle.break_rules.specs.Walk.{is_walk, spot_of, end_of_all};
+ghost use Rattle.price_sums.specs.Along.{AreSums};
+ghost use Rattle.break_layers.specs.Windows.{number_in};
+ghost use Rattle.break_layers.specs.Layered.{layer_of, layer_number, layer_place, AreLayersBefore, AreLayers, IsReachOfAll, IsValueOrNothing};
+
+use crate::reaching::best_reaches;
+use crate::windows::{NOTHING, number_at};
+use break_rules::{NoMemory, Rule, Spot, ends};
+use price_sums::{resumption, sum_before};
+use std::alloc::Global;
+
+/// How many layers there are: four sets of lunches for each break time up to the greatest total.
+const LAYERS: usize = 4 * 49;
+
+/// What the spots of a layer have in common.
+#[derive(Clone, Copy, Drop)]
+pub(crate) struct Layer {
+    /// The break time used.
+    pub(crate) used: u16,
+    /// A bit for each lunch entry that is met.
+    pub(crate) lunches: u8,
+}
+
+/// The layer of a number: those of more break time first.
+fn layer_at(number: usize) -> Layer
+    requires { number < 196 }
+    ensures { layer_number result ≡ number }
+{
+    Layer {
+        used: 48 - (number / 4) as u16,
+        lunches: (number % 4) as u8,
+    }
+}
+
+/// The place of a spot in the table.
+pub(crate) fn place(len: u16, spot: Spot) -> usize
+    ensures { result ≡ layer_place len spot }
+{
+    let layer = 48usize.saturating_sub(usize::from(spot.used)) * 4 + usize::from(spot.lunches);
+    layer * (usize::from(len) + 1) + usize::from(spot.offset)
+}
+
+/// The difference of a value and a sum of prices, and [`NOTHING`] where that is the value.
+fn less(value: i64, sum: i64) -> i64 {
+    if value == NOTHING {
+        NOTHING
+    } else {
+        value.wrapping_sub(sum)
+    }
+}
+
+/// What is earned at most behind a spot, by the most that the breaks reach that may come next.
+fn value_behind(rule: &Rule, len: u16, sums: &[i64], spot: Spot, most: i64) -> i64 {
+    let whole = if ends(rule, len, spot) {
+        sum_before(sums, usize::from(len))
+    } else {
+        most
+    };
+    less(whole, sum_before(sums, resumption(rule, spot)))
+}
+
+/// Puts the values of the spots of a layer behind those of the layers before it.
+fn put_layer(
+    rule: &Rule,
+    len: u16,
+    sums: &[i64],
+    layer: Layer,
+    most: &[i64],
+    table: &mut Vec<i64>,
+) -> Result<(), NoMemory> {
+    for offset in 0..usize::from(len) + 1 {
+        let spot = Spot {
+            offset: offset as u16,
+            used: layer.used,
+            lunches: layer.lunches,
+        };
+        table.push(value_behind(rule, len, sums, spot, number_at(most, offset)))?;
+    }
+    Ok(())
+}
+
+/// The table of all layers.
+pub(crate) fn layer_table(
+    alloc: Global,
+    rule: &Rule,
+    len: u16,
+    sums: &[i64],
+) -> Result<Vec<i64>, NoMemory>
+    requires rule { IsRule rule.now }
+    requires sums { AreSums len sums.now }
+    ensures { IfOk result (λ table. AreLayers rule.now len sums.now table.items) }
+{
+    let mut table = Vec::new(alloc);
+    for number in 0..LAYERS {
+        let layer = layer_at(number);
+        let most = best_reaches(alloc, rule, len, sums, &table, layer)?;
+        put_layer(rule, len, sums, layer, &most, &mut table)?;
+    }
+    Ok(table)
+}

@@ -1,0 +1,77 @@
+//! Which breaks a layer has: their lengths, the work that they may follow, and the lunches that they meet.
+
+ghost use Rattle.std.specs.Prelude.{◌≡◌, ◌+◌, ◌≤◌, List, length};
+ghost use Rattle.break_rules.specs.declared.Break.{Break};
+ghost use Rattle.break_rules.specs.Breaks.{total_of, total_in, keeps_ends, is_lunch};
+ghost use Rattle.break_rules.specs.Ranges.{IsRule};
+ghost use Rattle.break_rules.specs.Walk.{bits_of};
+ghost use Rattle.break_layers.specs.Layered.{longest_work_of, AreAllSizes, size_limit_of};
+
+use crate::layers::Layer;
+use break_rules::{Break, Lunch, Rule};
+
+/// The total that a table has for a length.
+fn total_among(totals: &[(u16, u16)], len: u16) -> u16
+    ensures { result ≡ total_in totals.now len }
+{
+    let mut total = 0;
+    for entry in totals {
+        if entry.0 <= len {
+            total = entry.1;
+        }
+    }
+    total
+}
+
+/// The greatest length of a break in a layer, and 0 where it has none.
+pub(crate) fn longest(rule: &Rule, len: u16, layer: Layer) -> u16
+    requires { IsRule rule.now }
+    ensures { result ≡ size_limit_of rule.now len layer }
+{
+    let total = total_among(rule.totals.as_slice(), len);
+    rule.size_max.min(total.saturating_sub(layer.used))
+}
+
+/// The longest work period that a break of that length may follow.
+pub(crate) fn longest_work(rule: &Rule, size: u16) -> u16
+    ensures { result ≡ longest_work_of rule.now size }
+{
+    if rule.long_rest <= size {
+        rule.work_max
+    } else {
+        rule.work_max.min(rule.long_work)
+    }
+}
+
+/// Whether a break keeps its distance from both ends of the shift.
+pub(crate) fn keeps_distance(rule: &Rule, len: u16, stop: Break) -> bool
+    ensures { result ≡ keeps_ends rule.now len stop }
+{
+    rule.lead <= stop.start
+        && u32::from(stop.start) + u32::from(stop.len) + u32::from(rule.tail) <= u32::from(len)
+}
+
+/// Whether a break meets a lunch entry.
+fn meets(entry: &Lunch, stop: Break) -> bool
+    ensures { result ≡ is_lunch entry.now stop }
+{
+    stop.len == entry.size
+        && entry.first <= stop.start
+        && u32::from(stop.start) + u32::from(stop.len) <= u32::from(entry.last)
+}
+
+/// The bits of the lunch entries that a break meets.
+pub(crate) fn lunches_met(entries: &[Lunch], stop: Break) -> u8
+    requires { length entries.now ≤ 2 }
+    ensures { result ≡ bits_of (λ e. is_lunch e stop) entries.now }
+{
+    let mut bits = 0;
+    let mut bit = 1;
+    for entry in entries {
+        if meets(entry, stop) {
+            bits += bit;
+        }
+        bit *= 2;
+    }
+    bits
+}

@@ -1,0 +1,70 @@
+//! What the best rest of a break list earns, and the best list, by layers.
+
+ghost use Rattle.std.specs.Prelude.{◌≡◌, List, IfOk, IsTrue, MatchOption, false};
+ghost use Rattle.break_rules.specs.declared.Break.{Break};
+ghost use Rattle.break_rules.specs.Breaks.{is_live};
+ghost use Rattle.break_rules.specs.Ranges.{IsRule};
+ghost use Rattle.break_rules.specs.Walk.{is_walk, spot_of};
+ghost use Rattle.price_sums.specs.Along.{AreSums, Completes};
+ghost use Rattle.break_layers.specs.Rests.{IsMost, rest_worth};
+
+use crate::layers::{layer_table, place};
+use crate::windows::{NOTHING, number_at};
+use break_rules::{NoMemory, Rule, Spot};
+use std::alloc::Global;
+use std::marker::Model;
+
+/// For each spot that a walk by the next breaks of a rule reaches, what the rests earn at most with which some legal list
+/// goes on from there. It is made once for a rule, a length and prices.
+#[derive(Drop)]
+pub struct LayerValues<'a> {
+    rule: &'a Rule,
+    len: u16,
+    sums: Vec<i64>,
+    table: Vec<i64>,
+}
+
+impl<'a> Model for LayerValues<'a> {
+    ghost use Rattle.break_rules.specs.Ranges.{IsRule};
+    ghost use Rattle.price_sums.specs.Along.{AreSums};
+    ghost use Rattle.break_layers.specs.Rests.{Priced};
+    ghost use Rattle.break_layers.specs.Layered.{AreLayers};
+
+    ghost Value = { Priced };
+
+    ghost view = { λ v. record { rule = v.rule.now; len = v.len; sums = v.sums.items } };
+
+    ghost invariant = { λ v. IsRule v.rule.now × AreSums v.len v.sums.items × AreLayers v.rule.now v.len v.sums.items v.table.items };
+}
+
+impl<'a> LayerValues<'a> {
+    /// The values for this rule in shifts of `len` slots, by the sums of the prices of the offsets below each one. The time
+    /// that it takes is in the order of the spots times the lengths of breaks.
+    pub fn new(
+        alloc: Global,
+        rule: &'a Rule,
+        len: u16,
+        sums: Vec<i64>,
+    ) -> Result<LayerValues<'a>, NoMemory>
+        requires rule { IsRule rule.now }
+        requires sums { AreSums len sums.items }
+        ensures { IfOk result (λ v. v ≡ record { rule = rule.now; len = len; sums = sums.items }) }
+    {
+        let table = layer_table(alloc, rule, len, &sums)?;
+        Ok(LayerValues {
+            rule,
+            len,
+            sums,
+            table,
+        })
+    }
+
+    /// What the rests earn at most with which some legal list goes on from the spot of a walk, and `None` where there are
+    /// none. It takes no memory.
+    pub fn value_at(&self, spot: Spot) -> Option<i64>
+        ensures { (list : List Break) → IsTrue (is_walk self.now.rule self.now.len list) → spot ≡ spot_of self.now.rule list → MatchOption result (is_live self.now.rule self.now.len list ≡ false) (IsMost (Completes self.now.rule self.now.len list) (rest_worth self.now.sums self.now.rule self.now.len list)) }
+    {
+        let value = number_at(&self.table, place(self.len, spot));
+        (value != NOTHING).then_some(value)
+    }
+}
