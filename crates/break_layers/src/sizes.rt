@@ -1,11 +1,10 @@
 //! Which breaks a layer has: their lengths, the work that they may follow, and the lunches that they meet.
 
-ghost use Rattle.std.specs.Prelude.{◌≡◌, ◌+◌, ◌≤◌, List, length};
-ghost use Rattle.break_rules.specs.declared.Break.{Break};
+ghost use Rattle.std.specs.Prelude.{◌≡◌, ◌≤◌, length};
 ghost use Rattle.break_rules.specs.Breaks.{total_of, total_in, keeps_ends, is_lunch};
 ghost use Rattle.break_rules.specs.Ranges.{IsRule};
 ghost use Rattle.break_rules.specs.Walk.{bits_of};
-ghost use Rattle.break_layers.specs.Layered.{longest_work_of, AreAllSizes, size_limit_of};
+ghost use Rattle.break_layers.specs.Layered.{longest_work_of, size_limit_of};
 
 use crate::layers::Layer;
 use break_rules::{Break, Lunch, Rule};

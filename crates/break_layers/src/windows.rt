@@ -16,16 +16,19 @@ pub(crate) fn number_at(row: &[i64], at: usize) -> i64
 
 /// Raises each number of a row to the one that stands so many places behind it.
 fn raise_by(row: &mut [i64], by: usize)
+    requires { by ≤ 65536 }
     ensures { (k : ℕ) → number_in row.new k ≡ int_max (number_in row.old k) (number_in row.old (k + by)) }
 {
-    for k in 0..row.len().saturating_sub(by) {
-        row[k] = row[k].max(row[k + by]);
+    for k in 0..row.len() {
+        let most = number_at(row, k).max(number_at(row, k + by));
+        row[k] = most;
     }
 }
 
 /// Raises each number of a row to the greatest in the window of so many numbers that begins with it.
 pub(crate) fn raise_to_windows(row: &mut [i64], width: usize)
-    requires { 1 ≤ width }
+    requires some { 1 ≤ width }
+    requires short { width ≤ 65536 }
     ensures { (k : ℕ) → IsMostIn row.old k width (number_in row.new k) }
 {
     let mut wide = 1;
@@ -41,6 +44,7 @@ pub(crate) fn raise_to_row(most: &mut [i64], row: &[i64], by: u16)
     ensures { (k : ℕ) → k < length most.old → number_in most.new k ≡ int_max (number_in most.old k) (number_in row.now (k + by)) }
 {
     for k in 0..most.len() {
-        most[k] = most[k].max(number_at(row, k + usize::from(by)));
+        let more = number_at(most, k).max(number_at(row, k + usize::from(by)));
+        most[k] = more;
     }
 }
