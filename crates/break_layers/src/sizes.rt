@@ -1,10 +1,12 @@
 //! Which breaks a layer has: their lengths, the work that they may follow, and the lunches that they meet.
 
-ghost use Rattle.std.specs.Prelude.{◌≡◌, ◌≤◌, length};
+ghost use Rattle.std.specs.Prelude.{◌≡◌, ◌≤◌, Bool, true, List, length};
+ghost use Rattle.break_rules.specs.declared.Break.{Break};
+ghost use Rattle.break_rules.specs.declared.Lunch.{Lunch};
 ghost use Rattle.break_rules.specs.Breaks.{total_of, total_in, keeps_ends, is_lunch};
 ghost use Rattle.break_rules.specs.Ranges.{IsRule};
 ghost use Rattle.break_rules.specs.Walk.{bits_of};
-ghost use Rattle.break_layers.specs.Layered.{longest_work_of, size_limit_of};
+ghost use Rattle.break_layers.specs.Layered.{layer_of, longest_work_of, size_limit_of};
 
 use crate::layers::Layer;
 use break_rules::{Break, Lunch, Rule};
@@ -22,11 +24,26 @@ fn total_among(totals: &[(u16, u16)], len: u16) -> u16
     total
 }
 
-/// The greatest length of a break in a layer, and 0 where it has none.
+/// Whether a set of lunches has no more than the entries of a rule.
+fn is_set_of(entries: &[Lunch], lunches: u8) -> bool
+    ensures { (met : Lunch → Bool) → lunches ≡ bits_of met entries.now → result ≡ true }
+{
+    match entries.len() {
+        0 => lunches == 0,
+        1 => lunches <= 1,
+        _ => true,
+    }
+}
+
+/// The greatest length of a break in a layer, and 0 where no spot lies in it.
 pub(crate) fn longest(rule: &Rule, len: u16, layer: Layer) -> u16
     requires { IsRule rule.now }
-    ensures { result ≡ size_limit_of rule.now len layer }
+    ensures most { result ≤ size_limit_of rule.now len layer }
+    ensures all { (list : List Break) → layer ≡ layer_of rule.now list → result ≡ size_limit_of rule.now len layer }
 {
+    if !is_set_of(rule.lunches.as_slice(), layer.lunches) {
+        return 0;
+    }
     let total = total_among(rule.totals.as_slice(), len);
     rule.size_max.min(total.saturating_sub(layer.used))
 }
@@ -44,6 +61,7 @@ pub(crate) fn longest_work(rule: &Rule, size: u16) -> u16
 
 /// Whether a break keeps its distance from both ends of the shift.
 pub(crate) fn keeps_distance(rule: &Rule, len: u16, stop: Break) -> bool
+    requires { IsRule rule.now }
     ensures { result ≡ keeps_ends rule.now len stop }
 {
     rule.lead <= stop.start
