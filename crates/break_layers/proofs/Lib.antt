@@ -1,2 +1,3 @@
-pub mod Sliding
 pub mod Reach
+pub mod Sliding
+pub mod Table
