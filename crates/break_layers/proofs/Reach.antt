@@ -5,7 +5,7 @@ use Rattle.std.specs.Int.{w64, int_max}
 use Rattle.std.specs.Int.RustNames.{unsigned_abs}
 use Rattle.std.proofs.lemmas.Int.{ints, fits_signed_from_abs}
 use Rattle.std.proofs.lemmas.List.Sums.{fold-append}
-use Rattle.std.proofs.lemmas.Bool.{false≢true, cases_Bool, and_parts, and_from, or_cases, or_left, or_right, cases_lt, le-leb, lt-ltb, leb-true, ltb-true}
+use Rattle.std.proofs.lemmas.Bool.{false≢true, cases_Bool, and_parts, and_from, and_right, lt-leb, or_cases, or_left, or_right, cases_lt, le-leb, lt-ltb, leb-true, ltb-true}
 use Rattle.std.proofs.lemmas.Bool.Decides.{Decides-int_eq}
 use Rattle.break_rules.specs.declared.Break.{Break}
 use Rattle.break_rules.specs.declared.Rule.{Rule}
@@ -143,6 +143,11 @@ module _ (rule : Rule) (len : ℕ) (sums : List ℤ) (list : List Break) (r : Is
       none [] h = h
       none (c ∷ rest) h =
           false≢true (sym far ∙ ap (keeps_ends rule len) (sym h.0) ∙ (follows_parts rule len (end_of_all list) (spot_of rule list).used c (first_follows c rest h.1)).ends)
+
+  -- a break that begins behind the end of the shift reaches nothing
+  pub reach_late : (b : Break) → len < b.start → IsReachBy rule len sums list b NOTHING
+  reach_late b late =
+      reach_none b (and_right (nat_le rule.lead b.start) (nat_le (end_of b + rule.tail) len) (lt-leb _ _ (omega arith)))
 
   -- a break that may follow begins in the window of its length
   in_window : (b : Break) → may_follow rule len (end_of_all list) (spot_of rule list).used b ≡ true → IsInWindow rule list b
