@@ -1,9 +1,9 @@
 -- The places of spots in a table of layers.
-use Rattle.std.proofs.Common.{◌≡◌, ◌⊎◌, inl, inr, ℕ, ◌+◌, ◌-◌, ◌*◌, ◌<◌, ◌≤◌, ℤ, true, List, [], ◌∷◌, ◌++◌, refl, sym, ap, ◌∙◌, subst, arith, length, bit_or}
+use Rattle.std.proofs.Common.{◌≡◌, ◌⊎◌, inl, inr, ℕ, zero, suc, replicate, take, drop, ◌+◌, ◌-◌, ◌*◌, ◌<◌, ◌≤◌, ℤ, true, List, [], ◌∷◌, ◌++◌, refl, sym, ap, ◌∙◌, subst, arith, length, bit_or}
 use Rattle.std.proofs.Math.Nat.{mul-le-mul_right}
 use Rattle.std.proofs.lemmas.Bool.{cases_lt}
 use Rattle.std.proofs.Math.ListN.{get_or-append}
-use Rattle.std.proofs.Math.Seq.{get_or-append_seam}
+use Rattle.std.proofs.Math.Seq.{get_or-append_seam, take-append_seam}
 use Rattle.break_rules.specs.declared.Break.{Break}
 use Rattle.break_rules.specs.declared.Rule.{Rule}
 use Rattle.break_rules.specs.declared.Spot.{Spot}
@@ -67,3 +67,13 @@ one_more P row n x many before here k less =
           subst (λ j. P j (number_in (row ++ x ∷ []) j)) same
           (subst (P n) (sym (ap (λ j. number_in (row ++ x ∷ []) j) (sym many) ∙ get_or-append_seam row x [] NOTHING)) here)
     ]
+
+-- a row of nothing
+pub all_nothing : (n k : ℕ) → number_in (replicate n NOTHING) k ≡ NOTHING
+all_nothing zero k = refl
+all_nothing (suc n) zero = refl
+all_nothing (suc n) (suc k) = all_nothing n k
+
+-- a vector behind whose slice other numbers were written
+pub written : (n : ℕ) (new old : List ℤ) → n ≡ length new → take n (new ++ drop (length new) old) ≡ new
+written n new old e = ap (λ k. take k (new ++ drop (length new) old)) e ∙ take-append_seam new (drop (length new) old)
