@@ -1,3 +1,4 @@
+pub mod Ending
 pub mod Reach
 pub mod Sliding
 pub mod Table

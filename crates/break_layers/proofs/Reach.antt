@@ -42,14 +42,14 @@ worth_more rule len list b sums bs r c =
     (sym (ap (resumes rule) end ∙ resumes_behind rule (end_of b) some))
 
 -- sums of prices lie above the number that stands for nothing
-above_nothing : (z : ℤ) → unsigned_abs z ≤ 10000000000 * 131071 → NOTHING <ℤ z
+pub above_nothing : (z : ℤ) → unsigned_abs z ≤ 10000000000 * 131071 → NOTHING <ℤ z
 above_nothing z h = grind (arith, ints)
 
-not_above : (z : ℤ) → NOTHING <ℤ z → z ≤ℤ NOTHING → ⊥
+pub not_above : (z : ℤ) → NOTHING <ℤ z → z ≤ℤ NOTHING → ⊥
 not_above z h g = omega (arith, ints)
 
 -- one number is another, or not
-same_or : (x y : ℤ) → (x ≡ y) ⊎ (x ≢ y)
+pub same_or : (x y : ℤ) → (x ≡ y) ⊎ (x ≢ y)
 same_or x y = elim (cases_Bool (int_eq x y)) [ inl t ↦ inl ((Decides-int_eq x y).0 t) | inr f ↦ inr (λ e. false≢true (sym f ∙ (Decides-int_eq x y).1 e)) ]
 
 -- the greater of two numbers, for lists of one kind or another

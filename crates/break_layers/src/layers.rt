@@ -1,6 +1,7 @@
 //! The table of what is earned at most behind each spot, layer by layer.
 
-ghost use Rattle.std.specs.Prelude.{◌≡◌, ℕ, ◌+◌, ◌*◌, ◌<◌, ◌≤◌, List, IfOk, IsTrue, length};
+ghost use Rattle.std.specs.Prelude.{◌≡◌, ◌≢◌, ◌+◌, ◌*◌, ◌<◌, ◌≤◌, ◌-ℤ◌, List, IfOk, OnOk, IsTrue, FitsSigned, length};
+ghost use Rattle.std.specs.Int.{w64};
 ghost use Rattle.break_rules.specs.declared.Break.{Break};
 ghost use Rattle.break_rules.specs.Ranges.{IsRule};
 ghost use Rattle.break_rules.specs.Walk.{is_walk, spot_of, end_of_all};
@@ -28,8 +29,10 @@ pub(crate) struct Layer {
 
 /// The layer of a number: those of more break time first.
 fn layer_at(number: usize) -> Layer
-    requires { number < 196 }
-    ensures { layer_number result ≡ number }
+    requires { number < LAYERS }
+    ensures number { layer_number result ≡ number }
+    ensures used { result.used ≤ 48 }
+    ensures lunches { result.lunches ≤ 3 }
 {
     Layer {
         used: 48 - (number / 4) as u16,
@@ -46,7 +49,10 @@ pub(crate) fn place(len: u16, spot: Spot) -> usize
 }
 
 /// The difference of a value and a sum of prices, and [`NOTHING`] where that is the value.
-fn less(value: i64, sum: i64) -> i64 {
+fn less(value: i64, sum: i64) -> i64
+    ensures nothing { value ≡ NOTHING → result ≡ NOTHING }
+    ensures difference { value ≢ NOTHING → FitsSigned w64 (value -ℤ sum) → result ≡ value -ℤ sum }
+{
     if value == NOTHING {
         NOTHING
     } else {
@@ -55,7 +61,11 @@ fn less(value: i64, sum: i64) -> i64 {
 }
 
 /// What is earned at most behind a spot, by the most that the breaks reach that may come next.
-fn value_behind(rule: &Rule, len: u16, sums: &[i64], spot: Spot, most: i64) -> i64 {
+fn value_behind(rule: &Rule, len: u16, sums: &[i64], spot: Spot, most: i64) -> i64
+    requires rule { IsRule rule.now }
+    requires sums { AreSums len sums.now }
+    ensures { (list : List Break) → IsTrue (is_walk rule.now len list) → spot ≡ spot_of rule.now list → IsReachOfAll rule.now len sums.now list most → IsValueOrNothing rule.now len sums.now list result }
+{
     let whole = if ends(rule, len, spot) {
         sum_before(sums, usize::from(len))
     } else {
@@ -72,7 +82,17 @@ fn put_layer(
     layer: Layer,
     most: &[i64],
     table: &mut Vec<i64>,
-) -> Result<(), NoMemory> {
+) -> Result<(), NoMemory>
+    requires rule { IsRule rule.now }
+    requires sums { AreSums len sums.now }
+    requires used { layer.used ≤ 48 }
+    requires lunches { layer.lunches ≤ 3 }
+    requires most { (list : List Break) → IsTrue (is_walk rule.now len list) → layer ≡ layer_of rule.now list → IsReachOfAll rule.now len sums.now list (number_in most.now (end_of_all list)) }
+    requires many { length table.old.items ≡ layer_number layer * (len + 1) }
+    requires known { AreLayersBefore rule.now len sums.now (layer_number layer * (len + 1)) table.old.items }
+    ensures many { OnOk result (length table.new.items ≡ (layer_number layer + 1) * (len + 1)) }
+    ensures known { OnOk result (AreLayersBefore rule.now len sums.now ((layer_number layer + 1) * (len + 1)) table.new.items) }
+{
     for offset in 0..usize::from(len) + 1 {
         let spot = Spot {
             offset: offset as u16,

@@ -65,6 +65,6 @@ impl<'a> LayerValues<'a> {
         ensures { (list : List Break) → IsTrue (is_walk self.now.rule self.now.len list) → spot ≡ spot_of self.now.rule list → MatchOption result (is_live self.now.rule self.now.len list ≡ false) (IsMost (Completes self.now.rule self.now.len list) (rest_worth self.now.sums self.now.rule self.now.len list)) }
     {
         let value = number_at(&self.table, place(self.len, spot));
-        (value != NOTHING).then_some(value)
+        if value == NOTHING { None } else { Some(value) }
     }
 }
