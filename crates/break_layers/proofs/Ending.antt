@@ -120,3 +120,13 @@ layers_more rule len sums table layer offset x r inside used lunches many known 
           let spot = same_spot offset layer.used layer.lunches at both.1 one two in
           subst (IsValueOrNothing rule len sums list) (sym (ap (λ n. number_in (table ++ x ∷ []) n) (same ∙ sym many) ∙ get_or-append_seam table x [] NOTHING)) (here list walk spot)
     ]
+
+-- a table of all layers knows each walk
+pub layer_known : (rule : Rule) (len : ℕ) (sums : List ℤ) (list : List Break) → IsRule rule → AreSums len sums → (table : List ℤ) (spot : Spot) → AreLayers rule len sums table
+    → is_walk rule len list ≡ true → spot ≡ spot_of rule list → IsValueOrNothing rule len sums list (number_in table (layer_place len spot))
+layer_known rule len sums list r s table spot layers walk is =
+    let small = walk_small rule len list r walk in
+    let at = spot_of rule list in
+    let inside : layer_place len at < 196 * (len + 1) =
+    earlier_layer ((48 - at.used) * 4 + at.lunches) 196 at.offset len (omega (arith, small.used, small.lunches)) small.offset in
+    subst (λ (p : Spot). IsValueOrNothing rule len sums list (number_in table (layer_place len p))) (sym is) (layers list walk inside)

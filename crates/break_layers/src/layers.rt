@@ -1,11 +1,14 @@
 //! The table of what is earned at most behind each spot, layer by layer.
 
-ghost use Rattle.std.specs.Prelude.{◌≡◌, ◌≢◌, ◌+◌, ◌*◌, ◌<◌, ◌≤◌, ◌-ℤ◌, List, IfOk, OnOk, IsTrue, FitsSigned, length};
+ghost use Rattle.std.specs.Prelude.{◌≡◌, ◌≢◌, ◌+◌, ◌*◌, ◌<◌, ◌≤◌, ◌-ℤ◌, ℤ, false, List, IfOk, OnOk, IsTrue, MatchOption, FitsSigned, length};
 ghost use Rattle.std.specs.Int.{w64};
 ghost use Rattle.break_rules.specs.declared.Break.{Break};
+ghost use Rattle.break_rules.specs.declared.Rule.{Rule};
+ghost use Rattle.break_rules.specs.Breaks.{is_live};
 ghost use Rattle.break_rules.specs.Ranges.{IsRule};
 ghost use Rattle.break_rules.specs.Walk.{is_walk, spot_of, end_of_all};
 ghost use Rattle.price_sums.specs.Along.{AreSums};
+ghost use Rattle.break_layers.specs.Rests.{IsMostEarned};
 ghost use Rattle.break_layers.specs.Windows.{number_in};
 ghost use Rattle.break_layers.specs.Layered.{layer_of, layer_number, layer_place, AreLayersBefore, AreLayers, IsReachOfAll, IsValueOrNothing};
 
@@ -122,4 +125,12 @@ pub(crate) fn layer_table(
         put_layer(rule, len, sums, layer, &most, &mut table)?;
     }
     Ok(table)
+}
+
+/// What the rests earn at most with which some legal list goes on from a spot, by the table.
+pub(crate) fn value_in(table: &[i64], len: u16, spot: Spot) -> Option<i64>
+    ensures { (rule : Rule) (sums : List ℤ) (list : List Break) → IsRule rule → AreSums len sums → AreLayers rule len sums table.now → IsTrue (is_walk rule len list) → spot ≡ spot_of rule list → MatchOption result (is_live rule len list ≡ false) (IsMostEarned rule len sums list) }
+{
+    let value = number_at(table, place(len, spot));
+    if value == NOTHING { None } else { Some(value) }
 }

@@ -5,11 +5,10 @@ ghost use Rattle.break_rules.specs.declared.Break.{Break};
 ghost use Rattle.break_rules.specs.Breaks.{is_live};
 ghost use Rattle.break_rules.specs.Ranges.{IsRule};
 ghost use Rattle.break_rules.specs.Walk.{is_walk, spot_of};
-ghost use Rattle.price_sums.specs.Along.{AreSums, Completes};
-ghost use Rattle.break_layers.specs.Rests.{IsMost, rest_worth};
+ghost use Rattle.price_sums.specs.Along.{AreSums};
+ghost use Rattle.break_layers.specs.Rests.{IsMostEarned};
 
-use crate::layers::{layer_table, place};
-use crate::windows::{NOTHING, number_at};
+use crate::layers::{layer_table, value_in};
 use break_rules::{NoMemory, Rule, Spot};
 use std::alloc::Global;
 use std::marker::Model;
@@ -62,9 +61,8 @@ impl<'a> LayerValues<'a> {
     /// What the rests earn at most with which some legal list goes on from the spot of a walk, and `None` where there are
     /// none. It takes no memory.
     pub fn value_at(&self, spot: Spot) -> Option<i64>
-        ensures { (list : List Break) → IsTrue (is_walk self.now.rule self.now.len list) → spot ≡ spot_of self.now.rule list → MatchOption result (is_live self.now.rule self.now.len list ≡ false) (IsMost (Completes self.now.rule self.now.len list) (rest_worth self.now.sums self.now.rule self.now.len list)) }
+        ensures { (list : List Break) → IsTrue (is_walk self.now.rule self.now.len list) → spot ≡ spot_of self.now.rule list → MatchOption result (is_live self.now.rule self.now.len list ≡ false) (IsMostEarned self.now.rule self.now.len self.now.sums list) }
     {
-        let value = number_at(&self.table, place(self.len, spot));
-        if value == NOTHING { None } else { Some(value) }
+        value_in(&self.table, self.len, spot)
     }
 }
