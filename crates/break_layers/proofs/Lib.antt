@@ -1,4 +1,5 @@
 pub mod Ending
+pub mod Following
 pub mod Reach
 pub mod Sliding
 pub mod Table

@@ -27,7 +27,7 @@ use Rattle.break_layers.specs.Windows.{number_in, IsMostIn}
 use Rattle.break_layers.specs.Layered.{IsMostOrNothing, IsValueOrNothing, layer_of, longest_work_of, size_limit_of, IsSizeIn, IsInWindow, reach_worth, CompletesWith, IsReach, IsReachBy, IsReachOfSize, IsReachOfSizes, IsReachOfAll}
 use Rattle.break_layers.proofs.Sliding.{max_cases, below_left, below_right}
 
-longer : (rule : Rule) (len : ℕ) (list : List Break) (b : Break) (bs : List Break) → is_legal rule len ((list ++ b ∷ []) ++ bs) ≡ is_legal rule len (list ++ b ∷ bs)
+pub longer : (rule : Rule) (len : ℕ) (list : List Break) (b : Break) (bs : List Break) → is_legal rule len ((list ++ b ∷ []) ++ bs) ≡ is_legal rule len (list ++ b ∷ bs)
 longer rule len list b bs = ap (is_legal rule len) (append_assoc list (b ∷ []) bs)
 
 -- a rest that begins with a break earns the stretch before it and what is earned behind it
@@ -82,7 +82,7 @@ module _ (rule : Rule) (len : ℕ) (sums : List ℤ) (list : List Break) (r : Is
   pub worth_size : (rest : List Break) → unsigned_abs (rest_worth sums rule len list rest) ≤ 10000000000 * 65535
   worth_size rest = let own = earned_small sums rule len (resumes rule (end_of_all list)) rest s in let short : len ≤ 65535 = s.short in omega arith
 
-  reach_size : (rest : List Break) → unsigned_abs (reach_worth sums rule len list rest) ≤ 10000000000 * 131071
+  pub reach_size : (rest : List Break) → unsigned_abs (reach_worth sums rule len list rest) ≤ 10000000000 * 131071
   reach_size rest =
       let both = abs_add (rest_worth sums rule len list rest) (sum_at sums (resumes rule (end_of_all list))) (10000000000 * 65535) (10000000000 * 65536) (worth_size rest) (s.size (resumes rule (end_of_all list))) in
       omega arith
@@ -93,7 +93,7 @@ module _ (rule : Rule) (len : ℕ) (sums : List ℤ) (list : List Break) (r : Is
   pub some_reach : (rest : List Break) → NOTHING <ℤ reach_worth sums rule len list rest
   some_reach rest = above_nothing (reach_worth sums rule len list rest) (reach_size rest)
 
-  reach_more : (b : Break) (bs : List Break) → Completes rule len list (b ∷ bs) → reach_worth sums rule len list (b ∷ bs) ≡ rest_worth sums rule len (list ++ b ∷ []) bs +ℤ sum_at sums b.start
+  pub reach_more : (b : Break) (bs : List Break) → Completes rule len list (b ∷ bs) → reach_worth sums rule len list (b ∷ bs) ≡ rest_worth sums rule len (list ++ b ∷ []) bs +ℤ sum_at sums b.start
   reach_more b bs c =
       let more : rest_worth sums rule len list (b ∷ bs) ≡ (sum_at sums b.start -ℤ sum_at sums (resumes rule (end_of_all list))) +ℤ rest_worth sums rule len (list ++ b ∷ []) bs = worth_more rule len list b sums bs r c in
       omega (arith, ints)

@@ -3,6 +3,7 @@
 #![tactic(auto)]
 
 mod layers;
+mod lists;
 mod reaching;
 mod sizes;
 mod values;

@@ -17,7 +17,7 @@ use price_sums::sum_before;
 use std::alloc::Global;
 
 /// The sum of a value and a sum of prices, and [`NOTHING`] where that is the value.
-fn plus(value: i64, sum: i64) -> i64
+pub(crate) fn plus(value: i64, sum: i64) -> i64
     ensures nothing { value ≡ NOTHING → result ≡ NOTHING }
     ensures total { value ≢ NOTHING → FitsSigned w64 (value +ℤ sum) → result ≡ value +ℤ sum }
 {

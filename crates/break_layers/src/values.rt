@@ -1,15 +1,16 @@
 //! What the best rest of a break list earns, and the best list, by layers.
 
-ghost use Rattle.std.specs.Prelude.{◌≡◌, List, IfOk, IsTrue, MatchOption, false};
+ghost use Rattle.std.specs.Prelude.{◌≡◌, List, IfOk, IsTrue, MatchOption, true, false};
 ghost use Rattle.break_rules.specs.declared.Break.{Break};
-ghost use Rattle.break_rules.specs.Breaks.{is_live};
+ghost use Rattle.break_rules.specs.Breaks.{is_legal, is_live};
 ghost use Rattle.break_rules.specs.Ranges.{IsRule};
 ghost use Rattle.break_rules.specs.Walk.{is_walk, spot_of};
 ghost use Rattle.price_sums.specs.Along.{AreSums};
-ghost use Rattle.break_layers.specs.Rests.{IsMostEarned};
+ghost use Rattle.break_layers.specs.Rests.{IsMostEarned, IsBestFrom, IsBestList};
 
 use crate::layers::{layer_table, value_in};
-use break_rules::{NoMemory, Rule, Spot};
+use crate::lists::completed;
+use break_rules::{Break, Breaks, NoMemory, Rule, Spot};
 use std::alloc::Global;
 use std::marker::Model;
 
@@ -64,5 +65,30 @@ impl<'a> LayerValues<'a> {
         ensures { (list : List Break) → IsTrue (is_walk self.now.rule self.now.len list) → spot ≡ spot_of self.now.rule list → MatchOption result (is_live self.now.rule self.now.len list ≡ false) (IsMostEarned self.now.rule self.now.len self.now.sums list) }
     {
         value_in(&self.table, self.len, spot)
+    }
+
+    /// Adds to breaks with which some legal list begins a best rest: of the legal lists that begin with them, the least of
+    /// those that earn most. The spot is the one behind the breaks.
+    pub fn completed(&self, list: Vec<Break>, spot: Spot) -> Result<Vec<Break>, NoMemory>
+        requires live { is_live self.now.rule self.now.len list.items ≡ true }
+        requires spot { spot ≡ spot_of self.now.rule list.items }
+        ensures { IfOk result (λ whole. IsBestFrom self.now.rule self.now.len self.now.sums list.items whole.items) }
+    {
+        completed(self.rule, self.len, &self.sums, &self.table, list, spot)
+    }
+
+    /// The legal list that earns most, with what it earns, and `None` where no list is legal. Among the lists that earn most it
+    /// is the least, in the order of lists: break by break, a proper prefix first.
+    pub fn best_list(&self, alloc: Global) -> Result<Option<(Breaks, i64)>, NoMemory>
+        ensures { IfOk result (λ found. MatchOption found ((list : List Break) → is_legal self.now.rule self.now.len list ≡ false) (IsBestList self.now.rule self.now.len self.now.sums)) }
+    {
+        let opening = Spot::opening();
+        match self.value_at(opening) {
+            Some(value) => {
+                let list = self.completed(Vec::new(alloc), opening)?;
+                Ok(Some((Breaks::new(list), value)))
+            }
+            None => Ok(None),
+        }
     }
 }
