@@ -4,7 +4,7 @@ use Rattle.std.specs.Prelude.{MatchOption}
 use Rattle.std.specs.Int.{w64}
 use Rattle.std.specs.Int.RustNames.{unsigned_abs}
 use Rattle.std.proofs.lemmas.Int.{ints, fits_signed_from_abs}
-use Rattle.std.proofs.lemmas.Bool.{and_parts, or_cases, or_left, false≢true, cases_Bool}
+use Rattle.std.proofs.lemmas.Bool.{and_parts, or_cases, or_left, false≢true, false_from_ne_true, cases_Bool}
 use Rattle.break_rules.specs.declared.Break.{Break}
 use Rattle.break_rules.specs.declared.Rule.{Rule}
 use Rattle.break_rules.specs.Breaks.{is_legal, is_live, is_less_break, is_less_list, same_break}
@@ -18,7 +18,7 @@ use Rattle.break_rules.proofs.Sizes.{abs_add}
 use Rattle.price_sums.specs.Along.{sum_at, AreSums, resumes, Completes}
 use Rattle.price_sums.proofs.Stretches.{earned_end, spaced_rest}
 use Rattle.break_layers.specs.declared.windows.TheConstants.{NOTHING}
-use Rattle.break_layers.specs.Rests.{IsMost, IsMostEarned, IsBestRest, IsBestTail, IsBestFrom, LeadsOn, rest_worth}
+use Rattle.break_layers.specs.Rests.{IsMost, IsMostEarned, IsBestRest, IsBestTail, IsBestFrom, IsBestList, LeadsOn, rest_worth}
 use Rattle.break_layers.specs.Layered.{IsReachBy, IsValueOrNothing, CompletesWith, reach_worth}
 use Rattle.break_layers.proofs.Reach.{longer, not_above, reach_more, some_reach, some_worth, worth_size}
 
@@ -172,3 +172,49 @@ module _ (rule : Rule) (len : ℕ) (sums : List ℤ) (list : List Break) (r : Is
                   let most : rest_worth sums rule len (list ++ b ∷ []) cs ≤ℤ w = t.greatest cs (longer rule len list b cs ∙ h) in
                   let up : reach_worth sums rule len list (b ∷ tail) ≤ℤ whole = below_whole (b ∷ tail) allowed in
                   t.least cs (longer rule len list b cs ∙ h) (let e : rest_worth sums rule len (list ++ b ∷ []) cs ≡ w = omega (arith, ints) in e)
+
+-- what a rest earns and the prices before it fit
+pub earned_fits : (rule : Rule) (len : ℕ) (sums : List ℤ) (list : List Break) → IsRule rule → AreSums len sums → (x : ℤ) → IsMostEarned rule len sums list x
+    → FitsSigned w64 (x +ℤ sum_at sums (resumes rule (end_of_all list)))
+earned_fits rule len sums list r s x m =
+    let from = resumes rule (end_of_all list) in
+    let size : unsigned_abs x ≤ 10000000000 * 65535 = subst (λ (z : ℤ). unsigned_abs z ≤ 10000000000 * 65535) m.reached.2 (worth_size rule len sums list r s m.reached.0) in
+    let both = abs_add x (sum_at sums from) (10000000000 * 65535) (10000000000 * 65536) size (s.size from) in
+    fits_signed_from_abs w64 (x +ℤ sum_at sums from) (omega arith)
+
+-- a legal list has the empty rest alone
+pub best_at_end : (rule : Rule) (len : ℕ) (sums : List ℤ) (list : List Break) → IsRule rule → is_legal rule len list ≡ true → IsBestTail rule len sums list []
+best_at_end rule len sums list r h =
+    let from = resumes rule (end_of_all list) in
+    let empty : Completes rule len list [] = ap (is_legal rule len) (append-nil list) ∙ h in
+    let worth : rest_worth sums rule len list [] ≡ sum_at sums len -ℤ sum_at sums from = earned_end sums rule len from (spaced_rest rule len list [] r empty) in
+    let only : (other : List Break) → Completes rule len list other → other ≡ [] = λ other k. no_longer_list rule len list other h k in (
+      sum_at sums len -ℤ sum_at sums from,
+      record {
+        allowed = empty;
+        is_worth = worth;
+        greatest = λ other k. subst (λ (l : List Break). rest_worth sums rule len list l ≤ℤ (sum_at sums len -ℤ sum_at sums from)) (sym (only other k)) (let w : rest_worth sums rule len list [] ≤ℤ (sum_at sums len -ℤ sum_at sums from) = omega (arith, ints) in w);
+        least = λ other k g. subst (λ (l : List Break). is_less_list l [] ≡ false) (sym (only other k)) refl;
+      },
+    )
+
+-- some legal list begins with a list whose rests earn something
+pub most_live : (rule : Rule) (len : ℕ) (sums : List ℤ) (list : List Break) (x : ℤ) → IsMostEarned rule len sums list x → is_live rule len list ≡ true
+most_live rule len sums list x m = live_from rule len list m.reached.0 m.reached.1
+
+-- the best rest of the empty list is the best list
+pub best_whole : (rule : Rule) (len : ℕ) (sums : List ℤ) (value : ℤ) (start list : List Break) → start ≡ [] → IsMostEarned rule len sums [] value → IsBestFrom rule len sums start list → IsBestList rule len sums (list, value)
+best_whole rule len sums value start list none m from =
+    let own : IsBestFrom rule len sums [] list = subst (λ (l : List Break). IsBestFrom rule len sums l list) none from in
+    let rest = own.0 in
+    let v : ℤ = own.2.0 in
+    let best : IsBestRest (Completes rule len []) (rest_worth sums rule len []) v rest = own.2.1 in
+    let up : v ≤ℤ value = subst (λ (z : ℤ). z ≤ℤ value) best.is_worth (m.greatest rest best.allowed) in
+    let down : value ≤ℤ v = subst (λ (z : ℤ). z ≤ℤ v) m.reached.2 (best.greatest m.reached.0 m.reached.1) in
+    let equal : v ≡ value = omega (arith, ints) in
+    subst (λ (l : List Break). IsBestList rule len sums (l, value)) (sym own.1)
+    (subst (λ (z : ℤ). IsBestRest (Completes rule len []) (rest_worth sums rule len []) z rest) equal best)
+
+-- where no legal list begins with none, none is legal
+pub none_legal : (rule : Rule) (len : ℕ) → is_live rule len [] ≡ false → (list : List Break) → is_legal rule len list ≡ false
+none_legal rule len dead list = false_from_ne_true (is_legal rule len list) (λ h. false≢true (sym dead ∙ live_from rule len [] list h))
