@@ -182,6 +182,11 @@ earned_fits rule len sums list r s x m =
     let both = abs_add x (sum_at sums from) (10000000000 * 65535) (10000000000 * 65536) size (s.size from) in
     fits_signed_from_abs w64 (x +ℤ sum_at sums from) (omega arith)
 
+pub earned_small : (rule : Rule) (len : ℕ) (sums : List ℤ) (list : List Break) → IsRule rule → AreSums len sums → (x : ℤ) → IsMostEarned rule len sums list x → FitsSigned w64 x
+earned_small rule len sums list r s x m =
+    let size : unsigned_abs x ≤ 10000000000 * 65535 = subst (λ (z : ℤ). unsigned_abs z ≤ 10000000000 * 65535) m.reached.2 (worth_size rule len sums list r s m.reached.0) in
+    fits_signed_from_abs w64 x (omega arith)
+
 -- a legal list has the empty rest alone
 pub best_at_end : (rule : Rule) (len : ℕ) (sums : List ℤ) (list : List Break) → IsRule rule → is_legal rule len list ≡ true → IsBestTail rule len sums list []
 best_at_end rule len sums list r h =

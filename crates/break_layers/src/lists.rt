@@ -1,20 +1,21 @@
 //! The best rest of a list, one break after another.
 
-ghost use Rattle.std.specs.Prelude.{◌≡◌, ◌+ℤ◌, ℤ, List, IfOk, IsTrue, MatchOption, true};
+ghost use Rattle.std.specs.Prelude.{◌≡◌, ◌+ℤ◌, ℤ, List, IfOk, IsTrue, MatchOption, true, false};
 ghost use Rattle.break_rules.specs.declared.Break.{Break};
 ghost use Rattle.break_rules.specs.Breaks.{is_legal, is_live};
 ghost use Rattle.break_rules.specs.Ranges.{IsRule};
 ghost use Rattle.break_rules.specs.Walk.{is_walk, nexts_of, spot_of, end_of_all};
 ghost use Rattle.break_rules.proofs.Lists.{Has};
 ghost use Rattle.price_sums.specs.Along.{AreSums, sum_at, resumes};
-ghost use Rattle.break_layers.specs.Rests.{IsMostEarned, IsBestFrom, LeadsOn};
+ghost use Rattle.break_layers.specs.Rests.{IsMostEarned, IsBestFrom, IsBestList, LeadsOn};
 ghost use Rattle.break_layers.specs.Layered.{AreLayers, IsReachBy};
 
-use crate::layers::place;
+use crate::layers::{place, value_in};
 use crate::reaching::plus;
 use crate::windows::number_at;
-use break_rules::{Break, NoMemory, Rule, Spot, after, nexts};
+use break_rules::{Break, Breaks, NoMemory, Rule, Spot, after, nexts};
 use price_sums::{resumption, sum_before};
+use std::alloc::Global;
 
 /// What a break reaches that may come next at a spot.
 fn reach_at(
@@ -94,4 +95,27 @@ pub(crate) fn completed(
         at = after(rule, at, next);
     }
     Ok(whole)
+}
+
+/// The legal list that earns most, with what it earns.
+pub(crate) fn best_list(
+    alloc: Global,
+    rule: &Rule,
+    len: u16,
+    sums: &[i64],
+    table: &[i64],
+) -> Result<Option<(Breaks, i64)>, NoMemory>
+    requires rule { IsRule rule.now }
+    requires sums { AreSums len sums.now }
+    requires layers { AreLayers rule.now len sums.now table.now }
+    ensures { IfOk result (λ found. MatchOption found ((list : List Break) → is_legal rule.now len list ≡ false) (IsBestList rule.now len sums.now)) }
+{
+    let opening = Spot::opening();
+    match value_in(table, len, opening) {
+        Some(value) => {
+            let list = completed(rule, len, sums, table, Vec::new(alloc), opening)?;
+            Ok(Some((Breaks::new(list), value)))
+        }
+        None => Ok(None),
+    }
 }

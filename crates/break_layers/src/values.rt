@@ -9,7 +9,7 @@ ghost use Rattle.price_sums.specs.Along.{AreSums};
 ghost use Rattle.break_layers.specs.Rests.{IsMostEarned, IsBestFrom, IsBestList};
 
 use crate::layers::{layer_table, value_in};
-use crate::lists::completed;
+use crate::lists::{best_list, completed};
 use break_rules::{Break, Breaks, NoMemory, Rule, Spot};
 use std::alloc::Global;
 use std::marker::Model;
@@ -82,13 +82,6 @@ impl<'a> LayerValues<'a> {
     pub fn best_list(&self, alloc: Global) -> Result<Option<(Breaks, i64)>, NoMemory>
         ensures { IfOk result (λ found. MatchOption found ((list : List Break) → is_legal self.now.rule self.now.len list ≡ false) (IsBestList self.now.rule self.now.len self.now.sums)) }
     {
-        let opening = Spot::opening();
-        match self.value_at(opening) {
-            Some(value) => {
-                let list = self.completed(Vec::new(alloc), opening)?;
-                Ok(Some((Breaks::new(list), value)))
-            }
-            None => Ok(None),
-        }
+        best_list(alloc, self.rule, self.len, &self.sums, &self.table)
     }
 }
