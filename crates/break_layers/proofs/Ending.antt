@@ -1,6 +1,5 @@
 -- What the best rest of a list earns: nothing more where the list is legal, and else what the breaks reach that may come next.
-use Rattle.std.proofs.Common.{◌≡◌, ◌≢◌, ◌⊎◌, inl, inr, ℕ, ◌+◌, ◌-◌, ◌*◌, ◌<◌, ◌≤◌, ℤ, ◌+ℤ◌, ◌-ℤ◌, ◌≤ℤ◌, ◌<ℤ◌, true, false, List, [], ◌∷◌, ◌++◌, refl, sym, ap, ◌∙◌, subst, arith, append-nil, FitsSigned, IsTrue, length, get_or, Option, Some, None}
-use Rattle.std.specs.Prelude.{MatchOption}
+use Rattle.std.proofs.Common.{◌≡◌, ◌≢◌, inl, inr, ℕ, ◌+◌, ◌-◌, ◌*◌, ◌<◌, ◌≤◌, ℤ, ◌+ℤ◌, ◌-ℤ◌, ◌≤ℤ◌, true, false, List, [], ◌∷◌, ◌++◌, sym, ap, ◌∙◌, subst, arith, append-nil, FitsSigned, length}
 use Rattle.std.specs.Int.{w64}
 use Rattle.std.specs.Int.RustNames.{unsigned_abs}
 use Rattle.std.proofs.lemmas.Int.{ints, fits_signed_from_abs}
@@ -13,7 +12,7 @@ use Rattle.break_rules.specs.declared.Spot.{Spot}
 use Rattle.break_rules.specs.Breaks.{is_legal, is_live}
 use Rattle.break_rules.specs.Ranges.{IsRule}
 use Rattle.break_rules.specs.Walk.{end_of_all, is_walk, spot_of}
-use Rattle.break_rules.proofs.LegalLists.{live_rest, live_from, no_longer_list}
+use Rattle.break_rules.proofs.LegalLists.{live_rest, no_longer_list}
 use Rattle.break_rules.proofs.Reaching.{walk_small}
 use Rattle.break_rules.proofs.Sizes.{abs_sub}
 use Rattle.price_sums.specs.Along.{sum_at, AreSums, resumes, Completes}
@@ -22,7 +21,7 @@ use Rattle.break_layers.specs.declared.windows.TheConstants.{NOTHING}
 use Rattle.break_layers.specs.declared.layers.Layer.{Layer}
 use Rattle.break_layers.specs.Rests.{IsMost, rest_worth}
 use Rattle.break_layers.specs.Windows.{number_in}
-use Rattle.break_layers.specs.Layered.{IsValueOrNothing, AreLayersBefore, AreLayers, layer_of, layer_number, layer_place, reach_worth, CompletesWith, IsReachOfAll}
+use Rattle.break_layers.specs.Layered.{IsValueOrNothing, AreLayersBefore, AreLayers, layer_number, layer_place, reach_worth, CompletesWith, IsReachOfAll}
 use Rattle.break_layers.proofs.Reach.{above_nothing, not_above, same_or, some_worth, worth_size}
 use Rattle.break_layers.proofs.Table.{earlier_layer, same_layer}
 
@@ -60,27 +59,27 @@ module _ (rule : Rule) (len : ℕ) (sums : List ℤ) (list : List Break) (r : Is
   pub value_open : (most z : ℤ) → is_legal rule len list ≡ false → IsReachOfAll rule len sums list most → (most ≡ NOTHING → z ≡ NOTHING)
       → (most ≢ NOTHING → FitsSigned w64 (most -ℤ sum_at sums (resumes rule (end_of_all list))) → z ≡ most -ℤ sum_at sums (resumes rule (end_of_all list))) → IsValueOrNothing rule len sums list z
   value_open most z unfinished m nothing difference = elim (same_or most NOTHING) [
-      | inl none ↦ record {
-        reached = inl (nothing none);
-        greatest = λ rest h.
-            let g = m.greatest rest (first_of unfinished rest h) in
-            absurd (not_above (reach_worth sums rule len list rest) g.0 (subst (λ (v : ℤ). reach_worth sums rule len list rest ≤ℤ v) none g.1));
-      }
-      | inr some ↦ elim m.reached [
-        | inl none ↦ absurd (some none)
-        | inr f ↦
-            let is : rest_worth sums rule len list f.0 +ℤ sum_at sums from ≡ most = f.2 in
-            let back : rest_worth sums rule len list f.0 ≡ most -ℤ sum_at sums from = omega (arith, ints) in
-            let small : unsigned_abs (most -ℤ sum_at sums from) ≤ 10000000000 * 65535 = subst (λ (v : ℤ). unsigned_abs v ≤ 10000000000 * 65535) back (worth_size rule len sums list r s f.0) in
-            let e : z ≡ most -ℤ sum_at sums from = difference some (fits_signed_from_abs w64 (most -ℤ sum_at sums from) (omega arith)) in
-            record {
-              reached = inr (f.0, back_from f.0 f.1, back ∙ sym e);
-              greatest = λ rest h.
-                  let g : (rest_worth sums rule len list rest +ℤ sum_at sums from) ≤ℤ most = (m.greatest rest (first_of unfinished rest h)).1 in
-                  (some_worth rule len sums list r s rest, (let l : rest_worth sums rule len list rest ≤ℤ z = omega (arith, ints) in l));
-            }
-      ]
+    | inl none ↦ record {
+      reached = inl (nothing none);
+      greatest = λ rest h.
+          let g = m.greatest rest (first_of unfinished rest h) in
+          absurd (not_above (reach_worth sums rule len list rest) g.0 (subst (λ (v : ℤ). reach_worth sums rule len list rest ≤ℤ v) none g.1));
+    }
+    | inr some ↦ elim m.reached [
+      | inl none ↦ absurd (some none)
+      | inr f ↦
+          let is : rest_worth sums rule len list f.0 +ℤ sum_at sums from ≡ most = f.2 in
+          let back : rest_worth sums rule len list f.0 ≡ most -ℤ sum_at sums from = omega (arith, ints) in
+          let small : unsigned_abs (most -ℤ sum_at sums from) ≤ 10000000000 * 65535 = subst (λ (v : ℤ). unsigned_abs v ≤ 10000000000 * 65535) back (worth_size rule len sums list r s f.0) in
+          let e : z ≡ most -ℤ sum_at sums from = difference some (fits_signed_from_abs w64 (most -ℤ sum_at sums from) (omega arith)) in
+          record {
+            reached = inr (f.0, back_from f.0 f.1, back ∙ sym e);
+            greatest = λ rest h.
+                let g : (rest_worth sums rule len list rest +ℤ sum_at sums from) ≤ℤ most = (m.greatest rest (first_of unfinished rest h)).1 in
+                (some_worth rule len sums list r s rest, (let l : rest_worth sums rule len list rest ≤ℤ z = omega (arith, ints) in l));
+          }
     ]
+  ]
 
   -- a value is what the best rest earns, and where there is none no legal list begins with the list
   pub value_some : (x : ℤ) → x ≢ NOTHING → IsValueOrNothing rule len sums list x → IsMost (Completes rule len list) (rest_worth sums rule len list) x

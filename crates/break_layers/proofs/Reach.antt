@@ -1,30 +1,28 @@
 -- What the rests of a list earn that begin with some break, by what is earned behind it.
-use Rattle.std.proofs.Common.{◌≡◌, ◌≢◌, ◌⊎◌, inl, inr, ℕ, ◌+◌, ◌-◌, ◌*◌, ◌<◌, ◌≤◌, ℤ, pos, ◌+ℤ◌, ◌-ℤ◌, ◌≤ℤ◌, ◌<ℤ◌, Bool, true, false, ◌&&◌, List, [], ◌∷◌, ◌++◌, nat_le, nat_lt, refl, sym, ap, ◌∙◌, subst, arith, append_assoc, append-nil, sum_by, min, cond, FitsSigned}
+use Rattle.std.proofs.Common.{◌≡◌, ◌≢◌, ◌⊎◌, inl, inr, ℕ, ◌+◌, ◌-◌, ◌*◌, ◌<◌, ◌≤◌, ℤ, ◌+ℤ◌, ◌-ℤ◌, ◌≤ℤ◌, ◌<ℤ◌, Bool, true, false, List, [], ◌∷◌, ◌++◌, nat_le, refl, sym, ap, ◌∙◌, subst, arith, append_assoc, min, cond, FitsSigned}
 use Rattle.std.specs.Ordering.{int_eq}
 use Rattle.std.specs.Int.{w64, int_max}
 use Rattle.std.specs.Int.RustNames.{unsigned_abs}
 use Rattle.std.proofs.lemmas.Int.{ints, fits_signed_from_abs}
 use Rattle.std.proofs.lemmas.List.Sums.{fold-append}
-use Rattle.std.proofs.lemmas.Bool.{false≢true, cases_Bool, and_parts, and_from, and_right, lt-leb, or_cases, or_left, or_right, cases_lt, le-leb, lt-ltb, leb-true, ltb-true}
+use Rattle.std.proofs.lemmas.Bool.{false≢true, cases_Bool, and_from, and_right, lt-leb, or_cases, or_left, or_right, cases_lt, le-leb, lt-ltb, leb-true}
 use Rattle.std.proofs.lemmas.Bool.Decides.{Decides-int_eq}
 use Rattle.break_rules.specs.declared.Break.{Break}
 use Rattle.break_rules.specs.declared.Rule.{Rule}
-use Rattle.break_rules.specs.declared.Spot.{Spot}
-use Rattle.break_rules.specs.Breaks.{end_of, is_legal, is_rested, keeps_ends, total_of}
+use Rattle.break_rules.specs.Breaks.{end_of, is_legal, is_rested, keeps_ends}
 use Rattle.break_rules.specs.Ranges.{IsRule}
-use Rattle.break_rules.specs.Walk.{end_of_all, is_walk, may_follow, nexts_of, spot_of}
-use Rattle.break_rules.proofs.LegalLists.{no_longer_list}
-use Rattle.break_rules.proofs.Reaching.{rest_first, is_walk-more}
+use Rattle.break_rules.specs.Walk.{end_of_all, may_follow, spot_of}
+use Rattle.break_rules.proofs.Reaching.{rest_first}
 use Rattle.break_rules.proofs.Sizes.{abs_add}
 use Rattle.break_rules.proofs.Steps.{Bounds, bounds, from_next}
 use Rattle.break_rules.proofs.Walk.{follows_from, follows_parts}
 use Rattle.price_sums.specs.Along.{sum_at, price_in, AreSums, resumes, earned_from, Completes}
-use Rattle.price_sums.proofs.Stretches.{earned_more, earned_end, earned_small, spaced_rest, resumes_behind}
+use Rattle.price_sums.proofs.Stretches.{earned_more, earned_small, spaced_rest, resumes_behind}
 use Rattle.break_layers.specs.declared.windows.TheConstants.{NOTHING}
 use Rattle.break_layers.specs.declared.layers.Layer.{Layer}
 use Rattle.break_layers.specs.Rests.{rest_worth}
 use Rattle.break_layers.specs.Windows.{number_in, IsMostIn}
-use Rattle.break_layers.specs.Layered.{IsMostOrNothing, IsValueOrNothing, layer_of, longest_work_of, size_limit_of, IsSizeIn, IsInWindow, reach_worth, CompletesWith, IsReach, IsReachBy, IsReachOfSize, IsReachOfSizes, IsReachOfAll}
+use Rattle.break_layers.specs.Layered.{IsMostOrNothing, IsValueOrNothing, layer_of, longest_work_of, size_limit_of, IsSizeIn, IsInWindow, reach_worth, CompletesWith, IsReachBy, IsReachOfSize, IsReachOfSizes, IsReachOfAll}
 use Rattle.break_layers.proofs.Sliding.{max_cases, below_left, below_right}
 
 pub longer : (rule : Rule) (len : ℕ) (list : List Break) (b : Break) (bs : List Break) → is_legal rule len ((list ++ b ∷ []) ++ bs) ≡ is_legal rule len (list ++ b ∷ bs)
@@ -102,18 +100,18 @@ module _ (rule : Rule) (len : ℕ) (sums : List ℤ) (list : List Break) (r : Is
   pub reach_by : (b : Break) (x z : ℤ) → IsValueOrNothing rule len sums (list ++ b ∷ []) x → (x ≡ NOTHING → z ≡ NOTHING)
       → (x ≢ NOTHING → FitsSigned w64 (x +ℤ sum_at sums b.start) → z ≡ x +ℤ sum_at sums b.start) → IsReachBy rule len sums list b z
   reach_by b x z behind nothing total = elim (same_or x NOTHING) [
-      | inl none ↦ record { reached = inl (nothing none); greatest = λ rest h. absurd (dead none rest h) }
-      | inr some ↦ elim behind.reached [
-        | inl none ↦ absurd (some none)
-        | inr f ↦
-            let whole : Completes rule len list (b ∷ f.0) = sym (longer rule len list b f.0) ∙ f.1 in
-            let more : reach_worth sums rule len list (b ∷ f.0) ≡ rest_worth sums rule len (list ++ b ∷ []) f.0 +ℤ sum_at sums b.start = reach_more b f.0 whole in
-            let is : reach_worth sums rule len list (b ∷ f.0) ≡ x +ℤ sum_at sums b.start = more ∙ ap (λ (v : ℤ). v +ℤ sum_at sums b.start) f.2 in
-            let small : unsigned_abs (x +ℤ sum_at sums b.start) ≤ 10000000000 * 131071 = subst (λ (v : ℤ). unsigned_abs v ≤ 10000000000 * 131071) is (reach_size (b ∷ f.0)) in
-            let e : z ≡ x +ℤ sum_at sums b.start = total some (fits_signed_from_abs w64 (x +ℤ sum_at sums b.start) (omega arith)) in
-            record { reached = inr (b ∷ f.0, (refl, whole), is ∙ sym e); greatest = λ rest h. (some_reach rest, most e rest h) }
-      ]
+    | inl none ↦ record { reached = inl (nothing none); greatest = λ rest h. absurd (dead none rest h) }
+    | inr some ↦ elim behind.reached [
+      | inl none ↦ absurd (some none)
+      | inr f ↦
+          let whole : Completes rule len list (b ∷ f.0) = sym (longer rule len list b f.0) ∙ f.1 in
+          let more : reach_worth sums rule len list (b ∷ f.0) ≡ rest_worth sums rule len (list ++ b ∷ []) f.0 +ℤ sum_at sums b.start = reach_more b f.0 whole in
+          let is : reach_worth sums rule len list (b ∷ f.0) ≡ x +ℤ sum_at sums b.start = more ∙ ap (λ (v : ℤ). v +ℤ sum_at sums b.start) f.2 in
+          let small : unsigned_abs (x +ℤ sum_at sums b.start) ≤ 10000000000 * 131071 = subst (λ (v : ℤ). unsigned_abs v ≤ 10000000000 * 131071) is (reach_size (b ∷ f.0)) in
+          let e : z ≡ x +ℤ sum_at sums b.start = total some (fits_signed_from_abs w64 (x +ℤ sum_at sums b.start) (omega arith)) in
+          record { reached = inr (b ∷ f.0, (refl, whole), is ∙ sym e); greatest = λ rest h. (some_reach rest, most e rest h) }
     ]
+  ]
     where
       dead : x ≡ NOTHING → (rest : List Break) → CompletesWith rule len list (λ c. c ≡ b) rest → ⊥
       dead none [] h = h

@@ -1,5 +1,5 @@
 -- The places of spots in a table of layers.
-use Rattle.std.proofs.Common.{◌≡◌, ◌⊎◌, inl, inr, ℕ, zero, suc, replicate, take, drop, ◌+◌, ◌-◌, ◌*◌, ◌<◌, ◌≤◌, ℤ, true, List, [], ◌∷◌, ◌++◌, refl, sym, ap, ◌∙◌, subst, arith, length, bit_or}
+use Rattle.std.proofs.Common.{◌≡◌, inl, inr, ℕ, zero, suc, replicate, take, drop, ◌+◌, ◌-◌, ◌*◌, ◌<◌, ◌≤◌, ℤ, true, List, [], ◌∷◌, ◌++◌, refl, sym, ap, ◌∙◌, subst, arith, length, bit_or}
 use Rattle.std.proofs.Math.Nat.{mul-le-mul_right}
 use Rattle.std.proofs.lemmas.Bool.{cases_lt}
 use Rattle.std.proofs.Math.ListN.{get_or-append}
@@ -9,7 +9,7 @@ use Rattle.break_rules.specs.declared.Rule.{Rule}
 use Rattle.break_rules.specs.declared.Spot.{Spot}
 use Rattle.break_rules.specs.Breaks.{end_of, is_lunch}
 use Rattle.break_rules.specs.Ranges.{IsRule}
-use Rattle.break_rules.specs.Walk.{bits_of, end_of_all, is_walk, spot_of}
+use Rattle.break_rules.specs.Walk.{bits_of, is_walk, spot_of}
 use Rattle.break_rules.proofs.Reaching.{walk_small}
 use Rattle.break_rules.proofs.Steps.{spot_more, spot_with}
 use Rattle.break_layers.specs.declared.layers.Layer.{Layer}

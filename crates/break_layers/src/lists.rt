@@ -18,14 +18,7 @@ use price_sums::{resumption, sum_before};
 use std::alloc::Global;
 
 /// What a break reaches that may come next at a spot.
-fn reach_at(
-    rule: &Rule,
-    len: u16,
-    sums: &[i64],
-    table: &[i64],
-    spot: Spot,
-    next: Break,
-) -> i64
+fn reach_at(rule: &Rule, len: u16, sums: &[i64], table: &[i64], spot: Spot, next: Break) -> i64
     requires rule { IsRule rule.now }
     requires sums { AreSums len sums.now }
     requires layers { AreLayers rule.now len sums.now table.now }

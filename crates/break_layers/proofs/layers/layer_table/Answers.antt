@@ -1,4 +1,4 @@
-use Rattle.std.proofs.Common.{◌≡◌, ◌+◌, ◌*◌, ◌<◌, ◌≤◌, List, ℕ, ℤ, sym, ap, subst, ◌∙◌, arith}
+use Rattle.std.proofs.Common.{◌≡◌, ◌+◌, ◌*◌, List, ℕ, ℤ, sym, subst, arith}
 use Rattle.break_rules.specs.Walk.{end_of_all}
 use Rattle.break_layers.specs.Windows.{number_in}
 use Rattle.break_layers.specs.Layered.{AreLayersBefore, IsReachOfAll}

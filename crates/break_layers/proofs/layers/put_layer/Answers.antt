@@ -1,9 +1,8 @@
-use Rattle.std.proofs.Common.{◌≡◌, ◌+◌, ◌++◌, ◌∷◌, [], ◌*◌, ◌<◌, ◌≤◌, ℤ, length, length-append, sym, ap, subst, ◌∙◌, arith, to_z, of_z}
+use Rattle.std.proofs.Common.{◌≡◌, ◌+◌, ◌++◌, ◌∷◌, [], ◌*◌, ◌≤◌, ℤ, length, length-append, sym, ap, subst, ◌∙◌, arith, to_z, of_z}
 use Rattle.std.specs.Int.{w64}
 use Rattle.std.proofs.lemmas.Int.{to_z-of_z}
 use Rattle.break_rules.specs.declared.Spot.{Spot}
-use Rattle.break_rules.specs.Walk.{end_of_all, spot_of}
-use Rattle.break_layers.specs.declared.layers.Layer.{Layer}
+use Rattle.break_rules.specs.Walk.{end_of_all}
 use Rattle.break_layers.specs.Windows.{number_in}
 use Rattle.break_layers.specs.Layered.{layer_number, layer_of, AreLayersBefore, IsReachOfAll}
 use Rattle.break_layers.proofs.Ending.{layers_more}

@@ -6,7 +6,6 @@ use Rattle.break_rules.specs.Breaks.{is_legal}
 use Rattle.break_rules.specs.Walk.{end_of_all}
 use Rattle.price_sums.specs.Along.{sum_at, resumes}
 use Rattle.break_layers.specs.declared.windows.TheConstants.{NOTHING}
-use Rattle.break_layers.specs.Layered.{IsReachOfAll, IsValueOrNothing}
 use Rattle.break_layers.proofs.Ending.{sum_some, value_legal, value_open}
 use Rattle.break_layers.proofs.layers.value_behind.Goals as goal
 use Rattle.break_layers.proofs.layers.value_behind.Goals.{then-ends, else-ends}

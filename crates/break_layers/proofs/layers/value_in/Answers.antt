@@ -1,8 +1,7 @@
-use Rattle.std.proofs.Common.{◌≡◌, ◌+◌, ◌-◌, ◌*◌, ◌<◌, ◌≤◌, ℤ, sym, ap, subst, ◌∙◌, arith, to_z, of_z}
+use Rattle.std.proofs.Common.{◌≡◌, sym, ap, subst, ◌∙◌, to_z, of_z}
 use Rattle.std.specs.Int.{w64}
 use Rattle.std.proofs.lemmas.Int.{to_z-of_z}
 use Rattle.break_layers.specs.declared.windows.TheConstants.{NOTHING}
-use Rattle.break_layers.specs.Rests.{IsMostEarned}
 use Rattle.break_layers.specs.Windows.{number_in}
 use Rattle.break_layers.specs.Layered.{IsValueOrNothing, layer_place}
 use Rattle.break_layers.proofs.Ending.{value_some, value_none, layer_known}

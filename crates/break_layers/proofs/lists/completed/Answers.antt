@@ -2,9 +2,8 @@ use Rattle.std.proofs.Common.{◌≡◌, ◌++◌, [], ◌∷◌, List, true, sy
 use Rattle.break_rules.specs.declared.Break.{Break}
 use Rattle.break_rules.specs.declared.Spot.{Spot}
 use Rattle.break_rules.specs.Breaks.{is_live}
-use Rattle.break_rules.specs.Walk.{nexts_of, spot_of, may_follow}
+use Rattle.break_rules.specs.Walk.{spot_of, may_follow}
 use Rattle.break_rules.proofs.FirstList.{nearer}
-use Rattle.break_rules.proofs.Lists.{Has}
 use Rattle.break_rules.proofs.Steps.{from_next}
 use Rattle.break_layers.specs.Rests.{LeadsOn, IsBestTail}
 use Rattle.break_layers.proofs.Following.{best_at_end}

@@ -1,7 +1,6 @@
-use Rattle.std.proofs.Common.{◌≡◌, ◌++◌, ◌∷◌, [], List, ℤ, sym, ap, subst, ◌∙◌, append_assoc, append-nil, to_z, of_z}
+use Rattle.std.proofs.Common.{◌≡◌, ◌++◌, ◌∷◌, [], ℤ, sym, ap, subst, ◌∙◌, append_assoc, append-nil, to_z, of_z}
 use Rattle.std.specs.Int.{w64}
 use Rattle.std.proofs.lemmas.Int.{to_z-of_z}
-use Rattle.break_rules.specs.declared.Break.{Break}
 use Rattle.break_rules.specs.Walk.{nexts_of, spot_of}
 use Rattle.break_rules.proofs.Lists.{Has}
 use Rattle.break_rules.proofs.Reaching.{has_middle}

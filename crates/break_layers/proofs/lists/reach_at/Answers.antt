@@ -1,4 +1,4 @@
-use Rattle.std.proofs.Common.{◌≡◌, ◌+ℤ◌, ℤ, true, List, [], ◌∷◌, ◌++◌, sym, ap, subst, ◌∙◌, to_z, of_z, FitsSigned}
+use Rattle.std.proofs.Common.{◌≡◌, ◌+ℤ◌, ℤ, true, [], ◌∷◌, ◌++◌, sym, ap, subst, ◌∙◌, to_z, of_z, FitsSigned}
 use Rattle.std.specs.Int.{w64}
 use Rattle.std.proofs.lemmas.Int.{to_z-of_z}
 use Rattle.break_rules.specs.declared.Spot.{Spot}

@@ -1,9 +1,7 @@
-use Rattle.std.proofs.Common.{◌≡◌, ◌+◌, ◌*◌, ◌<◌, ◌≤◌, ◌+ℤ◌, ℤ, true, List, [], ◌∷◌, ◌++◌, sym, ap, subst, ◌∙◌, arith, to_z, of_z, FitsSigned, bit_or}
+use Rattle.std.proofs.Common.{◌≡◌, ◌+◌, ◌≤◌, ◌+ℤ◌, ℤ, true, [], ◌∷◌, ◌++◌, sym, ap, subst, ◌∙◌, arith, to_z, of_z, FitsSigned}
 use Rattle.std.specs.Int.{w64}
 use Rattle.std.proofs.lemmas.Bool.{and_from}
 use Rattle.std.proofs.lemmas.Int.{to_z-of_z}
-use Rattle.break_rules.specs.declared.Break.{Break}
-use Rattle.break_rules.specs.declared.Spot.{Spot}
 use Rattle.break_rules.specs.Breaks.{end_of, is_lunch, keeps_ends}
 use Rattle.break_rules.specs.Walk.{bits_of, end_of_all, is_walk, may_follow, spot_of}
 use Rattle.break_rules.proofs.Reaching.{is_walk-more}
@@ -11,7 +9,7 @@ use Rattle.break_rules.proofs.Steps.{bounds, total_small}
 use Rattle.price_sums.specs.Along.{sum_at}
 use Rattle.break_layers.specs.declared.layers.Layer.{Layer}
 use Rattle.break_layers.specs.Windows.{number_in}
-use Rattle.break_layers.specs.Layered.{IsReachBy, IsValueOrNothing, layer_place}
+use Rattle.break_layers.specs.Layered.{IsValueOrNothing, layer_place}
 use Rattle.break_layers.proofs.Reach.{may_follow_in, reach_by, reach_none}
 use Rattle.break_layers.proofs.Table.{behind_place, behind_spot}
 use Rattle.break_layers.proofs.reaching.reach.Goals as goal

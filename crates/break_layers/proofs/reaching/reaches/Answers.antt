@@ -1,4 +1,4 @@
-use Rattle.std.proofs.Common.{◌≡◌, ◌+◌, ◌++◌, ◌∷◌, ◌<◌, ◌≤◌, [], ℕ, ℤ, List, IsTrue, inl, inr, false, length, length-append, sym, ap, subst, ◌∙◌, arith, to_z, of_z}
+use Rattle.std.proofs.Common.{◌≡◌, ◌++◌, ◌∷◌, [], ℕ, ℤ, List, IsTrue, inl, inr, length, length-append, sym, ap, subst, ◌∙◌, arith}
 use Rattle.std.specs.Int.{w64}
 use Rattle.std.proofs.lemmas.Bool.{cases_lt}
 use Rattle.std.proofs.lemmas.Int.{to_z-of_z}
@@ -23,7 +23,7 @@ loop-start-preserved c =
     let items : c.push.new.self.items ≡ row ++ x ∷ [] =
     c.in_ok-push.ensures.items ∙ ap (λ (z : ℤ). row ++ z ∷ []) (to_z-of_z w64 x (record { sfits = c.reach.type_inv })) in
     let Each : ℕ → ℤ → Type 0 = λ start z. (list : List Break) → IsTrue (is_walk rule len list) → c.args.layer ≡ layer_of rule list
-      → IsInWindow rule list (record { start = start; len = c.args.size }) → IsReachBy rule len sums list (record { start = start; len = c.args.size }) z in
+    → IsInWindow rule list (record { start = start; len = c.args.size }) → IsReachBy rule len sums list (record { start = start; len = c.args.size }) z in
     record {
       many = ap length items ∙ length-append row (x ∷ []) ∙ omega (arith, i.many);
       each = λ start less. subst (λ (l : List ℤ). Each start (number_in l start)) (sym items) (one_more Each row c.loop-start.start x i.many i.each c.reach.ensures start less);

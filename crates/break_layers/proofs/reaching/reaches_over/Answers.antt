@@ -1,7 +1,5 @@
-use Rattle.std.proofs.Common.{◌≡◌, ◌+◌, ◌-◌, ◌<◌, ◌≤◌, List, ℤ, length, sym, ap, subst, ◌∙◌, arith}
-use Rattle.std.proofs.lemmas.List.{get_or_past}
+use Rattle.std.proofs.Common.{◌≡◌, ◌+◌, ◌<◌, List, ℤ, length, sym, ap, subst, arith}
 use Rattle.break_rules.specs.Walk.{end_of_all}
-use Rattle.break_layers.specs.declared.windows.TheConstants.{NOTHING}
 use Rattle.break_layers.specs.Windows.{number_in, IsMostIn}
 use Rattle.break_layers.specs.Layered.{IsReachOfSize, longest_work_of}
 use Rattle.break_layers.proofs.Reach.{most_of_size, none_of_size}

@@ -1,6 +1,6 @@
 use Rattle.std.proofs.Common.{◌+◌, ◌-◌, ◌*◌, sym, subst, arith}
 use Rattle.break_layers.specs.Windows.{number_in, IsMostIn}
-use Rattle.break_layers.proofs.Sliding.{most_one, most_two}
+use Rattle.break_layers.proofs.Sliding.{most_two}
 use Rattle.break_layers.proofs.windows.raise_to_windows.Goals as goal
 
 pub loop-wide-preserved : goal.loop-wide-preserved

@@ -1,4 +1,4 @@
-use Rattle.std.proofs.Common.{◌≡◌, ℕ, ◌-◌, ◌≤◌}
+use Rattle.std.proofs.Common.{ℕ, ◌-◌, ◌≤◌}
 use Rattle.break_layers.specs.Windows.{number_in, IsMostIn}
 use Rattle.break_layers.proofs.windows.raise_to_windows.Given as goal
 

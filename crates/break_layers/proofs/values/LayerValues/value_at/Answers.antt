@@ -1,4 +1,4 @@
-use Rattle.std.proofs.Common.{◌≡◌, false, ℤ, List, IsTrue, subst, sym}
+use Rattle.std.proofs.Common.{◌≡◌, false, List, IsTrue, subst, sym}
 use Rattle.std.specs.Prelude.{MatchOption}
 use Rattle.break_rules.specs.declared.Break.{Break}
 use Rattle.break_rules.specs.Breaks.{is_live}
