@@ -4,8 +4,6 @@
 #[cfg(test)]
 mod break_graphs;
 #[cfg(test)]
-mod break_layers;
-#[cfg(test)]
 mod break_lists;
 #[cfg(test)]
 mod break_patterns;
@@ -13,3 +11,5 @@ mod break_patterns;
 mod fixtures;
 #[cfg(test)]
 mod instances;
+#[cfg(test)]
+mod layer_values;
