@@ -20,9 +20,10 @@ use Rattle.price_sums.specs.Along.{sum_at, price_in, AreSums, resumes, earned_fr
 use Rattle.price_sums.proofs.Stretches.{earned_more, earned_small, spaced_rest, resumes_behind}
 use Rattle.break_layers.specs.declared.windows.TheConstants.{NOTHING}
 use Rattle.break_layers.specs.declared.layers.Layer.{Layer}
+use Rattle.break_layers.specs.declared.sizes.Sizes.{Sizes}
 use Rattle.break_layers.specs.Rests.{rest_worth}
 use Rattle.break_layers.specs.Windows.{number_in, IsMostIn}
-use Rattle.break_layers.specs.Layered.{IsMostOrNothing, IsValueOrNothing, layer_of, longest_work_of, size_limit_of, IsSizeIn, IsInWindow, reach_worth, CompletesWith, IsReachBy, IsReachOfSize, IsReachOfSizes, IsReachOfAll}
+use Rattle.break_layers.specs.Layered.{IsMostOrNothing, IsValueOrNothing, layer_of, longest_work_of, size_limit_of, IsSizeIn, AreSizesIn, IsInWindow, reach_worth, CompletesWith, IsReach, IsReachBy, IsReachAt, IsReachOfSizes, IsReachOfAll}
 use Rattle.break_layers.proofs.Sliding.{max_cases, below_left, below_right}
 
 pub longer : (rule : Rule) (len : ℕ) (list : List Break) (b : Break) (bs : List Break) → is_legal rule len ((list ++ b ∷ []) ++ bs) ≡ is_legal rule len (list ++ b ∷ bs)
@@ -142,10 +143,13 @@ module _ (rule : Rule) (len : ℕ) (sums : List ℤ) (list : List Break) (r : Is
       none (c ∷ rest) h =
           false≢true (sym far ∙ ap (keeps_ends rule len) (sym h.0) ∙ (follows_parts rule len (end_of_all list) (spot_of rule list).used c (first_follows c rest h.1)).ends)
 
-  -- a break that begins behind the end of the shift reaches nothing
-  pub reach_late : (b : Break) → len < b.start → IsReachBy rule len sums list b NOTHING
-  reach_late b late =
-      reach_none b (and_right (nat_le rule.lead b.start) (nat_le (end_of b + rule.tail) len) (lt-leb _ _ (omega arith)))
+  -- breaks that begin behind the end of the shift reach nothing
+  pub reach_late : (start from to : ℕ) → len < start → IsReachAt rule len sums list start from to NOTHING
+  reach_late start from to late = most_none (CompletesWith rule len list (λ c. (c.start ≡ start) × (from ≤ c.len) × (c.len < to))) (reach_worth sums rule len list) none
+    where
+      none : (rest : List Break) → CompletesWith rule len list (λ c. (c.start ≡ start) × (from ≤ c.len) × (c.len < to)) rest → ⊥
+      none [] h = h
+      none (c ∷ rest) h = let p = bounds rule len (end_of_all list) (spot_of rule list).used c (first_follows c rest h.1) in omega (arith, p.tail, h.0.0)
 
   -- a break that may follow begins in the window of its length
   in_window : (b : Break) → may_follow rule len (end_of_all list) (spot_of rule list).used b ≡ true → IsInWindow rule list b
@@ -191,93 +195,129 @@ module _ (rule : Rule) (len : ℕ) (sums : List ℤ) (list : List Break) (r : Is
           subst (λ t. b.start ≤ end_of_all list + cond t rule.work_max (min rule.work_max rule.long_work)) e window.latest in
           or_left (nat_le (b.start - end_of_all list) rule.long_work) (nat_le rule.long_rest b.len) (le-leb _ _ (omega arith))
 
-  -- the most over the window of a length is the most of that length
-  pub most_of_size : (size width : ℕ) (row : List ℤ) (most : ℤ) → rule.work_min + width ≡ longest_work_of rule size + 1
-      → ((start : ℕ) → IsInWindow rule list (record { start = start; len = size }) → IsReachBy rule len sums list (record { start = start; len = size }) (number_in row start))
-      → IsMostIn row (end_of_all list + rule.work_min) width most → IsReachOfSize rule len sums list size most
-  most_of_size size width row most wide each m = record {
-    reached = reached;
-    greatest = greatest;
-  }
+  -- no break has a length in an empty range
+  pub none_at : (start from : ℕ) → IsReachAt rule len sums list start from from NOTHING
+  none_at start from = most_none (CompletesWith rule len list (λ c. (c.start ≡ start) × (from ≤ c.len) × (c.len < from))) (reach_worth sums rule len list) none
     where
-      at : ℕ → Break
-      at start = record { start = start; len = size }
-
-      inside : (start : ℕ) → end_of_all list + rule.work_min ≤ start → start < end_of_all list + rule.work_min + width → IsInWindow rule list (record { start = start; len = size })
-      inside start low high = record { earliest = low; latest = omega arith }
-
-      reached : (most ≡ NOTHING) ⊎ ((rest : List Break) × CompletesWith rule len list (λ b. b.len ≡ size) rest × (reach_worth sums rule len list rest ≡ most))
-      reached =
-          let k = m.reached.0 in
-          let here = each k (inside k m.reached.1 m.reached.2) in
-          elim here.reached [
-            | inl none ↦ inl (sym m.reached.3 ∙ none)
-            | inr f ↦ inr (f.0, with_size f.0 (record { start = k; len = size }) refl f.1, f.2 ∙ m.reached.3)
-          ]
-        where
-          with_size : (rest : List Break) (b : Break) → b.len ≡ size → CompletesWith rule len list (λ c. c ≡ b) rest → CompletesWith rule len list (λ c. c.len ≡ size) rest
-          with_size [] b e h = h
-          with_size (c ∷ rest) b e h = (ap (λ (x : Break). x.len) h.0 ∙ e, h.1)
-
-      greatest : (rest : List Break) → CompletesWith rule len list (λ b. b.len ≡ size) rest → (NOTHING <ℤ reach_worth sums rule len list rest) × (reach_worth sums rule len list rest ≤ℤ most)
-      greatest [] h = absurd h
-      greatest (c ∷ rest) h =
-          let b : Break = record { start = c.start; len = size } in
-          let same : c ≡ b = ap (λ (n : ℕ). record { start = c.start; len = n }) h.0 in
-          let window : IsInWindow rule list b = subst (IsInWindow rule list) same (in_window c (first_follows c rest h.1)) in
-          let latest : c.start ≤ end_of_all list + longest_work_of rule size = window.latest in
-          let here = (each c.start window).greatest (c ∷ rest) (same, h.1) in
-          let up : number_in row c.start ≤ℤ most = m.greatest c.start window.earliest (omega arith) in
-          let low : reach_worth sums rule len list (c ∷ rest) ≤ℤ number_in row c.start = here.1 in
-          (here.0, omega (arith, ints))
-
-  -- where no work period is short enough there is nothing of that length
-  pub none_of_size : (size : ℕ) → longest_work_of rule size < rule.work_min → IsReachOfSize rule len sums list size NOTHING
-  none_of_size size less = most_none (CompletesWith rule len list (λ c. c.len ≡ size)) (reach_worth sums rule len list) none
-    where
-      none : (rest : List Break) → CompletesWith rule len list (λ c. c.len ≡ size) rest → ⊥
+      none : (rest : List Break) → CompletesWith rule len list (λ c. (c.start ≡ start) × (from ≤ c.len) × (c.len < from)) rest → ⊥
       none [] h = h
-      none (c ∷ rest) h =
-          let window = in_window c (first_follows c rest h.1) in
-          let latest : c.start ≤ end_of_all list + longest_work_of rule size = subst (λ n. c.start ≤ end_of_all list + longest_work_of rule n) h.0 window.latest in
-          omega (arith, window.earliest)
+      none (c ∷ rest) h = omega (arith, h.0.1, h.0.2)
 
-  -- the sizes before the least have nothing
-  pub none_below : IsReachOfSizes rule len sums list rule.size_min NOTHING
-  none_below = most_none (CompletesWith rule len list (λ c. c.len < rule.size_min)) (reach_worth sums rule len list) none
+  pub none_of_sizes : (from : ℕ) → IsReachOfSizes rule len sums list from from NOTHING
+  none_of_sizes from = most_none (CompletesWith rule len list (λ c. (from ≤ c.len) × (c.len < from))) (reach_worth sums rule len list) none
     where
-      none : (rest : List Break) → CompletesWith rule len list (λ c. c.len < rule.size_min) rest → ⊥
+      none : (rest : List Break) → CompletesWith rule len list (λ c. (from ≤ c.len) × (c.len < from)) rest → ⊥
       none [] h = h
-      none (c ∷ rest) h = let p = bounds rule len (end_of_all list) (spot_of rule list).used c (first_follows c rest h.1) in omega (arith, p.least_size, h.0)
+      none (c ∷ rest) h = omega (arith, h.0.0, h.0.1)
 
-  -- one size more
-  pub size_more : (size : ℕ) (x y : ℤ) → IsReachOfSizes rule len sums list size x → IsReachOfSize rule len sums list size y → IsReachOfSizes rule len sums list (size + 1) (int_max x y)
-  size_more size x y p q =
-      most_join (CompletesWith rule len list (λ c. c.len < size)) (CompletesWith rule len list (λ c. c.len ≡ size)) (CompletesWith rule len list (λ c. c.len < size + 1)) (reach_worth sums rule len list) x y split one two p q
+  -- one length more of a start
+  pub size_more : (start from size : ℕ) (x y : ℤ) → from ≤ size → IsReachAt rule len sums list start from size x → IsReachBy rule len sums list (record { start = start; len = size }) y
+      → IsReachAt rule len sums list start from (size + 1) (int_max x y)
+  size_more start from size x y low p q =
+      most_join (CompletesWith rule len list (λ c. (c.start ≡ start) × (from ≤ c.len) × (c.len < size))) (CompletesWith rule len list (λ c. c ≡ record { start = start; len = size }))
+      (CompletesWith rule len list (λ c. (c.start ≡ start) × (from ≤ c.len) × (c.len < size + 1))) (reach_worth sums rule len list) x y split one two p q
     where
-      split : (rest : List Break) → CompletesWith rule len list (λ c. c.len < size + 1) rest → CompletesWith rule len list (λ c. c.len < size) rest ⊎ CompletesWith rule len list (λ c. c.len ≡ size) rest
+      split : (rest : List Break) → CompletesWith rule len list (λ c. (c.start ≡ start) × (from ≤ c.len) × (c.len < size + 1)) rest
+          → CompletesWith rule len list (λ c. (c.start ≡ start) × (from ≤ c.len) × (c.len < size)) rest ⊎ CompletesWith rule len list (λ c. c ≡ record { start = start; len = size }) rest
       split [] h = absurd h
-      split (c ∷ rest) h = elim (cases_lt c.len size) [ inl l ↦ inl (l, h.1) | inr g ↦ inr (omega (arith, h.0), h.1) ]
+      split (c ∷ rest) h = elim (cases_lt c.len size) [
+        | inl l ↦ inl ((h.0.0, h.0.1, l), h.1)
+        | inr g ↦
+            let same : c.len ≡ size = omega (arith, h.0.2) in
+            inr (ap (λ (n : ℕ). record { start = n; len = c.len }) h.0.0 ∙ ap (λ (n : ℕ). record { start = start; len = n }) same, h.1)
+      ]
 
-      one : (rest : List Break) → CompletesWith rule len list (λ c. c.len < size) rest → CompletesWith rule len list (λ c. c.len < size + 1) rest
+      one : (rest : List Break) → CompletesWith rule len list (λ c. (c.start ≡ start) × (from ≤ c.len) × (c.len < size)) rest → CompletesWith rule len list (λ c. (c.start ≡ start) × (from ≤ c.len) × (c.len < size + 1)) rest
       one [] h = h
-      one (c ∷ rest) h = (omega (arith, h.0), h.1)
+      one (c ∷ rest) h = ((h.0.0, h.0.1, omega (arith, h.0.2)), h.1)
 
-      two : (rest : List Break) → CompletesWith rule len list (λ c. c.len ≡ size) rest → CompletesWith rule len list (λ c. c.len < size + 1) rest
+      two : (rest : List Break) → CompletesWith rule len list (λ c. c ≡ record { start = start; len = size }) rest → CompletesWith rule len list (λ c. (c.start ≡ start) × (from ≤ c.len) × (c.len < size + 1)) rest
       two [] h = h
-      two (c ∷ rest) h = (omega (arith, h.0), h.1)
+      two (c ∷ rest) h =
+          let length : c.len ≡ size = ap (λ (b : Break). b.len) h.0 in
+          ((ap (λ (b : Break). b.start) h.0, omega arith, omega arith), h.1)
 
-  -- beyond the greatest size there is no other
-  pub all_sizes : (layer : Layer) (below : ℕ) (x : ℤ) → layer ≡ layer_of rule list → size_limit_of rule len layer < below → IsReachOfSizes rule len sums list below x → IsReachOfAll rule len sums list x
-  all_sizes layer below x is far = most_same (CompletesWith rule len list (λ c. c.len < below)) (CompletesWith rule len list (λ c. Unit {0})) (reach_worth sums rule len list) x to from
+  -- two ranges of lengths that meet
+  pub sizes_join : (from mid to : ℕ) (x y : ℤ) → from ≤ mid → mid ≤ to → IsReachOfSizes rule len sums list from mid x → IsReachOfSizes rule len sums list mid to y → IsReachOfSizes rule len sums list from to (int_max x y)
+  sizes_join from mid to x y low high p q =
+      most_join (CompletesWith rule len list (λ c. (from ≤ c.len) × (c.len < mid))) (CompletesWith rule len list (λ c. (mid ≤ c.len) × (c.len < to)))
+      (CompletesWith rule len list (λ c. (from ≤ c.len) × (c.len < to))) (reach_worth sums rule len list) x y split one two p q
     where
-      to : (rest : List Break) → CompletesWith rule len list (λ c. c.len < below) rest → CompletesWith rule len list (λ c. Unit {0}) rest
-      to [] h = h
-      to (c ∷ rest) h = (tt, h.1)
+      split : (rest : List Break) → CompletesWith rule len list (λ c. (from ≤ c.len) × (c.len < to)) rest
+          → CompletesWith rule len list (λ c. (from ≤ c.len) × (c.len < mid)) rest ⊎ CompletesWith rule len list (λ c. (mid ≤ c.len) × (c.len < to)) rest
+      split [] h = absurd h
+      split (c ∷ rest) h = elim (cases_lt c.len mid) [ inl l ↦ inl ((h.0.0, l), h.1) | inr g ↦ inr ((g, h.0.1), h.1) ]
 
-      from : (rest : List Break) → CompletesWith rule len list (λ c. Unit {0}) rest → CompletesWith rule len list (λ c. c.len < below) rest
-      from [] h = h
-      from (c ∷ rest) h =
+      one : (rest : List Break) → CompletesWith rule len list (λ c. (from ≤ c.len) × (c.len < mid)) rest → CompletesWith rule len list (λ c. (from ≤ c.len) × (c.len < to)) rest
+      one [] h = h
+      one (c ∷ rest) h = ((h.0.0, omega (arith, h.0.1)), h.1)
+
+      two : (rest : List Break) → CompletesWith rule len list (λ c. (mid ≤ c.len) × (c.len < to)) rest → CompletesWith rule len list (λ c. (from ≤ c.len) × (c.len < to)) rest
+      two [] h = h
+      two (c ∷ rest) h = ((omega (arith, h.0.0), h.0.1), h.1)
+
+  -- the most over the window of some lengths is the most of these lengths
+  module _ (layer : Layer) (sizes : Sizes) (alike : AreSizesIn rule len layer sizes) where
+    -- a rest that begins with such a break begins in the window
+    sizes_window : (b : Break) (rest : List Break) → Completes rule len list (b ∷ rest) → sizes.from ≤ b.len → b.len < sizes.to → IsInWindow rule list (record { start = b.start; len = sizes.from })
+    sizes_window b rest h low high =
+        let window = in_window b (first_follows b rest h) in
+        record { earliest = window.earliest; latest = subst (λ n. b.start ≤ end_of_all list + n) (alike.alike b.len low high) window.latest }
+
+    pub most_of_sizes : (width : ℕ) (row : List ℤ) (most : ℤ) → rule.work_min + width ≡ longest_work_of rule sizes.from + 1
+        → ((start : ℕ) → IsInWindow rule list (record { start = start; len = sizes.from }) → IsReachAt rule len sums list start sizes.from sizes.to (number_in row start))
+        → IsMostIn row (end_of_all list + rule.work_min) width most → IsReachOfSizes rule len sums list sizes.from sizes.to most
+    most_of_sizes width row most wide each m = record { reached = reached; greatest = greatest }
+      where
+        inside : (start : ℕ) → end_of_all list + rule.work_min ≤ start → start < end_of_all list + rule.work_min + width → IsInWindow rule list (record { start = start; len = sizes.from })
+        inside start low high = record { earliest = low; latest = omega arith }
+
+        reached : (most ≡ NOTHING) ⊎ ((rest : List Break) × CompletesWith rule len list (λ b. (sizes.from ≤ b.len) × (b.len < sizes.to)) rest × (reach_worth sums rule len list rest ≡ most))
+        reached =
+            let k = m.reached.0 in
+            let here = each k (inside k m.reached.1 m.reached.2) in
+            elim here.reached [
+              | inl none ↦ inl (sym m.reached.3 ∙ none)
+              | inr f ↦ inr (f.0, with_sizes f.0 k f.1, f.2 ∙ m.reached.3)
+            ]
+          where
+            with_sizes : (rest : List Break) (k : ℕ) → CompletesWith rule len list (λ c. (c.start ≡ k) × (sizes.from ≤ c.len) × (c.len < sizes.to)) rest
+                → CompletesWith rule len list (λ c. (sizes.from ≤ c.len) × (c.len < sizes.to)) rest
+            with_sizes [] k h = h
+            with_sizes (c ∷ rest) k h = ((h.0.1, h.0.2), h.1)
+
+        greatest : (rest : List Break) → CompletesWith rule len list (λ b. (sizes.from ≤ b.len) × (b.len < sizes.to)) rest → (NOTHING <ℤ reach_worth sums rule len list rest) × (reach_worth sums rule len list rest ≤ℤ most)
+        greatest [] h = absurd h
+        greatest (c ∷ rest) h =
+            let window = sizes_window c rest h.1 h.0.0 h.0.1 in
+            let latest : c.start ≤ end_of_all list + longest_work_of rule sizes.from = window.latest in
+            let here = (each c.start window).greatest (c ∷ rest) ((refl, h.0.0, h.0.1), h.1) in
+            let up : number_in row c.start ≤ℤ most = m.greatest c.start window.earliest (omega arith) in
+            let low : reach_worth sums rule len list (c ∷ rest) ≤ℤ number_in row c.start = here.1 in
+            (here.0, omega (arith, ints))
+
+    -- where no work period is short enough there is nothing of these lengths
+    pub none_short : longest_work_of rule sizes.from < rule.work_min → IsReachOfSizes rule len sums list sizes.from sizes.to NOTHING
+    none_short less = most_none (CompletesWith rule len list (λ c. (sizes.from ≤ c.len) × (c.len < sizes.to))) (reach_worth sums rule len list) none
+      where
+        none : (rest : List Break) → CompletesWith rule len list (λ c. (sizes.from ≤ c.len) × (c.len < sizes.to)) rest → ⊥
+        none [] h = h
+        none (c ∷ rest) h =
+            let window = sizes_window c rest h.1 h.0.0 h.0.1 in
+            let latest : c.start ≤ end_of_all list + longest_work_of rule sizes.from = window.latest in
+            omega (arith, window.earliest)
+
+  -- no break is shorter than the least length or longer than the greatest
+  pub all_sizes : (layer : Layer) (to : ℕ) (x : ℤ) → layer ≡ layer_of rule list → size_limit_of rule len layer < to → IsReachOfSizes rule len sums list rule.size_min to x → IsReachOfAll rule len sums list x
+  all_sizes layer to x is far = most_same (CompletesWith rule len list (λ c. (rule.size_min ≤ c.len) × (c.len < to))) (CompletesWith rule len list (λ c. Unit {0})) (reach_worth sums rule len list) x one two
+    where
+      one : (rest : List Break) → CompletesWith rule len list (λ c. (rule.size_min ≤ c.len) × (c.len < to)) rest → CompletesWith rule len list (λ c. Unit {0}) rest
+      one [] h = h
+      one (c ∷ rest) h = (tt, h.1)
+
+      two : (rest : List Break) → CompletesWith rule len list (λ c. Unit {0}) rest → CompletesWith rule len list (λ c. (rule.size_min ≤ c.len) × (c.len < to)) rest
+      two [] h = h
+      two (c ∷ rest) h =
           let p = bounds rule len (end_of_all list) (spot_of rule list).used c (first_follows c rest h.1) in
           let used : layer.used ≡ (spot_of rule list).used = ap (λ (l : Layer). l.used) is in
-          (omega (arith, p.most_size, p.within), h.1)
+          ((p.least_size, omega (arith, p.most_size, p.within)), h.1)

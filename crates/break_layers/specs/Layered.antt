@@ -1,5 +1,6 @@
 -- What lists of breaks earn at most, by layers of spots of one break time and the same lunches.
 use Rattle.std.specs.Prelude.{◌≡◌, ℕ, ◌+◌, ◌-◌, ◌*◌, ◌<◌, ◌≤◌, ◌⊎◌, ℤ, ◌+ℤ◌, ◌<ℤ◌, ◌≤ℤ◌, nat_le, min, IsTrue, List, [], ◌∷◌, if◌then◌else◌}
+use Rattle.std.specs.Int.{int_max}
 use Rattle.break_rules.specs.declared.Break.{Break}
 use Rattle.break_rules.specs.declared.Rule.{Rule}
 use Rattle.break_rules.specs.declared.Spot.{Spot}
@@ -7,6 +8,7 @@ use Rattle.break_rules.specs.Breaks.{total_of}
 use Rattle.break_rules.specs.Walk.{spot_of, is_walk, end_of_all}
 use Rattle.price_sums.specs.Along.{sum_at, resumes, Completes}
 use Rattle.break_layers.specs.declared.layers.Layer.{Layer}
+use Rattle.break_layers.specs.declared.sizes.Sizes.{Sizes}
 use Rattle.break_layers.specs.declared.windows.TheConstants.{NOTHING}
 use Rattle.break_layers.specs.Rests.{rest_worth}
 use Rattle.break_layers.specs.Windows.{number_in}
@@ -55,6 +57,11 @@ pub record IsSizeIn (rule : Rule) (len : ℕ) (layer : Layer) (size : ℕ) : Typ
   pub least : rule.size_min ≤ size
   pub most : size ≤ size_limit_of rule len layer
 
+-- a range of lengths that breaks have in a layer, and that may follow the same work periods
+pub record AreSizesIn (rule : Rule) (len : ℕ) (layer : Layer) (sizes : Sizes) : Type 0 where
+  pub each : (size : ℕ) → sizes.from ≤ size → size < sizes.to → IsSizeIn rule len layer size
+  pub alike : (size : ℕ) → sizes.from ≤ size → size < sizes.to → longest_work_of rule size ≡ longest_work_of rule sizes.from
+
 -- a break behind a work period of a length that it may follow
 pub record IsInWindow (rule : Rule) (list : List Break) (stop : Break) : Type 0 where
   pub earliest : end_of_all list + rule.work_min ≤ stop.start
@@ -73,15 +80,24 @@ CompletesWith rule len list Kind (b ∷ rest) = Kind b × Completes rule len lis
 abbrev pub IsReach : Rule → ℕ → List ℤ → List Break → (Break → Type 0) → ℤ → Type 0
 IsReach rule len sums list Kind value = IsMostOrNothing (CompletesWith rule len list Kind) (reach_worth sums rule len list) value
 
--- .. with one break
+-- the most that the rests of a list reach whose first break is a given one
 abbrev pub IsReachBy : Rule → ℕ → List ℤ → List Break → Break → ℤ → Type 0
 IsReachBy rule len sums list stop value = IsReach rule len sums list (λ b. b ≡ stop) value
 
-abbrev pub IsReachOfSize : Rule → ℕ → List ℤ → List Break → ℕ → ℤ → Type 0
-IsReachOfSize rule len sums list size value = IsReach rule len sums list (λ b. b.len ≡ size) value
+-- the most that the rests of a list reach whose first break has a start and one of some lengths
+abbrev pub IsReachAt : Rule → ℕ → List ℤ → List Break → ℕ → ℕ → ℕ → ℤ → Type 0
+IsReachAt rule len sums list start from to value = IsReach rule len sums list (λ b. (b.start ≡ start) × (from ≤ b.len) × (b.len < to)) value
 
-abbrev pub IsReachOfSizes : Rule → ℕ → List ℤ → List Break → ℕ → ℤ → Type 0
-IsReachOfSizes rule len sums list below value = IsReach rule len sums list (λ b. b.len < below) value
+-- the most that the rests of a list reach whose first break has one of some lengths
+abbrev pub IsReachOfSizes : Rule → ℕ → List ℤ → List Break → ℕ → ℕ → ℤ → Type 0
+IsReachOfSizes rule len sums list from to value = IsReach rule len sums list (λ b. (from ≤ b.len) × (b.len < to)) value
 
+-- the most that the rests of a list reach which have a first break
 abbrev pub IsReachOfAll : Rule → ℕ → List ℤ → List Break → ℤ → Type 0
 IsReachOfAll rule len sums list value = IsReach rule len sums list (λ b. Unit {0}) value
+
+-- a number that was raised to what the breaks of a layer with one start and length reach
+pub record IsRaised (rule : Rule) (len : ℕ) (sums : List ℤ) (layer : Layer) (stop : Break) (before after : ℤ) : Type 0 where
+  pub reach : ℤ
+  pub exact : (list : List Break) → IsTrue (is_walk rule len list) → layer ≡ layer_of rule list → IsInWindow rule list stop → IsReachBy rule len sums list stop reach
+  pub raised : after ≡ int_max before reach

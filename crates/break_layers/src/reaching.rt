@@ -7,10 +7,10 @@ ghost use Rattle.break_rules.specs.Ranges.{IsRule};
 ghost use Rattle.break_rules.specs.Walk.{is_walk, end_of_all};
 ghost use Rattle.price_sums.specs.Along.{AreSums};
 ghost use Rattle.break_layers.specs.Windows.{number_in};
-ghost use Rattle.break_layers.specs.Layered.{layer_of, AreLayersBefore, layer_number, IsSizeIn, IsInWindow, IsReachBy, IsReachOfSize, IsReachOfSizes, IsReachOfAll};
+ghost use Rattle.break_layers.specs.Layered.{layer_of, AreLayersBefore, layer_number, IsSizeIn, AreSizesIn, IsInWindow, IsRaised, IsReachBy, IsReachAt, IsReachOfSizes, IsReachOfAll};
 
 use crate::layers::{Layer, place};
-use crate::sizes::{keeps_distance, longest, longest_work, lunches_met};
+use crate::sizes::{Sizes, keeps_distance, layer_sizes, longest_work, lunches_met};
 use crate::windows::{NOTHING, number_at, raise_to_row, raise_to_windows};
 use break_rules::{Break, NoMemory, Rule, Spot};
 use price_sums::sum_before;
@@ -50,7 +50,34 @@ fn reach(rule: &Rule, len: u16, sums: &[i64], table: &[i64], layer: Layer, stop:
     )
 }
 
-/// What the breaks of a layer with one length reach, by their starts.
+/// Raises numbers by start to what the breaks of a layer reach that have a length.
+fn raise_by_size(
+    row: &mut [i64],
+    rule: &Rule,
+    len: u16,
+    sums: &[i64],
+    table: &[i64],
+    layer: Layer,
+    size: u16,
+)
+    requires rule { IsRule rule.now }
+    requires sums { AreSums len sums.now }
+    requires known { AreLayersBefore rule.now len sums.now (layer_number layer * (len + 1)) table.now }
+    requires size { IsSizeIn rule.now len layer size }
+    requires row { length row.old ≡ len + 1 }
+    ensures { (start : ℕ) → start ≤ len → IsRaised rule.now len sums.now layer (record { start = start; len = size }) (number_in row.old start) (number_in row.new start) }
+{
+    for start in 0..row.len() {
+        let stop = Break {
+            start: start as u16,
+            len: size,
+        };
+        let most = number_at(row, start).max(reach(rule, len, sums, table, layer, stop));
+        row[start] = most;
+    }
+}
+
+/// What the breaks of a layer reach at most that have one of some lengths, by their starts.
 fn reaches(
     alloc: Global,
     rule: &Rule,
@@ -58,26 +85,23 @@ fn reaches(
     sums: &[i64],
     table: &[i64],
     layer: Layer,
-    size: u16,
+    sizes: Sizes,
 ) -> Result<Vec<i64>, NoMemory>
     requires rule { IsRule rule.now }
     requires sums { AreSums len sums.now }
     requires known { AreLayersBefore rule.now len sums.now (layer_number layer * (len + 1)) table.now }
-    requires size { IsSizeIn rule.now len layer size }
-    ensures { IfOk result (λ row. (list : List Break) (start : ℕ) → IsTrue (is_walk rule.now len list) → layer ≡ layer_of rule.now list → IsInWindow rule.now list (record { start = start; len = size }) → IsReachBy rule.now len sums.now list (record { start = start; len = size }) (number_in row.items start)) }
+    requires sizes { AreSizesIn rule.now len layer sizes }
+    requires some { sizes.from ≤ sizes.to }
+    ensures { IfOk result (λ row. (list : List Break) (start : ℕ) → IsTrue (is_walk rule.now len list) → layer ≡ layer_of rule.now list → IsInWindow rule.now list (record { start = start; len = sizes.from }) → IsReachAt rule.now len sums.now list start sizes.from sizes.to (number_in row.items start)) }
 {
-    let mut row = Vec::with_capacity(alloc, usize::from(len) + 1)?;
-    for start in 0..usize::from(len) + 1 {
-        let stop = Break {
-            start: start as u16,
-            len: size,
-        };
-        row.push(reach(rule, len, sums, table, layer, stop))?;
+    let mut row = vec![in alloc; NOTHING; usize::from(len) + 1]?;
+    for size in sizes.from..sizes.to {
+        raise_by_size(&mut row, rule, len, sums, table, layer, size);
     }
     Ok(row)
 }
 
-/// The most that the breaks of a layer with one length reach, by the earliest offset at which they may begin.
+/// The most that the breaks of a layer reach that have one of some lengths, by the earliest offset at which they may begin.
 fn reaches_over(
     alloc: Global,
     rule: &Rule,
@@ -85,19 +109,20 @@ fn reaches_over(
     sums: &[i64],
     table: &[i64],
     layer: Layer,
-    size: u16,
+    sizes: Sizes,
 ) -> Result<Vec<i64>, NoMemory>
     requires rule { IsRule rule.now }
     requires sums { AreSums len sums.now }
     requires known { AreLayersBefore rule.now len sums.now (layer_number layer * (len + 1)) table.now }
-    requires size { IsSizeIn rule.now len layer size }
-    ensures { IfOk result (λ row. (list : List Break) → IsTrue (is_walk rule.now len list) → layer ≡ layer_of rule.now list → IsReachOfSize rule.now len sums.now list size (number_in row.items (end_of_all list + rule.now.work_min))) }
+    requires sizes { AreSizesIn rule.now len layer sizes }
+    requires some { sizes.from ≤ sizes.to }
+    ensures { IfOk result (λ row. (list : List Break) → IsTrue (is_walk rule.now len list) → layer ≡ layer_of rule.now list → IsReachOfSizes rule.now len sums.now list sizes.from sizes.to (number_in row.items (end_of_all list + rule.now.work_min))) }
 {
-    let work = longest_work(rule, size);
-    if work < rule.work_min {
+    let work = longest_work(rule, sizes.from);
+    if sizes.from == sizes.to || work < rule.work_min {
         return Ok(Vec::new(alloc));
     }
-    let mut row = reaches(alloc, rule, len, sums, table, layer, size)?;
+    let mut row = reaches(alloc, rule, len, sums, table, layer, sizes)?;
     raise_to_windows(&mut row, usize::from(work - rule.work_min) + 1);
     Ok(row)
 }
@@ -117,9 +142,10 @@ pub(crate) fn best_reaches(
     ensures { IfOk result (λ row. (list : List Break) → IsTrue (is_walk rule.now len list) → layer ≡ layer_of rule.now list → IsReachOfAll rule.now len sums.now list (number_in row.items (end_of_all list))) }
 {
     let mut most = vec![in alloc; NOTHING; usize::from(len) + 1]?;
-    for size in rule.size_min..longest(rule, len, layer) + 1 {
-        let row = reaches_over(alloc, rule, len, sums, table, layer, size)?;
-        raise_to_row(&mut most, &row, rule.work_min);
-    }
+    let (short, long) = layer_sizes(rule, len, layer);
+    let shorter = reaches_over(alloc, rule, len, sums, table, layer, short)?;
+    raise_to_row(&mut most, &shorter, rule.work_min);
+    let longer = reaches_over(alloc, rule, len, sums, table, layer, long)?;
+    raise_to_row(&mut most, &longer, rule.work_min);
     Ok(most)
 }

@@ -1,15 +1,24 @@
 //! Which breaks a layer has: their lengths, the work that they may follow, and the lunches that they meet.
 
-ghost use Rattle.std.specs.Prelude.{◌≡◌, ◌≤◌, Bool, true, List, length};
+ghost use Rattle.std.specs.Prelude.{◌≡◌, ◌<◌, ◌≤◌, Bool, true, List, length};
 ghost use Rattle.break_rules.specs.declared.Break.{Break};
 ghost use Rattle.break_rules.specs.declared.Lunch.{Lunch};
 ghost use Rattle.break_rules.specs.Breaks.{total_of, total_in, keeps_ends, is_lunch};
 ghost use Rattle.break_rules.specs.Ranges.{IsRule};
 ghost use Rattle.break_rules.specs.Walk.{bits_of};
-ghost use Rattle.break_layers.specs.Layered.{layer_of, longest_work_of, size_limit_of};
+ghost use Rattle.break_layers.specs.Layered.{layer_of, longest_work_of, size_limit_of, AreSizesIn};
 
 use crate::layers::Layer;
 use break_rules::{Break, Lunch, Rule};
+
+/// A range of lengths of breaks.
+#[derive(Clone, Copy, Drop)]
+pub(crate) struct Sizes {
+    /// The least.
+    pub(crate) from: u16,
+    /// The one behind the greatest.
+    pub(crate) to: u16,
+}
 
 /// The total that a table has for a length.
 fn total_among(totals: &[(u16, u16)], len: u16) -> u16
@@ -57,6 +66,22 @@ pub(crate) fn longest_work(rule: &Rule, size: u16) -> u16
     } else {
         rule.work_max.min(rule.long_work)
     }
+}
+
+/// The lengths of the breaks of a layer: those that only shorter work periods precede, and those that are long enough for each.
+pub(crate) fn layer_sizes(rule: &Rule, len: u16, layer: Layer) -> (Sizes, Sizes)
+    requires { IsRule rule.now }
+    ensures short { AreSizesIn rule.now len layer result.0 }
+    ensures long { AreSizesIn rule.now len layer result.1 }
+    ensures least { result.0.from ≡ rule.now.size_min }
+    ensures rise { (result.0.from ≤ result.0.to) × (result.0.to ≤ result.1.to) }
+    ensures meet { result.1.from ≡ result.0.to }
+    ensures all { (list : List Break) → layer ≡ layer_of rule.now list → size_limit_of rule.now len layer < result.1.to }
+{
+    let from = rule.size_min;
+    let to = from.max(longest(rule, len, layer) + 1);
+    let split = from.max(to.min(rule.long_rest));
+    (Sizes { from, to: split }, Sizes { from: split, to })
 }
 
 /// Whether a break keeps its distance from both ends of the shift.
