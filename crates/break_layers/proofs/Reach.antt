@@ -24,7 +24,7 @@ use Rattle.break_layers.specs.declared.sizes.Sizes.{Sizes}
 use Rattle.break_layers.specs.Rests.{rest_worth}
 use Rattle.break_layers.specs.Windows.{number_in, IsMostIn}
 use Rattle.break_layers.specs.Layered.{IsMostOrNothing, IsValueOrNothing, layer_of, longest_work_of, size_limit_of, IsSizeIn, AreSizesIn, IsInWindow, reach_worth, CompletesWith, IsReach, IsReachBy, IsReachAt, IsReachOfSizes, IsReachOfAll}
-use Rattle.break_layers.proofs.Sliding.{max_cases, below_left, below_right}
+use Rattle.break_layers.proofs.Sliding.{max_above, max_cases, below_left, below_right}
 
 pub longer : (rule : Rule) (len : ℕ) (list : List Break) (b : Break) (bs : List Break) → is_legal rule len ((list ++ b ∷ []) ++ bs) ≡ is_legal rule len (list ++ b ∷ bs)
 longer rule len list b bs = ap (is_legal rule len) (append_assoc list (b ∷ []) bs)
@@ -64,6 +64,13 @@ most_join A B C worth x y split one two p q = record {
     | inr b ↦ let g = q.greatest rest b in (g.0, below_right x y (worth rest) g.1)
   ];
 }
+
+-- nothing is the least that lists earn
+most_above : (A : List Break → Type 0) (worth : List Break → ℤ) (x : ℤ) → IsMostOrNothing A worth x → NOTHING ≤ℤ x
+most_above A worth x p = elim p.reached [
+  | inl none ↦ subst (λ (z : ℤ). NOTHING ≤ℤ z) (sym none) (let e : NOTHING ≤ℤ NOTHING = omega (arith, ints) in e)
+  | inr f ↦ let low : NOTHING <ℤ worth f.0 = (p.greatest f.0 f.1).0 in let is : worth f.0 ≡ x = f.2 in omega (arith, ints)
+]
 
 -- where no list is allowed there is nothing
 pub most_none : (A : List Break → Type 0) (worth : List Break → ℤ) → ((rest : List Break) → A rest → ⊥) → IsMostOrNothing A worth NOTHING
@@ -236,6 +243,16 @@ module _ (rule : Rule) (len : ℕ) (sums : List ℤ) (list : List Break) (r : Is
       two (c ∷ rest) h =
           let length : c.len ≡ size = ap (λ (b : Break). b.len) h.0 in
           ((ap (λ (b : Break). b.start) h.0, omega arith, omega arith), h.1)
+
+  pub size_raised : (start from size : ℕ) (x y z : ℤ) → from ≤ size → (z ≡ int_max x y) ⊎ ((y ≡ NOTHING) × (z ≡ x)) → IsReachAt rule len sums list start from size x
+      → IsReachBy rule len sums list (record { start = start; len = size }) y → IsReachAt rule len sums list start from (size + 1) z
+  size_raised start from size x y z low e p q =
+      let more = size_more start from size x y low p q in
+      let same : z ≡ int_max x y = elim e [
+        | inl m ↦ m
+        | inr k ↦ k.1 ∙ sym (max_above x NOTHING (most_above (CompletesWith rule len list (λ c. (c.start ≡ start) × (from ≤ c.len) × (c.len < size))) (reach_worth sums rule len list) x p)) ∙ ap (int_max x) (sym k.0)
+      ] in
+      subst (IsReachAt rule len sums list start from (size + 1)) (sym same) more
 
   -- two ranges of lengths that meet
   pub sizes_join : (from mid to : ℕ) (x y : ℤ) → from ≤ mid → mid ≤ to → IsReachOfSizes rule len sums list from mid x → IsReachOfSizes rule len sums list mid to y → IsReachOfSizes rule len sums list from to (int_max x y)

@@ -96,8 +96,8 @@ IsReachOfSizes rule len sums list from to value = IsReach rule len sums list (λ
 abbrev pub IsReachOfAll : Rule → ℕ → List ℤ → List Break → ℤ → Type 0
 IsReachOfAll rule len sums list value = IsReach rule len sums list (λ b. Unit {0}) value
 
--- a number that was raised to what the breaks of a layer with one start and length reach
+-- a number that was raised to what the breaks of a layer with one start and length reach, and kept where they reach nothing
 pub record IsRaised (rule : Rule) (len : ℕ) (sums : List ℤ) (layer : Layer) (stop : Break) (before after : ℤ) : Type 0 where
   pub reach : ℤ
   pub exact : (list : List Break) → IsTrue (is_walk rule len list) → layer ≡ layer_of rule list → IsInWindow rule list stop → IsReachBy rule len sums list stop reach
-  pub raised : after ≡ int_max before reach
+  pub raised : (after ≡ int_max before reach) ⊎ ((reach ≡ NOTHING) × (after ≡ before))

@@ -1,8 +1,9 @@
 //! What the breaks of a layer reach: the prices before each one, and what is earned behind it.
 
-ghost use Rattle.std.specs.Prelude.{◌≡◌, ◌≢◌, ℕ, ◌+◌, ◌*◌, ◌≤◌, ◌+ℤ◌, ◌-ℤ◌, List, IfOk, IsTrue, FitsSigned, length};
+ghost use Rattle.std.specs.Prelude.{◌≡◌, ◌≢◌, ℕ, ◌+◌, ◌*◌, ◌≤◌, ◌+ℤ◌, ◌-ℤ◌, List, IfOk, IsTrue, FitsSigned, length, true};
 ghost use Rattle.std.specs.Int.{w64};
 ghost use Rattle.break_rules.specs.declared.Break.{Break};
+ghost use Rattle.break_rules.specs.Breaks.{keeps_ends};
 ghost use Rattle.break_rules.specs.Ranges.{IsRule};
 ghost use Rattle.break_rules.specs.Walk.{is_walk, end_of_all};
 ghost use Rattle.price_sums.specs.Along.{AreSums};
@@ -10,7 +11,7 @@ ghost use Rattle.break_layers.specs.Windows.{number_in};
 ghost use Rattle.break_layers.specs.Layered.{layer_of, AreLayersBefore, layer_number, IsSizeIn, AreSizesIn, IsInWindow, IsRaised, IsReachBy, IsReachAt, IsReachOfSizes, IsReachOfAll};
 
 use crate::layers::{Layer, place};
-use crate::sizes::{Sizes, keeps_distance, layer_sizes, longest_work, lunches_met};
+use crate::sizes::{Sizes, layer_sizes, longest_work, lunches_met};
 use crate::windows::{NOTHING, number_at, raise_to_row, raise_to_windows};
 use break_rules::{Break, NoMemory, Rule, Spot};
 use price_sums::sum_before;
@@ -28,17 +29,15 @@ pub(crate) fn plus(value: i64, sum: i64) -> i64
     }
 }
 
-/// What a break of a layer reaches.
+/// What a break of a layer reaches that keeps its distance from both ends of the shift.
 fn reach(rule: &Rule, len: u16, sums: &[i64], table: &[i64], layer: Layer, stop: Break) -> i64
     requires rule { IsRule rule.now }
     requires sums { AreSums len sums.now }
     requires known { AreLayersBefore rule.now len sums.now (layer_number layer * (len + 1)) table.now }
     requires size { IsSizeIn rule.now len layer stop.len }
+    requires ends { keeps_ends rule.now len stop ≡ true }
     ensures { (list : List Break) → IsTrue (is_walk rule.now len list) → layer ≡ layer_of rule.now list → IsInWindow rule.now list stop → IsReachBy rule.now len sums.now list stop result }
 {
-    if !keeps_distance(rule, len, stop) {
-        return NOTHING;
-    }
     let behind = Spot {
         offset: stop.start.saturating_add(stop.len),
         used: layer.used.saturating_add(stop.len),
@@ -67,7 +66,8 @@ fn raise_by_size(
     requires row { length row.old ≡ len + 1 }
     ensures { (start : ℕ) → start ≤ len → IsRaised rule.now len sums.now layer (record { start = start; len = size }) (number_in row.old start) (number_in row.new start) }
 {
-    for start in 0..row.len() {
+    let end = (usize::from(len) + 1).saturating_sub(usize::from(rule.tail) + usize::from(size));
+    for start in usize::from(rule.lead)..end {
         let stop = Break {
             start: start as u16,
             len: size,

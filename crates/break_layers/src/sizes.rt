@@ -3,7 +3,7 @@
 ghost use Rattle.std.specs.Prelude.{◌≡◌, ◌<◌, ◌≤◌, Bool, true, List, length};
 ghost use Rattle.break_rules.specs.declared.Break.{Break};
 ghost use Rattle.break_rules.specs.declared.Lunch.{Lunch};
-ghost use Rattle.break_rules.specs.Breaks.{total_of, total_in, keeps_ends, is_lunch};
+ghost use Rattle.break_rules.specs.Breaks.{total_in, is_lunch};
 ghost use Rattle.break_rules.specs.Ranges.{IsRule};
 ghost use Rattle.break_rules.specs.Walk.{bits_of};
 ghost use Rattle.break_layers.specs.Layered.{layer_of, longest_work_of, size_limit_of, AreSizesIn};
@@ -82,15 +82,6 @@ pub(crate) fn layer_sizes(rule: &Rule, len: u16, layer: Layer) -> (Sizes, Sizes)
     let to = from.max(longest(rule, len, layer) + 1);
     let split = from.max(to.min(rule.long_rest));
     (Sizes { from, to: split }, Sizes { from: split, to })
-}
-
-/// Whether a break keeps its distance from both ends of the shift.
-pub(crate) fn keeps_distance(rule: &Rule, len: u16, stop: Break) -> bool
-    requires { IsRule rule.now }
-    ensures { result ≡ keeps_ends rule.now len stop }
-{
-    rule.lead <= stop.start
-        && u32::from(stop.start) + u32::from(stop.len) + u32::from(rule.tail) <= u32::from(len)
 }
 
 /// Whether a break meets a lunch entry.

@@ -2,7 +2,7 @@ use Rattle.std.proofs.Common.{◌≡◌, ◌+◌, ◌≤◌, ◌+ℤ◌, ℤ, tr
 use Rattle.std.specs.Int.{w64}
 use Rattle.std.proofs.lemmas.Bool.{and_from}
 use Rattle.std.proofs.lemmas.Int.{to_z-of_z}
-use Rattle.break_rules.specs.Breaks.{end_of, is_lunch, keeps_ends}
+use Rattle.break_rules.specs.Breaks.{end_of, is_lunch}
 use Rattle.break_rules.specs.Walk.{bits_of, end_of_all, is_walk, may_follow, spot_of}
 use Rattle.break_rules.proofs.Reaching.{is_walk-more}
 use Rattle.break_rules.proofs.Steps.{bounds, total_small}
@@ -10,13 +10,9 @@ use Rattle.price_sums.specs.Along.{sum_at}
 use Rattle.break_layers.specs.declared.layers.Layer.{Layer}
 use Rattle.break_layers.specs.Windows.{number_in}
 use Rattle.break_layers.specs.Layered.{IsValueOrNothing, layer_place}
-use Rattle.break_layers.proofs.Reach.{may_follow_in, reach_by, reach_none}
+use Rattle.break_layers.proofs.Reach.{may_follow_in, reach_by}
 use Rattle.break_layers.proofs.Table.{behind_place, behind_spot}
 use Rattle.break_layers.proofs.reaching.reach.Goals as goal
-
-pub returns-then-not-keeps_distance : goal.returns-then-not-keeps_distance
-returns-then-not-keeps_distance c = λ list walk is window.
-    reach_none c.args.rule.now c.args.len c.args.sums.now list c.requires.rule c.requires.sums c.args.stop (sym c.keeps_distance.ensures ∙ c.if-not-keeps_distance.true)
 
 pub returns : goal.returns
 returns c = λ list walk is window.
@@ -26,7 +22,7 @@ returns c = λ list walk is window.
     let r = c.requires.rule in
     let s = c.requires.sums in
     let b = c.args.stop in
-    let ends : keeps_ends rule len b ≡ true = sym c.keeps_distance.ensures ∙ c.if-not-keeps_distance.false in
+    let ends = c.requires.ends in
     let follows = may_follow_in rule len sums list r s c.args.layer b is c.requires.size window ends in
     let p = bounds rule len (end_of_all list) (spot_of rule list).used b follows in
     let on : is_walk rule len (list ++ b ∷ []) ≡ true =

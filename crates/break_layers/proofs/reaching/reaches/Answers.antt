@@ -6,7 +6,7 @@ use Rattle.break_rules.specs.Walk.{end_of_all}
 use Rattle.break_layers.specs.declared.windows.TheConstants.{NOTHING}
 use Rattle.break_layers.specs.Windows.{number_in}
 use Rattle.break_layers.specs.Layered.{IsInWindow, IsRaised, IsReachAt, longest_work_of}
-use Rattle.break_layers.proofs.Reach.{none_at, reach_late, size_more}
+use Rattle.break_layers.proofs.Reach.{none_at, reach_late, size_raised}
 use Rattle.break_layers.proofs.Table.{all_nothing, written}
 use Rattle.break_layers.proofs.reaching.reaches.Goals as goal
 
@@ -42,8 +42,8 @@ loop-size-preserved c =
           let low : sizes.from ≤ size = c.loop-size.auto.size in
           let own : IsInWindow rule list (record { start = start; len = size }) =
           record { earliest = window.earliest; latest = subst (λ n. start ≤ end_of_all list + n) (sym (c.requires.sizes.alike size low c.loop-size-test.true)) window.latest } in
-          subst (IsReachAt rule len sums list start sizes.from (size + 1)) (sym (ap (λ (l : List ℤ). number_in l start) whole ∙ raised.raised))
-          (size_more rule len sums list c.requires.rule c.requires.sums start sizes.from size (number_in row.items start) raised.reach low (i.each list start inside walk is window) (raised.exact list walk is own));
+          subst (IsReachAt rule len sums list start sizes.from (size + 1)) (sym (ap (λ (l : List ℤ). number_in l start) whole))
+          (size_raised rule len sums list c.requires.rule c.requires.sums start sizes.from size (number_in row.items start) raised.reach (number_in new start) low raised.raised (i.each list start inside walk is window) (raised.exact list walk is own));
     }
 
 pub returns : goal.returns
