@@ -6,6 +6,7 @@ ghost use Rattle.break_rules.specs.declared.Lunch.{Lunch};
 ghost use Rattle.break_rules.specs.Breaks.{total_in, is_lunch};
 ghost use Rattle.break_rules.specs.Ranges.{IsRule};
 ghost use Rattle.break_rules.specs.Walk.{bits_of};
+ghost use Rattle.break_rules.proofs.Lists.{Has};
 ghost use Rattle.break_layers.specs.Layered.{layer_of, longest_work_of, size_limit_of, AreSizesIn};
 
 use crate::layers::Layer;
@@ -33,15 +34,18 @@ fn total_among(totals: &[(u16, u16)], len: u16) -> u16
     total
 }
 
-/// Whether a set of lunches has no more than the entries of a rule.
-fn is_set_of(entries: &[Lunch], lunches: u8) -> bool
-    ensures { (met : Lunch → Bool) → lunches ≡ bits_of met entries.now → result ≡ true }
+/// Whether a layer has no lunches but those of some entries, and break time for each of them.
+fn has_time(entries: &[Lunch], layer: Layer) -> bool
+    ensures { (met : Lunch → Bool) → layer.lunches ≡ bits_of met entries.now → ((e : Lunch) → Has entries.now e → met e ≡ true → e.size ≤ layer.used) → result ≡ true }
 {
-    match entries.len() {
-        0 => lunches == 0,
-        1 => lunches <= 1,
-        _ => true,
+    let mut rest = layer.lunches;
+    for entry in entries {
+        if rest % 2 == 1 && layer.used < entry.size {
+            return false;
+        }
+        rest /= 2;
     }
+    rest == 0
 }
 
 /// The greatest length of a break in a layer, and 0 where no spot lies in it.
@@ -50,7 +54,7 @@ pub(crate) fn longest(rule: &Rule, len: u16, layer: Layer) -> u16
     ensures most { result ≤ size_limit_of rule.now len layer }
     ensures all { (list : List Break) → layer ≡ layer_of rule.now list → result ≡ size_limit_of rule.now len layer }
 {
-    if !is_set_of(rule.lunches.as_slice(), layer.lunches) {
+    if !has_time(rule.lunches.as_slice(), layer) {
         return 0;
     }
     let total = total_among(rule.totals.as_slice(), len);
