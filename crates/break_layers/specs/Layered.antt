@@ -8,6 +8,7 @@ use Rattle.break_rules.specs.Breaks.{total_of}
 use Rattle.break_rules.specs.Walk.{spot_of, is_walk, end_of_all}
 use Rattle.price_sums.specs.Along.{sum_at, resumes, Completes}
 use Rattle.break_layers.specs.declared.layers.Layer.{Layer}
+use Rattle.break_layers.specs.declared.layers.TheConstants.{GREATEST_TOTAL, LAYERS}
 use Rattle.break_layers.specs.declared.sizes.Sizes.{Sizes}
 use Rattle.break_layers.specs.declared.windows.TheConstants.{NOTHING}
 use Rattle.break_layers.specs.Rests.{rest_worth}
@@ -24,11 +25,11 @@ layer_of rule list = record { used = (spot_of rule list).used; lunches = (spot_o
 
 -- the number of a layer: those of more break time first
 abbrev pub layer_number : Layer → ℕ
-layer_number layer = (48 - layer.used) * 4 + layer.lunches
+layer_number layer = (GREATEST_TOTAL - layer.used) * 4 + layer.lunches
 
 -- the place of a spot in a table: layer by layer, and in a layer by its offset
 abbrev pub layer_place : ℕ → Spot → ℕ
-layer_place len spot = ((48 - spot.used) * 4 + spot.lunches) * (len + 1) + spot.offset
+layer_place len spot = ((GREATEST_TOTAL - spot.used) * 4 + spot.lunches) * (len + 1) + spot.offset
 
 -- what a list's best rest earns, and the number that stands for nothing where the list has none
 abbrev pub IsValueOrNothing : Rule → ℕ → List ℤ → List Break → ℤ → Type 0
@@ -42,7 +43,7 @@ AreLayersBefore rule len sums before table =
 
 -- for each walk, what its best rest earns
 abbrev pub AreLayers : Rule → ℕ → List ℤ → List ℤ → Type 0
-AreLayers rule len sums table = AreLayersBefore rule len sums (196 * (len + 1)) table
+AreLayers rule len sums table = AreLayersBefore rule len sums (LAYERS * (len + 1)) table
 
 -- the longest work period that a break of some length may follow
 abbrev pub longest_work_of : Rule → ℕ → ℕ

@@ -18,8 +18,11 @@ use break_rules::{NoMemory, Rule, Spot, ends};
 use price_sums::{resumption, sum_before};
 use std::alloc::Global;
 
-/// How many layers there are: four sets of lunches for each break time up to the greatest total.
-const LAYERS: usize = 4 * 49;
+/// The greatest total break time that a rule may have.
+const GREATEST_TOTAL: usize = 48;
+
+/// How many layers there are: four sets of lunches for each break time.
+const LAYERS: usize = 4 * (GREATEST_TOTAL + 1);
 
 /// What the spots of a layer have in common.
 #[derive(Clone, Copy, Drop)]
@@ -34,11 +37,11 @@ pub(crate) struct Layer {
 fn layer_at(number: usize) -> Layer
     requires { number < LAYERS }
     ensures number { layer_number result ≡ number }
-    ensures used { result.used ≤ 48 }
+    ensures used { result.used ≤ GREATEST_TOTAL }
     ensures lunches { result.lunches ≤ 3 }
 {
     Layer {
-        used: 48 - (number / 4) as u16,
+        used: (GREATEST_TOTAL - number / 4) as u16,
         lunches: (number % 4) as u8,
     }
 }
@@ -47,7 +50,8 @@ fn layer_at(number: usize) -> Layer
 pub(crate) fn place(len: u16, spot: Spot) -> usize
     ensures { result ≡ layer_place len spot }
 {
-    let layer = 48usize.saturating_sub(usize::from(spot.used)) * 4 + usize::from(spot.lunches);
+    let time_left = GREATEST_TOTAL.saturating_sub(usize::from(spot.used));
+    let layer = time_left * 4 + usize::from(spot.lunches);
     layer * (usize::from(len) + 1) + usize::from(spot.offset)
 }
 
@@ -88,7 +92,7 @@ fn put_layer(
 ) -> Result<(), NoMemory>
     requires rule { IsRule rule.now }
     requires sums { AreSums len sums.now }
-    requires used { layer.used ≤ 48 }
+    requires used { layer.used ≤ GREATEST_TOTAL }
     requires lunches { layer.lunches ≤ 3 }
     requires most { (list : List Break) → IsTrue (is_walk rule.now len list) → layer ≡ layer_of rule.now list → IsReachOfAll rule.now len sums.now list (number_in most.now (end_of_all list)) }
     requires many { length table.old.items ≡ layer_number layer * (len + 1) }

@@ -17,7 +17,7 @@ use break_rules::{Break, Lunch, Rule};
 pub(crate) struct Sizes {
     /// The least.
     pub(crate) from: u16,
-    /// The one behind the greatest.
+    /// One more than the greatest.
     pub(crate) to: u16,
 }
 
@@ -49,7 +49,7 @@ fn has_time(entries: &[Lunch], layer: Layer) -> bool
 }
 
 /// The greatest length of a break in a layer, and 0 where no spot lies in it.
-pub(crate) fn longest(rule: &Rule, len: u16, layer: Layer) -> u16
+fn longest(rule: &Rule, len: u16, layer: Layer) -> u16
     requires { IsRule rule.now }
     ensures most { result ≤ size_limit_of rule.now len layer }
     ensures all { (list : List Break) → layer ≡ layer_of rule.now list → result ≡ size_limit_of rule.now len layer }
@@ -72,7 +72,7 @@ pub(crate) fn longest_work(rule: &Rule, size: u16) -> u16
     }
 }
 
-/// The lengths of the breaks of a layer: those that only shorter work periods precede, and those that are long enough for each.
+/// The lengths of the breaks of a layer: those that may not follow long work, and those that may follow any.
 pub(crate) fn layer_sizes(rule: &Rule, len: u16, layer: Layer) -> (Sizes, Sizes)
     requires { IsRule rule.now }
     ensures short { AreSizesIn rule.now len layer result.0 }
