@@ -5,7 +5,7 @@ use Rattle.std.specs.Int.{w64, int_max}
 use Rattle.std.specs.Int.RustNames.{unsigned_abs}
 use Rattle.std.proofs.lemmas.Int.{ints, fits_signed_from_abs}
 use Rattle.std.proofs.lemmas.List.Sums.{fold-append}
-use Rattle.std.proofs.lemmas.Bool.{false≢true, cases_Bool, and_from, and_right, lt-leb, or_cases, or_left, or_right, cases_lt, le-leb, lt-ltb, leb-true}
+use Rattle.std.proofs.lemmas.Bool.{false≢true, cases_Bool, and_from, or_cases, or_left, or_right, cases_lt, le-leb, lt-ltb, leb-true}
 use Rattle.std.proofs.lemmas.Bool.Decides.{Decides-int_eq}
 use Rattle.break_rules.specs.declared.Break.{Break}
 use Rattle.break_rules.specs.declared.Rule.{Rule}
@@ -23,7 +23,7 @@ use Rattle.break_layers.specs.declared.layers.Layer.{Layer}
 use Rattle.break_layers.specs.declared.sizes.Sizes.{Sizes}
 use Rattle.break_layers.specs.Rests.{rest_worth}
 use Rattle.break_layers.specs.Windows.{number_in, IsMostIn}
-use Rattle.break_layers.specs.Layered.{IsMostOrNothing, IsValueOrNothing, layer_of, longest_work_of, size_limit_of, IsSizeIn, AreSizesIn, IsInWindow, reach_worth, CompletesWith, IsReach, IsReachBy, IsReachAt, IsReachOfSizes, IsReachOfAll}
+use Rattle.break_layers.specs.Layered.{IsMostOrNothing, IsValueOrNothing, layer_of, longest_work_of, size_limit_of, IsSizeIn, AreSizesIn, IsInWindow, reach_worth, CompletesWith, IsReachBy, IsReachAt, IsReachOfSizes, IsReachOfAll}
 use Rattle.break_layers.proofs.Sliding.{max_above, max_cases, below_left, below_right}
 
 pub longer : (rule : Rule) (len : ℕ) (list : List Break) (b : Break) (bs : List Break) → is_legal rule len ((list ++ b ∷ []) ++ bs) ≡ is_legal rule len (list ++ b ∷ bs)

@@ -1,4 +1,4 @@
-use Rattle.std.proofs.Common.{◌≡◌, ◌≢◌, ◌+◌, ◌<◌, ◌≤◌, ℕ, ℤ, List, inl, inr, false, length, nat_le, refl, slice_set, sym, ap, subst, ◌∙◌, arith, to_z, of_z}
+use Rattle.std.proofs.Common.{◌≡◌, ◌≢◌, ◌+◌, ◌<◌, ℕ, ℤ, inl, inr, false, length, nat_le, refl, slice_set, sym, ap, subst, ◌∙◌, arith, to_z, of_z}
 use Rattle.std.specs.Int.{w64, int_max}
 use Rattle.std.proofs.lemmas.Bool.{and_left, and_right, cases_lt, lt-leb}
 use Rattle.break_rules.specs.declared.Break.{Break}

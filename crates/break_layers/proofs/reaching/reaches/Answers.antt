@@ -1,11 +1,10 @@
-use Rattle.std.proofs.Common.{◌≡◌, ◌+◌, ◌<◌, ◌≤◌, ℕ, ℤ, List, inl, inr, length, replicate, sym, ap, subst, ◌∙◌, arith}
-use Rattle.std.specs.Int.{int_max}
+use Rattle.std.proofs.Common.{◌≡◌, ◌+◌, ◌≤◌, ℕ, ℤ, List, inl, inr, length, replicate, sym, ap, subst, ◌∙◌, arith}
 use Rattle.std.proofs.lemmas.Bool.{cases_lt}
 use Rattle.std.proofs.lemmas.List.{get_or_past, length-replicate}
 use Rattle.break_rules.specs.Walk.{end_of_all}
 use Rattle.break_layers.specs.declared.windows.TheConstants.{NOTHING}
 use Rattle.break_layers.specs.Windows.{number_in}
-use Rattle.break_layers.specs.Layered.{IsInWindow, IsRaised, IsReachAt, longest_work_of}
+use Rattle.break_layers.specs.Layered.{IsInWindow, IsRaised, IsReachAt}
 use Rattle.break_layers.proofs.Reach.{none_at, reach_late, size_raised}
 use Rattle.break_layers.proofs.Table.{all_nothing, written}
 use Rattle.break_layers.proofs.reaching.reaches.Goals as goal

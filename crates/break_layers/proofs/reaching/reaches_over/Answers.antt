@@ -1,4 +1,4 @@
-use Rattle.std.proofs.Common.{◌≡◌, ◌+◌, ◌-◌, ◌<◌, ◌≤◌, List, ℕ, ℤ, length, sym, ap, subst, ◌∙◌, arith}
+use Rattle.std.proofs.Common.{◌≡◌, ◌+◌, ◌<◌, List, ℕ, ℤ, length, sym, ap, subst, arith}
 use Rattle.break_rules.specs.Walk.{end_of_all}
 use Rattle.break_layers.specs.declared.windows.TheConstants.{NOTHING}
 use Rattle.break_layers.specs.Windows.{number_in, IsMostIn}
