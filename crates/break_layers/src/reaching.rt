@@ -3,17 +3,17 @@
 ghost use Rattle.std.specs.Prelude.{◌≡◌, ◌≢◌, ℕ, ◌+◌, ◌*◌, ◌≤◌, ◌+ℤ◌, ◌-ℤ◌, List, IfOk, IsTrue, FitsSigned, length, true};
 ghost use Rattle.std.specs.Int.{w64};
 ghost use Rattle.break_rules.specs.declared.Break.{Break};
-ghost use Rattle.break_rules.specs.Breaks.{keeps_ends};
+ghost use Rattle.break_rules.specs.Breaks.{keeps_ends, is_lunch};
 ghost use Rattle.break_rules.specs.Ranges.{IsRule};
-ghost use Rattle.break_rules.specs.Walk.{is_walk, end_of_all};
+ghost use Rattle.break_rules.specs.Walk.{is_walk, end_of_all, bits_of};
 ghost use Rattle.price_sums.specs.Along.{AreSums};
 ghost use Rattle.break_layers.specs.Windows.{number_in};
 ghost use Rattle.break_layers.specs.Layered.{layer_of, AreLayersBefore, layer_number, IsSizeIn, AreSizesIn, IsInWindow, IsRaised, IsReachBy, IsReachAt, IsReachOfSizes, IsReachOfAll};
 
 use crate::layers::{Layer, place};
-use crate::sizes::{Sizes, layer_sizes, longest_work, lunches_met};
+use crate::sizes::{Sizes, layer_sizes, longest_work, lunches_met, lunches_of};
 use crate::windows::{NOTHING, number_at, raise_to_row, raise_to_windows};
-use break_rules::{Break, NoMemory, Rule, Spot};
+use break_rules::{Break, Lunch, NoMemory, Rule, Spot};
 use price_sums::sum_before;
 use std::alloc::Global;
 
@@ -30,18 +30,28 @@ pub(crate) fn plus(value: i64, sum: i64) -> i64
 }
 
 /// What a break of a layer reaches that keeps its distance from both ends of the shift.
-fn reach(rule: &Rule, len: u16, sums: &[i64], table: &[i64], layer: Layer, stop: Break) -> i64
+fn reach(
+    rule: &Rule,
+    len: u16,
+    sums: &[i64],
+    table: &[i64],
+    layer: Layer,
+    stop: Break,
+    entries: &[Lunch],
+) -> i64
     requires rule { IsRule rule.now }
     requires sums { AreSums len sums.now }
     requires known { AreLayersBefore rule.now len sums.now (layer_number layer * (len + 1)) table.now }
     requires size { IsSizeIn rule.now len layer stop.len }
     requires ends { keeps_ends rule.now len stop ≡ true }
+    requires few { length entries.now ≤ 2 }
+    requires entries { bits_of (λ e. is_lunch e stop) entries.now ≡ bits_of (λ e. is_lunch e stop) rule.now.lunches }
     ensures { (list : List Break) → IsTrue (is_walk rule.now len list) → layer ≡ layer_of rule.now list → IsInWindow rule.now list stop → IsReachBy rule.now len sums.now list stop result }
 {
     let behind = Spot {
         offset: stop.start.saturating_add(stop.len),
         used: layer.used.saturating_add(stop.len),
-        lunches: layer.lunches | lunches_met(rule.lunches.as_slice(), stop),
+        lunches: layer.lunches | lunches_met(entries, stop),
     };
     plus(
         number_at(table, place(len, behind)),
@@ -67,13 +77,14 @@ fn raise_by_size(
     ensures { (start : ℕ) → start ≤ len → IsRaised rule.now len sums.now layer (record { start = start; len = size }) (number_in row.old start) (number_in row.new start) }
 {
     let end = (usize::from(len) + 1).saturating_sub(usize::from(rule.tail) + usize::from(size));
+    let entries = lunches_of(rule.lunches.as_slice(), size);
     for start in usize::from(rule.lead)..end {
         let stop = Break {
             start: start as u16,
             len: size,
         };
-        let most = number_at(row, start).max(reach(rule, len, sums, table, layer, stop));
-        row[start] = most;
+        let reached = reach(rule, len, sums, table, layer, stop, entries);
+        row[start] = number_at(row, start).max(reached);
     }
 }
 

@@ -1,6 +1,7 @@
 //! Which breaks a layer has: their lengths, the work that they may follow, and the lunches that they meet.
 
-ghost use Rattle.std.specs.Prelude.{◌≡◌, ◌<◌, ◌≤◌, Bool, true, List, length};
+ghost use Rattle.std.specs.Prelude.{◌≡◌, ◌==◌, ◌<◌, ◌≤◌, Bool, true, List, length};
+ghost use Rattle.std.specs.List.{list_any};
 ghost use Rattle.break_rules.specs.declared.Break.{Break};
 ghost use Rattle.break_rules.specs.declared.Lunch.{Lunch};
 ghost use Rattle.break_rules.specs.Breaks.{total_in, is_lunch};
@@ -111,4 +112,23 @@ pub(crate) fn lunches_met(entries: &[Lunch], stop: Break) -> u8
         bit *= 2;
     }
     bits
+}
+
+/// Whether some lunch entry has a length.
+fn some_has(entries: &[Lunch], size: u16) -> bool
+    ensures { result ≡ list_any (λ e. e.size == size) entries.now }
+{
+    entries.iter().any(|entry| entry.size == size)
+}
+
+/// The lunch entries if one of them has a length, and else none.
+pub(crate) fn lunches_of(entries: &[Lunch], size: u16) -> &[Lunch]
+    ensures few { length result.now ≤ length entries.now }
+    ensures bits { (stop : Break) → stop.len ≡ size → bits_of (λ e. is_lunch e stop) result.now ≡ bits_of (λ e. is_lunch e stop) entries.now }
+{
+    if some_has(entries, size) {
+        entries
+    } else {
+        &entries[..0]
+    }
 }

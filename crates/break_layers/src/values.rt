@@ -14,7 +14,7 @@ use break_rules::{Break, Breaks, NoMemory, Rule, Spot};
 use std::alloc::Global;
 use std::marker::Model;
 
-/// For each spot that a walk by the next breaks of a rule reaches, what the rests earn at most with which some legal list
+/// Tells for each spot that a walk by the next breaks of a rule reaches what the rests earn at most with which some legal list
 /// goes on from there. It is made once for a rule, a length and prices.
 #[derive(Drop)]
 pub struct LayerValues<'a> {
@@ -38,8 +38,8 @@ impl<'a> Model for LayerValues<'a> {
 }
 
 impl<'a> LayerValues<'a> {
-    /// The values for this rule in shifts of `len` slots, by the sums of the prices of the offsets below each one. The time
-    /// that it takes is in the order of the spots times the lengths of breaks.
+    /// Makes the values for this rule in shifts of `len` slots, by the sums of the prices of the offsets below each one. The time
+    /// that it takes is in the order of the spots times the lengths of breaks. Only want of memory is a reason for refusal.
     pub fn new(
         alloc: Global,
         rule: &'a Rule,
@@ -59,16 +59,16 @@ impl<'a> LayerValues<'a> {
         })
     }
 
-    /// What the rests earn at most with which some legal list goes on from the spot of a walk, and `None` where there are
-    /// none. It takes no memory.
+    /// Returns what the rests earn at most with which some legal list goes on from the spot of a walk, and `None` where there
+    /// are none. It takes no memory.
     pub fn value_at(&self, spot: Spot) -> Option<i64>
         ensures { (list : List Break) → IsTrue (is_walk self.now.rule self.now.len list) → spot ≡ spot_of self.now.rule list → MatchOption result (is_live self.now.rule self.now.len list ≡ false) (IsMostEarned self.now.rule self.now.len self.now.sums list) }
     {
         value_in(&self.table, self.len, spot)
     }
 
-    /// Adds to breaks with which some legal list begins a best rest: of the legal lists that begin with them, the least of
-    /// those that earn most. The spot is the one behind the breaks.
+    /// Adds a best rest to breaks with which some legal list begins, and so returns the least of the legal lists that begin with
+    /// them and earn most. The spot is the one behind the breaks. Only want of memory is a reason for refusal.
     pub fn completed(&self, list: Vec<Break>, spot: Spot) -> Result<Vec<Break>, NoMemory>
         requires live { is_live self.now.rule self.now.len list.items ≡ true }
         requires spot { spot ≡ spot_of self.now.rule list.items }
@@ -77,8 +77,9 @@ impl<'a> LayerValues<'a> {
         completed(self.rule, self.len, &self.sums, &self.table, list, spot)
     }
 
-    /// The legal list that earns most, with what it earns, and `None` where no list is legal. Among the lists that earn most it
-    /// is the least, in the order of lists: break by break, a proper prefix first.
+    /// Returns the legal list that earns most, with what it earns, and `None` where no list is legal. Among the lists that earn
+    /// most it is the least, in the order of lists: break by break, a proper prefix first. Only want of memory is a reason for
+    /// refusal.
     pub fn best_list(&self, alloc: Global) -> Result<Option<(Breaks, i64)>, NoMemory>
         ensures { IfOk result (λ found. MatchOption found ((list : List Break) → is_legal self.now.rule self.now.len list ≡ false) (IsBestList self.now.rule self.now.len self.now.sums)) }
     {

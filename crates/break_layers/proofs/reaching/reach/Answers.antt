@@ -32,7 +32,7 @@ returns c = λ list walk is window.
     let short : len ≤ 65535 = s.short in
     let offset : c.saturating_add.result ≡ end_of b = omega (arith, p.tail) in
     let used : c.saturating_add-2.result ≡ c.args.layer.used + b.len = omega (arith, p.within) in
-    let met : c.lunches_met.result ≡ bits_of (λ e. is_lunch e b) rule.lunches = c.lunches_met.ensures ∙ ap (bits_of (λ e. is_lunch e b)) c.as_slice.ensures in
+    let met : c.lunches_met.result ≡ bits_of (λ e. is_lunch e b) rule.lunches = c.lunches_met.ensures ∙ c.requires.entries in
     let spot = behind_spot rule len list b r c.args.layer c.saturating_add.result c.saturating_add-2.result c.lunches_met.result is offset used met in
     let place : c.place.result ≡ layer_place len (spot_of rule (list ++ b ∷ [])) = c.place.ensures ∙ ap (layer_place len) spot in
     let value : to_z w64 (of_z w64 c.number_at.result) ≡ c.number_at.result = to_z-of_z w64 c.number_at.result (record { sfits = c.number_at.type_inv }) in
