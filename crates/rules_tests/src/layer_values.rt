@@ -6,13 +6,21 @@ ghost use Rattle.price_sums.specs.Along.{AreSums};
 
 use crate::fixtures::{eighth, judge, short};
 use break_layers::LayerValues;
-use break_rules::{Lunch, Lunches, NoMemory, Rule, Spot, Totals, after, ends, nexts, place, spot_at};
+use break_rules::{
+    Lunch, Lunches, NoMemory, Rule, Spot, Totals, after, ends, nexts, place, spot_at,
+};
 use price_sums::{resumption, sum_before};
 use std::alloc::Global;
 use std::test::Fail;
 
 /// What the rests earn at most from a spot, by those of later spots.
-fn value_by_nexts(rule: &Rule, len: u16, sums: &[i64], spot: Spot, later: &[Option<i64>]) -> Option<i64>
+fn value_by_nexts(
+    rule: &Rule,
+    len: u16,
+    sums: &[i64],
+    spot: Spot,
+    later: &[Option<i64>],
+) -> Option<i64>
     requires { IsRule rule.now }
 {
     let from = sum_before(sums, resumption(rule, spot));
@@ -31,7 +39,12 @@ fn value_by_nexts(rule: &Rule, len: u16, sums: &[i64], spot: Spot, later: &[Opti
 }
 
 /// The same for each spot, by place.
-fn values_by_nexts(alloc: Global, rule: &Rule, len: u16, sums: &[i64]) -> Result<Vec<Option<i64>>, NoMemory>
+fn values_by_nexts(
+    alloc: Global,
+    rule: &Rule,
+    len: u16,
+    sums: &[i64],
+) -> Result<Vec<Option<i64>>, NoMemory>
     requires { IsRule rule.now }
 {
     let mut values = Vec::new(alloc);
@@ -182,7 +195,10 @@ fn the_best_list_skips_the_lowest_price(rt: HostRuntime) -> Result<(), Fail> {
         let values = LayerValues::new(alloc, &rule, 8, sums_of(alloc, 8, &prices)?)?;
         assert_eq!(rt; values.value_at(Spot::opening()), Some(worth));
         let found = values.best_list(alloc)?;
-        assert!(rt; found.is_some_and(|best| best.0.as_slice() == [short(start)].as_slice() && best.1 == worth));
+        assert!(rt;
+            found.is_some_and(|best| best.0.as_slice() == [short(start)].as_slice()
+                && best.1 == worth)
+        );
     }
     Ok(())
 }

@@ -24,10 +24,10 @@ loop-offset-preserved c =
       size = size;
       sizes = subst (λ (l : List ℤ). (o : ℕ) → unsigned_abs (sum_at l o) ≤ 10000000000 * 65536) (sym items) (sizes_more sums next i.sizes (omega (arith, size, few)));
       small = λ o l. subst (λ (z : ℤ). unsigned_abs z ≤ 10000000000) (sym (ap (λ (l : List ℤ). price_in l o) items)) (elim (cases_lt o offset) [
-          | inl before ↦ subst (λ (z : ℤ). unsigned_abs z ≤ 10000000000) (sym (price_before sums offset next i.many o before)) (i.small o before)
-          | inr g ↦
-              let same : offset ≡ o = omega arith in
-              subst (λ (n : ℕ). unsigned_abs (price_in (sums ++ next ∷ []) n) ≤ 10000000000) same
-              (subst (λ (z : ℤ). unsigned_abs z ≤ 10000000000) (sym (price_last sums offset next i.many sum p i.last is)) c.price_at-sum.ensures)
-        ]);
+        | inl before ↦ subst (λ (z : ℤ). unsigned_abs z ≤ 10000000000) (sym (price_before sums offset next i.many o before)) (i.small o before)
+        | inr g ↦
+            let same : offset ≡ o = omega arith in
+            subst (λ (n : ℕ). unsigned_abs (price_in (sums ++ next ∷ []) n) ≤ 10000000000) same
+            (subst (λ (z : ℤ). unsigned_abs z ≤ 10000000000) (sym (price_last sums offset next i.many sum p i.last is)) c.price_at-sum.ensures)
+      ]);
     }
