@@ -8,6 +8,7 @@ mod lists;
 mod reaching;
 mod sizes;
 mod values;
+mod walks;
 mod windows;
 
 pub use values::LayerValues;

@@ -10,6 +10,7 @@ ghost use Rattle.break_layers.specs.Rests.{IsMostEarned, IsBestFrom, IsBestList}
 
 use crate::layers::{layer_table, value_in};
 use crate::lists::{best_list, completed};
+use crate::walks::walked;
 use break_rules::{Break, Breaks, NoMemory, Rule, Spot};
 use std::alloc::Global;
 use std::marker::Model;
@@ -65,6 +66,17 @@ impl<'a> LayerValues<'a> {
         ensures { (list : List Break) → IsTrue (is_walk self.now.rule self.now.len list) → spot ≡ spot_of self.now.rule list → MatchOption result (is_live self.now.rule self.now.len list ≡ false) (IsMostEarned self.now.rule self.now.len self.now.sums list) }
     {
         value_in(&self.table, self.len, spot)
+    }
+
+    /// Returns the spot behind some breaks, and `None` where no legal list begins with them. It takes no memory.
+    pub fn spot_behind(&self, front: &[Break]) -> Option<Spot>
+        ensures { MatchOption result (is_live self.now.rule self.now.len front.now ≡ false) (λ spot. (is_live self.now.rule self.now.len front.now ≡ true) × (spot ≡ spot_of self.now.rule front.now)) }
+    {
+        let spot = walked(self.rule, self.len, front)?;
+        match value_in(&self.table, self.len, spot) {
+            Some(_) => Some(spot),
+            None => None,
+        }
     }
 
     /// Adds a best rest to breaks with which some legal list begins, and so returns the least of the legal lists that begin with

@@ -202,3 +202,28 @@ fn the_best_list_skips_the_lowest_price(rt: HostRuntime) -> Result<(), Fail> {
     }
     Ok(())
 }
+
+/// The best list is the best one behind each of its own beginnings, and no legal list begins with a break too near to the end.
+#[test]
+fn beginnings_of_the_best_list_lead_to_it(rt: HostRuntime) -> Result<(), Fail> {
+    let alloc = rt.alloc();
+    let rule = many_sizes(alloc, 9, 1)?;
+    judge(&rt, &rule);
+    let prices = drawn_prices(alloc, 44, 5)?;
+    let values = LayerValues::new(alloc, &rule, 44, sums_of(alloc, 44, &prices)?)?;
+    assert!(rt; values.spot_behind(&[short(41)]).is_none());
+    let Some((best, _)) = values.best_list(alloc)? else {
+        panic!(rt; "no list is legal");
+    };
+    assert!(rt; best.as_slice().len() > 1);
+    let mut front = Vec::new(alloc);
+    for next in best.as_slice() {
+        front.push(*next)?;
+        let Some(spot) = values.spot_behind(&front) else {
+            panic!(rt; "no legal list begins with the best list's breaks");
+        };
+        let whole = values.completed(Vec::from_slice(alloc, &front)?, spot)?;
+        assert!(rt; whole.as_slice() == best.as_slice());
+    }
+    Ok(())
+}

@@ -14,7 +14,7 @@ returns-then-layer-entry c = λ met is long.
     let i = c.loop-entry.entry-index in
     let e = get_or es i d in
     let rest : c.loop-entry.rest ≡ bits_of met (e ∷ drop (i + 1) es) = c.loop-entry.invariant.left met is ∙ ap (bits_of met) (drop_more es i d c.loop-entry-test.true) in
-    let bit : (if met e then 1 else 0) ≡ 1 = sym (low_bit met e (drop (i + 1) es)) ∙ ap (λ n. n % 2) (sym rest) ∙ c.if-rest-eq1.true in
+    let bit : ◌≡◌ {A = ℕ} (if met e then 1 else 0) 1 = sym (low_bit met e (drop (i + 1) es)) ∙ ap (λ n. n % 2) (sym rest) ∙ c.if-rest-eq1.true in
     elim (cases_Bool (met e)) [
       | inl t ↦ let size : e.size ≤ c.args.layer.used = long e (has_at es i d c.loop-entry-test.true) t in absurd (omega (arith, c.if-layer-entry.true))
       | inr f ↦ let wrong : ◌≡◌ {A = ℕ} 0 1 = sym (ap (λ (b : Bool). if b then 1 else 0) f) ∙ bit in absurd (omega arith)
