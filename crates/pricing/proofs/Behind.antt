@@ -26,8 +26,9 @@ use Rattle.shift_instance.specs.Worth.{price_of}
 use Rattle.price_sums.specs.Along.{sum_at, price_in, AreSums, AreSmallPrices, ArePricesOf, resumes, Completes}
 use Rattle.price_sums.proofs.Prices.{price_small, next_size, last_sum, prices_more, sizes_more}
 use Rattle.price_sums.proofs.Stretches.{earned_small, spaced_rest}
-use Rattle.pricing.specs.Values.{rest_worth}
-use Rattle.pricing.specs.Spots.{IsMost, IsMostIfAny, most_of, worth_behind, IsMostBehind, CompletesBy}
+use Rattle.break_layers.specs.Rests.{rest_worth}
+use Rattle.pricing.specs.Spots.{IsMostIfAny, most_of, worth_behind, IsMostBehind, CompletesBy}
+use Rattle.break_layers.specs.Rests.{IsMost}
 use Rattle.pricing.proofs.Most.{max_cases, has_got}
 use Rattle.pricing.proofs.ByEdges.{worth_more, best_at_end}
 

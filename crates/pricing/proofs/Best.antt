@@ -5,7 +5,7 @@ use Rattle.std.proofs.lemmas.Bool.{and_parts, or_cases, or_left, false≢true, c
 use Rattle.break_rules.specs.declared.Break.{Break}
 use Rattle.break_rules.specs.Breaks.{same_break, is_less_list, is_less_break}
 use Rattle.break_rules.proofs.Ordered.{less_apart}
-use Rattle.pricing.specs.Rests.{IsBestRest}
+use Rattle.break_layers.specs.Rests.{IsBestRest}
 
 -- where a list is less than another, the other isn't less than it
 pub not_less : (xs ys : List Break) → is_less_list xs ys ≡ true → is_less_list ys xs ≡ false

@@ -15,8 +15,9 @@ use Rattle.break_rules.proofs.Reaching.{rest_first}
 use Rattle.break_graph.specs.Graph.{live_nexts}
 use Rattle.pricing.specs.declared.found.Found.{Found}
 use Rattle.price_sums.specs.Along.{Completes}
-use Rattle.pricing.specs.Rests.{IsBestRest}
-use Rattle.pricing.specs.Values.{Priced, rest_worth, IsValue, IsBestFrom}
+use Rattle.break_layers.specs.Rests.{IsBestRest}
+use Rattle.pricing.specs.Values.{Priced, IsValue}
+use Rattle.break_layers.specs.Rests.{rest_worth, IsBestFrom}
 use Rattle.pricing.specs.Found.{IsLegal, worth_of, IsFound, Covers, Keeps, CoversFrom, CoversAlong, IsBestFound, leads_further}
 use Rattle.pricing.specs.Keeping.{AreBeginnings}
 use Rattle.pricing.proofs.Best.{best_more}

@@ -24,8 +24,9 @@ use Rattle.break_graph.specs.declared.Edge.{Edge}
 use Rattle.break_graph.specs.declared.Node.{Node}
 use Rattle.break_graph.specs.Graph.{IsGraph, StandsAt, node_at}
 use Rattle.price_sums.specs.Along.{sum_at, price_in, AreSums, resumes, earned_from, Completes}
-use Rattle.pricing.specs.Rests.{IsBestRest}
-use Rattle.pricing.specs.Values.{rest_worth, IsBestTail, IsValue, AreValues, reach_of, AreFit, IsMostReached, IsFirstWith, LeadsOn}
+use Rattle.break_layers.specs.Rests.{IsBestRest}
+use Rattle.pricing.specs.Values.{IsValue, AreValues, reach_of, AreFit, IsMostReached, IsFirstWith, LeadsOn}
+use Rattle.break_layers.specs.Rests.{rest_worth, IsBestTail}
 use Rattle.price_sums.proofs.Stretches.{earned_more, earned_end, earned_small, spaced_rest, resumes_behind}
 use Rattle.break_rules.proofs.Sizes.{abs_add}
 use Rattle.pricing.proofs.Best.{Behind, best_more, best_allowed, not_less, less_rests}

@@ -31,6 +31,15 @@ each_more P d xs x many count before here k less =
           (subst (λ n. P n x) (sym same) here)
     ]
 
+-- the sums along a shift are small on each day
+pub sums_of_days : (i : Problem) (s : ℕ) (prices : List ℤ) (lanes : List (List ℤ)) (shift : Shift) → IsSomeAnd (slice_get (shift_list i) s) (λ y. shift ≡ y.0)
+    → ((x : Shift × Rule) → slice_get (shift_list i) s ≡ Some x → AreSumsByDay i x.0 prices lanes) → (day : ℕ) → day < i.days → AreSums shift.len (sums_on day lanes)
+sums_of_days i s prices lanes shift own_shift of day less =
+    let some = some_of (slice_get (shift_list i) s) (λ y. shift ≡ y.0) own_shift in
+    let x = some.0 in
+    let same : shift ≡ x.0 = some_at (slice_get (shift_list i) s) x (λ y. shift ≡ y.0) some.1 own_shift in
+    subst (λ (z : Shift). AreSums z.len (sums_on day lanes)) (sym same) ((of x some.1).small day less)
+
 -- what is known of the best rests along a shift, on each day
 pub rests_of_days : (i : Problem) (s : ℕ) (prices : List ℤ) (lanes values : List (List ℤ)) (shift : Shift) (rule : Rule) (nodes : List Node)
     → IsSomeAnd (slice_get (shift_list i) s) (λ y. shift ≡ y.0) → IsRule rule → IsGraph rule shift.len nodes
@@ -38,10 +47,7 @@ pub rests_of_days : (i : Problem) (s : ℕ) (prices : List ℤ) (lanes values : 
     → ((day : ℕ) → day < 8 → AreSums shift.len (sums_on day lanes) → AreValues rule shift.len (sums_on day lanes) nodes (length nodes) (sums_on day values))
     → i.days ≤ 8 → (day : ℕ) → day < i.days → AreBestRests rule shift.len nodes (sums_on day lanes) (sums_on day values)
 rests_of_days i s prices lanes values shift rule nodes own_shift well graph of known few day less =
-    let some = some_of (slice_get (shift_list i) s) (λ y. shift ≡ y.0) own_shift in
-    let x = some.0 in
-    let same : shift ≡ x.0 = some_at (slice_get (shift_list i) s) x (λ y. shift ≡ y.0) some.1 own_shift in
-    let small : AreSums shift.len (sums_on day lanes) = subst (λ (z : Shift). AreSums z.len (sums_on day lanes)) (sym same) ((of x some.1).small day less) in
+    let small : AreSums shift.len (sums_on day lanes) = sums_of_days i s prices lanes shift own_shift of day less in
     record { well_formed = well; graph = graph; small = small; known = known day (omega (arith, less, few)) small }
 
 -- the best lists for a shift's rule and length are the shift's

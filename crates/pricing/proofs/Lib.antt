@@ -16,3 +16,4 @@ pub mod Firsts
 pub mod Reached
 pub mod Reused
 pub mod Tabling
+pub mod Layered

@@ -12,7 +12,8 @@ use Rattle.break_graph.specs.declared.Node.{Node}
 use Rattle.break_graph.specs.Graph.{node_at}
 use Rattle.price_sums.specs.Along.{sum_at, price_in, resumes}
 use Rattle.price_sums.proofs.Stretches.{resumes_skip}
-use Rattle.pricing.specs.Values.{rest_worth, IsValue, AreValues}
+use Rattle.pricing.specs.Values.{IsValue, AreValues}
+use Rattle.break_layers.specs.Rests.{rest_worth}
 use Rattle.pricing.specs.Keeping.{AreValuesAbove}
 
 module _ (rule : Rule) (len : ℕ) (sums other : List ℤ) (list : List Break) (same : (o : ℕ) → end_of_all list ≤ o → o < len → price_in other o ≡ price_in sums o) where

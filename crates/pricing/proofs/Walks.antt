@@ -13,7 +13,8 @@ use Rattle.break_graph.specs.declared.Edge.{Edge}
 use Rattle.break_graph.specs.declared.Node.{Node}
 use Rattle.break_graph.specs.Graph.{IsGraph, StandsAt, node_at}
 use Rattle.price_sums.specs.Along.{sum_at, AreSums, resumes}
-use Rattle.pricing.specs.Values.{AreValues, reach_of, AreFit, IsFirstWith, LeadsOn, IsBestTail, IsBestFrom}
+use Rattle.pricing.specs.Values.{AreValues, reach_of, AreFit, IsFirstWith, LeadsOn}
+use Rattle.break_layers.specs.Rests.{IsBestTail, IsBestFrom}
 use Rattle.pricing.proofs.ByEdges.{fits, leads_by, legal_without, best_at_end, value_size, has_place}
 use Rattle.break_rules.proofs.Sizes.{abs_add}
 

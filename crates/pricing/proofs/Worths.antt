@@ -21,7 +21,7 @@ use Rattle.break_graph.specs.declared.Node.{Node}
 use Rattle.break_rules.specs.Bonuses.{bonus_of}
 use Rattle.pricing.specs.declared.found.Found.{Found}
 use Rattle.price_sums.specs.Along.{price_in, earned_from, ArePricesOf}
-use Rattle.pricing.specs.Rests.{IsBestRest}
+use Rattle.break_layers.specs.Rests.{IsBestRest}
 use Rattle.pricing.specs.Values.{Priced}
 use Rattle.pricing.specs.Found.{IsLegal, worth_of, IsBestFound}
 

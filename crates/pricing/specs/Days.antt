@@ -5,7 +5,7 @@ use Rattle.break_rules.specs.declared.Rule.{Rule}
 use Rattle.break_graph.specs.declared.Node.{Node}
 use Rattle.shift_instance.specs.Problem.{Problem}
 use Rattle.shift_instance.specs.Worth.{IsBest}
-use Rattle.pricing.specs.Rests.{IsBestRest}
+use Rattle.break_layers.specs.Rests.{IsBestRest}
 use Rattle.pricing.specs.Found.{IsLegal, worth_of}
 
 -- what a duty of a shift on a day earns with the best of the legal lists

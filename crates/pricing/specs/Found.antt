@@ -7,7 +7,7 @@ use Rattle.break_rules.specs.Breaks.{is_legal, is_less_list, begins_with}
 use Rattle.break_rules.specs.Bonuses.{bonus_of}
 use Rattle.pricing.specs.declared.found.Found.{Found}
 use Rattle.price_sums.specs.Along.{price_in, earned_from}
-use Rattle.pricing.specs.Rests.{IsBestRest}
+use Rattle.break_layers.specs.Rests.{IsBestRest}
 use Rattle.pricing.specs.Values.{Priced}
 
 -- whether a list is legal

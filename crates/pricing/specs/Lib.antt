@@ -1,4 +1,3 @@
-pub mod Rests
 pub mod Values
 pub mod Found
 pub mod Days

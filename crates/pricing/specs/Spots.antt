@@ -11,11 +11,7 @@ use Rattle.shift_instance.specs.declared.Shift.{Shift}
 use Rattle.shift_instance.specs.Problem.{Problem, slot_of}
 use Rattle.shift_instance.specs.Worth.{price_of}
 use Rattle.price_sums.specs.Along.{resumes, earned_from, Completes}
-
--- the greatest worth of the lists that are allowed
-pub record IsMost (Allowed : List Break → Type 0) (worth : List Break → ℤ) (value : ℤ) : Type 0 where
-  pub reached : (rest : List Break) × Allowed rest × (worth rest ≡ value)
-  pub greatest : (rest : List Break) → Allowed rest → worth rest ≤ℤ value
+use Rattle.break_layers.specs.Rests.{IsMost}
 
 -- the same, or nothing where no list is allowed
 abbrev pub IsMostIfAny : (List Break → Type 0) → (List Break → ℤ) → Option ℤ → Type 0

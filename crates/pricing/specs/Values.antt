@@ -4,21 +4,12 @@ use Rattle.std.specs.Int.{w64}
 use Rattle.break_rules.specs.declared.Break.{Break}
 use Rattle.break_rules.specs.declared.Rule.{Rule}
 use Rattle.break_rules.specs.Ranges.{IsRule}
-use Rattle.break_rules.specs.Walk.{end_of_all}
 use Rattle.break_rules.proofs.Lists.{Has}
 use Rattle.break_graph.specs.declared.Edge.{Edge}
 use Rattle.break_graph.specs.declared.Node.{Node}
 use Rattle.break_graph.specs.Graph.{IsGraph, StandsAt}
-use Rattle.price_sums.specs.Along.{sum_at, price_in, AreSums, resumes, earned_from, Completes}
-use Rattle.pricing.specs.Rests.{IsBestRest}
-
--- what a list's rest earns
-abbrev pub rest_worth : List ℤ → Rule → ℕ → List Break → List Break → ℤ
-rest_worth sums rule len list rest = earned_from (price_in sums) rule len (resumes rule (end_of_all list)) rest
-
--- a best rest of a list
-abbrev pub IsBestTail : Rule → ℕ → List ℤ → List Break → List Break → Type 0
-IsBestTail rule len sums list rest = (value : ℤ) × IsBestRest (Completes rule len list) (rest_worth sums rule len list) value rest
+use Rattle.price_sums.specs.Along.{sum_at, AreSums, Completes}
+use Rattle.break_layers.specs.Rests.{IsBestRest, IsBestTail, rest_worth}
 
 -- what a list's best rest earns
 abbrev pub IsValue : Rule → ℕ → List ℤ → List Break → ℤ → Type 0
@@ -55,10 +46,6 @@ pub record IsFirstWith (reach : Edge → ℤ) (edges : List Edge) (most : ℤ) :
 pub record LeadsOn (rule : Rule) (len : ℕ) (sums : List ℤ) (nodes : List Node) (list : List Break) (e : Edge) : Type 0 where
   pub behind : StandsAt rule len nodes e.next (list ++ e.stop ∷ [])
   pub best : (tail : List Break) → IsBestTail rule len sums (list ++ e.stop ∷ []) tail → IsBestTail rule len sums list (e.stop ∷ tail)
-
--- a list that ends with a best rest of another that it begins with
-abbrev pub IsBestFrom : Rule → ℕ → List ℤ → List Break → List Break → Type 0
-IsBestFrom rule len sums list whole = (rest : List Break) × (whole ≡ list ++ rest) × IsBestTail rule len sums list rest
 
 -- a rule, the length of the shifts that are meant, the nodes of their graph, and the sums of the prices of their offsets
 pub record Priced : Type 0 where

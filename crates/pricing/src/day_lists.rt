@@ -12,9 +12,11 @@ ghost use Rattle.shift_instance.specs.Rota.{is_list_of};
 ghost use Rattle.price_sums.specs.Along.{sum_at};
 ghost use Rattle.price_sums.specs.Days.{sums_on};
 ghost use Rattle.pricing.specs.Days.{AreBestByDay, IsBestBy, best_at};
-ghost use Rattle.pricing.specs.Values.{AreBestRests, AreFit, IsBestFrom, IsFirstWith, LeadsOn, reach_of};
+ghost use Rattle.pricing.specs.Values.{AreBestRests, AreFit, IsFirstWith, LeadsOn, reach_of};
+ghost use Rattle.break_layers.specs.Rests.{IsBestFrom};
 
 use crate::day_values::set_values_by_day;
+use crate::layered_days::bests_by_layers;
 use crate::values::total;
 use break_graph::{Edge, Graph, Node};
 use break_rules::{Break, Breaks, NoMemory, Rule};
@@ -196,10 +198,6 @@ pub fn best_by_day(
 {
     match instance.graph(shift) {
         Some(kept) => bests_over(alloc, instance, kept, shift, sums),
-        None => {
-            let len = instance.shift(shift).len;
-            let made = Graph::new(alloc, instance.rule_of(shift), len)?;
-            bests_over(alloc, instance, &made, shift, sums)
-        }
+        None => bests_by_layers(alloc, instance, shift, sums),
     }
 }

@@ -7,6 +7,7 @@ mod day_lists;
 mod day_values;
 mod days;
 mod found;
+mod layered_days;
 mod rests;
 mod search;
 mod spots;

@@ -7,7 +7,8 @@ ghost use Rattle.break_rules.specs.Breaks.{is_legal, is_live};
 ghost use Rattle.break_rules.specs.Ranges.{IsRule};
 ghost use Rattle.break_graph.specs.Graph.{IsGraph, StandsAt, node_at};
 ghost use Rattle.price_sums.specs.Along.{AreSums, earned_from, price_in};
-ghost use Rattle.pricing.specs.Values.{IsValue, LeadsOn, IsBestFrom, AreBestRests};
+ghost use Rattle.pricing.specs.Values.{IsValue, LeadsOn, AreBestRests};
+ghost use Rattle.break_layers.specs.Rests.{IsBestFrom};
 
 use crate::values::{difference, first_reaching, node_values, total};
 use break_graph::{Edge, Graph, Node};

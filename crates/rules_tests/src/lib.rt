@@ -11,3 +11,5 @@ mod break_patterns;
 mod fixtures;
 #[cfg(test)]
 mod instances;
+#[cfg(test)]
+mod layer_values;

@@ -7,7 +7,7 @@ use Rattle.shift_instance.specs.declared.Shift.{Shift}
 use Rattle.shift_instance.specs.Problem.{shift_list}
 use Rattle.shift_instance.specs.Valid.{IsShift}
 use Rattle.shift_instance.specs.Worth.{IsBest}
-use Rattle.pricing.specs.Rests.{IsBestRest}
+use Rattle.break_layers.specs.Rests.{IsBestRest}
 use Rattle.pricing.specs.Values.{Priced}
 use Rattle.pricing.specs.Found.{IsLegal, worth_of}
 use Rattle.price_sums.proofs.Prices.{some_at}

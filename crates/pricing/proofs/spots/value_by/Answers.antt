@@ -11,7 +11,8 @@ use Rattle.break_rules.proofs.Reaching.{walk_on}
 use Rattle.break_rules.proofs.Steps.{bounds, from_next}
 use Rattle.price_sums.specs.Along.{resumes, sum_at}
 use Rattle.price_sums.proofs.Prices.{some_at}
-use Rattle.pricing.specs.Spots.{IsMost, IsMostBehind, CompletesBy, worth_behind}
+use Rattle.pricing.specs.Spots.{IsMostBehind, CompletesBy, worth_behind}
+use Rattle.break_layers.specs.Rests.{IsMost}
 use Rattle.pricing.proofs.Behind.{short_len, most_by, most_fits, none_by, own_sums, own_prices}
 use Rattle.pricing.proofs.spots.value_by.Goals as goal
 

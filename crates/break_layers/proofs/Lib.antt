@@ -1,0 +1,6 @@
+pub mod Ending
+pub mod Following
+pub mod Lunched
+pub mod Reach
+pub mod Sliding
+pub mod Table

@@ -1,0 +1,79 @@
+-- The places of spots in a table of layers.
+use Rattle.std.proofs.Common.{◌≡◌, inl, inr, ℕ, zero, suc, replicate, take, drop, ◌+◌, ◌-◌, ◌*◌, ◌<◌, ◌≤◌, ℤ, true, List, [], ◌∷◌, ◌++◌, refl, sym, ap, ◌∙◌, subst, arith, length, bit_or}
+use Rattle.std.proofs.Math.Nat.{mul-le-mul_right}
+use Rattle.std.proofs.lemmas.Bool.{cases_lt}
+use Rattle.std.proofs.Math.ListN.{get_or-append}
+use Rattle.std.proofs.Math.Seq.{get_or-append_seam, take-append_seam}
+use Rattle.break_rules.specs.declared.Break.{Break}
+use Rattle.break_rules.specs.declared.Rule.{Rule}
+use Rattle.break_rules.specs.declared.Spot.{Spot}
+use Rattle.break_rules.specs.Breaks.{end_of, is_lunch}
+use Rattle.break_rules.specs.Ranges.{IsRule}
+use Rattle.break_rules.specs.Walk.{bits_of, is_walk, spot_of}
+use Rattle.break_rules.proofs.Reaching.{walk_small}
+use Rattle.break_rules.proofs.Steps.{spot_more, spot_with}
+use Rattle.break_layers.specs.declared.layers.Layer.{Layer}
+use Rattle.break_layers.specs.declared.windows.TheConstants.{NOTHING}
+use Rattle.break_layers.specs.Windows.{number_in}
+use Rattle.break_layers.specs.Layered.{layer_of, layer_number, layer_place}
+
+-- a place in an earlier layer
+pub earlier_layer : (one two offset len : ℕ) → one < two → offset ≤ len → one * (len + 1) + offset < two * (len + 1)
+earlier_layer one two offset len less inside =
+    let whole : (one + 1) * (len + 1) ≤ two * (len + 1) = mul-le-mul_right (len + 1) (let h : one + 1 ≤ two = omega arith in h) in
+    let product : (one + 1) * (len + 1) ≡ one * (len + 1) + (len + 1) = omega arith in
+    omega arith
+
+-- two places are one only in the same layer and at the same offset
+pub same_layer : (one two a b len : ℕ) → a ≤ len → b ≤ len → one * (len + 1) + a ≡ two * (len + 1) + b → (one ≡ two) × (a ≡ b)
+same_layer one two a b len p q e =
+    elim (cases_lt one two) [
+      | inl l ↦ let less = earlier_layer one two a len l p in absurd (omega arith)
+      | inr g ↦ elim (cases_lt two one) [
+        | inl l ↦ let less = earlier_layer two one b len l q in absurd (omega arith)
+        | inr h ↦
+            let same : one ≡ two = omega arith in
+            let product : one * (len + 1) ≡ two * (len + 1) = ap (λ n. n * (len + 1)) same in
+            (same, omega arith)
+      ]
+    ]
+
+module _ (rule : Rule) (len : ℕ) (list : List Break) (b : Break) (r : IsRule rule) where
+  -- the spot behind a break lies in an earlier layer
+  pub behind_place : (layer : Layer) → layer ≡ layer_of rule list → 1 ≤ b.len → is_walk rule len (list ++ b ∷ []) ≡ true
+      → layer_place len (spot_of rule (list ++ b ∷ [])) < layer_number layer * (len + 1)
+  behind_place layer is some on =
+      let small = walk_small rule len (list ++ b ∷ []) r on in
+      let used : (spot_of rule (list ++ b ∷ [])).used ≡ (spot_of rule list).used + b.len = ap (λ (s : Spot). s.used) (spot_more rule list b r.few_lunches) in
+      let own : layer.used ≡ (spot_of rule list).used = ap (λ (l : Layer). l.used) is in
+      earlier_layer ((48 - (spot_of rule (list ++ b ∷ [])).used) * 4 + (spot_of rule (list ++ b ∷ [])).lunches) (layer_number layer) (spot_of rule (list ++ b ∷ [])).offset len
+      (omega (arith, small.used, small.lunches)) small.offset
+
+  -- the spot with these numbers is the one behind the list with the break
+  pub behind_spot : (layer : Layer) (offset used bits : ℕ) → layer ≡ layer_of rule list → offset ≡ end_of b → used ≡ layer.used + b.len → bits ≡ bits_of (λ e. is_lunch e b) rule.lunches
+      → ◌≡◌ {A = Spot} (record { offset = offset; used = used; lunches = bit_or layer.lunches bits }) (spot_of rule (list ++ b ∷ []))
+  behind_spot layer offset used bits is at time met =
+      ap (λ n. record { offset = offset; used = used; lunches = bit_or n bits }) (ap (λ (l : Layer). l.lunches) is)
+      ∙ spot_with rule list (spot_of rule list) b offset used bits r.few_lunches refl at (time ∙ ap (λ (l : Layer). l.used + b.len) is) met
+
+-- a row with one number more
+pub one_more : (P : ℕ → ℤ → Type 0) (row : List ℤ) (n : ℕ) (x : ℤ) → length row ≡ n → ((k : ℕ) → k < n → P k (number_in row k)) → P n x
+    → (k : ℕ) → k < n + 1 → P k (number_in (row ++ x ∷ []) k)
+one_more P row n x many before here k less =
+    elim (cases_lt k n) [
+      | inl l ↦ subst (P k) (sym (get_or-append row (x ∷ []) NOTHING k (omega arith))) (before k l)
+      | inr g ↦
+          let same : n ≡ k = omega arith in
+          subst (λ j. P j (number_in (row ++ x ∷ []) j)) same
+          (subst (P n) (sym (ap (λ j. number_in (row ++ x ∷ []) j) (sym many) ∙ get_or-append_seam row x [] NOTHING)) here)
+    ]
+
+-- a row of nothing
+pub all_nothing : (n k : ℕ) → number_in (replicate n NOTHING) k ≡ NOTHING
+all_nothing zero k = refl
+all_nothing (suc n) zero = refl
+all_nothing (suc n) (suc k) = all_nothing n k
+
+-- a vector behind whose slice other numbers were written
+pub written : (n : ℕ) (new old : List ℤ) → n ≡ length new → take n (new ++ drop (length new) old) ≡ new
+written n new old e = ap (λ k. take k (new ++ drop (length new) old)) e ∙ take-append_seam new (drop (length new) old)

@@ -1,0 +1,3 @@
+pub mod Layered
+pub mod Rests
+pub mod Windows

@@ -1,0 +1,14 @@
+//! What break lists earn at most at given prices, without a graph of spots. The spots lie in layers by the break time used
+//! and the lunches met, each break leads to a layer of more break time, and the breaks that may come next at a spot begin in
+//! one window of offsets, or in two where the rule asks for longer breaks behind long work.
+#![tactic(auto)]
+
+mod layers;
+mod lists;
+mod reaching;
+mod sizes;
+mod values;
+mod walks;
+mod windows;
+
+pub use values::LayerValues;
