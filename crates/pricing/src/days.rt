@@ -9,6 +9,7 @@ ghost use Rattle.price_sums.specs.Along.{sum_at};
 ghost use Rattle.pricing.specs.Days.{AreMostByDay};
 
 use crate::day_values::set_values_by_day;
+use crate::layered_days::most_by_layers;
 use break_graph::Graph;
 use break_rules::NoMemory;
 use price_sums::{DaySums, Lane, lane_at};
@@ -69,10 +70,6 @@ pub fn most_by_day(
 {
     match instance.graph(shift) {
         Some(kept) => most_over(alloc, instance, kept, shift, sums),
-        None => {
-            let len = instance.shift(shift).len;
-            let made = Graph::new(alloc, instance.rule_of(shift), len)?;
-            most_over(alloc, instance, &made, shift, sums)
-        }
+        None => most_by_layers(alloc, instance, shift, sums),
     }
 }

@@ -1,6 +1,6 @@
 //! The best break lists of a shift on all days where no graph of it is kept.
 
-ghost use Rattle.std.specs.Prelude.{◌≡◌, ◌<◌, ◌≤◌, ℕ, List, [], IfOk, MatchOption, length, false};
+ghost use Rattle.std.specs.Prelude.{◌≡◌, ◌<◌, ◌≤◌, ℕ, List, [], map, IfOk, MatchOption, length, false};
 ghost use Rattle.break_rules.specs.declared.Break.{Break};
 ghost use Rattle.break_rules.specs.Breaks.{is_legal};
 ghost use Rattle.break_rules.specs.Ranges.{IsRule};
@@ -8,7 +8,7 @@ ghost use Rattle.shift_instance.specs.Problem.{shift_list};
 ghost use Rattle.shift_instance.specs.Rota.{is_list_of};
 ghost use Rattle.price_sums.specs.Along.{AreSums};
 ghost use Rattle.price_sums.specs.Days.{sums_on};
-ghost use Rattle.pricing.specs.Days.{AreBestByDay, IsBestBy, best_at};
+ghost use Rattle.pricing.specs.Days.{AreBestByDay, AreMostByDay, IsBestBy, best_at};
 
 use break_layers::LayerValues;
 use break_rules::{Breaks, NoMemory, Rule};
@@ -87,6 +87,34 @@ pub fn bests_by_layers(
     let lanes = sums.along(instance, shift);
     match bests_of_days(alloc, rule, len, lanes, instance.days())? {
         Some(bests) => Ok(Some(bests)),
+        None => Ok(None),
+    }
+}
+
+/// The values alone.
+fn values_of(alloc: Global, bests: &[(Breaks, i128)]) -> Result<Vec<i128>, NoMemory>
+    ensures { IfOk result (λ values. values.items ≡ map (λ best. best.1) bests.now) }
+{
+    let mut values = Vec::with_capacity(alloc, bests.len())?;
+    for best in bests {
+        values.push(best.1)?;
+    }
+    Ok(values)
+}
+
+/// What the best list of a shift earns on each day, and `None` where no list is legal.
+pub fn most_by_layers(
+    alloc: Global,
+    instance: &Instance,
+    shift: u16,
+    sums: &DaySums,
+) -> Result<Option<Vec<i128>>, NoMemory>
+    requires shift { shift < length (shift_list instance.now) }
+    requires sums { sums.now.instance ≡ instance.now }
+    ensures { IfOk result (λ found. MatchOption found ((list : List Break) → is_list_of instance.now shift list ≡ false) (λ most. AreMostByDay instance.now shift sums.now.prices instance.now.days most.items)) }
+{
+    match bests_by_layers(alloc, instance, shift, sums)? {
+        Some(bests) => Ok(Some(values_of(alloc, &bests)?)),
         None => Ok(None),
     }
 }

@@ -16,6 +16,7 @@ ghost use Rattle.pricing.specs.Keeping.{AreBeginnings};
 
 use crate::beginnings::Beginnings;
 use crate::found::{Found, better};
+use crate::layered_days::best_by_layers;
 use crate::rests::BestRests;
 use crate::steps::Steps;
 use break_graph::Graph;
@@ -228,6 +229,29 @@ fn best_over(
     }
 }
 
+/// The best list of a shift on a day by prices alone, without a graph.
+fn best_without_graph(
+    alloc: Global,
+    instance: &Instance,
+    shift: u16,
+    day: u8,
+    prices: &[i64],
+) -> Result<Option<(Pattern, i128)>, NoMemory>
+    requires shift { shift < length (shift_list instance.now) }
+    requires count { length prices.now ≡ slots instance.now }
+    requires prices { AreSmallPrices prices.now }
+    ensures best { IfOk result (λ found. MatchOption found ((list : List Break) → is_list_of instance.now shift list ≡ false) (λ p. IsBest instance.now shift day prices.now [] p.0.list p.1)) }
+    ensures len { IfOk result (λ found. MatchOption found (Unit {0}) (λ p. IsSomeAnd (slice_get (shift_list instance.now) shift) (λ x. p.0.len ≡ x.0.len))) }
+{
+    let rule = instance.rule_of(shift);
+    let len = instance.shift(shift).len;
+    let sums = price_sums(alloc, instance, shift, day, prices)?;
+    match best_by_layers(alloc, rule, len, sums)? {
+        Some((list, value)) => Ok(Some((Pattern { list, len }, value))),
+        None => Ok(None),
+    }
+}
+
 /// The least legal break list of greatest reduced value of a shift on a day, with that value: the prices of the slots in
 /// which a duty with it works, and the numbers of the bonuses with whose prefix it begins. Of lists of one value the least
 /// in the order of lists is meant (break by break, a proper prefix first). `None` where no list is legal. There is a price
@@ -250,6 +274,7 @@ pub fn best_pattern(
 {
     match instance.graph(shift) {
         Some(kept) => best_over(alloc, instance, kept, shift, day, prices, bonus),
+        None if bonus.is_empty() => best_without_graph(alloc, instance, shift, day, prices),
         None => {
             let len = instance.shift(shift).len;
             let made = Graph::new(alloc, instance.rule_of(shift), len)?;
