@@ -1,4 +1,4 @@
-use Rattle.std.proofs.Common.{rules, ◌≡◌, ◌∙◌, ℤ, false, List, Option, subst, sym}
+use Rattle.std.proofs.Common.{rules, ◌≡◌, ◌∙◌, ℤ, false, List, Option, subst}
 use Rattle.std.specs.Prelude.{MatchOption, FitsSigned}
 use Rattle.std.specs.Int.{w64}
 use mir.Syntax.{w128}

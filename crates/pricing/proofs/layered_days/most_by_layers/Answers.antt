@@ -1,4 +1,4 @@
-use Rattle.std.proofs.Common.{◌≡◌, ◌∙◌, ℤ, false, List, Option, map, sym, ap, subst}
+use Rattle.std.proofs.Common.{◌≡◌, ◌∙◌, false, List, Option, map, sym, ap, subst}
 use Rattle.std.specs.Prelude.{MatchOption}
 use Rattle.break_rules.specs.declared.Break.{Break}
 use Rattle.shift_instance.specs.Rota.{is_list_of}
