@@ -1,6 +1,7 @@
 -- Tables that are kept while the prices of slots and cuts change.
 use Rattle.std.specs.Prelude.{◌≡◌, ℕ, ◌<◌, ◌==◌, ◌&&◌, not, Bool, List, All, length, map, slice_get, Some, Vec, if◌then◌else◌}
 use Rattle.std.specs.List.{zip, list_any}
+use Rattle.std.specs.declared.alloc.Global.{Global}
 use Rattle.shift_instance.specs.Problem.{Problem, below, shift_list, slots}
 use Rattle.head_splits.specs.declared.Cut.{Cut}
 use Rattle.head_splits.specs.declared.Prices.{Prices}
@@ -39,17 +40,25 @@ pub record AreKept (i : Problem) (s days : ℕ) (tables : List DayTables) : Type
 abbrev pub days_of : Problem → List Cut → ℕ → ℕ
 days_of i cuts s = if have_prefix cuts s then i.days else 0
 
--- the tables of all shifts, one shift after another
-pub record AreAllKept (i : Problem) (cuts : List Cut) (all : List (Vec DayTables)) : Type 0 where
-  pub count : length all ≡ length (shift_list i)
-  pub each : (s : ℕ) (tables : Vec DayTables) → slice_get all s ≡ Some tables → AreKept i s (days_of i cuts s) tables.items
+-- the tables of the first shifts, one shift after another
+pub record AreKeptBelow (i : Problem) (cuts : List Cut) (shifts : ℕ) (all : List (Vec DayTables Global)) : Type 0 where
+  pub count : length all ≡ shifts
+  pub each : (s : ℕ) (tables : Vec DayTables Global) → slice_get all s ≡ Some tables → AreKept i s (days_of i cuts s) tables.items
+
+-- the tables of all shifts
+abbrev pub AreAllKept : Problem → List Cut → List (Vec DayTables Global) → Type 0
+AreAllKept i cuts all = AreKeptBelow i cuts (length (shift_list i)) all
 
 -- the tables of a shift on all days, at the prices of slots and cuts
 pub record AreTablesAt (i : Problem) (cuts : List Cut) (prices : Prices) (s : ℕ) (tables : List DayTables) : Type 0 where
   pub kept : AreKept i s i.days tables
   pub at : All (IsAt cuts prices) tables
 
--- the tables of all shifts, at the prices of slots and cuts
-pub record AreAllTables (i : Problem) (cuts : List Cut) (prices : Prices) (all : List (Vec DayTables)) : Type 0 where
-  pub kept : AreAllKept i cuts all
+-- the tables of the first shifts, at the prices of slots and cuts
+pub record AreTablesBelow (i : Problem) (cuts : List Cut) (prices : Prices) (shifts : ℕ) (all : List (Vec DayTables Global)) : Type 0 where
+  pub kept : AreKeptBelow i cuts shifts all
   pub at : All (λ tables. All (IsAt cuts prices) tables.items) all
+
+-- the tables of all shifts, at the prices of slots and cuts
+abbrev pub AreAllTables : Problem → List Cut → Prices → List (Vec DayTables Global) → Type 0
+AreAllTables i cuts prices all = AreTablesBelow i cuts prices (length (shift_list i)) all
