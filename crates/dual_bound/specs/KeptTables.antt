@@ -1,5 +1,5 @@
 -- Tables that are kept while the prices of slots and cuts change.
-use Rattle.std.specs.Prelude.{◌≡◌, ℕ, ◌<◌, ◌==◌, ◌&&◌, not, Bool, List, All, length, map, slice_get, Some, Vec, if◌then◌else◌}
+use Rattle.std.specs.Prelude.{◌≡◌, ℕ, ◌<◌, ◌==◌, ◌&&◌, not, Bool, List, All, length, map, slice_index_or, Vec, if◌then◌else◌}
 use Rattle.std.specs.List.{zip, list_any}
 use Rattle.std.specs.declared.alloc.Global.{Global}
 use Rattle.shift_instance.specs.Problem.{Problem, below, shift_list, slots}
@@ -43,7 +43,7 @@ days_of i cuts s = if have_prefix cuts s then i.days else 0
 -- the tables of the first shifts, one shift after another
 pub record AreKeptBelow (i : Problem) (cuts : List Cut) (shifts : ℕ) (all : List (Vec DayTables Global)) : Type 0 where
   pub count : length all ≡ shifts
-  pub each : (s : ℕ) (tables : Vec DayTables Global) → slice_get all s ≡ Some tables → AreKept i s (days_of i cuts s) tables.items
+  pub each : (s : ℕ) (d : Vec DayTables Global) → s < length all → AreKept i s (days_of i cuts s) (slice_index_or all s d).items
 
 -- the tables of all shifts
 abbrev pub AreAllKept : Problem → List Cut → List (Vec DayTables Global) → Type 0

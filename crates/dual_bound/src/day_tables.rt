@@ -8,6 +8,7 @@ ghost use Rattle.shift_instance.specs.Rota.{is_list_of};
 ghost use Rattle.shift_instance.specs.Valid.{IsValid};
 ghost use Rattle.shift_instance.specs.Worth.{IsBest};
 ghost use Rattle.head_splits.specs.Bound.{are_prices, entries_of};
+ghost use Rattle.price_sums.specs.Along.{AreSmallPrices};
 ghost use Rattle.pricing.specs.Tables.{MeanTheSame};
 ghost use Rattle.dual_bound.specs.KeptTables.{AreAllKept, AreAllTables, AreKept, AreTablesAt, IsAt, IsKept, place_of};
 
@@ -69,7 +70,8 @@ fn are_same(kept: &[(Breaks, i64)], entries: &[(Breaks, i64)]) -> bool
 
 /// The changes of prices that give these: all of them, as kept tables may stand at different prices after a refusal.
 pub(crate) fn changes_to(alloc: Global, prices: &[i64]) -> Result<Vec<(u32, i64)>, NoMemory>
-    requires { length prices.now < 4294967296 }
+    requires count { length prices.now < 4294967296 }
+    requires small { AreSmallPrices prices.now }
     ensures { IfOk result (λ changes. changes.items ≡ enumerate_from 0 prices.now) }
 {
     let mut changes = Vec::with_capacity(alloc, prices.len())?;

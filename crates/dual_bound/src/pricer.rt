@@ -1,5 +1,5 @@
 //! Prices with the best break lists at them, kept while the prices change.
-ghost use Rattle.std.specs.Prelude.{◌≡◌, ◌≤◌, ◌<◌, ◌^◌, IfOk, OnOk, OnErr, IsTrue, List, MatchOption, MatchResult, None, false, length, map};
+ghost use Rattle.std.specs.Prelude.{◌≡◌, ◌≤◌, ◌<◌, ◌^◌, IfOk, OnOk, OnErr, IsTrue, List, MatchOption, MatchResult, None, Some, false, length, map};
 ghost use Rattle.break_rules.specs.declared.Break.{Break};
 ghost use Rattle.break_rules.specs.Causes.{first_cause};
 ghost use Rattle.shift_instance.specs.Problem.{shift_list};
@@ -226,6 +226,25 @@ fn next_bests<L: Ledger>(
     bests_with_bound(alloc, instance, cuts, prices, tables)
 }
 
+/// Refuses prices that aren't a price set for the cuts, with their first fault.
+fn judge(instance: &Instance, cuts: &Cuts, prices: &Prices) -> Result<(), PriceFault>
+    ensures valid { IsValid instance.now }
+    ensures fault { MatchResult result (λ _. first_cause (price_causes instance.now cuts.now prices.now) ≡ None) (λ e. first_cause (price_causes instance.now cuts.now prices.now) ≡ Some e) }
+{
+    match first_fault(instance, cuts, prices) {
+        Some(fault) => Err(fault),
+        None => Ok(()),
+    }
+}
+
+/// The cuts once more.
+fn copy_of(cuts: &Cuts) -> Result<Cuts, NoMemory>
+    ensures { IfOk result (λ copy. copy ≡ cuts.now) }
+{
+    let copy = cuts.clone()?;
+    Ok(copy)
+}
+
 /// A price set for the cuts of a node, with its bound and with the best break list of each shift on each day at it. The prices
 /// may be changed, for the same cuts, and then all of it is of the new ones.
 #[derive(Drop)]
@@ -264,14 +283,11 @@ impl Pricer {
         ensures ok { IfOk result (λ p. p ≡ record { instance = instance.now; cuts = cuts.now; prices = prices }) }
         ensures fault { MatchResult result (λ _. first_cause (price_causes instance.now cuts.now prices) ≡ None) (λ e. Answers e (first_cause (price_causes instance.now cuts.now prices))) }
     {
-        match first_fault(instance, cuts, &prices) {
-            Some(fault) => return Err(fault),
-            None => {}
-        }
+        judge(instance, cuts, &prices)?;
         let Ok((tables, bounded)) = first_bests(alloc, instance, cuts, &prices, steps) else {
             return Err(PriceFault::NoMemory);
         };
-        let Ok(cuts) = cuts.clone() else {
+        let Ok(cuts) = copy_of(cuts) else {
             return Err(PriceFault::NoMemory);
         };
         let Bounded { bound, bests } = bounded;
@@ -298,10 +314,7 @@ impl Pricer {
         ensures fault { MatchResult result (λ _. first_cause (price_causes instance.now self.old.cuts prices) ≡ None) (λ e. Answers e (first_cause (price_causes instance.now self.old.cuts prices))) }
         ensures unchanged { OnErr result (self.new ≡ self.old) }
     {
-        match first_fault(instance, &self.cuts, &prices) {
-            Some(fault) => return Err(fault),
-            None => {}
-        }
+        judge(instance, &self.cuts, &prices)?;
         let tables = &mut self.tables;
         match next_bests(tables, self.alloc, instance, &self.cuts, &prices, steps) {
             Ok(bounded) => {
