@@ -2,7 +2,6 @@
 use Rattle.std.proofs.Common.{◌≡◌, ℕ, suc, ◌+◌, ◌<◌, ◌≤◌, ◌^◌, ℤ, true, false, List, [], ◌∷◌, ◌++◌, length, map, take, get_or, refl, sym, ap, ◌∙◌, subst, arith, append_assoc, All, inl, inr, set}
 use Rattle.std.specs.Prelude.{slice_set, Vec}
 use Rattle.std.specs.List.{enumerate_from, zip}
-use Rattle.std.specs.Int.RustNames.{unsigned_abs}
 use Rattle.std.proofs.Math.Seq.{take-suc, set-append_seam}
 use Rattle.std.proofs.lemmas.List.{map-append, length-append, length-map, length-set, get_or-set_other, with_items_is}
 use Rattle.std.proofs.lemmas.Grind.{get_or-set_at}

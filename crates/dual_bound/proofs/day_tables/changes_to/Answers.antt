@@ -1,4 +1,4 @@
-use Rattle.std.proofs.Common.{◌≡◌, ◌+◌, ◌≤◌, ℕ, ℤ, pos, suc, List, ◌++◌, ◌∷◌, [], take, get_or, length, ap, ◌∙◌, sym, arith}
+use Rattle.std.proofs.Common.{◌≡◌, ◌+◌, ◌≤◌, pos, suc, ◌++◌, ◌∷◌, [], take, get_or, length, ap, ◌∙◌, sym, arith}
 use Rattle.std.specs.List.{enumerate_from}
 use Rattle.std.specs.Int.RustNames.{unsigned_abs}
 use Rattle.std.proofs.Math.Seq.{take-suc}

@@ -1,4 +1,4 @@
-use Rattle.std.proofs.Common.{◌≡◌, ◌≤◌, ℕ, ℤ, List, All, length, get_or, ◌^◌, subst, sym, arith, refl}
+use Rattle.std.proofs.Common.{◌≤◌, ℕ, ℤ, List, All, length, get_or, ◌^◌, subst, sym, arith, refl}
 use Rattle.std.specs.Int.RustNames.{unsigned_abs}
 use Rattle.break_rules.specs.declared.Break.{Break}
 use Rattle.head_splits.proofs.Priced.{priced}

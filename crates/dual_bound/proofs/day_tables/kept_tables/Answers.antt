@@ -1,4 +1,4 @@
-use Rattle.std.proofs.Common.{◌≡◌, ◌++◌, ◌∷◌, [], ◌+◌, List, All, refl, sym, ap, subst, ◌∙◌}
+use Rattle.std.proofs.Common.{[], ◌+◌, List, All, refl, sym, ap, subst, ◌∙◌}
 use Rattle.std.specs.Prelude.{Bool, Vec, if◌then◌else◌}
 use Rattle.std.specs.declared.alloc.Global.{Global}
 use Rattle.std.proofs.lemmas.List.Elements.{All-nil}

@@ -1,8 +1,7 @@
-use Rattle.std.proofs.Common.{◌≡◌, ◌<◌, ◌++◌, ◌∷◌, [], ℕ, ℤ, pos, List, length, length-append, sym, ap, subst, ◌∙◌, arith}
+use Rattle.std.proofs.Common.{◌≡◌, ◌++◌, ◌∷◌, [], ℕ, ℤ, pos, List, length, length-append, sym, ap, subst, ◌∙◌, arith}
 use Rattle.break_rules.specs.declared.Break.{Break}
 use Rattle.pricing.specs.Days.{best_at}
 use Rattle.pricing.proofs.Followed.{each_more}
-use Rattle.dual_bound.specs.declared.day_tables.DayTables.{DayTables}
 use Rattle.dual_bound.specs.BestLists.{IsBestOn}
 use Rattle.dual_bound.specs.KeptTables.{IsKept, IsAt, place_of}
 use Rattle.dual_bound.specs.Pricer.{AreBests}

@@ -1,4 +1,3 @@
-use Rattle.std.proofs.Common.{sym}
 use Rattle.dual_bound.proofs.Causes.{passes}
 use Rattle.dual_bound.proofs.pricer.Pricer.reprice.Goals as goal
 
