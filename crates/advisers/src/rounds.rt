@@ -9,8 +9,11 @@ use crate::stepping::next_prices;
 use break_rules::NoMemory;
 use dual_bound::Pricer;
 use head_splits::{CutPrices, Cuts, Prices, SlotPrices};
+use pricing::Steps;
 use shift_instance::Instance;
 use std::alloc::{AllocError, Global};
+use std::marker::Brand;
+use std::sync::ledger::{Blank, Ledger};
 
 /// How often the prices are changed: so there are 40 rounds.
 const STEPS: u16 = 39;
@@ -80,13 +83,19 @@ impl Valued {
 }
 
 /// A pricer at the prices of the first round.
-fn first_round(alloc: Global, instance: &Instance, cuts: &Cuts, q: u16) -> Result<Pricer, NoMemory>
+fn first_round<L: Ledger>(
+    alloc: Global,
+    instance: &Instance,
+    cuts: &Cuts,
+    q: u16,
+    steps: &mut Steps<L>,
+) -> Result<Pricer, NoMemory>
     requires few { length cuts.now ≤ 2 ^ 33 }
     requires scale { (1 ≤ q) × (q ≤ 10000) }
     ensures { IfOk result (λ pricer. pricer ≡ pricing_in instance.now cuts.now q 0) }
 {
     let prices = first_prices(alloc, instance, cuts, q)?;
-    match Pricer::new(alloc, instance, cuts, prices) {
+    match Pricer::new(alloc, instance, cuts, prices, steps) {
         Ok(pricer) => Ok(pricer),
         // these prices have no fault
         Err(_) => Err(AllocError),
@@ -94,20 +103,21 @@ fn first_round(alloc: Global, instance: &Instance, cuts: &Cuts, q: u16) -> Resul
 }
 
 /// Brings a pricer to the prices of the round after its own.
-fn next_round(
+fn next_round<L: Ledger>(
     alloc: Global,
     instance: &Instance,
     cuts: &Cuts,
     q: u16,
     round: u16,
     pricer: &mut Pricer,
+    steps: &mut Steps<L>,
 ) -> Result<(), NoMemory>
     requires not_last { round < 39 }
     requires round { pricer.old ≡ pricing_in instance.now cuts.now q round }
     ensures { OnOk result (pricer.new ≡ pricing_in instance.now cuts.now q (round + 1)) }
 {
     let prices = next_prices(alloc, instance, cuts, step_in(q, round), pricer)?;
-    match pricer.reprice(instance, prices) {
+    match pricer.reprice(instance, prices, steps) {
         Ok(()) => Ok(()),
         // these prices have no fault
         Err(_) => Err(AllocError),
@@ -124,6 +134,32 @@ fn better(best: Valued, pricer: &Pricer) -> Result<Valued, NoMemory>
     Ok(best)
 }
 
+/// The prices of greatest value of at most 40 rounds, as [`best_prices`] has them, with a count of the steps of pricing.
+fn best_of_rounds<L: Ledger>(
+    alloc: Global,
+    instance: &Instance,
+    cuts: &Cuts,
+    q: u16,
+    goal: u64,
+    steps: &mut Steps<L>,
+) -> Result<Prices, NoMemory>
+    requires few { length cuts.now ≤ 2 ^ 33 }
+    requires scale { (1 ≤ q) × (q ≤ 10000) }
+    ensures { IfOk result (λ prices. prices ≡ best_prices instance.now cuts.now q goal 40) }
+{
+    let mut pricer = first_round(alloc, instance, cuts, q, steps)?;
+    let mut best = Valued::of(&pricer)?;
+    for round in 0..STEPS {
+        if goal <= pricer.value() {
+            return Ok(best.prices);
+        }
+        next_round(alloc, instance, cuts, q, round, &mut pricer, steps)?;
+        let leader = better(best, &pricer)?;
+        best = leader;
+    }
+    Ok(best.prices)
+}
+
 /// The prices of greatest value of at most 40 rounds, the earliest among equals. No round is made after the first whose
 /// value reaches the goal.
 pub(crate) fn best_prices(
@@ -137,15 +173,7 @@ pub(crate) fn best_prices(
     requires scale { (1 ≤ q) × (q ≤ 10000) }
     ensures { IfOk result (λ prices. prices ≡ best_prices instance.now cuts.now q goal 40) }
 {
-    let mut pricer = first_round(alloc, instance, cuts, q)?;
-    let mut best = Valued::of(&pricer)?;
-    for round in 0..STEPS {
-        if goal <= pricer.value() {
-            return Ok(best.prices);
-        }
-        next_round(alloc, instance, cuts, q, round, &mut pricer)?;
-        let leader = better(best, &pricer)?;
-        best = leader;
-    }
-    Ok(best.prices)
+    // Nobody reads this count.
+    let mut steps = Steps::<Brand>::new(Blank::new(1));
+    best_of_rounds(alloc, instance, cuts, q, goal, &mut steps)
 }

@@ -6,3 +6,4 @@ pub mod Entries
 pub mod BestLists
 pub mod BySlots
 mod Kept
+mod KeptTables

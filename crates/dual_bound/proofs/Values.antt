@@ -1,5 +1,5 @@
 -- The value of a duty.
-use Rattle.std.proofs.Common.{◌≡◌, inl, ℕ, zero, suc, ◌+◌, ◌*◌, ◌^◌, ◌≤◌, ℤ, pos, Bool, true, false, cond, List, [], ◌∷◌, length, refl, sym, ◌∙◌, subst, arith}
+use Rattle.std.proofs.Common.{◌≡◌, inl, ℕ, zero, suc, ◌+◌, ◌*◌, ◌^◌, ◌≤◌, ℤ, pos, Bool, true, false, cond, List, [], ◌∷◌, length, refl, sym, ◌∙◌, subst, arith, None}
 use Rattle.std.specs.Prelude.{Option, Some, MatchOption}
 use Rattle.std.specs.Int.RustNames.{unsigned_abs}
 use Rattle.std.specs.List.{zip, range_with_len}
@@ -41,7 +41,7 @@ picked : (b : Bool) (z : ℤ) (n : ℕ) → unsigned_abs z ≤ n → unsigned_ab
 picked true z n h = h
 picked false z n h = omega arith
 
-length_below : (a n : ℕ) → length (range_with_len a n) ≡ n
+pub length_below : (a n : ℕ) → length (range_with_len a n) ≡ n
 length_below a zero = refl
 length_below a (suc n) = let r = length_below (a + 1) n in omega arith
 
@@ -72,3 +72,6 @@ value_of_best i cuts prices s day list v valid h few best =
 
 pub at_some : {A : Type 0} (o : Option A) (x : A) (P : Type 0) (Q : A → Type 0) → o ≡ Some x → MatchOption o P Q → Q x
 at_some o x P Q is h = subst (λ (o : Option _). MatchOption o P Q) is h
+
+pub none_at : {A : Type 0} (o : Option A) (P : Type 0) (Q : A → Type 0) → o ≡ None → MatchOption o P Q → P
+none_at o P Q is h = subst (λ (o : Option _). MatchOption o P Q) is h

@@ -3,4 +3,5 @@ pub mod Proved
 pub mod Settling
 pub mod Fixing
 pub mod BestLists
+pub mod KeptTables
 pub mod Pricer

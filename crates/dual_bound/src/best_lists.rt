@@ -40,7 +40,7 @@ fn add_entry(
 }
 
 /// The prefixes of the cuts of a shift on a day, each with its signed price.
-fn entries(
+pub(crate) fn entries(
     alloc: Global,
     cuts: &[Cut],
     prices: &[u64],

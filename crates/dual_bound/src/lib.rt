@@ -2,6 +2,7 @@
 #![tactic(auto)]
 
 mod best_lists;
+mod day_tables;
 mod faults;
 mod laws;
 mod pricer;

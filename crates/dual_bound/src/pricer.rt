@@ -1,5 +1,5 @@
 //! Prices with the best break lists at them, kept while the prices change.
-ghost use Rattle.std.specs.Prelude.{◌≡◌, ◌≤◌, ◌<◌, ◌^◌, IfOk, OnOk, OnErr, IsTrue, List, MatchOption, MatchResult, None, false, length, map};
+ghost use Rattle.std.specs.Prelude.{◌≡◌, ◌≤◌, ◌<◌, ◌^◌, IfOk, OnOk, OnErr, IsTrue, List, MatchOption, MatchResult, None, Some, false, length, map};
 ghost use Rattle.break_rules.specs.declared.Break.{Break};
 ghost use Rattle.break_rules.specs.Causes.{first_cause};
 ghost use Rattle.shift_instance.specs.Problem.{shift_list};
@@ -9,21 +9,23 @@ ghost use Rattle.head_splits.specs.Bound.{are_prices, bound_of, is_nil};
 ghost use Rattle.pricing.specs.Days.{AreBestByDay};
 ghost use Rattle.dual_bound.specs.BestLists.{IsBestOn};
 ghost use Rattle.dual_bound.specs.Faults.{Answers, price_causes};
+ghost use Rattle.dual_bound.specs.KeptTables.{AreAllKept, AreAllTables, AreTablesAt, have_prefix};
 ghost use Rattle.dual_bound.specs.Pricer.{AreAllBests, AreBests, AreBestsOf, IsPriced};
 
 use crate::PriceFault;
-use crate::best_lists::best_of_day;
+use crate::day_tables::{DayTables, best_of_tables, changes_to, kept_tables, reprice_tables};
 use crate::faults::first_fault;
 use crate::terms::has_prefix;
 use bound_sums::{DayValues, bound_by};
 use break_rules::{Break, Breaks, NoMemory, Sequence};
 use head_splits::{Cuts, Prices};
 use price_sums::DaySums;
-use pricing::best_by_day;
+use pricing::{Steps, best_by_day};
 use shift_instance::Instance;
 use std::alloc::Global;
 use std::marker::Model;
 use std::snapshot::Snapshot;
+use std::sync::ledger::Ledger;
 
 /// The best break lists of a shift, day by day, each with its reduced value.
 type ShiftBests = Sequence<(Breaks, i128)>;
@@ -34,24 +36,25 @@ struct Bests {
     shifts: Vec<Option<ShiftBests>>,
 }
 
-/// The best break lists of a shift on the first days, each by its own search, and `None` only where no list is legal.
-fn bests_by_lists(
+/// The best break lists of a shift on all days, each by the tables of its day, and `None` only where no list is legal.
+fn bests_by_tables(
     alloc: Global,
     instance: &Instance,
     cuts: &Cuts,
     prices: &Prices,
     shift: u16,
-    days: u8,
+    tables: &[DayTables],
 ) -> Result<Option<ShiftBests>, NoMemory>
     requires valid { IsValid instance.now }
     requires shift { shift < length (shift_list instance.now) }
     requires few { length cuts.now ≤ 2 ^ 33 }
     requires passes { IsTrue (are_prices instance.now cuts.now prices.now) }
-    ensures { IfOk result (λ found. MatchOption found (IsTrue (is_nil (lists_of instance.now shift))) (AreBests instance.now cuts.now prices.now shift days)) }
+    requires tables { AreTablesAt instance.now cuts.now prices.now shift tables.now }
+    ensures { IfOk result (λ found. MatchOption found (IsTrue (is_nil (lists_of instance.now shift))) (AreBests instance.now cuts.now prices.now shift instance.now.days)) }
 {
-    let mut bests = Vec::with_capacity(alloc, usize::from(days))?;
-    for day in 0..days {
-        let best = match best_of_day(alloc, instance, cuts, prices, shift, day)? {
+    let mut bests = Vec::with_capacity(alloc, tables.len())?;
+    for day in tables {
+        let best = match best_of_tables(alloc, day)? {
             Some(best) => best,
             None => return Ok(None),
         };
@@ -77,44 +80,50 @@ fn bests_by_walk(
     }
 }
 
-/// The best break lists of a shift, and `None` where no list is legal. The sums are those of the slots' prices.
+/// The best break lists of a shift, and `None` where no list is legal. The sums are those of the slots' prices, and the tables
+/// are those of the shift, which are needed where a cut bounds duties of it that begin with some break.
 fn shift_bests(
     alloc: Global,
     instance: &Instance,
     cuts: &Cuts,
     prices: &Prices,
     sums: &DaySums,
+    tables: &[DayTables],
     shift: u16,
 ) -> Result<Option<ShiftBests>, NoMemory>
+    requires valid { IsValid instance.now }
     requires shift { shift < length (shift_list instance.now) }
     requires few { length cuts.now ≤ 2 ^ 33 }
     requires passes { IsTrue (are_prices instance.now cuts.now prices.now) }
     requires sums { sums.now ≡ record { instance = instance.now; prices = prices.now.slots } }
+    requires tables { IsTrue (have_prefix cuts.now shift) → AreTablesAt instance.now cuts.now prices.now shift tables.now }
     ensures bests { IfOk result (AreBestsOf instance.now cuts.now prices.now shift) }
 {
-    let days = instance.days();
     if has_prefix(cuts, shift) {
-        return bests_by_lists(alloc, instance, cuts, prices, shift, days);
+        return bests_by_tables(alloc, instance, cuts, prices, shift, tables);
     }
     bests_by_walk(alloc, instance, shift, sums)
 }
 
-/// The best break lists of all shifts.
+/// The best break lists of all shifts, with the tables at these prices.
 fn all_bests(
     alloc: Global,
     instance: &Instance,
     cuts: &Cuts,
     prices: &Prices,
+    tables: &[Vec<DayTables>],
 ) -> Result<Bests, NoMemory>
     requires valid { IsValid instance.now }
     requires few { length cuts.now ≤ 2 ^ 33 }
     requires passes { IsTrue (are_prices instance.now cuts.now prices.now) }
+    requires tables { AreAllTables instance.now cuts.now prices.now tables.now }
     ensures { IfOk result (λ bests. AreAllBests instance.now cuts.now prices.now bests.shifts.items) }
 {
     let sums = DaySums::new(alloc, instance, prices.slots.as_slice())?;
     let mut shifts = Vec::with_capacity(alloc, instance.shifts().len())?;
     for shift in 0..instance.shifts().len() as u16 {
-        let bests = shift_bests(alloc, instance, cuts, prices, &sums, shift)?;
+        let days = tables[usize::from(shift)].as_slice();
+        let bests = shift_bests(alloc, instance, cuts, prices, &sums, days, shift)?;
         shifts.push(bests)?;
     }
     Ok(Bests { shifts })
@@ -164,36 +173,76 @@ fn bests_with_bound(
     instance: &Instance,
     cuts: &Cuts,
     prices: &Prices,
+    tables: &[Vec<DayTables>],
 ) -> Result<Bounded, NoMemory>
     requires valid { IsValid instance.now }
     requires few { length cuts.now ≤ 2 ^ 33 }
     requires passes { IsTrue (are_prices instance.now cuts.now prices.now) }
+    requires tables { AreAllTables instance.now cuts.now prices.now tables.now }
     ensures { IfOk result (λ b. IsPriced (record { instance = instance.now; cuts = cuts.now; prices = prices.now }) b.bound b.bests.shifts.items) }
 {
-    let bests = all_bests(alloc, instance, cuts, prices)?;
+    let bests = all_bests(alloc, instance, cuts, prices, tables)?;
     let bound = bound_by(alloc, &bests, instance, cuts, prices)?;
     Ok(Bounded { bound, bests })
 }
 
-/// The same, or the first fault of the prices.
-fn priced(
+/// The tables of all shifts, with the best break lists and the bound that they give.
+fn first_bests<L: Ledger>(
     alloc: Global,
     instance: &Instance,
     cuts: &Cuts,
     prices: &Prices,
-) -> Result<Bounded, PriceFault>
-    requires { length cuts.now ≤ 2 ^ 33 }
-    ensures ok { IfOk result (λ b. IsPriced (record { instance = instance.now; cuts = cuts.now; prices = prices.now }) b.bound b.bests.shifts.items) }
-    ensures fault { MatchResult result (λ _. first_cause (price_causes instance.now cuts.now prices.now) ≡ None) (λ e. Answers e (first_cause (price_causes instance.now cuts.now prices.now))) }
+    steps: &mut Steps<L>,
+) -> Result<(Vec<Vec<DayTables>>, Bounded), NoMemory>
+    requires valid { IsValid instance.now }
+    requires few { length cuts.now ≤ 2 ^ 33 }
+    requires passes { IsTrue (are_prices instance.now cuts.now prices.now) }
+    ensures kept { IfOk result (λ r. AreAllKept instance.now cuts.now r.0.items) }
+    ensures priced { IfOk result (λ r. IsPriced (record { instance = instance.now; cuts = cuts.now; prices = prices.now }) r.1.bound r.1.bests.shifts.items) }
+{
+    let tables = kept_tables(alloc, instance, cuts, prices, steps)?;
+    let bounded = bests_with_bound(alloc, instance, cuts, prices, &tables)?;
+    Ok((tables, bounded))
+}
+
+/// Brings the tables of all shifts to other prices, and answers the best break lists and the bound that they give.
+fn next_bests<L: Ledger>(
+    tables: &mut [Vec<DayTables>],
+    alloc: Global,
+    instance: &Instance,
+    cuts: &Cuts,
+    prices: &Prices,
+    steps: &mut Steps<L>,
+) -> Result<Bounded, NoMemory>
+    requires valid { IsValid instance.now }
+    requires few { length cuts.now ≤ 2 ^ 33 }
+    requires passes { IsTrue (are_prices instance.now cuts.now prices.now) }
+    requires kept { AreAllKept instance.now cuts.now tables.old }
+    ensures kept { AreAllKept instance.now cuts.now tables.new }
+    ensures priced { IfOk result (λ b. IsPriced (record { instance = instance.now; cuts = cuts.now; prices = prices.now }) b.bound b.bests.shifts.items) }
+{
+    let changes = changes_to(alloc, prices.slots.as_slice())?;
+    reprice_tables(tables, alloc, instance, cuts, prices, &changes, steps)?;
+    bests_with_bound(alloc, instance, cuts, prices, tables)
+}
+
+/// Refuses prices that aren't a price set for the cuts, with their first fault.
+fn judge(instance: &Instance, cuts: &Cuts, prices: &Prices) -> Result<(), PriceFault>
+    ensures valid { IsValid instance.now }
+    ensures fault { MatchResult result (λ _. first_cause (price_causes instance.now cuts.now prices.now) ≡ None) (λ e. first_cause (price_causes instance.now cuts.now prices.now) ≡ Some e) }
 {
     match first_fault(instance, cuts, prices) {
-        Some(fault) => return Err(fault),
-        None => {}
+        Some(fault) => Err(fault),
+        None => Ok(()),
     }
-    match bests_with_bound(alloc, instance, cuts, prices) {
-        Ok(bounded) => Ok(bounded),
-        Err(_) => Err(PriceFault::NoMemory),
-    }
+}
+
+/// The cuts once more.
+fn copy_of(cuts: &Cuts) -> Result<Cuts, NoMemory>
+    ensures { IfOk result (λ copy. copy ≡ cuts.now) }
+{
+    let copy = cuts.clone()?;
+    Ok(copy)
 }
 
 /// A price set for the cuts of a node, with its bound and with the best break list of each shift on each day at it. The prices
@@ -205,37 +254,40 @@ pub struct Pricer {
     prices: Prices,
     bound: u64,
     bests: Bests,
+    tables: Vec<Vec<DayTables>>,
     instance: Snapshot<Instance>,
 }
 
 impl Model for Pricer {
+    ghost use Rattle.dual_bound.specs.KeptTables.{AreAllKept};
     ghost use Rattle.dual_bound.specs.Pricer.{IsPriced, Pricing};
 
     ghost Value = { Pricing };
 
     ghost view = { λ p. record { instance = p.instance.value; cuts = p.cuts; prices = p.prices } };
 
-    ghost invariant = { λ p. IsPriced (record { instance = p.instance.value; cuts = p.cuts; prices = p.prices }) p.bound p.bests.shifts.items };
+    ghost invariant = { λ p. IsPriced (record { instance = p.instance.value; cuts = p.cuts; prices = p.prices }) p.bound p.bests.shifts.items × AreAllKept p.instance.value p.cuts p.tables.items };
 }
 
 impl Pricer {
     /// Prices an instance's duties for some cuts. It answers the first fault of the prices, in the order of
     /// [`prove`](crate::prove), and where none applies only want of memory is left as a refusal.
-    pub fn new(
+    pub fn new<L: Ledger>(
         alloc: Global,
         instance: &Instance,
         cuts: &Cuts,
         prices: Prices,
+        steps: &mut Steps<L>,
     ) -> Result<Pricer, PriceFault>
         requires { length cuts.now ≤ 2 ^ 33 }
         ensures ok { IfOk result (λ p. p ≡ record { instance = instance.now; cuts = cuts.now; prices = prices }) }
         ensures fault { MatchResult result (λ _. first_cause (price_causes instance.now cuts.now prices) ≡ None) (λ e. Answers e (first_cause (price_causes instance.now cuts.now prices))) }
     {
-        let bounded = match priced(alloc, instance, cuts, &prices) {
-            Ok(bounded) => bounded,
-            Err(fault) => return Err(fault),
+        judge(instance, cuts, &prices)?;
+        let Ok((tables, bounded)) = first_bests(alloc, instance, cuts, &prices, steps) else {
+            return Err(PriceFault::NoMemory);
         };
-        let Ok(cuts) = cuts.clone() else {
+        let Ok(cuts) = copy_of(cuts) else {
             return Err(PriceFault::NoMemory);
         };
         let Bounded { bound, bests } = bounded;
@@ -245,18 +297,26 @@ impl Pricer {
             prices,
             bound,
             bests,
+            tables,
             instance: Snapshot::of(instance),
         })
     }
 
     /// Changes the prices. It answers their first fault as [`new`](Pricer::new) does, and then nothing has changed.
-    pub fn reprice(&mut self, instance: &Instance, prices: Prices) -> Result<(), PriceFault>
+    pub fn reprice<L: Ledger>(
+        &mut self,
+        instance: &Instance,
+        prices: Prices,
+        steps: &mut Steps<L>,
+    ) -> Result<(), PriceFault>
         requires { self.old.instance ≡ instance.now }
         ensures ok { OnOk result (self.new ≡ record self.old { prices = prices }) }
         ensures fault { MatchResult result (λ _. first_cause (price_causes instance.now self.old.cuts prices) ≡ None) (λ e. Answers e (first_cause (price_causes instance.now self.old.cuts prices))) }
         ensures unchanged { OnErr result (self.new ≡ self.old) }
     {
-        match priced(self.alloc, instance, &self.cuts, &prices) {
+        judge(instance, &self.cuts, &prices)?;
+        let tables = &mut self.tables;
+        match next_bests(tables, self.alloc, instance, &self.cuts, &prices, steps) {
             Ok(bounded) => {
                 let Bounded { bound, bests } = bounded;
                 self.prices = prices;
@@ -264,7 +324,7 @@ impl Pricer {
                 self.bests = bests;
                 Ok(())
             }
-            Err(fault) => Err(fault),
+            Err(_) => Err(PriceFault::NoMemory),
         }
     }
 

@@ -6,13 +6,13 @@ use Rattle.advisers.proofs.Searching.{next_round}
 use Rattle.advisers.proofs.rounds.next_round.Goals as goal
 
 pub next_prices-requires : goal.next_prices-requires
-next_prices-requires c = (ap (λ (p : Pricing). p.instance) c.requires.round, ap (λ (p : Pricing). p.cuts) c.requires.round)
+next_prices-requires g c = (ap (λ (p : Pricing). p.instance) c.requires.round, ap (λ (p : Pricing). p.cuts) c.requires.round)
 
 pub reprice-requires : goal.reprice-requires
-reprice-requires c = ap (λ (p : Pricing). p.instance) c.requires.round
+reprice-requires g c = ap (λ (p : Pricing). p.instance) c.requires.round
 
 pub returns-in-Ok : goal.returns-in-Ok
-returns-in-Ok c =
+returns-in-Ok g c =
     let i = c.args.instance.now in
     let cuts = c.args.cuts.now in
     let old = c.args.pricer.now in

@@ -3,10 +3,10 @@ use Rattle.advisers.specs.Rounds.{valued_of}
 use Rattle.advisers.specs.Subgradient.{value_in}
 use Rattle.advisers.specs.declared.rounds.Valued.{Valued}
 use Rattle.advisers.proofs.Searching.{round_of, searched_first, searched_last, searched_next, searched_reached}
-use Rattle.advisers.proofs.rounds.best_prices.Goals as goal
+use Rattle.advisers.proofs.rounds.best_of_rounds.Goals as goal
 
 pub loop-round-init : goal.loop-round-init
-loop-round-init c =
+loop-round-init g c =
     let i = c.args.instance.now in
     let cuts = c.args.cuts.now in
     let q = c.args.q in
@@ -16,7 +16,7 @@ loop-round-init c =
     }
 
 pub loop-round-preserved : goal.loop-round-preserved
-loop-round-preserved c =
+loop-round-preserved g c =
     let i = c.args.instance.now in
     let cuts = c.args.cuts.now in
     let q = c.args.q in
@@ -32,10 +32,10 @@ loop-round-preserved c =
     }
 
 pub returns : goal.returns
-returns c = searched_last c.args.instance.now c.args.cuts.now c.args.q c.args.goal c.loop-round.round 40 c.loop-round.best c.loop-round.invariant.searched (omega arith)
+returns g c = searched_last c.args.instance.now c.args.cuts.now c.args.q c.args.goal c.loop-round.round 40 c.loop-round.best c.loop-round.invariant.searched (omega arith)
 
 pub returns-then-goal-value : goal.returns-then-goal-value
-returns-then-goal-value c =
+returns-then-goal-value g c =
     let i = c.args.instance.now in
     let is : c.value.result ≡ value_in i c.args.cuts.now c.args.q c.loop-round.round = c.value.ensures ∙ ap (λ p. (valued_of p).value) c.loop-round.invariant.at in
     let reached : c.args.goal ≤ value_in i c.args.cuts.now c.args.q c.loop-round.round = omega (arith, is) in

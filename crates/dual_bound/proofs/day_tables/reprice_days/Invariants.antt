@@ -1,0 +1,7 @@
+use Rattle.std.proofs.Common.{◌≡◌, map, All}
+use Rattle.std.specs.List.{AllWithin}
+use Rattle.dual_bound.specs.KeptTables.{IsKept, IsAt, place_of}
+use Rattle.dual_bound.proofs.day_tables.reprice_days.Given as goal
+
+abbrev pub invariant-loop-day : goal.invariant-loop-day
+invariant-loop-day g l = (map place_of l.days ≡ map place_of l.initial.days) × All (IsKept l.instance) l.days × AllWithin (IsAt l.cuts l.prices) l.days 0 l.day-index

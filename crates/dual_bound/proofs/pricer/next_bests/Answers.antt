@@ -1,0 +1,8 @@
+use Rattle.std.proofs.Common.{◌≤◌, ℤ, List, All, sym, subst}
+use Rattle.std.specs.Int.RustNames.{unsigned_abs}
+use Rattle.bound_sums.proofs.Priced.{slots_small}
+use Rattle.dual_bound.proofs.pricer.next_bests.Goals as goal
+
+pub changes_to-requires-clause-small : goal.changes_to-requires-clause-small
+changes_to-requires-clause-small g c =
+    subst (λ (xs : List ℤ). All (λ z. unsigned_abs z ≤ 10000000000) xs) (sym c.as_slice.ensures) (slots_small c.args.instance.now c.args.cuts.now c.args.prices.now c.requires.valid c.requires.passes)
