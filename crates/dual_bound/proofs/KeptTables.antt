@@ -121,8 +121,8 @@ tables_more i cuts prices n all v so_far own at =
       kept = record {
         count = length-append all (v ∷ []) ∙ omega arith;
         each = λ s d less.
-        let longer = length-append all (v ∷ []) in
-        each_more (λ k (w : Vec DayTables Global). AreKept i k (days_of i cuts k) w.items) d all v n count (λ k below_n. so_far.kept.each k d (omega arith)) own s (omega arith);
+            let longer = length-append all (v ∷ []) in
+            each_more (λ k (w : Vec DayTables Global). AreKept i k (days_of i cuts k) w.items) d all v n count (λ k below_n. so_far.kept.each k d (omega arith)) own s (omega arith);
       };
       at = all_more (λ (w : Vec DayTables Global). All (IsAt cuts prices) w.items) all v so_far.at at;
     }
@@ -145,12 +145,12 @@ module _ (i : Problem) (cuts : List Cut) (shifts k : ℕ) (all : List (Vec DayTa
       record {
         count = length-set all k changed ∙ kept.count;
         each = λ s d less.
-        elim (cases_eq s k) [
-          | inl e ↦
-              subst (λ (w : Vec DayTables Global). AreKept i s (days_of i cuts s) w.items) (sym (get_or-set_at all k s changed d e inside))
-              (subst (λ n. AreKept i n (days_of i cuts n) (with_items (get_or all k v) ws).items) (sym e) own)
-          | inr other ↦
-              let same = length-set all k changed in
-              subst (λ (w : Vec DayTables Global). AreKept i s (days_of i cuts s) w.items) (sym (get_or-set_other all k s changed d other)) (kept.each s d (omega arith))
-        ];
+            elim (cases_eq s k) [
+              | inl e ↦
+                  subst (λ (w : Vec DayTables Global). AreKept i s (days_of i cuts s) w.items) (sym (get_or-set_at all k s changed d e inside))
+                  (subst (λ n. AreKept i n (days_of i cuts n) (with_items (get_or all k v) ws).items) (sym e) own)
+              | inr other ↦
+                  let same = length-set all k changed in
+                  subst (λ (w : Vec DayTables Global). AreKept i s (days_of i cuts s) w.items) (sym (get_or-set_other all k s changed d other)) (kept.each s d (omega arith))
+            ];
       }

@@ -39,8 +39,7 @@ loop-days-preserved g c =
     let days = c.reprice_days.new.days in
     let places : map place_of days ≡ map place_of (get_or c.loop-days.all s c.days-item.result).items = c.reprice_days.ensures.places ∙ ap (map place_of) c.deref_mut.ensures.value in
     let at : All P (with_items (get_or c.loop-days.all s c.days-item.result) days).items =
-    subst (λ (xs : List DayTables). All P xs) (sym (items_of_changed i c.args.cuts.now 0 s c.loop-days.all c.days-item.result days places)) c.in_ok-reprice_days.ensures.at in
-    (
+    subst (λ (xs : List DayTables). All P xs) (sym (items_of_changed i c.args.cuts.now 0 s c.loop-days.all c.days-item.result days places)) c.in_ok-reprice_days.ensures.at in (
       kept_changed i c.args.cuts.now _ s c.loop-days.all c.days-item.result days c.loop-days.invariant.0 inside places c.reprice_days.ensures.kept,
-      AllWithin-more_set c.loop-days.all s (with_items (get_or c.loop-days.all s c.days-item.result) days) inside (λ (w : Vec DayTables Global). All P w.items) c.loop-days.invariant.1 at
+      AllWithin-more_set c.loop-days.all s (with_items (get_or c.loop-days.all s c.days-item.result) days) inside (λ (w : Vec DayTables Global). All P w.items) c.loop-days.invariant.1 at,
     )
