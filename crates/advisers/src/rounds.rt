@@ -134,26 +134,30 @@ fn better(best: Valued, pricer: &Pricer) -> Result<Valued, NoMemory>
     Ok(best)
 }
 
-/// The prices of greatest value of at most 40 rounds, as [`best_prices`] has them, with a count of the steps of pricing.
+/// The prices of greatest value of at most 40 rounds, as [`best_prices`] has them, with a count that nobody has opened yet.
 fn best_of_rounds<L: Ledger>(
     alloc: Global,
     instance: &Instance,
     cuts: &Cuts,
     q: u16,
     goal: u64,
-    steps: &mut Steps<L>,
+    blank: Blank,
 ) -> Result<Prices, NoMemory>
+    requires name { blank.name ≡ L.name }
+    requires parts { blank.parts ≡ L.parts }
+    requires some { 0 < L.parts }
     requires few { length cuts.now ≤ 2 ^ 33 }
     requires scale { (1 ≤ q) × (q ≤ 10000) }
     ensures { IfOk result (λ prices. prices ≡ best_prices instance.now cuts.now q goal 40) }
 {
-    let mut pricer = first_round(alloc, instance, cuts, q, steps)?;
+    let mut steps = Steps::<L>::new(blank);
+    let mut pricer = first_round(alloc, instance, cuts, q, &mut steps)?;
     let mut best = Valued::of(&pricer)?;
     for round in 0..STEPS {
         if goal <= pricer.value() {
             return Ok(best.prices);
         }
-        next_round(alloc, instance, cuts, q, round, &mut pricer, steps)?;
+        next_round(alloc, instance, cuts, q, round, &mut pricer, &mut steps)?;
         let leader = better(best, &pricer)?;
         best = leader;
     }
@@ -173,7 +177,6 @@ pub(crate) fn best_prices(
     requires scale { (1 ≤ q) × (q ≤ 10000) }
     ensures { IfOk result (λ prices. prices ≡ best_prices instance.now cuts.now q goal 40) }
 {
-    // Nobody reads this count.
-    let mut steps = Steps::<Brand>::new(Blank::new(1));
-    best_of_rounds(alloc, instance, cuts, q, goal, &mut steps)
+    // Nobody reads the count of steps.
+    best_of_rounds::<Brand>(alloc, instance, cuts, q, goal, Blank::new(1))
 }

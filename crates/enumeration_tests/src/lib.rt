@@ -9,6 +9,7 @@ mod days;
 #[cfg(test)]
 mod draws;
 #[cfg(test)]
+mod kept_bests;
 mod kept_tables;
 #[cfg(test)]
 mod legal_lists;
