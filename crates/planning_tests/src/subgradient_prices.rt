@@ -7,6 +7,7 @@ use advisers::Subgradient;
 use break_rules::{Break, Breaks, NoMemory, Rule};
 use dual_bound::{PriceFault, prove};
 use head_splits::{Class, Cut, Cuts, Hint, Prices, Side};
+use instance_json::generate;
 use rota_cost::cost_rows;
 use shift_instance::{Instance, Rows};
 use std::alloc::Global;
@@ -101,5 +102,26 @@ fn prices_of_greatest_value_are_advised(rt: HostRuntime) -> Result<(), Fail> {
         prices_at_ten(alloc, Cuts::new(Vec::new(alloc)))?,
         (Some(4), None)
     );
+    Ok(())
+}
+
+/// Each price times the number of its slot, from 1 on, added up: so each price has a share of its own.
+fn weighted(prices: &[i64]) -> i64 {
+    let mut sum = 0i64;
+    for (slot, price) in prices.iter().enumerate() {
+        let number = (slot as i64).wrapping_add(1);
+        sum = sum.wrapping_add(price.wrapping_mul(number));
+    }
+    sum
+}
+
+// These numbers are those of the method before it kept lists and tables from round to round.
+#[test]
+fn the_advice_on_a_made_week_is_as_before(rt: HostRuntime) -> Result<(), Fail> {
+    let alloc = rt.alloc();
+    let instance = generate(alloc, 1)?;
+    let Advice { prices, .. } = advised(alloc, &instance, 100, Cuts::new(Vec::new(alloc)))?;
+    let sum = weighted(prices.slots.as_slice());
+    assert_eq!(rt; (sum, value(alloc, &instance, prices)), (-101_416, Ok(18)));
     Ok(())
 }
