@@ -134,7 +134,7 @@ fn better(best: Valued, pricer: &Pricer) -> Result<Valued, NoMemory>
     Ok(best)
 }
 
-/// The prices of greatest value of at most 40 rounds, as [`best_prices`] has them, with a count that nobody has opened yet.
+/// The prices of greatest value of at most 40 rounds, as [`best_prices`] has them, found with a count of steps that begins here.
 fn best_of_rounds<L: Ledger>(
     alloc: Global,
     instance: &Instance,
