@@ -10,6 +10,7 @@ mod days;
 mod draws;
 #[cfg(test)]
 mod kept_bests;
+#[cfg(test)]
 mod kept_tables;
 #[cfg(test)]
 mod legal_lists;
