@@ -59,7 +59,7 @@ def measure(total, folder):
     with open(document, "w") as out:
         json.dump(week(total), out)
     for way in ([], ["--local"], ["--thorough"]):
-        journal = os.path.join(folder, "week%s.journal" % "".join(way))
+        journal = os.path.join(folder, "week_of_%d%s.journal" % (total, "".join(way)))
         seconds, memory, status = run([SOLVE, "solve", journal, "--workers", "1", "--steps", "1", *way], document, report)
         with open(report, "rb") as text:
             head = b", ".join(line.strip() for line in text.readlines()[1:4]).decode()
