@@ -185,7 +185,7 @@ fn bests_over(
 /// The best break list of a shift on each day at the prices that the sums are of, with what it earns: the least of the legal
 /// lists of greatest price of the slots in which a duty with it works, as [`best_pattern`](crate::best_pattern) finds it without
 /// bonuses. `None` where no list is legal. All days are valued in one walk along the shift's graph, and then each list is followed
-/// along it.
+/// along it; where the instance keeps no graph of the shift, each day is valued by layers of spots.
 pub fn best_by_day(
     alloc: Global,
     instance: &Instance,

@@ -57,7 +57,7 @@ fn most_over(
 
 /// What the best duties of a shift earn at the prices that the sums are of, one value for each day: the greatest price of the
 /// slots in which a duty with a legal break list works. `None` where no list is legal. All days are priced in one walk along the
-/// shift's graph, without making a list.
+/// shift's graph, without making a list; where the instance keeps no graph of the shift, each day is priced by layers of spots.
 pub fn most_by_day(
     alloc: Global,
     instance: &Instance,
