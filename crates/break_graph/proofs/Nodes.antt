@@ -2,7 +2,7 @@
 use Rattle.std.proofs.Common.{◌≡◌, ◌≢◌, ◌⊎◌, inl, inr, ℕ, ◌+◌, ◌-◌, ◌*◌, ◌<◌, ◌≤◌, Bool, true, false, ◌==◌, List, [], ◌∷◌, ◌++◌, length, map, filter, refl, sym, ap, ◌∙◌, subst, arith, slice_get, append_assoc, Option, Some, None, MatchOption, if◌then◌else◌}
 use Rattle.std.specs.List.{filter_map, cons_option, list_any}
 use Rattle.std.proofs.lemmas.Bool.{false≢true, cases_Bool, cases_lt, cond_both, ne_eqb}
-use Rattle.std.proofs.lemmas.List.{length-append, get_or_past}
+use Rattle.std.proofs.lemmas.List.{length-append, get_or_past, nil_from_length}
 use Rattle.std.proofs.Math.ListN.{get_or-append}
 use Rattle.std.proofs.Math.Seq.{get_or-append_seam}
 use Rattle.break_rules.specs.declared.Break.{Break}
@@ -21,6 +21,7 @@ use Rattle.break_graph.specs.declared.Node.{Node}
 use Rattle.break_graph.specs.Graph.{node_at, live_nexts, StandsAt, IsGraph}
 use Rattle.break_graph.specs.Building.{number_at, AreBelow, LeadBelow, edge_to, edges_by, node_if, node_by, IsNodeOf, AreDrafted}
 use Rattle.break_graph.proofs.Elements.{Has-get}
+use Rattle.break_graph.proofs.Fronts.{live_front}
 
 -- the edge by a break leads below where its number does
 pub below_one : (bound : ℕ) (numbers : List (Option ℕ)) (place : ℕ) (b : Break) (number : Option ℕ) (e : Edge) → AreBelow bound numbers → number_at numbers place ≡ number
@@ -320,40 +321,41 @@ opening_place rule len = let none = bits_none rule.lunches in omega arith
     bits_none [] = refl
     bits_none (e ∷ es) = let rest = bits_none es in omega arith
 
-pub no_graph : (rule : Rule) (len : ℕ) (nodes : List Node) (numbers : List (Option ℕ)) → IsRule rule → AreDrafted rule len (256 * len) nodes numbers → IsNodeOf rule len (256 * len) numbers None
-    → IsGraph rule len []
-no_graph rule len nodes numbers r d of =
-    let dead : is_live rule len [] ≡ false =
-    subst (λ (o : Option Node). MatchOption o (is_live rule len [] ≡ false) (λ m. IsRight rule len nodes [] m)) (sym (of.exact [] refl (opening_place rule len)))
-    (told_here rule len (256 * len) nodes numbers d [] r refl (opening_place rule len)) in
-    record {
-      none = λ e. dead;
-      opening = λ some. absurd (some refl);
-      edges = λ k list s. absurd (beyond k s.within);
-      back = λ k i e l h. absurd (beyond k l);
-      behind = λ k i e list s h. absurd (beyond k s.within);
-      ends = λ k list s. absurd (beyond k s.within);
-      reached = λ k l. absurd (beyond k l);
-      order = λ j k less l. absurd (beyond k l);
-    }
-  where
-    beyond : (k : ℕ) → k < length {A = Node} [] → ⊥
-    beyond k l = omega arith
+module _ (rule : Rule) (len before : ℕ) (nodes : List Node) (numbers : List (Option ℕ)) (drafted : AreDrafted rule len before nodes numbers) (all : before ≡ 256 * len + 1) where
+  no_opening : is_live rule len [] ≡ false → nodes ≢ [] → ⊥
+  no_opening dead some =
+      elim (cases_lt 0 (length nodes)) [
+        | inl l ↦ let r = drafted.reached 0 l in false≢true (sym dead ∙ live_front rule len [] r.0 r.1.live)
+        | inr g ↦ some (nil_from_length nodes (omega arith))
+      ]
 
-pub whole_graph : (rule : Rule) (len : ℕ) (nodes : List Node) (numbers : List (Option ℕ)) (n : Node) → IsRule rule → AreDrafted rule len (256 * len) nodes numbers → length numbers ≡ 256 * len
-    → IsNodeOf rule len (256 * len) numbers (Some n) → IsGraph rule len (nodes ++ n ∷ [])
-whole_graph rule len nodes numbers n r d many of =
-    let all = draft_more rule len (256 * len) nodes (nodes ++ n ∷ []) numbers (numbers ++ Some (length nodes) ∷ []) (Some n) (Some (length nodes)) r d many of (λ e. absurd (cc)) (λ m e. (refl, let same : n ≡ m = cc in ap (λ (x : Node). nodes ++ x ∷ []) same)) refl in
-    let at : place_of len (spot_of rule []) ≡ length numbers = opening_place rule len ∙ sym many in
-    let here = subst (Tells rule len (nodes ++ n ∷ []) []) (number_here numbers (Some (length nodes)) (place_of len (spot_of rule [])) at) (all.known [] refl (omega (arith, opening_place rule len))) in
-    let last : length nodes ≡ length (nodes ++ n ∷ []) - 1 = omega (arith, one_longer nodes n) in
-    record {
-      none = λ e. absurd (let l = one_longer nodes n in let z : length (nodes ++ n ∷ []) ≡ 0 = ap length e in omega arith);
-      opening = λ some. subst (λ k. StandsAt rule len (nodes ++ n ∷ []) k []) last here;
-      edges = all.edges;
-      back = λ k i e l h. all.back k l i e h;
-      behind = all.behind;
-      ends = all.ends;
-      reached = all.reached;
-      order = all.order;
-    }
+  opening_last : (k : ℕ) → StandsAt rule len nodes k [] → k ≡ length nodes - 1
+  opening_last k s =
+      let within = s.within in
+      elim (cases_lt k (length nodes - 1)) [
+        | inl l ↦
+            let less = drafted.order k (length nodes - 1) l (omega arith) in
+            let last = drafted.placed (length nodes - 1) (omega arith) in
+            let here : place_of len (node_at nodes k).spot ≡ 256 * len = ap (place_of len) s.spot ∙ opening_place rule len in
+            absurd (omega arith)
+        | inr g ↦ omega arith
+      ]
+
+  opening_told : (number : Option ℕ) → Tells rule len nodes [] number → (nodes ≡ [] → is_live rule len [] ≡ false) × (nodes ≢ [] → StandsAt rule len nodes (length nodes - 1) [])
+  opening_told None dead = (λ e. dead, λ some. absurd (no_opening dead some))
+  opening_told (Some k) s =
+      (λ e. absurd (let within = s.within in let none : length nodes ≡ 0 = ap length e in omega arith), λ some. subst (λ j. StandsAt rule len nodes j []) (opening_last k s) s)
+
+  pub whole_graph : IsGraph rule len nodes
+  whole_graph =
+      let opening = opening_told (number_at numbers (place_of len (spot_of rule []))) (drafted.known [] refl (omega (arith, opening_place rule len))) in
+      record {
+        none = opening.0;
+        opening = opening.1;
+        edges = drafted.edges;
+        back = λ k i e l h. drafted.back k l i e h;
+        behind = drafted.behind;
+        ends = drafted.ends;
+        reached = drafted.reached;
+        order = drafted.order;
+      }

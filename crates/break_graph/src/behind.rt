@@ -1,24 +1,14 @@
 //! The node where some breaks stand, along the edges of a graph.
 
-ghost use Rattle.std.specs.Prelude.{◌≡◌, ◌<◌, ℕ, false, MatchOption, length};
+ghost use Rattle.std.specs.Prelude.{◌≡◌, ℕ, false, MatchOption};
 ghost use Rattle.break_rules.specs.declared.Rule.{Rule};
 ghost use Rattle.break_rules.specs.Breaks.{is_live};
 ghost use Rattle.break_rules.proofs.Lists.{Has};
 ghost use Rattle.break_graph.specs.declared.Edge.{Edge};
-ghost use Rattle.break_graph.specs.Graph.{IsGraph, StandsAt, node_at};
+ghost use Rattle.break_graph.specs.Graph.{IsGraph, StandsAt};
 
-use crate::{Edge, Graph, Node};
+use crate::{Edge, Graph};
 use break_rules::Break;
-
-/// The edges of the node of a number.
-fn edges_of(nodes: &[Node], at: usize) -> &[Edge]
-    requires { at < length nodes.now }
-    ensures { result.now ≡ (node_at nodes.now at).edges }
-{
-    let node = &nodes[at];
-    let edges = &node.edges;
-    edges.as_slice()
-}
 
 /// The edge with a break, and `None` where there is none.
 fn edge_with(edges: &[Edge], stop: Break) -> Option<Edge>
@@ -38,13 +28,12 @@ impl Graph {
         requires graph { (rule : Rule) × (len : ℕ) × IsGraph rule len self.now }
         ensures behind { (rule : Rule) (len : ℕ) → IsGraph rule len self.now → MatchOption result (is_live rule len front.now ≡ false) (λ k. StandsAt rule len self.now k front.now) }
     {
-        let nodes = self.nodes();
-        let Some(opening) = nodes.len().checked_sub(1) else {
+        let Some(opening) = self.node_count().checked_sub(1) else {
             return None;
         };
         let mut at = opening;
         for stop in front {
-            let Some(edge) = edge_with(edges_of(nodes, at), *stop) else {
+            let Some(edge) = edge_with(self.edges(at), *stop) else {
                 return None;
             };
             at = edge.next as usize;

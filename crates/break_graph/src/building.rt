@@ -1,6 +1,6 @@
 //! The nodes of a graph, made from the end of the shift to its start.
 
-ghost use Rattle.std.specs.Prelude.{◌≡◌, ◌+◌, ◌-◌, ◌*◌, ◌^◌, ◌<◌, ◌≤◌, ◌++◌, ℕ, List, [], ◌∷◌, Bool, true, false, IfOk, IsTrue, length, slice_get, slice_index_or, Option, Some, None, MatchOption};
+ghost use Rattle.std.specs.Prelude.{◌≡◌, ◌+◌, ◌-◌, ◌*◌, ◌^◌, ◌<◌, ◌≤◌, ◌++◌, ℕ, List, [], ◌∷◌, Bool, true, false, IfOk, IfSome, IsSome, IsTrue, length, sum_by, slice_get, slice_index_or, Option, Some, None, MatchOption};
 ghost use Rattle.std.specs.List.{filter_map};
 ghost use Rattle.break_rules.specs.Ranges.{IsRule};
 ghost use Rattle.break_rules.specs.Walk.{nexts_of, spot_of, is_walk};
@@ -77,16 +77,16 @@ fn node_of(
 }
 
 /// Adds a node, if there is one, and gives its number.
-fn add_node(nodes: &mut Vec<Node>, found: Option<Node>) -> Result<Option<u32>, NoMemory>
-    requires { length nodes.old.items < 2 ^ 32 }
-    ensures few { IfOk result (λ _. length nodes.new.items ≤ length nodes.old.items + 1) }
-    ensures none { found ≡ None → IfOk result (λ number. (number ≡ None) × (nodes.new.items ≡ nodes.old.items)) }
-    ensures some { (n : Node) → found ≡ Some n → IfOk result (λ number. (number ≡ Some (length nodes.old.items)) × (nodes.new.items ≡ nodes.old.items ++ n ∷ [])) }
+fn add_node(graph: &mut Graph, found: Option<Node>) -> Result<Option<u32>, NoMemory>
+    requires { length graph.old < 2 ^ 32 }
+    ensures few { IfOk result (λ _. length graph.new ≤ length graph.old + 1) }
+    ensures none { found ≡ None → IfOk result (λ number. (number ≡ None) × (graph.new ≡ graph.old)) }
+    ensures some { (n : Node) → found ≡ Some n → IfOk result (λ number. (number ≡ Some (length graph.old)) × (graph.new ≡ graph.old ++ n ∷ [])) }
 {
     match found {
         Some(node) => {
-            let number = nodes.len() as u32;
-            nodes.push(node)?;
+            let number = graph.node_count() as u32;
+            graph.append(node)?;
             Ok(Some(number))
         }
         None => Ok(None),
@@ -101,23 +101,38 @@ impl Graph {
         requires { IsRule rule.now }
         ensures { IfOk result (λ g. IsGraph rule.now len g) }
     {
+        match Graph::within(alloc, rule, len, usize::MAX)? {
+            Some(graph) => Ok(graph),
+            None => unreachable!(),
+        }
+    }
+
+    /// The graph of a rule and a length, as `new`, and `None` where it has more than `most_edges` edges: then it is not made
+    /// whole.
+    pub fn within(
+        alloc: Global,
+        rule: &Rule,
+        len: u16,
+        most_edges: usize,
+    ) -> Result<Option<Graph>, NoMemory>
+        requires { IsRule rule.now }
+        ensures graph { IfOk result (λ found. IfSome found (λ g. IsGraph rule.now len g)) }
+        ensures few { IfOk result (λ found. IfSome found (λ g. sum_by (λ n. length n.edges) g ≤ most_edges)) }
+        ensures more { IfOk result (λ found. found ≡ None → (g : List Node) → IsGraph rule.now len g → most_edges < sum_by (λ n. length n.edges) g) }
+        ensures unbounded { most_edges ≡ usize.MAX → IfOk result (λ found. IsSome found) }
+    {
         let reached = marked_places(alloc, rule, len)?;
-        let mut nodes = Vec::new(alloc);
+        let mut graph = Graph::empty(alloc);
         let mut numbers = Vec::new(alloc);
-        let last = 256 * usize::from(len);
-        for place in 0..last {
+        let places = 256 * usize::from(len) + 1;
+        for place in 0..places {
             let found = node_of(alloc, rule, len, place, &reached, &numbers)?;
-            let number = add_node(&mut nodes, found)?;
+            let number = add_node(&mut graph, found)?;
+            if most_edges < graph.edges_in_all() {
+                return Ok(None);
+            }
             numbers.push(number)?;
         }
-        match node_of(alloc, rule, len, last, &reached, &numbers)? {
-            Some(opening) => {
-                nodes.push(opening)?;
-                Ok(Graph { nodes })
-            }
-            None => Ok(Graph {
-                nodes: Vec::new(alloc),
-            }),
-        }
+        Ok(Some(graph))
     }
 }

@@ -6,18 +6,16 @@ ghost use Rattle.break_rules.specs.declared.Rule.{Rule};
 ghost use Rattle.break_rules.specs.Breaks.{legal_lists};
 ghost use Rattle.break_graph.specs.Graph.{IsGraph, node_at};
 
-use crate::{Edge, Graph, Node};
+use crate::{Edge, Graph};
 use break_rules::{Breaks, NoMemory};
 use std::alloc::Global;
 
 /// The first edge of a node, and `None` where it has none.
-fn first_edge(nodes: &[Node], at: usize) -> Option<Edge>
-    requires { at < length nodes.now }
-    ensures { result ≡ slice_get (node_at nodes.now at).edges 0 }
+fn first_edge(graph: &Graph, at: usize) -> Option<Edge>
+    requires { at < length graph.now }
+    ensures { result ≡ slice_get (node_at graph.now at).edges 0 }
 {
-    let node = &nodes[at];
-    let edges = &node.edges;
-    edges.as_slice().first().copied()
+    graph.edges(at).first().copied()
 }
 
 impl Graph {
@@ -27,13 +25,12 @@ impl Graph {
         requires graph { (rule : Rule) × (len : ℕ) × IsGraph rule len self.now }
         ensures first { (rule : Rule) (len : ℕ) → IsGraph rule len self.now → IfOk result (λ found. found ≡ slice_get (legal_lists rule len) 0) }
     {
-        let nodes = self.nodes();
-        let Some(opening) = nodes.len().checked_sub(1) else {
+        let Some(opening) = self.node_count().checked_sub(1) else {
             return Ok(None);
         };
         let mut list = Vec::new(alloc);
         let mut at = opening;
-        while let Some(edge) = first_edge(nodes, at) {
+        while let Some(edge) = first_edge(self, at) {
             list.push(edge.stop)?;
             at = edge.next as usize;
         }

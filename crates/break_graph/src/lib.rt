@@ -7,9 +7,12 @@ mod building;
 mod first_list;
 mod places;
 
-ghost use Rattle.std.specs.Prelude.{◌≡◌, ◌-◌, ◌^◌, min, sum_by, length};
+ghost use Rattle.std.specs.Prelude.{◌≡◌, ◌-◌, ◌^◌, ◌<◌, ◌≤◌, ◌++◌, [], ◌∷◌, IfOk, min, sum_by, length};
+ghost use Rattle.break_graph.specs.Graph.{node_at};
+ghost use Rattle.break_graph.specs.Flat.{begin_at};
 
-use break_rules::{Break, Sequence, Spot};
+use break_rules::{Break, NoMemory, Sequence, Spot};
+use std::alloc::Global;
 use std::marker::Model;
 
 /// A break with which some legal list goes on from a spot.
@@ -24,7 +27,7 @@ pub struct Edge {
 /// The edges of a node, by their breaks in rising order.
 pub type Edges = Sequence<Edge>;
 
-/// A spot at which walks stand with which some legal list begins.
+/// A spot at which walks stand with which some legal list begins. Contracts see a graph as a list of these.
 #[derive(Clone, Debug, Drop)]
 pub struct Node {
     /// The spot.
@@ -33,11 +36,20 @@ pub struct Node {
     pub edges: Edges,
 }
 
+/// A node whose edges lie among those of all nodes: they end at a place there, and begin where those of the node before it
+/// end.
+#[derive(Clone, Copy, Debug)]
+struct FlatNode {
+    spot: Spot,
+    end: usize,
+}
+
 /// The nodes of a rule and a length. Each edge leads to a node before its own; the empty list stands at the last node, and
 /// there is no node where no list is legal.
 #[derive(Clone, Debug, Drop)]
 pub struct Graph {
-    nodes: Vec<Node>,
+    nodes: Vec<FlatNode>,
+    edges: Vec<Edge>,
 }
 
 impl Model for Graph {
@@ -46,25 +58,83 @@ impl Model for Graph {
 
     ghost Value = { List Node };
 
-    ghost view = { λ g. g.nodes.items };
+    ghost use Rattle.break_graph.specs.Flat.{nodes_from, AreFlat};
+
+    ghost view = { λ g. nodes_from 0 g.nodes.items g.edges.items };
+
+    ghost invariant = { λ g. AreFlat 0 g.nodes.items g.edges.items };
+}
+
+/// Where the edges of the node of a number begin.
+fn begin_of(nodes: &[FlatNode], node: usize) -> usize
+    requires { node < length nodes.now }
+    ensures { result ≡ begin_at nodes.now node }
+{
+    match node.checked_sub(1) {
+        Some(before) => nodes[before].end,
+        None => 0,
+    }
 }
 
 impl Graph {
-    /// The nodes, by number.
-    pub fn nodes(&self) -> &[Node]
-        ensures { result.now ≡ self.now }
+    /// A graph without nodes. It takes no memory.
+    fn empty(alloc: Global) -> Graph
+        ensures { result ≡ [] }
     {
-        self.nodes.as_slice()
+        Graph {
+            nodes: Vec::new(alloc),
+            edges: Vec::new(alloc),
+        }
+    }
+
+    /// Adds a node behind the others. Its room is made first, so that no edges stay without it where memory is wanting.
+    fn append(&mut self, node: Node) -> Result<(), NoMemory>
+        ensures { IfOk result (λ _. self.new ≡ self.old ++ node ∷ []) }
+    {
+        self.nodes.reserve(1)?;
+        self.edges.extend_from_slice(node.edges.as_slice())?;
+        let end = self.edges.len();
+        let spot = node.spot;
+        self.nodes.push(FlatNode { spot, end })?;
+        Ok(())
+    }
+
+    /// The number of nodes.
+    pub fn node_count(&self) -> usize
+        ensures { result ≡ length self.now }
+    {
+        self.nodes.len()
+    }
+
+    /// The spot of the node of a number.
+    pub fn spot(&self, node: usize) -> Spot
+        requires { node < length self.now }
+        ensures { result ≡ (node_at self.now node).spot }
+    {
+        self.nodes[node].spot
+    }
+
+    /// The edges of the node of a number, by their breaks in rising order.
+    pub fn edges(&self, node: usize) -> &[Edge]
+        requires { node < length self.now }
+        ensures { result.now ≡ (node_at self.now node).edges }
+    {
+        let begin = begin_of(&self.nodes, node);
+        let end = self.nodes[node].end;
+        &self.edges[begin..end]
+    }
+
+    /// The number of the edges of all nodes.
+    fn edges_in_all(&self) -> usize
+        ensures { result ≡ sum_by (λ n. length n.edges) self.now }
+    {
+        self.edges.len()
     }
 
     /// The number of the edges of all nodes, for whoever bounds the memory of graphs; at most `usize::MAX`.
     pub fn edge_count(&self) -> usize
         ensures { result ≡ min (sum_by (λ n. length n.edges) self.now) (2 ^ 64 - 1) }
     {
-        let mut count = 0usize;
-        for node in self.nodes.as_slice() {
-            count = count.saturating_add(node.edges.as_slice().len());
-        }
-        count
+        self.edges_in_all()
     }
 }

@@ -14,8 +14,8 @@ use std::alloc::Global;
 use std::marker::Model;
 use std::sync::Arc;
 
-/// The most edges that the graphs of an instance have together, each counted once, which bounds their memory to some 256 MB. The shifts of an
-/// hour's quarters have some thousands; those of breaks and slots of five minutes may have a million for each length.
+/// The most edges that the graphs of an instance have together, each counted once, which bounds their memory to some 130 MB, eight bytes an edge.
+/// The shifts of an hour's quarters have some thousands; those of breaks and slots of five minutes may have a million for each length.
 const EDGES_KEPT: usize = 1 << 24;
 
 /// The graphs of a type's rule, by length from the type's least on, each shared with the types that have the same rule. The
@@ -124,12 +124,10 @@ fn graph_within(
     if let Some(found) = graph_among(kinds, graphs, rule, len) {
         return Ok(Some(Arc::try_clone(found)?));
     }
-    let graph = Graph::new(alloc, rule, len)?;
-    let edges = graph.edge_count();
-    if *room < edges {
+    let Some(graph) = Graph::within(alloc, rule, len, *room)? else {
         return Ok(None);
-    }
-    *room -= edges;
+    };
+    *room -= graph.edge_count();
     Ok(Some(Arc::new(alloc, graph)?))
 }
 

@@ -305,8 +305,8 @@ impl Instance {
 
     /// The graph of the break lists of a shift, by the rule of its type and its length, and `None` where the instance
     /// doesn't keep it. It keeps the graphs of all shifts unless they have together more than some 16 million edges, as for
-    /// much break time in slots of five minutes: then those of the longest shifts of a type are left out, and whoever
-    /// wants one makes it. Shifts of one length share their graph where their types have the same rule.
+    /// much break time in slots of five minutes: then those of the longest shifts of a type are left out. Shifts of one
+    /// length share their graph where their types have the same rule.
     pub fn graph(&self, shift: u16) -> Option<&Graph>
         requires { shift < length (shift_list self.now) }
         ensures graph { MatchOption result Unit (λ g. IsSomeAnd (slice_get (shift_list self.now) shift) (λ x. IsGraph x.1 x.0.len g.now)) }

@@ -160,11 +160,9 @@ impl ListGraph {
     pub fn new(alloc: Global, graph: &Graph, resettle: u16) -> Result<ListGraph, NoMemory> {
         let mut nodes = Vec::new(alloc);
         let mut edges = Vec::new(alloc);
-        for node in graph.nodes() {
-            for edge in node.edges.as_slice() {
-                edges.push(*edge)?;
-            }
-            let offset = node.spot.offset;
+        for node in 0..graph.node_count() {
+            edges.extend_from_slice(graph.edges(node))?;
+            let offset = graph.spot(node).offset;
             let pause = if offset == 0 { 0 } else { resettle };
             nodes.push(FlatNode {
                 resumes: usize::from(offset.saturating_add(pause)),

@@ -1,10 +1,8 @@
-use Rattle.std.proofs.Common.{◌≡◌, ◌++◌, ◌∷◌, [], ℕ, List, Option, None, Some, slice_get, sym, ap, subst, ◌∙◌, rules}
+use Rattle.std.proofs.Common.{◌≡◌, ◌++◌, ◌∷◌, [], ℕ, List, Some, slice_get, sym, ap, subst, ◌∙◌, rules}
 use Rattle.break_rules.specs.declared.Break.{Break}
 use Rattle.break_rules.specs.declared.Rule.{Rule}
 use Rattle.break_rules.specs.Breaks.{legal_lists}
 use Rattle.break_rules.proofs.FirstList.{first_start, first_none}
-use Rattle.break_graph.specs.declared.Edge.{Edge}
-use Rattle.break_graph.specs.declared.Node.{Node}
 use Rattle.break_graph.specs.Graph.{IsGraph, StandsAt, node_at}
 use Rattle.break_graph.proofs.Leading.{first_on, first_whole, no_nodes, last_node}
 use Rattle.break_graph.proofs.Graph.least.Goals as goal
@@ -28,7 +26,7 @@ loop-edge-preserved c =
     let nodes = c.args.self.now in
     let list = c.loop-edge.list.items in
     let e = c.in-Some-first_edge.edge in
-    let first : Some e ≡ slice_get (node_at nodes c.loop-edge.at).edges 0 = subst (λ (ns : List Node). Some e ≡ slice_get (node_at ns c.loop-edge.at).edges 0) c.nodes-nodes.ensures c.in-Some-first_edge.ensures in
+    let first : Some e ≡ slice_get (node_at nodes c.loop-edge.at).edges 0 = c.in-Some-first_edge.ensures in
     let longer : list ++ e.stop ∷ [] ≡ c.push.new.self.items = sym c.in_ok-push.ensures.items in
     let stands : (rule : Rule) (len : ℕ) → IsGraph rule len nodes → StandsAt rule len nodes e.next (list ++ e.stop ∷ []) =
     λ rule len g. g.behind c.loop-edge.at 0 e list (c.loop-edge.invariant.stands rule len g) (sym first) in
@@ -43,6 +41,5 @@ pub returns : goal.returns
 returns c = record {
   first = λ rule len g.
       ap Some c.new.ensures
-      ∙ first_whole rule len c.args.self.now c.loop-edge.at c.loop-edge.list.items (c.loop-edge.invariant.leads rule len g).0 g (c.loop-edge.invariant.stands rule len g) (c.loop-edge.invariant.leads rule len g).1
-      (subst (λ (ns : List Node). ◌≡◌ {A = Option Edge} None (slice_get (node_at ns c.loop-edge.at).edges 0)) c.nodes-nodes.ensures c.in_default-first_edge.ensures);
+      ∙ first_whole rule len c.args.self.now c.loop-edge.at c.loop-edge.list.items (c.loop-edge.invariant.leads rule len g).0 g (c.loop-edge.invariant.stands rule len g) (c.loop-edge.invariant.leads rule len g).1 c.in_default-first_edge.ensures;
 }

@@ -1,10 +1,9 @@
-use Rattle.std.proofs.Common.{◌≡◌, ℕ, List, [], sym, ap, subst, ◌∙◌, rules}
+use Rattle.std.proofs.Common.{ℕ, [], sym, subst, rules}
 use Rattle.std.proofs.lemmas.List.{take_all}
 use Rattle.break_rules.specs.declared.Break.{Break}
 use Rattle.break_rules.specs.declared.Rule.{Rule}
 use Rattle.break_rules.proofs.Lists.{Has}
-use Rattle.break_graph.specs.declared.Node.{Node}
-use Rattle.break_graph.specs.Graph.{IsGraph, StandsAt, node_at}
+use Rattle.break_graph.specs.Graph.{IsGraph, StandsAt}
 use Rattle.break_graph.proofs.Leading.{no_nodes, last_node}
 use Rattle.break_graph.proofs.Fronts.{stands_on, dead_on, dead_none}
 use Rattle.break_graph.proofs.Graph.node_behind.Goals as goal
@@ -23,10 +22,9 @@ returns-in_default-edge_with c =
     let s = c.args.self.now in
     let d : Break = record { start = 0; len = 0 } in
     let i = c.loop-stop.stop-index in
-    let edges : c.edges_of.result.now ≡ (node_at s c.loop-stop.at).edges = c.edges_of.ensures ∙ ap (λ (ns : List Node). (node_at ns c.loop-stop.at).edges) c.nodes-nodes.ensures in
     record {
       behind = λ rule len g. dead_on rule len s g c.loop-stop.at c.args.front.now i d c.loop-stop-test.true (c.loop-stop.invariant.stands rule len g)
-          (λ e m t. c.in_default-edge_with.ensures e (subst (λ l. Has l e) (sym edges) m) t);
+          (λ e m t. c.in_default-edge_with.ensures e (subst (λ l. Has l e) (sym c.edges.ensures) m) t);
     }
 
 pub loop-stop-preserved : goal.loop-stop-preserved
@@ -35,9 +33,8 @@ loop-stop-preserved c =
     let d : Break = record { start = 0; len = 0 } in
     let i = c.loop-stop.stop-index in
     let e = c.in-Some-edge_with.edge in
-    let edges : c.edges_of.result.now ≡ (node_at s c.loop-stop.at).edges = c.edges_of.ensures ∙ ap (λ (ns : List Node). (node_at ns c.loop-stop.at).edges) c.nodes-nodes.ensures in
     let stands = λ (rule : Rule) (len : ℕ) (g : IsGraph rule len s). stands_on rule len s g c.loop-stop.at c.args.front.now i d c.loop-stop-test.true (c.loop-stop.invariant.stands rule len g) e
-    (subst (λ l. Has l e) edges c.in-Some-edge_with.ensures.0) c.in-Some-edge_with.ensures.1 in
+    (subst (λ l. Has l e) c.edges.ensures c.in-Some-edge_with.ensures.0) c.in-Some-edge_with.ensures.1 in
     record { within = (stands c.requires.graph.0 c.requires.graph.1 c.requires.graph.2).within; stands = stands }
 
 pub returns : goal.returns
