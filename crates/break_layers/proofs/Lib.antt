@@ -1,5 +1,6 @@
 pub mod Ending
 pub mod Following
+pub mod LiveWays
 pub mod Lunched
 pub mod Reach
 pub mod Sliding

@@ -1,3 +1,4 @@
 pub mod Layered
 pub mod Rests
 pub mod Windows
+pub mod Ways

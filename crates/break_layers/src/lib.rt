@@ -9,6 +9,8 @@ mod reaching;
 mod sizes;
 mod values;
 mod walks;
+mod ways;
 mod windows;
 
 pub use values::LayerValues;
+pub use ways::Way;

@@ -1,16 +1,19 @@
 //! What the best rest of a break list earns, and the best list, by layers.
 
-ghost use Rattle.std.specs.Prelude.{◌≡◌, List, IfOk, IsTrue, MatchOption, true, false};
+ghost use Rattle.std.specs.Prelude.{◌≡◌, ◌+◌, ℕ, pos, List, [], ◌∷◌, ◌++◌, IfOk, IsTrue, MatchOption, Some, true, false, map, replicate, slice_get};
 ghost use Rattle.break_rules.specs.declared.Break.{Break};
 ghost use Rattle.break_rules.specs.Breaks.{is_legal, is_live};
 ghost use Rattle.break_rules.specs.Ranges.{IsRule};
 ghost use Rattle.break_rules.specs.Walk.{is_walk, spot_of};
 ghost use Rattle.price_sums.specs.Along.{AreSums};
 ghost use Rattle.break_layers.specs.Rests.{IsMostEarned, IsBestFrom, IsBestList};
+ghost use Rattle.break_layers.specs.declared.ways.Way.{Way};
+ghost use Rattle.break_layers.specs.Ways.{live_stops};
 
 use crate::layers::{layer_table, value_in};
 use crate::lists::{best_list, completed};
 use crate::walks::walked;
+use crate::ways::{Way, live_ways};
 use break_rules::{Break, Breaks, NoMemory, Rule, Spot};
 use std::alloc::Global;
 use std::marker::Model;
@@ -60,12 +63,32 @@ impl<'a> LayerValues<'a> {
         })
     }
 
+    /// Makes the values for this rule in shifts of `len` slots where no offset has a price: they tell from which spots some legal
+    /// list goes on. Only want of memory is a reason for refusal.
+    pub fn unpriced(alloc: Global, rule: &'a Rule, len: u16) -> Result<LayerValues<'a>, NoMemory>
+        requires { IsRule rule.now }
+        ensures { IfOk result (λ v. v ≡ record { rule = rule.now; len = len; sums = replicate (len + 1) (pos 0) }) }
+    {
+        let sums = vec![in alloc; 0; usize::from(len) + 1]?;
+        LayerValues::new(alloc, rule, len, sums)
+    }
+
     /// Returns what the rests earn at most with which some legal list goes on from the spot of a walk, and `None` where there
     /// are none. It takes no memory.
     pub fn value_at(&self, spot: Spot) -> Option<i64>
         ensures { (list : List Break) → IsTrue (is_walk self.now.rule self.now.len list) → spot ≡ spot_of self.now.rule list → MatchOption result (is_live self.now.rule self.now.len list ≡ false) (IsMostEarned self.now.rule self.now.len self.now.sums list) }
     {
         value_in(&self.table, self.len, spot)
+    }
+
+    /// Returns the breaks with which some legal list goes on from the spot of a walk, in rising order, each with the spot behind
+    /// it. There are none where the walk is a legal list, or where no legal list begins with it. Only want of memory is a reason
+    /// for refusal.
+    pub fn ways(&self, alloc: Global, spot: Spot) -> Result<Vec<Way>, NoMemory>
+        ensures stops { IfOk result (λ ways. (list : List Break) → IsTrue (is_walk self.now.rule self.now.len list) → spot ≡ spot_of self.now.rule list → map (λ w. w.stop) ways.items ≡ live_stops self.now.rule self.now.len list) }
+        ensures spots { IfOk result (λ ways. (list : List Break) → IsTrue (is_walk self.now.rule self.now.len list) → spot ≡ spot_of self.now.rule list → (i : ℕ) (w : Way) → slice_get ways.items i ≡ Some w → w.spot ≡ spot_of self.now.rule (list ++ w.stop ∷ [])) }
+    {
+        live_ways(alloc, self.rule, self.len, &self.table, spot)
     }
 
     /// Returns the spot behind some breaks, and `None` where no legal list begins with them. It takes no memory.

@@ -15,9 +15,9 @@ use Rattle.break_rules.specs.Breaks.{is_legal, legal_lists, begins_with}
 use Rattle.break_rules.proofs.LegalLists.{begins_rest}
 use Rattle.break_rules.proofs.Lists.{Has, Has-map, from_map, from_filter, any_at, any_some, Has-below, from_below}
 use Rattle.break_rules.proofs.Reaching.{find_none}
-use Rattle.break_graph.specs.declared.Edge.{Edge}
-use Rattle.break_graph.specs.declared.Node.{Node}
-use Rattle.break_graph.specs.Graph.{IsGraph, StandsAt, node_at}
+use Rattle.list_walks.specs.declared.steps.Standing.{Standing}
+use Rattle.list_walks.specs.declared.steps.Way.{Way}
+use Rattle.list_walks.specs.Stands.{Walks, AreWaysOn}
 use Rattle.shift_instance.specs.declared.Shift.{Shift}
 use Rattle.shift_instance.specs.declared.Duty.{Duty}
 use Rattle.shift_instance.specs.declared.Row.{Row}
@@ -27,7 +27,7 @@ use Rattle.head_splits.specs.declared.Cut.{Cut}
 use Rattle.head_splits.specs.Cuts.{low, high}
 use Rattle.head_splits.specs.Settled.{prefixes, class_of, is_closed, is_fixed, fixed_count}
 use Rattle.shift_instance.specs.AllDuties.{row_of}
-use Rattle.head_splits.specs.Below.{lists_below, duties_below, is_open, rows_of, IsWalked, StandsOn, IsClear}
+use Rattle.head_splits.specs.Below.{lists_below, duties_below, is_open, rows_of, IsWalked, AreWalksOf, StandsOn, IsClear}
 use Rattle.head_splits.proofs.ListsBelow.{below_list, below_whole, below_parts}
 
 -- what a fact of some value says
@@ -117,31 +117,32 @@ module _ (i : Problem) (cuts : List Cut) where
     abbrev pub duty : List Break → Duty
     duty list = record { shift = s; day = day; breaks = list }
 
-    lists_below_is : (list : List Break) (x : Shift × Rule) → slice_get (shift_list i) s ≡ Some x → lists_below i s list ≡ below_list x.1 x.0.len list
-    lists_below_is list x e = ap (λ o. filter (λ l. begins_with l list) (option_map_or (λ x. legal_lists x.1 x.0.len) o [])) e
+    lists_below_is : (walks : Walks) (list : List Break) → AreWalksOf i s walks → lists_below i s list ≡ below_list walks.rule walks.len list
+    lists_below_is walks list h =
+        let x = known (slice_get (shift_list i) s) (λ x. (walks.rule ≡ x.1) × (walks.len ≡ x.0.len)) h in
+        ap (λ o. filter (λ l. begins_with l list) (option_map_or (λ (x : Shift × Rule). legal_lists x.1 x.0.len) o [])) x.1
+        ∙ ap (λ r. below_list r x.0.0.len list) (sym x.2.0) ∙ ap (λ n. below_list walks.rule n list) (sym x.2.1)
 
-    -- where a list stands at a node without edges, it is the only one, and else those of its edges follow one another
-    pub whole_duties : (nodes : List Node) (k : ℕ) (list : List Break) → StandsOn i s nodes k list → (length (node_at nodes k).edges == 0) ≡ true → duties_below i s day list ≡ duty list ∷ []
-    whole_duties nodes k list h none =
-        let x = known (slice_get (shift_list i) s) (λ x. IsGraph x.1 x.0.len nodes × StandsAt x.1 x.0.len nodes k list) h in
-        let legal : is_legal x.0.1 x.0.0.len list ≡ true = sym (x.2.0.ends k list x.2.1) ∙ none in
-        ap (map duty) (lists_below_is list x.0 x.1 ∙ below_whole x.0.1 x.0.0.len list legal)
+    -- where a list has no ways on, it is the only one, and else those of its ways follow one another
+    pub whole_duties : (walks : Walks) (at : Standing) (list : List Break) (ways : List Way) → StandsOn i s walks at list → AreWaysOn walks at list ways → (length ways == 0) ≡ true
+        → duties_below i s day list ≡ duty list ∷ []
+    whole_duties walks at list ways h on none =
+        let legal : is_legal walks.rule walks.len list ≡ true = sym on.ends ∙ none in
+        ap (map duty) (lists_below_is walks list h.0 ∙ below_whole walks.rule walks.len list legal)
 
-    pub part_duties : (nodes : List Node) (k : ℕ) (list : List Break) → StandsOn i s nodes k list → (length (node_at nodes k).edges == 0) ≡ false
-        → duties_below i s day list ≡ flat_map (λ (e : Edge). duties_below i s day (list ++ e.stop ∷ [])) (node_at nodes k).edges
-    part_duties nodes k list h some =
-        let x = known (slice_get (shift_list i) s) (λ x. IsGraph x.1 x.0.len nodes × StandsAt x.1 x.0.len nodes k list) h in
-        let rule = x.0.1 in
-        let len = x.0.0.len in
-        let edges = (node_at nodes k).edges in
-        let part : is_legal rule len list ≡ false = sym (x.2.0.ends k list x.2.1) ∙ some in
-        let lists : lists_below i s list ≡ flat_map (λ b. below_list rule len (list ++ b ∷ [])) (map (λ (e : Edge). e.stop) edges) =
-        lists_below_is list x.0 x.1 ∙ below_parts rule len list part ∙ ap (flat_map (λ b. below_list rule len (list ++ b ∷ []))) (sym (x.2.0.edges k list x.2.1)) in
+    pub part_duties : (walks : Walks) (at : Standing) (list : List Break) (ways : List Way) → StandsOn i s walks at list → AreWaysOn walks at list ways → (length ways == 0) ≡ false
+        → duties_below i s day list ≡ flat_map (λ (w : Way). duties_below i s day (list ++ w.stop ∷ [])) ways
+    part_duties walks at list ways h on some =
+        let rule = walks.rule in
+        let len = walks.len in
+        let part : is_legal rule len list ≡ false = sym on.ends ∙ some in
+        let lists : lists_below i s list ≡ flat_map (λ b. below_list rule len (list ++ b ∷ [])) (map (λ (w : Way). w.stop) ways) =
+        lists_below_is walks list h.0 ∙ below_parts rule len list part ∙ ap (flat_map (λ b. below_list rule len (list ++ b ∷ []))) (sym on.stops) in
         ap (map duty) lists
-        ∙ ap (map duty) (flat_map-map (λ b. below_list rule len (list ++ b ∷ [])) (λ (e : Edge). e.stop) edges)
-        ∙ map-flat_map duty (λ (e : Edge). below_list rule len (list ++ e.stop ∷ [])) edges
-        ∙ flat_map_same (λ (e : Edge). map duty (below_list rule len (list ++ e.stop ∷ []))) (λ (e : Edge). duties_below i s day (list ++ e.stop ∷ [])) edges
-        (λ e. ap (map duty) (sym (lists_below_is (list ++ e.stop ∷ []) x.0 x.1)))
+        ∙ ap (map duty) (flat_map-map (λ b. below_list rule len (list ++ b ∷ [])) (λ (w : Way). w.stop) ways)
+        ∙ map-flat_map duty (λ (w : Way). below_list rule len (list ++ w.stop ∷ [])) ways
+        ∙ flat_map_same (λ (w : Way). map duty (below_list rule len (list ++ w.stop ∷ []))) (λ (w : Way). duties_below i s day (list ++ w.stop ∷ [])) ways
+        (λ w. ap (map duty) (sym (lists_below_is walks (list ++ w.stop ∷ []) h.0)))
       where
         flat_map_same : {X Y : Type 0} (f g : X → List Y) (xs : List X) → ((x : X) → f x ≡ g x) → flat_map f xs ≡ flat_map g xs
         flat_map_same f g [] h = refl
@@ -222,14 +223,7 @@ module _ (i : Problem) (cuts : List Cut) where
         cond_map f true x = refl
         cond_map f false x = refl
 
-    -- a list and one of its next breaks stand at the node behind the edge
-    pub stands_next : (nodes : List Node) (k at : ℕ) (e : Edge) (list : List Break) → StandsOn i s nodes k list → slice_get (node_at nodes k).edges at ≡ Some e
-        → (e.next < k) × StandsOn i s nodes e.next (list ++ e.stop ∷ [])
-    stands_next nodes k at e list h is =
-        let x = known (slice_get (shift_list i) s) (λ x. IsGraph x.1 x.0.len nodes × StandsAt x.1 x.0.len nodes k list) h in (
-          x.2.0.back k at e x.2.1.within is,
-          known_from (slice_get (shift_list i) s) (λ x. IsGraph x.1 x.0.len nodes × StandsAt x.1 x.0.len nodes e.next (list ++ e.stop ∷ [])) x.0 x.1 (x.2.0, x.2.0.behind k at e list x.2.1 is),
-        )
-
-    pub stands_within : (nodes : List Node) (k : ℕ) (list : List Break) → StandsOn i s nodes k list → k < length nodes
-    stands_within nodes k list h = (known (slice_get (shift_list i) s) (λ x. IsGraph x.1 x.0.len nodes × StandsAt x.1 x.0.len nodes k list) h).2.1.within
+    -- a list with the break of a way stands where the way leads
+    pub stands_next : (walks : Walks) (at : Standing) (list : List Break) (ways : List Way) (k : ℕ) (w : Way) → StandsOn i s walks at list → AreWaysOn walks at list ways → slice_get ways k ≡ Some w
+        → (walks.len - w.at.spot.offset < walks.len - at.spot.offset) × StandsOn i s walks w.at (list ++ w.stop ∷ [])
+    stands_next walks at list ways k w h on is = (on.nearer k w is, (h.0, on.stand k w is))

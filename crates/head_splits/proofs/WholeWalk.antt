@@ -1,5 +1,5 @@
 -- Walks over the legal duties of a day, of a shift and of an instance.
-use Rattle.std.proofs.Common.{◌≡◌, inl, inr, ℕ, zero, suc, ◌+◌, ◌-◌, ◌<◌, ◌≤◌, Bool, true, false, cond, not, ◌||◌, List, [], ◌∷◌, ◌++◌, map, filter, length, refl, sym, ap, ◌∙◌, subst, arith, append-nil, Option, Some, None}
+use Rattle.std.proofs.Common.{◌≡◌, inl, inr, ℕ, zero, suc, ◌+◌, ◌-◌, ◌<◌, ◌≤◌, Bool, true, false, cond, not, ◌||◌, List, [], ◌∷◌, ◌++◌, map, filter, refl, sym, ap, ◌∙◌, subst, arith, append-nil, Option, Some, None}
 use Rattle.std.specs.Prelude.{slice_get, is_some}
 use Rattle.std.specs.Option.{option_map_or}
 use Rattle.std.specs.List.{flat_map, find, range_with_len}
@@ -10,8 +10,7 @@ use Rattle.break_rules.specs.Breaks.{is_live, legal_lists, begins_with}
 use Rattle.break_rules.proofs.Lists.{Has, all_from, all_at}
 use Rattle.break_rules.proofs.LegalLists.{from_legal_lists, live_from}
 use Rattle.break_rules.proofs.FirstList.{find_has, find_none_at}
-use Rattle.break_graph.specs.declared.Node.{Node}
-use Rattle.break_graph.specs.Graph.{IsGraph, StandsAt}
+use Rattle.list_walks.specs.Stands.{Walks}
 use Rattle.shift_instance.specs.declared.Duty.{Duty}
 use Rattle.shift_instance.specs.declared.Row.{Row}
 use Rattle.shift_instance.specs.Problem.{Problem, shift_list, below}
@@ -19,8 +18,8 @@ use Rattle.shift_instance.specs.Rota.{lists_of}
 use Rattle.head_splits.specs.declared.Cut.{Cut}
 use Rattle.head_splits.specs.Settled.{is_closed, is_fixed, is_settled}
 use Rattle.shift_instance.specs.AllDuties.{all_duties}
-use Rattle.head_splits.specs.Below.{duties_below, is_open, IsWalked, StandsOn, IsClear, shift_duties, IsGraphOf}
-use Rattle.head_splits.proofs.Walked.{known, known_from, more_walked, stop_walked}
+use Rattle.head_splits.specs.Below.{duties_below, is_open, IsWalked, AreWalksOf, IsClear, shift_duties}
+use Rattle.head_splits.proofs.Walked.{known, more_walked, stop_walked}
 
 -- ---- lists of numbers
 
@@ -76,12 +75,7 @@ module _ (i : Problem) (cuts : List Cut) where
       (sym (ap (flat_map f) (below_split n (k + 1) (omega arith)) ∙ flat_map-append f (below (k + 1)) (range_with_len (k + 1) (n - (k + 1)))))
       (stop_walked i cuts (flat_map f (below (k + 1))) (flat_map f (range_with_len (k + 1) (n - (k + 1)))) found before after some h)
 
-  -- ---- from the opening node on
-
-  pub from_opening : (s : ℕ) (nodes : List Node) → IsGraphOf i s nodes → (length nodes ≡ 0 → ⊥) → StandsOn i s nodes (length nodes - 1) []
-  from_opening s nodes h some =
-      let x = known (slice_get (shift_list i) s) (λ x. IsGraph x.1 x.0.len nodes) h in
-      known_from (slice_get (shift_list i) s) (λ x. IsGraph x.1 x.0.len nodes × StandsAt x.1 x.0.len nodes (length nodes - 1) []) x.0 x.1 (x.2, x.2.opening (λ e. some (ap length e)))
+  -- ---- from the start of a shift on
 
   pub clear_opening : (s day : ℕ) → IsClear i cuts s day []
   clear_opening s day n l = absurd (omega arith)
@@ -89,15 +83,11 @@ module _ (i : Problem) (cuts : List Cut) where
   pub day_duties : (s day : ℕ) → duties_below i s day [] ≡ map (λ list. record { shift = s; day = day; breaks = list }) (lists_of i s)
   day_duties s day = ap (map (λ list. record { shift = s; day = day; breaks = list })) (filter_all (λ list. begins_with list []) (lists_of i s) begins_with_none)
 
-  nil_of : {X : Type 0} (xs : List X) → length xs ≡ 0 → xs ≡ []
-  nil_of [] h = refl
-  nil_of (x ∷ xs) h = absurd (omega arith)
-
-  -- a shift without nodes has no legal list
-  pub no_duties : (s : ℕ) (nodes : List Node) → IsGraphOf i s nodes → length nodes ≡ 0 → shift_duties i s ≡ []
-  no_duties s nodes h none =
-      let x = known (slice_get (shift_list i) s) (λ x. IsGraph x.1 x.0.len nodes) h in
-      let dead : is_live x.0.1 x.0.0.len [] ≡ false = x.2.none (nil_of nodes none) in
+  -- a shift has no legal duty where no legal list begins with none
+  pub no_duties : (s : ℕ) (walks : Walks) → AreWalksOf i s walks → is_live walks.rule walks.len [] ≡ false → shift_duties i s ≡ []
+  no_duties s walks h none =
+      let x = known (slice_get (shift_list i) s) (λ x. (walks.rule ≡ x.1) × (walks.len ≡ x.0.len)) h in
+      let dead : is_live x.0.1 x.0.0.len [] ≡ false = ap (λ r. is_live r x.0.0.len []) (sym x.2.0) ∙ ap (λ n. is_live walks.rule n []) (sym x.2.1) ∙ none in
       let empty : lists_of i s ≡ [] =
       ap (λ o. option_map_or (λ x. legal_lists x.1 x.0.len) o []) x.1
       ∙ nothing_in (legal_lists x.0.1 x.0.0.len) (λ list m. false≢true (sym dead ∙ live_from x.0.1 x.0.0.len [] list (from_legal_lists x.0.1 x.0.0.len list m))) in

@@ -3,12 +3,12 @@ use Rattle.std.specs.Prelude.{◌≡◌, ℕ, ◌<◌, Bool, not, ◌||◌, nat_
 use Rattle.std.specs.List.{filter, find, flat_map}
 use Rattle.break_rules.specs.declared.Break.{Break}
 use Rattle.break_rules.specs.Breaks.{begins_with}
-use Rattle.break_graph.specs.declared.Node.{Node}
-use Rattle.break_graph.specs.Graph.{IsGraph, StandsAt}
 use Rattle.shift_instance.specs.declared.Duty.{Duty}
 use Rattle.shift_instance.specs.declared.Row.{Row}
 use Rattle.shift_instance.specs.Problem.{Problem, shift_list, below}
 use Rattle.shift_instance.specs.Rota.{lists_of}
+use Rattle.list_walks.specs.declared.steps.Standing.{Standing}
+use Rattle.list_walks.specs.Stands.{Walks, Stands}
 use Rattle.head_splits.specs.declared.Cut.{Cut}
 use Rattle.head_splits.specs.Cuts.{high}
 use Rattle.head_splits.specs.Settled.{class_of, is_closed, is_fixed, fixed_count}
@@ -35,9 +35,13 @@ pub record IsWalked (i : Problem) (cuts : List Cut) (duties : List Duty) (found 
   pub first : found ≡ find (is_open i cuts) duties
   pub rows : found ≡ None → after ≡ before ++ rows_of i cuts duties
 
--- a list of breaks stands at a node of the graph of a shift
-abbrev pub StandsOn : Problem → ℕ → List Node → ℕ → List Break → Type 0
-StandsOn i s nodes k list = IsSomeAnd (slice_get (shift_list i) s) (λ x. IsGraph x.1 x.0.len nodes × StandsAt x.1 x.0.len nodes k list)
+-- walks over the legal lists of a shift
+abbrev pub AreWalksOf : Problem → ℕ → Walks → Type 0
+AreWalksOf i s walks = IsSomeAnd (slice_get (shift_list i) s) (λ x. (walks.rule ≡ x.1) × (walks.len ≡ x.0.len))
+
+-- a list of breaks stands somewhere on the walks of a shift
+abbrev pub StandsOn : Problem → ℕ → Walks → Standing → List Break → Type 0
+StandsOn i s walks at list = AreWalksOf i s walks × Stands walks at list
 
 -- cuts leave room to each proper prefix of a list
 abbrev pub IsClear : Problem → List Cut → ℕ → ℕ → List Break → Type 0
@@ -46,7 +50,3 @@ IsClear i cuts s day list = (n : ℕ) → n < length list → 0 < high i cuts (c
 -- the legal duties of a shift
 abbrev pub shift_duties : Problem → ℕ → List Duty
 shift_duties i s = flat_map (λ day. map (λ list. record { shift = s; day = day; breaks = list }) (lists_of i s)) (below i.days)
-
--- nodes are the graph of a shift
-abbrev pub IsGraphOf : Problem → ℕ → List Node → Type 0
-IsGraphOf i s nodes = IsSomeAnd (slice_get (shift_list i) s) (λ x. IsGraph x.1 x.0.len nodes)

@@ -3,7 +3,7 @@ ghost use Rattle.std.specs.Prelude.{◌≡◌, ◌+◌, ◌*◌, ◌<◌, ◌≤
 ghost use Rattle.std.specs.List.{find, list_all};
 ghost use Rattle.shift_instance.specs.Problem.{shift_list};
 ghost use Rattle.shift_instance.specs.Rota.{rota_of, heads_on};
-ghost use Rattle.head_splits.specs.Below.{IsWalked, StandsOn, IsClear, IsGraphOf, duties_below, shift_duties, is_open};
+ghost use Rattle.head_splits.specs.Below.{IsWalked, StandsOn, IsClear, duties_below, shift_duties, is_open};
 ghost use Rattle.head_splits.specs.Cuts.{low, high, meets};
 ghost use Rattle.head_splits.specs.Ranges.{AreRanges, class_at};
 ghost use Rattle.head_splits.specs.Settled.{class_of, prefixes, is_settled, settled_rows};
@@ -12,8 +12,8 @@ ghost use Rattle.head_splits.specs.Settling.{IsSettle};
 
 use crate::table::{Place, RangeTable};
 use crate::{Class, Cuts, Settle, meets};
-use break_graph::{Graph, Node};
 use break_rules::{Breaks, NoMemory};
+use list_walks::{ListWalks, Standing};
 use shift_instance::{Duty, Instance, Row, Rows};
 use std::alloc::Global;
 
@@ -49,17 +49,18 @@ fn pass(walk: &mut Walk, low: u16, high: u16) -> Result<Option<Duty>, NoMemory>
     Ok(None)
 }
 
-/// Walks over the legal duties below the walk's breaks, which stand at a node, to the first one whose number isn't fixed.
+/// Walks over the legal duties below the walk's breaks, which stand there, to the first one whose number isn't fixed.
 fn walk_below(
+    alloc: Global,
     instance: &Instance,
     cuts: &Cuts,
     table: &RangeTable,
-    nodes: &[Node],
-    node: usize,
+    lists: &ListWalks<'_>,
+    at: Standing,
     walk: &mut Walk,
 ) -> Result<Option<Duty>, NoMemory>
     requires table { AreRanges instance.now cuts.now table.now }
-    requires stands { StandsOn instance.now walk.old.place.shift nodes.now node walk.old.place.prefix.items }
+    requires stands { StandsOn instance.now walk.old.place.shift lists.now at walk.old.place.prefix.items }
     requires clear { IsClear instance.now cuts.now walk.old.place.shift walk.old.place.day walk.old.place.prefix.items }
     ensures walked { IfOk result (λ found. IsWalked instance.now cuts.now (duties_below instance.now walk.old.place.shift walk.old.place.day walk.old.place.prefix.items) found walk.old.rows.items walk.new.rows.items) }
     ensures place { IfOk result (λ found. found ≡ None → (walk.new.place.shift ≡ walk.old.place.shift) × (walk.new.place.day ≡ walk.old.place.day) × (walk.new.place.prefix.items ≡ walk.old.place.prefix.items)) }
@@ -68,13 +69,14 @@ fn walk_below(
     if high == 0 {
         return Ok(None);
     }
-    let edges = nodes[node].edges.as_slice();
-    if edges.is_empty() {
+    let onward = lists.ways(alloc, at)?;
+    let ways = onward.as_slice();
+    if ways.is_empty() {
         return pass(walk, low, high);
     }
-    for edge in edges {
-        walk.place.prefix.push(edge.stop)?;
-        let found = walk_below(instance, cuts, table, nodes, edge.next as usize, walk)?;
+    for way in ways {
+        walk.place.prefix.push(way.stop)?;
+        let found = walk_below(alloc, instance, cuts, table, lists, way.at, walk)?;
         if found.is_some() {
             return Ok(found);
         }
@@ -83,26 +85,25 @@ fn walk_below(
     Ok(None)
 }
 
-/// Walks over the legal duties of the walk's shift, by the nodes of its graph, to the first one whose number isn't fixed.
+/// Walks over the legal duties of the walk's shift, day by day, to the first one whose number isn't fixed.
 fn walk_days(
+    alloc: Global,
     instance: &Instance,
     cuts: &Cuts,
     table: &RangeTable,
-    nodes: &[Node],
+    lists: &ListWalks<'_>,
+    opening: Standing,
     walk: &mut Walk,
 ) -> Result<Option<Duty>, NoMemory>
     requires table { AreRanges instance.now cuts.now table.now }
-    requires graph { IsGraphOf instance.now walk.old.place.shift nodes.now }
+    requires opening { StandsOn instance.now walk.old.place.shift lists.now opening [] }
     requires start { walk.old.place.prefix.items ≡ [] }
     ensures walked { IfOk result (λ found. IsWalked instance.now cuts.now (shift_duties instance.now walk.old.place.shift) found walk.old.rows.items walk.new.rows.items) }
     ensures start { IfOk result (λ found. found ≡ None → walk.new.place.prefix.items ≡ []) }
 {
-    if nodes.is_empty() {
-        return Ok(None);
-    }
     for day in 0..instance.days() {
         walk.place.day = day;
-        let found = walk_below(instance, cuts, table, nodes, nodes.len() - 1, walk)?;
+        let found = walk_below(alloc, instance, cuts, table, lists, opening, walk)?;
         if found.is_some() {
             return Ok(found);
         }
@@ -110,9 +111,8 @@ fn walk_days(
     Ok(None)
 }
 
-/// Walks over the legal duties of the walk's shift to the first one whose number isn't fixed, by the graph that the
-/// instance keeps, or by a new one.
-fn walk_graph(
+/// Walks over the legal duties of the walk's shift to the first one whose number isn't fixed.
+fn walk_shift(
     alloc: Global,
     instance: &Instance,
     cuts: &Cuts,
@@ -125,13 +125,10 @@ fn walk_graph(
     ensures walked { IfOk result (λ found. IsWalked instance.now cuts.now (shift_duties instance.now walk.old.place.shift) found walk.old.rows.items walk.new.rows.items) }
     ensures start { IfOk result (λ found. found ≡ None → walk.new.place.prefix.items ≡ []) }
 {
-    match instance.graph(walk.place.shift) {
-        Some(graph) => walk_days(instance, cuts, table, graph.nodes(), walk),
-        None => {
-            let shift = instance.shift(walk.place.shift);
-            let graph = Graph::new(alloc, instance.rule_of(walk.place.shift), shift.len)?;
-            walk_days(instance, cuts, table, graph.nodes(), walk)
-        }
+    let lists = ListWalks::of_shift(alloc, instance, walk.place.shift)?;
+    match lists.opening() {
+        Some(opening) => walk_days(alloc, instance, cuts, table, &lists, opening, walk),
+        None => Ok(None),
     }
 }
 
@@ -149,7 +146,7 @@ fn walk_shifts(
 {
     for shift in 0..instance.shifts().len() {
         walk.place.shift = shift as u16;
-        let found = walk_graph(alloc, instance, cuts, table, walk)?;
+        let found = walk_shift(alloc, instance, cuts, table, walk)?;
         if found.is_some() {
             return Ok(found);
         }

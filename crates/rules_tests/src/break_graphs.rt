@@ -15,14 +15,22 @@ fn one_break_leads_to_the_ends(rt: HostRuntime) -> Result<(), Fail> {
     let rule = eighth(alloc)?;
     judge(&rt, &rule);
     let graph = Graph::new(alloc, &rule, 8)?;
-    assert_eq!(rt; graph.nodes().len(), 5);
+    assert_eq!(rt; graph.node_count(), 5);
     assert_eq!(rt; graph.edge_count(), 4);
-    let opening = graph.nodes().last();
     let edges = [edge(2, 3), edge(3, 2), edge(4, 1), edge(5, 0)];
-    assert!(rt; opening.is_some_and(|node| node.edges.as_slice() == edges.as_slice()));
-    let behind = graph.nodes().first();
-    assert!(rt;
-        behind.is_some_and(|node| node.spot.offset == 6 && node.edges.as_slice().is_empty())
-    );
+    assert!(rt; graph.edges(4) == edges.as_slice());
+    assert!(rt; graph.spot(0).offset == 6 && graph.edges(0).is_empty());
+    Ok(())
+}
+
+#[test]
+fn a_graph_of_four_edges_is_within_four(rt: HostRuntime) -> Result<(), Fail> {
+    let alloc = rt.alloc();
+    let rule = eighth(alloc)?;
+    judge(&rt, &rule);
+    let graph = Graph::within(alloc, &rule, 8, 4)?;
+    assert!(rt; graph.is_some_and(|graph| graph.edge_count() == 4));
+    assert!(rt; Graph::within(alloc, &rule, 8, 3)?.is_none());
+    assert!(rt; Graph::within(alloc, &rule, 7, 0)?.is_some_and(|graph| graph.node_count() == 0));
     Ok(())
 }

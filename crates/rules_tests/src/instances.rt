@@ -23,7 +23,7 @@ fn type_of(alloc: Global, name: &str) -> Result<TypeParts, NoMemory> {
 }
 
 /// A day of hours that needs one employee from 8 to 12, with these types.
-fn morning(alloc: Global, types: Vec<TypeParts>) -> Result<Parts, NoMemory> {
+pub fn morning(alloc: Global, types: Vec<TypeParts>) -> Result<Parts, NoMemory> {
     let mut need = vec![in alloc; 0u32; 24]?;
     need[8..12].fill(1);
     Ok(Parts {
@@ -39,7 +39,7 @@ fn morning(alloc: Global, types: Vec<TypeParts>) -> Result<Parts, NoMemory> {
 }
 
 /// A shift of 8 slots from slot 8 on, with one break of a slot between work of 2 to 5 slots.
-fn day_type(alloc: Global) -> Result<TypeParts, NoMemory> {
+pub fn day_type(alloc: Global) -> Result<TypeParts, NoMemory> {
     let mut kind = type_of(alloc, "D")?;
     (kind.len_min, kind.len_max) = (7, 8);
     kind.rule = eighth(alloc)?;
@@ -51,7 +51,7 @@ fn node_count(instance: &Instance, shift: u16) -> usize
     requires { shift < length (shift_list instance.now) }
 {
     match instance.graph(shift) {
-        Some(graph) => graph.nodes().len(),
+        Some(graph) => graph.node_count(),
         None => 100,
     }
 }

@@ -8,6 +8,8 @@ mod break_lists;
 #[cfg(test)]
 mod break_patterns;
 #[cfg(test)]
+mod break_walks;
+#[cfg(test)]
 mod fixtures;
 #[cfg(test)]
 mod instances;

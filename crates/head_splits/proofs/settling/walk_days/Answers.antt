@@ -1,19 +1,11 @@
-use Rattle.std.proofs.Common.{◌≡◌, ◌+◌, [], None, ℕ, List, arith, sym, ap, subst, ◌∙◌, eqb-true}
+use Rattle.std.proofs.Common.{◌≡◌, ◌+◌, [], None, ℕ, List, arith, sym, ap, subst, ◌∙◌}
 use Rattle.std.specs.List.{flat_map}
 use Rattle.shift_instance.specs.declared.Duty.{Duty}
 use Rattle.shift_instance.specs.Problem.{below}
 use Rattle.head_splits.specs.Below.{IsWalked, duties_below}
-use Rattle.head_splits.proofs.Walked.{none_walked, no_some}
-use Rattle.head_splits.proofs.WholeWalk.{next_walked, stopped, no_duties, shift_days}
+use Rattle.head_splits.proofs.Walked.{no_some}
+use Rattle.head_splits.proofs.WholeWalk.{next_walked, stopped, shift_days}
 use Rattle.head_splits.proofs.settling.walk_days.Goals as goal
-
-pub returns-then-is_empty-clause-walked : goal.returns-then-is_empty-clause-walked
-returns-then-is_empty-clause-walked c =
-    let i = c.args.instance.now in
-    let cuts = c.args.cuts.now in
-    subst (λ ds. IsWalked i cuts ds None c.args.walk.now.rows.items c.args.walk.now.rows.items)
-    (sym (no_duties i cuts c.args.walk.now.place.shift c.args.nodes.now c.requires.graph (eqb-true _ 0 (sym c.is_empty.ensures ∙ c.if-is_empty.true))))
-    (none_walked i cuts c.args.walk.now.rows.items)
 
 pub returns-then-is_some-clause-walked : goal.returns-then-is_some-clause-walked
 returns-then-is_some-clause-walked c =

@@ -12,7 +12,7 @@ returns-then-is_some c =
     let cuts = c.args.cuts.now in
     let found = c.in_ok-found.found in
     let before = c.args.walk.now.rows.items in
-    let after = c.walk_graph.new.walk.rows.items in
+    let after = c.walk_shift.new.walk.rows.items in
     let next = next_walked i cuts (shift_duties i) c.loop-shift.shift found before c.loop-shift.walk.rows.items after c.loop-shift.invariant.walked c.in_ok-found.ensures.walked in
     record { walked = stopped i cuts (shift_duties i) (length (shift_list i)) c.loop-shift.shift found before after (omega (arith, c.loop-shift-test.true, c.shifts-shift-end.ensures.count)) (sym c.is_some.ensures ∙ c.if-is_some.true) next }
 
@@ -22,7 +22,7 @@ loop-shift-preserved c =
     let cuts = c.args.cuts.now in
     let found = c.in_ok-found.found in
     let before = c.args.walk.now.rows.items in
-    let after = c.walk_graph.new.walk.rows.items in
+    let after = c.walk_shift.new.walk.rows.items in
     let next = next_walked i cuts (shift_duties i) c.loop-shift.shift found before c.loop-shift.walk.rows.items after c.loop-shift.invariant.walked c.in_ok-found.ensures.walked in
     let nothing : found ≡ None = no_some found (sym c.is_some.ensures ∙ c.if-is_some.false) in
     record {

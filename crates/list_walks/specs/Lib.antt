@@ -1,0 +1,3 @@
+pub mod Guides
+pub mod Stands
+pub mod Steps
