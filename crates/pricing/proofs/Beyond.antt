@@ -1,5 +1,5 @@
 -- The breaks that may come next behind some breaks, and the best lists that go on with one.
-use Rattle.std.proofs.Common.{◌≡◌, ◌⊎◌, inl, inr, ℕ, zero, suc, ◌+◌, ◌<◌, ◌≤◌, get_or, ℤ, pos, ◌+ℤ◌, ◌≤ℤ◌, true, false, List, [], ◌∷◌, ◌++◌, length, take, refl, sym, ap, ◌∙◌, subst, arith, append_assoc, append-nil, Option}
+use Rattle.std.proofs.Common.{◌≡◌, ◌⊎◌, inl, inr, ℕ, zero, suc, ◌+◌, ◌<◌, ◌≤◌, get_or, ℤ, pos, ◌+ℤ◌, ◌≤ℤ◌, true, false, List, [], ◌∷◌, ◌++◌, length, take, refl, sym, ap, ◌∙◌, subst, arith, append_assoc, Option}
 use Rattle.std.proofs.lemmas.Int.{ints}
 use Rattle.std.proofs.lemmas.Bool.{false≢true, false_from_ne_true}
 use Rattle.break_rules.specs.declared.Break.{Break}
@@ -7,17 +7,13 @@ use Rattle.break_rules.specs.declared.Rule.{Rule}
 use Rattle.break_rules.specs.Breaks.{is_legal, is_live, begins_with}
 use Rattle.break_rules.specs.Bonuses.{bonus_of}
 use Rattle.break_rules.specs.Ranges.{IsRule}
-use Rattle.break_rules.specs.Walk.{nexts_of, spot_of}
 use Rattle.std.specs.Prelude.{Result, Ok, Err, IfOk}
-use Rattle.break_rules.proofs.Lists.{Has, Has-append_cases, Has-filter, any_some}
-use Rattle.break_rules.proofs.LegalLists.{live_from, no_longer_list}
-use Rattle.break_rules.proofs.Reaching.{rest_first}
-use Rattle.break_graph.specs.Graph.{live_nexts}
+use Rattle.break_rules.proofs.Lists.{Has, any_some}
+use Rattle.break_rules.proofs.LegalLists.{live_from}
 use Rattle.pricing.specs.declared.found.Found.{Found}
-use Rattle.price_sums.specs.Along.{Completes}
-use Rattle.break_layers.specs.Rests.{IsBestRest}
-use Rattle.pricing.specs.Values.{Priced, IsValue}
-use Rattle.break_layers.specs.Rests.{rest_worth, IsBestFrom}
+use Rattle.price_sums.specs.Along.{Completes, price_in, earned_from}
+use Rattle.break_layers.specs.Rests.{IsBestRest, IsBestFrom, IsBestList, Priced, rest_worth}
+use Rattle.pricing.specs.Values.{IsValue}
 use Rattle.pricing.specs.Found.{IsLegal, worth_of, IsFound, Covers, Keeps, CoversFrom, CoversAlong, IsBestFound, leads_further}
 use Rattle.pricing.specs.Keeping.{AreBeginnings}
 use Rattle.pricing.proofs.Best.{best_more}
@@ -52,43 +48,6 @@ covers_next p entries best front next list whole r longer from c bs legal none =
     let own : IsBestFrom p.rule p.len p.sums q whole = subst (λ (l : List Break). IsBestFrom p.rule p.len p.sums l whole) longer from in
     subst (Covers p entries best) (append_assoc front (next ∷ []) bs)
     (covers_tail p entries r best q bs own.0 whole none own.2 own.1 (ap (is_legal p.rule p.len) (append_assoc front (next ∷ []) bs) ∙ legal) c)
-
--- the covered lists of the breaks so far and of one more
-pub covers_more : (p : Priced) (entries : List (List Break × ℤ)) (best : Option Found) (front done : List Break) (next : Break)
-    → ((b : Break) → Has done b → (bs : List Break) → IsLegal p (front ++ b ∷ bs) → leads_further entries (front ++ b ∷ []) ≡ false → Covers p entries best (front ++ b ∷ bs))
-    → ((bs : List Break) → IsLegal p (front ++ next ∷ bs) → leads_further entries (front ++ next ∷ []) ≡ false → Covers p entries best (front ++ next ∷ bs))
-    → (b : Break) → Has (done ++ next ∷ []) b → (bs : List Break) → IsLegal p (front ++ b ∷ bs) → leads_further entries (front ++ b ∷ []) ≡ false → Covers p entries best (front ++ b ∷ bs)
-covers_more p entries best front done next before here b m =
-    elim (Has-append_cases done (next ∷ []) b m) [
-      | inl a ↦ before b a
-      | inr l ↦ elim l [
-        | inl e ↦ subst (λ (x : Break). (bs : List Break) → IsLegal p (front ++ x ∷ bs) → leads_further entries (front ++ x ∷ []) ≡ false → Covers p entries best (front ++ x ∷ bs)) e here
-        | inr none ↦ absurd none
-      ]
-    ]
-
--- behind a list that isn't legal each legal list goes on with a break with which some legal list goes on
-pub covers_nexts : (p : Priced) (entries : List (List Break × ℤ)) (best : Option Found) (front : List Break) → is_legal p.rule p.len front ≡ false
-    → ((b : Break) → Has (live_nexts p.rule p.len front) b → (bs : List Break) → IsLegal p (front ++ b ∷ bs) → leads_further entries (front ++ b ∷ []) ≡ false → Covers p entries best (front ++ b ∷ bs))
-    → CoversFrom p entries best front
-covers_nexts p entries best front none h = by
-  where
-    by : CoversFrom p entries best front
-    by [] legal leaving = absurd (false≢true (sym none ∙ sym (ap (is_legal p.rule p.len) (append-nil front)) ∙ legal))
-    by (b ∷ bs) legal leaving =
-        let first = rest_first p.rule p.len front b bs legal in
-        h b (Has-filter (λ c. is_live p.rule p.len (front ++ c ∷ [])) (nexts_of p.rule p.len (spot_of p.rule front)) b first.1 first.0) bs legal leaving
-
--- behind a legal list there is no other
-pub covers_legal : (p : Priced) (entries : List (List Break × ℤ)) (best : Option Found) (front list : List Break) → is_legal p.rule p.len front ≡ true → list ≡ front
-    → Covers p entries best list → CoversFrom p entries best front
-covers_legal p entries best front list legal is c rest whole leaving =
-    let empty : rest ≡ [] = no_longer_list p.rule p.len front rest legal whole in
-    subst (Covers p entries best) (is ∙ sym (append-nil front) ∙ ap (λ (l : List Break). front ++ l) (sym empty)) c
-
--- behind breaks with which no legal list begins there is none
-pub covers_none : (p : Priced) (entries : List (List Break × ℤ)) (best : Option Found) (front : List Break) → is_live p.rule p.len front ≡ false → CoversFrom p entries best front
-covers_none p entries best front dead rest whole leaving = absurd (false≢true (sym dead ∙ live_from p.rule p.len front rest whole))
 
 pub any_default : {X : Type 0} (xs : List X) (i : ℕ) (d e : X) → i < length xs → get_or xs i d ≡ get_or xs i e
 any_default [] i d e h = absurd (omega arith)
@@ -155,20 +114,17 @@ best_of_beginnings p entries best lists many all are found start along = best_fo
     ]
 
 -- where all lists get the same bonuses the best list by prices is the best
-pub best_where_alike : (p : Priced) (entries : List (List Break × ℤ)) (best : Option Found) (new list : List Break) → new ≡ [] → ((l : List Break) → bonus_of entries l ≡ bonus_of entries [])
-    → IsFound p entries best → Covers p entries best list → IsBestFrom p.rule p.len p.sums new list → IsBestFound p entries best
-best_where_alike p entries best new list none alike found covers from =
-    let own : IsBestFrom p.rule p.len p.sums [] list = subst (λ (l : List Break). IsBestFrom p.rule p.len p.sums l list) none from in
-    let rest = own.0 in
-    let value : ℤ = own.2.0 in
-    let b : IsBestRest (Completes p.rule p.len []) (rest_worth p.sums p.rule p.len []) value rest = own.2.1 in
-    let worth : rest_worth p.sums p.rule p.len [] rest ≡ value = b.is_worth in
+pub best_where_alike : (p : Priced) (entries : List (List Break × ℤ)) (best : Option Found) (list : List Break) (value : ℤ) → ((l : List Break) → bonus_of entries l ≡ bonus_of entries [])
+    → IsFound p entries best → Covers p entries best list → IsBestList p.rule p.len p.sums (list, value) → IsBestFound p entries best
+best_where_alike p entries best list value alike found covers b =
+    let earned : List Break → ℤ = earned_from (price_in p.sums) p.rule p.len 0 in
+    let worth : earned list ≡ value = b.is_worth in
     best_found p entries best found (λ other legal.
-    let most : rest_worth p.sums p.rule p.len [] other ≤ℤ value = b.greatest other legal in
-    let same : bonus_of entries other ≡ bonus_of entries rest = alike other ∙ sym (alike rest) in
-    covers_on p entries best rest other (subst (Covers p entries best) own.1 covers)
+    let most : earned other ≤ℤ value = b.greatest other legal in
+    let same : bonus_of entries other ≡ bonus_of entries list = alike other ∙ sym (alike list) in
+    covers_on p entries best list other covers
     (omega (arith, ints))
-    (λ e. b.least other legal (let s : rest_worth p.sums p.rule p.len [] other ≡ value = omega (arith, ints) in s)))
+    (λ e. b.least other legal (let s : earned other ≡ value = omega (arith, ints) in s)))
 
 pub ok_map : {X E : Type 0} (r : Result X E) (P Q : X → Type 0) → ((x : X) → P x → Q x) → IfOk r P → IfOk r Q
 ok_map (Ok x) P Q f h = f x h

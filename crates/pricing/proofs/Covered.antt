@@ -13,7 +13,7 @@ use Rattle.break_rules.specs.declared.Break.{Break}
 use Rattle.break_rules.specs.Breaks.{is_legal, is_less_list}
 use Rattle.pricing.specs.declared.found.Found.{Found}
 use Rattle.price_sums.specs.Along.{price_in, earned_from}
-use Rattle.pricing.specs.Values.{Priced}
+use Rattle.break_layers.specs.Rests.{Priced}
 use Rattle.pricing.specs.Found.{IsLegal, worth_of, IsFound, Covers, is_better, Keeps, CoversFrom, IsBestFound}
 use Rattle.pricing.proofs.Best.{not_less}
 use Rattle.pricing.proofs.Lesser.{not_less_on, not_less_itself}

@@ -14,16 +14,17 @@ use Rattle.break_graph.specs.Graph.{IsGraph, StandsAt}
 use Rattle.price_sums.specs.Along.{sum_at, ArePricesOf, AreSums}
 use Rattle.price_sums.specs.Days.{sums_on, AreSumsByDay}
 use Rattle.price_sums.proofs.Prices.{some_at}
-use Rattle.pricing.specs.Values.{Priced, IsValue, AreValues}
+use Rattle.break_layers.specs.Rests.{Priced}
+use Rattle.pricing.specs.Values.{IsValue, AreValues}
 use Rattle.pricing.specs.Days.{IsMostOn, AreMostByDay}
 use Rattle.pricing.proofs.Beyond.{best_prices, none_legal}
 use Rattle.pricing.proofs.Worths.{some_of, short_shift, best_is}
 
-most_is : (i : Problem) (s day : ℕ) (prices sums : List ℤ) (x : Shift × Rule) → slice_get (shift_list i) s ≡ Some x → x.0.len ≤ slots i → ArePricesOf i x.0 day prices sums → (nodes : List Node) (v : ℤ)
+most_is : (i : Problem) (s day : ℕ) (prices sums : List ℤ) (x : Shift × Rule) → slice_get (shift_list i) s ≡ Some x → x.0.len ≤ slots i → ArePricesOf i x.0 day prices sums → (v : ℤ)
     → IsValue x.1 x.0.len sums [] v → IsMostOn i s day prices v
-most_is i s day prices sums x e short of nodes v own =
-    let p : Priced = record { rule = x.1; len = x.0.len; nodes = nodes; sums = sums } in
-    (own.0, best_is i s day prices sums x e short of nodes [] own.0 v (best_prices p v v [] own.0 own.0 refl refl refl own (own.0, refl, (v, own.1))))
+most_is i s day prices sums x e short of v own =
+    let p : Priced = record { rule = x.1; len = x.0.len; sums = sums } in
+    (own.0, best_is i s day prices sums x e short of [] own.0 v (best_prices p v v [] own.0 own.0 refl refl refl own (own.0, refl, (v, own.1))))
 
 -- the graph of a shift is one of its rule and its length
 pub own_graph : (o : Option (Shift × Rule)) (shift : Shift) (rule : Rule) (kept nodes : List Node) → IsSomeAnd o (λ y. shift ≡ y.0) → IsSomeAnd o (λ y. rule ≡ y.1) → IsSomeAnd o (λ y. IsGraph y.1 y.0.len kept)
@@ -57,7 +58,7 @@ most_at i s day prices sums values shift rule nodes k v own_shift own_rule graph
     let value : IsValue rule shift.len sums [] (sum_at values k) = known k [] (omega (arith, last)) (opening_at rule shift.len nodes k graph last) in
     let own : IsValue x.1 x.0.len sums [] v =
     subst (IsValue x.1 x.0.len sums []) (sym is) (subst (λ (z : Shift). IsValue x.1 z.len sums [] (sum_at values k)) same_shift (subst (λ (r : Rule). IsValue r shift.len sums [] (sum_at values k)) same_rule value)) in
-    most_is i s day prices sums x some.1 (short_shift i x.0 valid (subst (IsShift i) same_shift inside)) (of x some.1) nodes v own
+    most_is i s day prices sums x some.1 (short_shift i x.0 valid (subst (IsShift i) same_shift inside)) (of x some.1) v own
 
 pub none_below : (n : ℕ) → (1 ≤ n → ⊥) → n ≡ 0
 none_below zero h = refl

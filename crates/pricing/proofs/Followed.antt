@@ -51,12 +51,12 @@ rests_of_days i s prices lanes values shift rule nodes own_shift well graph of k
     record { well_formed = well; graph = graph; small = small; known = known day (omega (arith, less, few)) small }
 
 -- the best lists for a shift's rule and length are the shift's
-pub bests_of_days : (i : Problem) (s : ℕ) (prices : List ℤ) (lanes : List (List ℤ)) (shift : Shift) (rule : Rule) (nodes : List Node) (bests : List (List Break × ℤ))
+pub bests_of_days : (i : Problem) (s : ℕ) (prices : List ℤ) (lanes : List (List ℤ)) (shift : Shift) (rule : Rule) (bests : List (List Break × ℤ))
     → IsSomeAnd (slice_get (shift_list i) s) (λ y. shift ≡ y.0) → IsSomeAnd (slice_get (shift_list i) s) (λ y. rule ≡ y.1) → IsValid i → IsShift i shift
     → ((x : Shift × Rule) → slice_get (shift_list i) s ≡ Some x → AreSumsByDay i x.0 prices lanes)
-    → length bests ≡ i.days → ((day : ℕ) → day < i.days → IsBestBy rule shift.len nodes (sums_on day lanes) (best_at bests day))
+    → length bests ≡ i.days → ((day : ℕ) → day < i.days → IsBestBy rule shift.len (sums_on day lanes) (best_at bests day))
     → AreBestByDay i s prices i.days bests
-bests_of_days i s prices lanes shift rule nodes bests own_shift own_rule valid inside of many each =
+bests_of_days i s prices lanes shift rule bests own_shift own_rule valid inside of many each =
     let some = some_of (slice_get (shift_list i) s) (λ y. shift ≡ y.0) own_shift in
     let x = some.0 in
     let same_shift : shift ≡ x.0 = some_at (slice_get (shift_list i) s) x (λ y. shift ≡ y.0) some.1 own_shift in
@@ -66,7 +66,7 @@ bests_of_days i s prices lanes shift rule nodes bests own_shift own_rule valid i
       each = λ day less.
           let sums : List ℤ = sums_on day lanes in
           let best = best_at bests day in
-          let own : IsBestBy x.1 x.0.len nodes sums best =
-          subst (λ (z : Shift). IsBestBy x.1 z.len nodes sums best) same_shift (subst (λ (r : Rule). IsBestBy r shift.len nodes sums best) same_rule (each day less)) in
-          best_is i s day prices sums x some.1 (short_shift i x.0 valid (subst (IsShift i) same_shift inside)) ((of x some.1).each day less) nodes [] best.0 best.1 own;
+          let own : IsBestBy x.1 x.0.len sums best =
+          subst (λ (z : Shift). IsBestBy x.1 z.len sums best) same_shift (subst (λ (r : Rule). IsBestBy r shift.len sums best) same_rule (each day less)) in
+          best_is i s day prices sums x some.1 (short_shift i x.0 valid (subst (IsShift i) same_shift inside)) ((of x some.1).each day less) [] best.0 best.1 own;
     }

@@ -14,7 +14,7 @@ use Rattle.break_rules.proofs.Sums.{int_sum_by-same}
 use Rattle.break_rules.specs.Bonuses.{bonus_of, share_of}
 use Rattle.pricing.specs.declared.found.Found.{Found}
 use Rattle.price_sums.specs.Along.{sum_at, price_in, earned_from, resumes, Completes}
-use Rattle.pricing.specs.Values.{Priced}
+use Rattle.break_layers.specs.Rests.{Priced}
 use Rattle.break_layers.specs.Rests.{rest_worth, IsBestTail}
 use Rattle.pricing.specs.Found.{IsLegal, Covers, CoversFrom, IsLeaving, leads_further}
 use Rattle.pricing.proofs.Lesser.{less_behind}

@@ -17,3 +17,4 @@ pub mod Reached
 pub mod Reused
 pub mod Tabling
 pub mod Layered
+pub mod Onward

@@ -50,16 +50,16 @@ module _ (t : Tabled) (nodes : List Node) (lists : List (List Break)) (sums valu
       let s = some_got (shift_list t.instance) t.shift h.shift in
       let x = s.0 in
       let found = h.found x s.1 in
-      best_is t.instance t.shift t.day t.prices sums x s.1 (h.short x s.1) found.sums_of nodes t.bonus f.list f.value
-      (found_some (record { rule = x.1; len = x.0.len; nodes = nodes; sums = sums }) t.bonus best f is found.is_best)
+      best_is t.instance t.shift t.day t.prices sums x s.1 (h.short x s.1) found.sums_of t.bonus f.list f.value
+      (found_some (record { rule = x.1; len = x.0.len; sums = sums }) t.bonus best f is found.is_best)
 
   pub best_none : best ≡ None → (list : List Break) → is_list_of t.instance t.shift list ≡ false
   best_none is list =
       let s = some_got (shift_list t.instance) t.shift h.shift in
       let x = s.0 in
       let found = h.found x s.1 in
-      list_is t.instance t.shift t.day t.prices sums x s.1 (h.short x s.1) found.sums_of nodes list
-      ∙ subst (IsBestFound (record { rule = x.1; len = x.0.len; nodes = nodes; sums = sums }) t.bonus) is found.is_best list
+      list_is t.instance t.shift t.day t.prices sums x s.1 (h.short x s.1) found.sums_of list
+      ∙ subst (IsBestFound (record { rule = x.1; len = x.0.len; sums = sums }) t.bonus) is found.is_best list
 
   module _ (changes : List (ℕ × ℤ)) where
     pub count_after : length (repriced t.prices changes) ≡ slots t.instance

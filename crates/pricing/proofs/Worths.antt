@@ -17,12 +17,10 @@ use Rattle.shift_instance.specs.Rota.{is_list_of}
 use Rattle.shift_instance.specs.Valid.{IsValid, IsShift}
 use Rattle.shift_instance.specs.Worth.{earned, worth, IsBest}
 use Rattle.shift_instance.proofs.Offsets.{earned_by_offsets}
-use Rattle.break_graph.specs.declared.Node.{Node}
 use Rattle.break_rules.specs.Bonuses.{bonus_of}
 use Rattle.pricing.specs.declared.found.Found.{Found}
 use Rattle.price_sums.specs.Along.{price_in, earned_from, ArePricesOf}
-use Rattle.break_layers.specs.Rests.{IsBestRest}
-use Rattle.pricing.specs.Values.{Priced}
+use Rattle.break_layers.specs.Rests.{IsBestRest, Priced}
 use Rattle.pricing.specs.Found.{IsLegal, worth_of, IsBestFound}
 
 pub some_of : (o : Option (Shift × Rule)) (P : Shift × Rule → Type 0) → IsSomeAnd o P → (x : Shift × Rule) × (o ≡ Some x)
@@ -36,7 +34,7 @@ short_shift i s v h =
     let whole : 1 * day_slots i ≤ i.days * day_slots i = mul-le-mul_right (day_slots i) some in
     omega arith
 
-module _ (i : Problem) (s day : ℕ) (prices sums : List ℤ) (x : Shift × Rule) (e : slice_get (shift_list i) s ≡ Some x) (short : x.0.len ≤ slots i) (of : ArePricesOf i x.0 day prices sums) (nodes : List Node) where
+module _ (i : Problem) (s day : ℕ) (prices sums : List ℤ) (x : Shift × Rule) (e : slice_get (shift_list i) s ≡ Some x) (short : x.0.len ≤ slots i) (of : ArePricesOf i x.0 day prices sums) where
   -- what a duty earns, by the sums
   earned_is : (list : List Break) → earned i prices (record { shift = s; day = day; breaks = list }) ≡ earned_from (price_in sums) x.1 x.0.len 0 list
   earned_is list =
@@ -51,10 +49,10 @@ module _ (i : Problem) (s day : ℕ) (prices sums : List ℤ) (x : Shift × Rule
   list_is list = ap (λ o. option_map_or (λ (x : Shift × Rule). is_legal x.1 x.0.len list) o false) e
 
   -- the best list for the rule, the length and the sums is the best one
-  pub best_is : (bonus : List (List Break × ℤ)) (list : List Break) (value : ℤ) → IsBestRest (IsLegal (record { rule = x.1; len = x.0.len; nodes = nodes; sums = sums })) (worth_of (record { rule = x.1; len = x.0.len; nodes = nodes; sums = sums }) bonus) value list
+  pub best_is : (bonus : List (List Break × ℤ)) (list : List Break) (value : ℤ) → IsBestRest (IsLegal (record { rule = x.1; len = x.0.len; sums = sums })) (worth_of (record { rule = x.1; len = x.0.len; sums = sums }) bonus) value list
       → IsBest i s day prices bonus list value
   best_is bonus list value b =
-      let same : (l : List Break) → worth i prices bonus (record { shift = s; day = day; breaks = l }) ≡ worth_of (record { rule = x.1; len = x.0.len; nodes = nodes; sums = sums }) bonus l =
+      let same : (l : List Break) → worth i prices bonus (record { shift = s; day = day; breaks = l }) ≡ worth_of (record { rule = x.1; len = x.0.len; sums = sums }) bonus l =
       λ l. ap (λ (z : ℤ). z +ℤ bonus_of bonus l) (earned_is l) in
       record {
         legal = list_is list ∙ b.allowed;

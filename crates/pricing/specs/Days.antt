@@ -2,7 +2,6 @@
 use Rattle.std.specs.Prelude.{◌≡◌, ℕ, ◌<◌, ℤ, pos, List, [], length, slice_index_or}
 use Rattle.break_rules.specs.declared.Break.{Break}
 use Rattle.break_rules.specs.declared.Rule.{Rule}
-use Rattle.break_graph.specs.declared.Node.{Node}
 use Rattle.shift_instance.specs.Problem.{Problem}
 use Rattle.shift_instance.specs.Worth.{IsBest}
 use Rattle.break_layers.specs.Rests.{IsBestRest}
@@ -27,6 +26,6 @@ pub record AreBestByDay (i : Problem) (s : ℕ) (prices : List ℤ) (days : ℕ)
   pub each : (day : ℕ) → day < days → IsBest i s day prices [] (best_at bests day).0 (best_at bests day).1
 
 -- the best list for a rule and a length by the sums of prices, with what it earns
-abbrev pub IsBestBy : Rule → ℕ → List Node → List ℤ → List Break × ℤ → Type 0
-IsBestBy rule len nodes sums best =
-    IsBestRest (IsLegal (record { rule = rule; len = len; nodes = nodes; sums = sums })) (worth_of (record { rule = rule; len = len; nodes = nodes; sums = sums }) []) best.1 best.0
+abbrev pub IsBestBy : Rule → ℕ → List ℤ → List Break × ℤ → Type 0
+IsBestBy rule len sums best =
+    IsBestRest (IsLegal (record { rule = rule; len = len; sums = sums })) (worth_of (record { rule = rule; len = len; sums = sums }) []) best.1 best.0

@@ -3,12 +3,13 @@ use Rattle.std.specs.Prelude.{◌≡◌, ℕ, ◌+◌, ◌<◌, ℤ, ◌+ℤ◌,
 use Rattle.std.specs.List.{list_any}
 use Rattle.std.specs.Ordering.{int_eq}
 use Rattle.break_rules.specs.declared.Break.{Break}
-use Rattle.break_rules.specs.Breaks.{is_legal, is_less_list, begins_with}
+use Rattle.break_rules.specs.Breaks.{is_legal, is_live, is_less_list, begins_with}
+use Rattle.break_rules.specs.Ranges.{IsRule}
+use Rattle.break_rules.proofs.Lists.{Has}
 use Rattle.break_rules.specs.Bonuses.{bonus_of}
 use Rattle.pricing.specs.declared.found.Found.{Found}
 use Rattle.price_sums.specs.Along.{price_in, earned_from}
-use Rattle.break_layers.specs.Rests.{IsBestRest}
-use Rattle.pricing.specs.Values.{Priced}
+use Rattle.break_layers.specs.Rests.{IsBestRest, IsBestFrom, Priced}
 
 -- whether a list is legal
 abbrev pub IsLegal : Priced → List Break → Type 0
@@ -57,3 +58,15 @@ CoversAlong p entries found prefix many = (k : ℕ) → k < many → CoversFrom 
 abbrev pub IsBestFound : Priced → List (List Break × ℤ) → Option Found → Type 0
 IsBestFound p entries found =
     MatchOption found ((list : List Break) → is_legal p.rule p.len list ≡ false) (λ f. IsBestRest (IsLegal p) (worth_of p entries) f.value f.list)
+
+-- legal lists: for each of some breaks that may come next, one that goes on with it by a best rest
+pub record AreBestOnward (p : Priced) (front stops : List Break) (lists : List (List Break)) : Type 0 where
+  pub legal : (list : List Break) → Has lists list → IsLegal p list
+  pub best : (b : Break) → Has stops b → (whole : List Break) × Has lists whole × IsBestFrom p.rule p.len p.sums (front ++ b ∷ []) whole
+
+-- the same for each break with which some legal list goes on from some breaks, and these breaks alone where they are legal
+pub record AreBestAround (p : Priced) (front : List Break) (lists : List (List Break)) : Type 0 where
+  pub well_formed : IsRule p.rule
+  pub legal : (list : List Break) → Has lists list → IsLegal p list
+  pub onward : (b : Break) → is_live p.rule p.len (front ++ b ∷ []) ≡ true → (whole : List Break) × Has lists whole × IsBestFrom p.rule p.len p.sums (front ++ b ∷ []) whole
+  pub itself : IsLegal p front → Has lists front

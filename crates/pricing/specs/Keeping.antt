@@ -49,7 +49,7 @@ AreValuesAbove rule len sums nodes last values =
 pub record IsFoundAt (i : Problem) (x : Shift × Rule) (day : ℕ) (prices : List ℤ) (bonus : List (List Break × ℤ)) (nodes : List Node) (sums values : List ℤ) (best : Option Found) : Type 0 where
   pub sums_of : ArePricesOf i x.0 day prices sums
   pub rests : AreBestRests x.1 x.0.len nodes sums values
-  pub is_best : IsBestFound (record { rule = x.1; len = x.0.len; nodes = nodes; sums = sums }) bonus best
+  pub is_best : IsBestFound (record { rule = x.1; len = x.0.len; sums = sums }) bonus best
 
 -- what tables keep
 pub record AreTables (t : Tabled) (nodes : List Node) (lists : List (List Break)) (sums values : List ℤ) (best : Option Found) : Type 0 where

@@ -9,7 +9,7 @@ use Rattle.break_graph.specs.declared.Edge.{Edge}
 use Rattle.break_graph.specs.declared.Node.{Node}
 use Rattle.break_graph.specs.Graph.{IsGraph, StandsAt}
 use Rattle.price_sums.specs.Along.{sum_at, AreSums, Completes}
-use Rattle.break_layers.specs.Rests.{IsBestRest, IsBestTail, rest_worth}
+use Rattle.break_layers.specs.Rests.{IsBestRest, IsBestTail, rest_worth, Priced}
 
 -- what a list's best rest earns
 abbrev pub IsValue : Rule → ℕ → List ℤ → List Break → ℤ → Type 0
@@ -48,11 +48,15 @@ pub record LeadsOn (rule : Rule) (len : ℕ) (sums : List ℤ) (nodes : List Nod
   pub best : (tail : List Break) → IsBestTail rule len sums (list ++ e.stop ∷ []) tail → IsBestTail rule len sums list (e.stop ∷ tail)
 
 -- a rule, the length of the shifts that are meant, the nodes of their graph, and the sums of the prices of their offsets
-pub record Priced : Type 0 where
+pub record PricedNodes : Type 0 where
   pub rule : Rule
   pub len : ℕ
   pub nodes : List Node
   pub sums : List ℤ
+
+-- the same without the nodes
+abbrev pub priced_of : PricedNodes → Priced
+priced_of p = record { rule = p.rule; len = p.len; sums = p.sums }
 
 -- what is kept of the best rests
 pub record AreBestRests (rule : Rule) (len : ℕ) (nodes : List Node) (sums values : List ℤ) : Type 0 where
@@ -60,3 +64,9 @@ pub record AreBestRests (rule : Rule) (len : ℕ) (nodes : List Node) (sums valu
   pub graph : IsGraph rule len nodes
   pub small : AreSums len sums
   pub known : AreValues rule len sums nodes (length nodes) values
+
+-- what is kept of the best rests by layers
+pub record AreLayerRests (rule : Rule) (len : ℕ) (sums : List ℤ) (values : Priced) : Type 0 where
+  pub well_formed : IsRule rule
+  pub small : AreSums len sums
+  pub known : values ≡ record { rule = rule; len = len; sums = sums }

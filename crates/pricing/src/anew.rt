@@ -99,7 +99,7 @@ impl AtPrices {
         let len = instance.shift(subject.shift).len;
         let sums = price_sums(alloc, instance, subject.shift, subject.day, prices)?;
         let graph: &Graph = &subject.graph;
-        let values = values_anew(alloc, rule, len, graph.nodes(), &sums, kept, last, steps)?;
+        let values = values_anew(alloc, rule, len, graph, &sums, kept, last, steps)?;
         let rests = BestRests::with_values(rule, len, graph, sums, values);
         let best = best_by_beginnings(alloc, &rests, &subject.trie, &subject.beginnings, steps)?;
         let (sums, values) = rests.into_sums_and_values();

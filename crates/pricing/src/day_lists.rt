@@ -18,19 +18,19 @@ ghost use Rattle.break_layers.specs.Rests.{IsBestFrom};
 use crate::day_values::set_values_by_day;
 use crate::layered_days::bests_by_layers;
 use crate::values::total;
-use break_graph::{Edge, Graph, Node};
+use break_graph::{Edge, Graph};
 use break_rules::{Break, Breaks, NoMemory, Rule};
 use price_sums::{DaySums, Lane, lane_at, resumption};
 use shift_instance::Instance;
 use std::alloc::Global;
 
-/// The nodes of a graph for shifts of `len` slots, the sums of the prices of the offsets below each one, and the values of the
+/// A graph for shifts of `len` slots, the sums of the prices of the offsets below each one, and the values of the
 /// nodes, all days side by side.
 #[derive(Drop)]
 struct DayRests<'a> {
     rule: &'a Rule,
     len: u16,
-    nodes: &'a [Node],
+    graph: &'a Graph,
     sums: &'a [Lane],
     values: &'a [Lane],
 }
@@ -77,16 +77,18 @@ fn first_reaching_on(
 /// The first edge of a node that leads on to the best rest on a day, and `None` where the lists that stand there are legal.
 fn next_on(rests: &DayRests<'_>, at: usize, day: usize) -> Option<Edge>
     requires day { day < 8 }
-    requires at { at < length rests.now.nodes.now }
-    requires rests { AreBestRests rests.now.rule.now rests.now.len rests.now.nodes.now (sums_on day rests.now.sums.now) (sums_on day rests.now.values.now) }
-    ensures leads { (list : List Break) → StandsAt rests.now.rule.now rests.now.len rests.now.nodes.now at list → MatchOption result (is_legal rests.now.rule.now rests.now.len list ≡ true) (LeadsOn rests.now.rule.now rests.now.len (sums_on day rests.now.sums.now) rests.now.nodes.now list) }
+    requires at { at < length rests.now.graph.now }
+    requires rests { AreBestRests rests.now.rule.now rests.now.len rests.now.graph.now (sums_on day rests.now.sums.now) (sums_on day rests.now.values.now) }
+    ensures leads { (list : List Break) → StandsAt rests.now.rule.now rests.now.len rests.now.graph.now at list → MatchOption result (is_legal rests.now.rule.now rests.now.len list ≡ true) (LeadsOn rests.now.rule.now rests.now.len (sums_on day rests.now.sums.now) rests.now.graph.now list) }
     ensures back { MatchOption result (Unit {0}) (λ e. e.next < at) }
 {
-    let node = &rests.nodes[at];
-    let start = number_on(rests.sums, resumption(rests.rule, node.spot), day);
+    let start = number_on(
+        rests.sums,
+        resumption(rests.rule, rests.graph.spot(at)),
+        day,
+    );
     let whole = total(number_on(rests.values, at, day), start);
-    let edges = &node.edges;
-    first_reaching_on(edges.as_slice(), whole, rests.sums, rests.values, day)
+    first_reaching_on(rests.graph.edges(at), whole, rests.sums, rests.values, day)
 }
 
 /// The best list on a day, one edge after another from the node where the empty list stands.
@@ -97,8 +99,8 @@ fn list_on(
     day: usize,
 ) -> Result<Vec<Break>, NoMemory>
     requires day { day < 8 }
-    requires opening { StandsAt rests.now.rule.now rests.now.len rests.now.nodes.now opening [] }
-    requires rests { AreBestRests rests.now.rule.now rests.now.len rests.now.nodes.now (sums_on day rests.now.sums.now) (sums_on day rests.now.values.now) }
+    requires opening { StandsAt rests.now.rule.now rests.now.len rests.now.graph.now opening [] }
+    requires rests { AreBestRests rests.now.rule.now rests.now.len rests.now.graph.now (sums_on day rests.now.sums.now) (sums_on day rests.now.values.now) }
     ensures { IfOk result (λ list. IsBestFrom rests.now.rule.now rests.now.len (sums_on day rests.now.sums.now) [] list.items) }
 {
     let mut list = Vec::new(alloc);
@@ -118,9 +120,9 @@ fn best_on(
     day: usize,
 ) -> Result<(Breaks, i128), NoMemory>
     requires day { day < 8 }
-    requires opening { StandsAt rests.now.rule.now rests.now.len rests.now.nodes.now opening [] }
-    requires rests { AreBestRests rests.now.rule.now rests.now.len rests.now.nodes.now (sums_on day rests.now.sums.now) (sums_on day rests.now.values.now) }
-    ensures { IfOk result (IsBestBy rests.now.rule.now rests.now.len rests.now.nodes.now (sums_on day rests.now.sums.now)) }
+    requires opening { StandsAt rests.now.rule.now rests.now.len rests.now.graph.now opening [] }
+    requires rests { AreBestRests rests.now.rule.now rests.now.len rests.now.graph.now (sums_on day rests.now.sums.now) (sums_on day rests.now.values.now) }
+    ensures { IfOk result (IsBestBy rests.now.rule.now rests.now.len (sums_on day rests.now.sums.now)) }
 {
     let list = list_on(alloc, rests, opening, day)?;
     let value = i128::from(number_on(rests.values, opening, day));
@@ -135,10 +137,10 @@ fn bests_on(
     days: u8,
 ) -> Result<Vec<(Breaks, i128)>, NoMemory>
     requires days { days ≤ 8 }
-    requires opening { StandsAt rests.now.rule.now rests.now.len rests.now.nodes.now opening [] }
-    requires rests { (day : ℕ) → day < days → AreBestRests rests.now.rule.now rests.now.len rests.now.nodes.now (sums_on day rests.now.sums.now) (sums_on day rests.now.values.now) }
+    requires opening { StandsAt rests.now.rule.now rests.now.len rests.now.graph.now opening [] }
+    requires rests { (day : ℕ) → day < days → AreBestRests rests.now.rule.now rests.now.len rests.now.graph.now (sums_on day rests.now.sums.now) (sums_on day rests.now.values.now) }
     ensures count { IfOk result (λ bests. length bests.items ≡ days) }
-    ensures each { IfOk result (λ bests. (day : ℕ) → day < days → IsBestBy rests.now.rule.now rests.now.len rests.now.nodes.now (sums_on day rests.now.sums.now) (best_at bests.items day)) }
+    ensures each { IfOk result (λ bests. (day : ℕ) → day < days → IsBestBy rests.now.rule.now rests.now.len (sums_on day rests.now.sums.now) (best_at bests.items day)) }
 {
     let mut bests = Vec::with_capacity(alloc, usize::from(days))?;
     for day in 0..days {
@@ -162,19 +164,18 @@ fn bests_over(
     requires sums { sums.now.instance ≡ instance.now }
     ensures { IfOk result (λ found. MatchOption found ((list : List Break) → is_list_of instance.now shift list ≡ false) (λ bests. AreBestByDay instance.now shift sums.now.prices instance.now.days bests.items)) }
 {
-    let nodes = graph.nodes();
-    let Some(opening) = nodes.len().checked_sub(1) else {
+    let Some(opening) = graph.node_count().checked_sub(1) else {
         return Ok(None);
     };
     let rule = instance.rule_of(shift);
     let len = instance.shift(shift).len;
     let sums = sums.along(instance, shift);
     let mut values = Vec::new(alloc);
-    set_values_by_day(rule, len, nodes, sums, &mut values)?;
+    set_values_by_day(rule, len, graph, sums, &mut values)?;
     let rests = DayRests {
         rule,
         len,
-        nodes,
+        graph,
         sums,
         values: &values,
     };

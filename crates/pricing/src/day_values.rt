@@ -9,7 +9,7 @@ ghost use Rattle.price_sums.specs.Along.{sum_at, AreSums};
 ghost use Rattle.price_sums.specs.Days.{sums_on};
 ghost use Rattle.pricing.specs.Values.{reach_of, AreFit, IsMostReached, IsValue, AreValues};
 
-use break_graph::{Edge, Node};
+use break_graph::{Edge, Graph};
 use break_rules::{NoMemory, Rule};
 use price_sums::{Lane, lane_at, lane_difference, lane_total, raise_lane, resumption};
 
@@ -50,38 +50,36 @@ fn whole_by_day(edges: &[Edge], len: u16, sums: &[Lane], values: &[Lane]) -> Lan
 fn value_by_day(
     rule: &Rule,
     len: u16,
-    nodes: &[Node],
+    graph: &Graph,
     k: usize,
     sums: &[Lane],
     values: &[Lane],
 ) -> Lane
     requires rule { IsRule rule.now }
-    requires graph { IsGraph rule.now len nodes.now }
-    requires k { k < length nodes.now }
-    ensures { (day : ℕ) → day < 8 → AreSums len (sums_on day sums.now) → AreValues rule.now len (sums_on day sums.now) nodes.now k (sums_on day values.now) → (list : List Break) → StandsAt rule.now len nodes.now k list → IsValue rule.now len (sums_on day sums.now) list (sum_at result day) }
+    requires graph { IsGraph rule.now len graph.now }
+    requires k { k < length graph.now }
+    ensures { (day : ℕ) → day < 8 → AreSums len (sums_on day sums.now) → AreValues rule.now len (sums_on day sums.now) graph.now k (sums_on day values.now) → (list : List Break) → StandsAt rule.now len graph.now k list → IsValue rule.now len (sums_on day sums.now) list (sum_at result day) }
 {
-    let node = &nodes[k];
-    let edges = &node.edges;
-    let whole = whole_by_day(edges.as_slice(), len, sums, values);
-    lane_difference(&whole, lane_at(sums, resumption(rule, node.spot)))
+    let whole = whole_by_day(graph.edges(k), len, sums, values);
+    lane_difference(&whole, lane_at(sums, resumption(rule, graph.spot(k))))
 }
 
 /// Sets a list to the values of each node of a graph on each day. The room that the list has is used again.
 pub fn set_values_by_day(
     rule: &Rule,
     len: u16,
-    nodes: &[Node],
+    graph: &Graph,
     sums: &[Lane],
     values: &mut Vec<Lane>,
 ) -> Result<(), NoMemory>
     requires rule { IsRule rule.now }
-    requires graph { IsGraph rule.now len nodes.now }
-    ensures { OnOk result ((day : ℕ) → day < 8 → AreSums len (sums_on day sums.now) → AreValues rule.now len (sums_on day sums.now) nodes.now (length nodes.now) (sums_on day values.new.items)) }
+    requires graph { IsGraph rule.now len graph.now }
+    ensures { OnOk result ((day : ℕ) → day < 8 → AreSums len (sums_on day sums.now) → AreValues rule.now len (sums_on day sums.now) graph.now (length graph.now) (sums_on day values.new.items)) }
 {
     values.clear();
-    values.reserve(nodes.len())?;
-    for k in 0..nodes.len() {
-        let value = value_by_day(rule, len, nodes, k, sums, values);
+    values.reserve(graph.node_count())?;
+    for k in 0..graph.node_count() {
+        let value = value_by_day(rule, len, graph, k, sums, values);
         values.push(value)?;
     }
     Ok(())

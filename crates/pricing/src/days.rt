@@ -37,39 +37,40 @@ fn most_over(
     graph: &Graph,
     shift: u16,
     sums: &DaySums,
+    lanes: &mut Vec<Lane>,
 ) -> Result<Option<Vec<i128>>, NoMemory>
     requires shift { shift < length (shift_list instance.now) }
     requires graph { IsSomeAnd (slice_get (shift_list instance.now) shift) (λ x. IsGraph x.1 x.0.len graph.now) }
     requires sums { sums.now.instance ≡ instance.now }
     ensures { IfOk result (λ found. MatchOption found ((list : List Break) → is_list_of instance.now shift list ≡ false) (λ most. AreMostByDay instance.now shift sums.now.prices instance.now.days most.items)) }
 {
-    let nodes = graph.nodes();
-    let Some(opening) = nodes.len().checked_sub(1) else {
+    let Some(opening) = graph.node_count().checked_sub(1) else {
         return Ok(None);
     };
-    let mut values = Vec::new(alloc);
     let len = instance.shift(shift).len;
-    let lanes = sums.along(instance, shift);
-    set_values_by_day(instance.rule_of(shift), len, nodes, lanes, &mut values)?;
-    let list = day_list(alloc, lane_at(&values, opening), instance.days())?;
+    let sums = sums.along(instance, shift);
+    set_values_by_day(instance.rule_of(shift), len, graph, sums, lanes)?;
+    let list = day_list(alloc, lane_at(lanes, opening), instance.days())?;
     Ok(Some(list))
 }
 
 /// What the best duties of a shift earn at the prices that the sums are of, one value for each day: the greatest price of the
 /// slots in which a duty with a legal break list works. `None` where no list is legal. All days are priced in one walk along the
-/// shift's graph, without making a list; where the instance keeps no graph of the shift, each day is priced by layers of spots.
+/// shift's graph, without making a list; where the instance keeps no graph of the shift, each day is priced by layers of spots. The
+/// values of the walk are found in the memory of `lanes`, whatever stood there.
 pub fn most_by_day(
     alloc: Global,
     instance: &Instance,
     shift: u16,
     sums: &DaySums,
+    lanes: &mut Vec<Lane>,
 ) -> Result<Option<Vec<i128>>, NoMemory>
     requires shift { shift < length (shift_list instance.now) }
     requires sums { sums.now.instance ≡ instance.now }
     ensures { IfOk result (λ found. MatchOption found ((list : List Break) → is_list_of instance.now shift list ≡ false) (λ most. AreMostByDay instance.now shift sums.now.prices instance.now.days most.items)) }
 {
     match instance.graph(shift) {
-        Some(kept) => most_over(alloc, instance, kept, shift, sums),
+        Some(kept) => most_over(alloc, instance, kept, shift, sums, lanes),
         None => most_by_layers(alloc, instance, shift, sums),
     }
 }

@@ -3,7 +3,7 @@
 ghost use Rattle.std.specs.Prelude.{◌≡◌};
 ghost use Rattle.pricing.specs.Found.{is_better, IsLegal, IsFound, Covers, Keeps};
 
-use crate::rests::BestRests;
+use crate::around::Rests;
 use break_rules::{Break, Breaks, is_less_list};
 use patterns::Trie;
 
@@ -24,23 +24,16 @@ fn is_better(list: &[Break], value: i128, found: &Found) -> bool
 }
 
 /// The better of a list and the best so far.
-pub fn better(
-    rests: &BestRests<'_>,
-    trie: &Trie,
-    list: Vec<Break>,
-    best: Option<Found>,
-) -> Option<Found>
-    requires legal { IsLegal rests.now list.items }
-    requires found { IsFound rests.now trie.now.entries best }
-    ensures found { IsFound rests.now trie.now.entries result }
-    ensures covers { Covers rests.now trie.now.entries result list.items }
-    ensures keeps { Keeps rests.now trie.now.entries best result }
+pub fn better<R: Rests>(rests: &R, trie: &Trie, list: Breaks, best: Option<Found>) -> Option<Found>
+    requires legal { IsLegal (R.priced rests.now) list }
+    requires found { IsFound (R.priced rests.now) trie.now.entries best }
+    ensures found { IsFound (R.priced rests.now) trie.now.entries result }
+    ensures covers { Covers (R.priced rests.now) trie.now.entries result list }
+    ensures keeps { Keeps (R.priced rests.now) trie.now.entries best result }
 {
-    let value = i128::from(rests.earned(&list)) + trie.bonus_of(&list);
-    let new = Found {
-        list: Breaks::new(list),
-        value,
-    };
+    let breaks = list.as_slice();
+    let value = i128::from(rests.earned(breaks)) + trie.bonus_of(breaks);
+    let new = Found { list, value };
     match best {
         Some(old) => {
             if is_better(new.list.as_slice(), value, &old) {

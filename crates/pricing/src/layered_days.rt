@@ -29,7 +29,7 @@ fn sums_of_day(alloc: Global, lanes: &[Lane], day: usize) -> Result<Vec<i64>, No
 }
 
 /// The best list for a rule and a length by sums of prices, with what it earns, and `None` where no list is legal.
-pub fn best_by_layers(
+fn best_by_layers(
     alloc: Global,
     rule: &Rule,
     len: u16,
@@ -37,7 +37,7 @@ pub fn best_by_layers(
 ) -> Result<Option<(Breaks, i128)>, NoMemory>
     requires rule { IsRule rule.now }
     requires sums { AreSums len sums.items }
-    ensures { IfOk result (λ found. MatchOption found ((list : List Break) → is_legal rule.now len list ≡ false) (IsBestBy rule.now len [] sums.items)) }
+    ensures { IfOk result (λ found. MatchOption found ((list : List Break) → is_legal rule.now len list ≡ false) (IsBestBy rule.now len sums.items)) }
 {
     let values = LayerValues::new(alloc, rule, len, sums)?;
     match values.best_list(alloc)? {
@@ -57,7 +57,7 @@ fn bests_of_days(
     requires days { days ≤ 8 }
     requires rule { IsRule rule.now }
     requires sums { (day : ℕ) → day < days → AreSums len (sums_on day lanes.now) }
-    ensures { IfOk result (λ found. MatchOption found ((list : List Break) → is_legal rule.now len list ≡ false) (λ bests. (length bests.items ≡ days) × ((day : ℕ) → day < days → IsBestBy rule.now len [] (sums_on day lanes.now) (best_at bests.items day)))) }
+    ensures { IfOk result (λ found. MatchOption found ((list : List Break) → is_legal rule.now len list ≡ false) (λ bests. (length bests.items ≡ days) × ((day : ℕ) → day < days → IsBestBy rule.now len (sums_on day lanes.now) (best_at bests.items day)))) }
 {
     let mut bests = Vec::with_capacity(alloc, usize::from(days))?;
     for day in 0..days {

@@ -2,11 +2,13 @@
 #![tactic(auto)]
 
 mod anew;
+mod around;
 mod beginnings;
 mod day_lists;
 mod day_values;
 mod days;
 mod found;
+mod layer_rests;
 mod layered_days;
 mod rests;
 mod search;

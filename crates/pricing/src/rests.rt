@@ -1,18 +1,20 @@
 //! The best rests of break lists at given prices.
 
-ghost use Rattle.std.specs.Prelude.{◌≡◌, ◌+◌, ◌-◌, ◌*◌, ◌<◌, ◌≤◌, List, [], IfOk, MatchOption, length, true, false};
+ghost use Rattle.std.specs.Prelude.{◌≡◌, ◌+◌, ◌-◌, ◌*◌, ◌<◌, ◌≤◌, List, [], IfOk, MatchOption, length, map, true, false};
 ghost use Rattle.std.specs.Int.RustNames.{unsigned_abs};
 ghost use Rattle.break_rules.specs.declared.Break.{Break};
 ghost use Rattle.break_rules.specs.Breaks.{is_legal, is_live};
 ghost use Rattle.break_rules.specs.Ranges.{IsRule};
 ghost use Rattle.break_graph.specs.Graph.{IsGraph, StandsAt, node_at};
 ghost use Rattle.price_sums.specs.Along.{AreSums, earned_from, price_in};
-ghost use Rattle.pricing.specs.Values.{IsValue, LeadsOn, AreBestRests};
+ghost use Rattle.pricing.specs.Values.{IsValue, LeadsOn, AreBestRests, priced_of};
+ghost use Rattle.pricing.specs.Found.{AreBestOnward};
 ghost use Rattle.break_layers.specs.Rests.{IsBestFrom};
 
+use crate::around::{Rests, alone, with_next};
 use crate::values::{difference, first_reaching, node_values, total};
-use break_graph::{Edge, Graph, Node};
-use break_rules::{Break, NoMemory, Rule};
+use break_graph::{Edge, Graph};
+use break_rules::{Break, Breaks, NoMemory, Rule};
 use price_sums::{resumption, sum_before};
 use std::alloc::Global;
 use std::marker::Model;
@@ -28,9 +30,9 @@ pub struct BestRests<'a> {
 }
 
 impl<'a> Model for BestRests<'a> {
-    ghost use Rattle.pricing.specs.Values.{Priced, AreBestRests};
+    ghost use Rattle.pricing.specs.Values.{PricedNodes, AreBestRests};
 
-    ghost Value = { Priced };
+    ghost Value = { PricedNodes };
 
     ghost view = { λ r. record { rule = r.rule.now; len = r.len; nodes = r.graph.now; sums = r.sums.items } };
 
@@ -39,7 +41,7 @@ impl<'a> Model for BestRests<'a> {
 
 /// The prices of the offsets at which a duty with a legal list of breaks works, by the sums of the prices before each
 /// offset.
-fn earned_along(rule: &Rule, len: u16, sums: &[i64], list: &[Break]) -> i64
+pub fn earned_along(rule: &Rule, len: u16, sums: &[i64], list: &[Break]) -> i64
     requires rule { IsRule rule.now }
     requires sums { AreSums len sums.now }
     requires legal { is_legal rule.now len list.now ≡ true }
@@ -63,14 +65,6 @@ fn earned_along(rule: &Rule, len: u16, sums: &[i64], list: &[Break]) -> i64
     )
 }
 
-/// The node of a number.
-fn node_of(graph: &Graph, at: usize) -> &Node
-    requires { at < length graph.now }
-    ensures { result.now ≡ node_at graph.now at }
-{
-    &graph.nodes()[at]
-}
-
 impl<'a> BestRests<'a> {
     /// The best rests in shifts of `len` slots with this graph, by the sums of the prices of the offsets below each one.
     pub fn new(
@@ -85,7 +79,7 @@ impl<'a> BestRests<'a> {
         requires sums { AreSums len sums.items }
         ensures { IfOk result (λ r. r ≡ record { rule = rule.now; len = len; nodes = graph.now; sums = sums.items }) }
     {
-        let values = node_values(alloc, rule, len, graph.nodes(), &sums)?;
+        let values = node_values(alloc, rule, len, graph, &sums)?;
         Ok(BestRests {
             rule,
             len,
@@ -134,7 +128,7 @@ impl<'a> BestRests<'a> {
     pub fn opening(&self) -> Option<usize>
         ensures { MatchOption result (is_live self.now.rule self.now.len [] ≡ false) (λ k. StandsAt self.now.rule self.now.len self.now.nodes k []) }
     {
-        self.graph.nodes().len().checked_sub(1)
+        self.graph.node_count().checked_sub(1)
     }
 
     /// The edges of a node. It takes no memory.
@@ -144,9 +138,7 @@ impl<'a> BestRests<'a> {
         ensures graph { IsGraph self.now.rule self.now.len self.now.nodes }
         ensures rule { IsRule self.now.rule }
     {
-        let node = node_of(self.graph, at);
-        let edges = &node.edges;
-        edges.as_slice()
+        self.graph.edges(at)
     }
 
     /// What the best rest of the lists that stand at a node earns. It takes no memory.
@@ -165,11 +157,9 @@ impl<'a> BestRests<'a> {
         ensures rule { IsRule self.now.rule }
         ensures back { MatchOption result (Unit {0}) (λ e. e.next < at) }
     {
-        let node = node_of(self.graph, at);
-        let start = sum_before(&self.sums, resumption(self.rule, node.spot));
+        let start = sum_before(&self.sums, resumption(self.rule, self.graph.spot(at)));
         let whole = total(sum_before(&self.values, at), start);
-        let edges = &node.edges;
-        first_reaching(edges.as_slice(), whole, &self.sums, &self.values)
+        first_reaching(self.graph.edges(at), whole, &self.sums, &self.values)
     }
 
     /// The breaks of a list that stands at a node, followed by their best rest.
@@ -188,17 +178,49 @@ impl<'a> BestRests<'a> {
 
     /// The node where some breaks stand, and `None` where no legal list begins with them. It takes no memory.
     pub fn node_behind(&self, front: &[Break]) -> Option<usize>
-        ensures { MatchOption result (is_live self.now.rule self.now.len front.now ≡ false) (λ k. StandsAt self.now.rule self.now.len self.now.nodes k front.now) }
+        ensures behind { MatchOption result (is_live self.now.rule self.now.len front.now ≡ false) (λ k. StandsAt self.now.rule self.now.len self.now.nodes k front.now) }
+        ensures rule { IsRule self.now.rule }
     {
         self.graph.node_behind(front)
     }
 
-    /// The prices of the offsets at which a duty with these breaks works. It takes no memory.
-    pub fn earned(&self, list: &[Break]) -> i64
-        requires { is_legal self.now.rule self.now.len list.now ≡ true }
-        ensures earned { result ≡ earned_from (price_in self.now.sums) self.now.rule self.now.len 0 list.now }
-        ensures small { unsigned_abs result ≤ 10000000000 * 65535 }
+    /// For each edge of the node where some breaks stand the best list that goes on with it.
+    fn onward(&self, alloc: Global, front: &[Break], at: usize) -> Result<Vec<Breaks>, NoMemory>
+        requires { StandsAt self.now.rule self.now.len self.now.nodes at front.now }
+        ensures { IfOk result (λ lists. AreBestOnward (priced_of self.now) front.now (map (λ e. e.stop) (node_at self.now.nodes at).edges) lists.items) }
     {
+        let mut lists = Vec::new(alloc);
+        for edge in self.edges_at(at) {
+            let list = with_next(alloc, front, edge.stop)?;
+            let whole = self.completed(edge.next as usize, list)?;
+            lists.push(Breaks::new(whole))?;
+        }
+        Ok(lists)
+    }
+}
+
+impl<'a> Rests for BestRests<'a> {
+    ghost priced = { priced_of };
+
+    fn earned(&self, list: &[Break]) -> i64 {
         earned_along(self.rule, self.len, &self.sums, list)
+    }
+
+    fn best(&self, alloc: Global) -> Result<Option<(Breaks, i64)>, NoMemory> {
+        let Some(at) = self.opening() else {
+            return Ok(None);
+        };
+        let list = self.completed(at, Vec::new(alloc))?;
+        Ok(Some((Breaks::new(list), self.value_at(at))))
+    }
+
+    fn around(&self, alloc: Global, front: &[Break]) -> Result<Vec<Breaks>, NoMemory> {
+        let Some(at) = self.node_behind(front) else {
+            return Ok(Vec::new(alloc));
+        };
+        if self.edges_at(at).is_empty() {
+            return alone(alloc, front);
+        }
+        self.onward(alloc, front, at)
     }
 }

@@ -5,18 +5,20 @@ ghost use Rattle.std.specs.Int.RustNames.{unsigned_abs};
 ghost use Rattle.break_rules.specs.declared.Break.{Break};
 ghost use Rattle.break_rules.specs.Breaks.{begins_with};
 ghost use Rattle.break_rules.specs.Ranges.{IsRule};
-ghost use Rattle.break_graph.specs.Graph.{StandsAt, node_at, IsGraph};
+ghost use Rattle.break_rules.proofs.Lists.{Has};
+ghost use Rattle.break_graph.specs.Graph.{IsGraph};
 ghost use Rattle.break_rules.specs.Bonuses.{bonus_of};
 ghost use Rattle.shift_instance.specs.Problem.{shift_list, slots};
 ghost use Rattle.shift_instance.specs.Rota.{is_list_of};
 ghost use Rattle.shift_instance.specs.Worth.{IsBest};
 ghost use Rattle.price_sums.specs.Along.{AreSmallPrices};
-ghost use Rattle.pricing.specs.Found.{IsFound, Keeps, CoversFrom, CoversAlong, IsBestFound, leads_further};
+ghost use Rattle.pricing.specs.Found.{IsLegal, IsFound, Covers, Keeps, CoversFrom, CoversAlong, IsBestFound, leads_further};
 ghost use Rattle.pricing.specs.Keeping.{AreBeginnings};
 
+use crate::around::Rests;
 use crate::beginnings::Beginnings;
 use crate::found::{Found, better};
-use crate::layered_days::best_by_layers;
+use crate::layer_rests::LayerRests;
 use crate::rests::BestRests;
 use crate::steps::Steps;
 use break_graph::Graph;
@@ -27,67 +29,56 @@ use shift_instance::Instance;
 use std::alloc::Global;
 use std::sync::ledger::Ledger;
 
-/// The best list of those so far and of the best ones by prices that go on from some breaks in each way that there is.
-fn best_around(
-    alloc: Global,
-    rests: &BestRests<'_>,
+/// The best list of those so far and of some legal lists.
+fn best_among<R: Rests>(
+    rests: &R,
     trie: &Trie,
-    front: &[Break],
+    lists: Vec<Breaks>,
     best: Option<Found>,
-) -> Result<Option<Found>, NoMemory>
-    requires found { IsFound rests.now trie.now.entries best }
-    ensures found { IfOk result (IsFound rests.now trie.now.entries) }
-    ensures keeps { IfOk result (Keeps rests.now trie.now.entries best) }
-    ensures covers { IfOk result (λ r. CoversFrom rests.now trie.now.entries r front.now) }
-{
-    let Some(at) = rests.node_behind(front) else {
-        return Ok(best);
-    };
-    if rests.edges_at(at).is_empty() {
-        let list = Vec::from_slice(alloc, front)?;
-        return Ok(better(rests, trie, list, best));
-    }
-    best_beyond(alloc, rests, trie, front, at, best)
-}
-
-/// The best list of those so far and of the best ones by prices behind each break with which some legal list goes on.
-fn best_beyond(
-    alloc: Global,
-    rests: &BestRests<'_>,
-    trie: &Trie,
-    front: &[Break],
-    at: usize,
-    best: Option<Found>,
-) -> Result<Option<Found>, NoMemory>
-    requires stands { StandsAt rests.now.rule rests.now.len rests.now.nodes at front.now }
-    requires unfinished { (node_at rests.now.nodes at).edges ≢ [] }
-    requires found { IsFound rests.now trie.now.entries best }
-    ensures found { IfOk result (IsFound rests.now trie.now.entries) }
-    ensures keeps { IfOk result (Keeps rests.now trie.now.entries best) }
-    ensures covers { IfOk result (λ r. CoversFrom rests.now trie.now.entries r front.now) }
+) -> Option<Found>
+    requires legal { (list : List Break) → Has lists.items list → IsLegal (R.priced rests.now) list }
+    requires found { IsFound (R.priced rests.now) trie.now.entries best }
+    ensures found { IsFound (R.priced rests.now) trie.now.entries result }
+    ensures keeps { Keeps (R.priced rests.now) trie.now.entries best result }
+    ensures covers { (list : List Break) → Has lists.items list → Covers (R.priced rests.now) trie.now.entries result list }
 {
     let mut best = best;
-    for edge in rests.edges_at(at) {
-        let mut list = Vec::from_slice(alloc, front)?;
-        list.push(edge.stop)?;
-        let whole = rests.completed(edge.next as usize, list)?;
-        best = better(rests, trie, whole, best);
+    let mut lists = lists;
+    while let Some(list) = lists.pop() {
+        best = better(rests, trie, list, best);
     }
-    Ok(best)
+    best
+}
+
+/// The best list of those so far and of the best ones by prices that go on from some breaks in each way that there is.
+fn best_around<R: Rests>(
+    alloc: Global,
+    rests: &R,
+    trie: &Trie,
+    front: &[Break],
+    best: Option<Found>,
+) -> Result<Option<Found>, NoMemory>
+    requires found { IsFound (R.priced rests.now) trie.now.entries best }
+    ensures found { IfOk result (IsFound (R.priced rests.now) trie.now.entries) }
+    ensures keeps { IfOk result (Keeps (R.priced rests.now) trie.now.entries best) }
+    ensures covers { IfOk result (λ r. CoversFrom (R.priced rests.now) trie.now.entries r front.now) }
+{
+    let lists = rests.around(alloc, front)?;
+    Ok(best_among(rests, trie, lists, best))
 }
 
 /// The best list of those so far and of those found from each beginning of some breaks.
-fn best_along(
+fn best_along<R: Rests>(
     alloc: Global,
-    rests: &BestRests<'_>,
+    rests: &R,
     trie: &Trie,
     prefix: &[Break],
     best: Option<Found>,
 ) -> Result<Option<Found>, NoMemory>
-    requires found { IsFound rests.now trie.now.entries best }
-    ensures found { IfOk result (IsFound rests.now trie.now.entries) }
-    ensures keeps { IfOk result (Keeps rests.now trie.now.entries best) }
-    ensures covers { IfOk result (λ r. CoversAlong rests.now trie.now.entries r prefix.now (length prefix.now)) }
+    requires found { IsFound (R.priced rests.now) trie.now.entries best }
+    ensures found { IfOk result (IsFound (R.priced rests.now) trie.now.entries) }
+    ensures keeps { IfOk result (Keeps (R.priced rests.now) trie.now.entries best) }
+    ensures covers { IfOk result (λ r. CoversAlong (R.priced rests.now) trie.now.entries r prefix.now (length prefix.now)) }
 {
     let mut best = best;
     for end in 0..prefix.len() {
@@ -97,16 +88,13 @@ fn best_along(
 }
 
 /// The best list by prices alone.
-fn best_by_prices(alloc: Global, rests: &BestRests<'_>) -> Result<Option<Found>, NoMemory>
-    ensures { IfOk result (IsBestFound rests.now []) }
+fn best_by_prices<R: Rests>(alloc: Global, rests: &R) -> Result<Option<Found>, NoMemory>
+    ensures { IfOk result (IsBestFound (R.priced rests.now) []) }
 {
-    match rests.opening() {
-        Some(at) => {
-            let list = rests.completed(at, Vec::new(alloc))?;
-            Ok(Some(Found {
-                list: Breaks::new(list),
-                value: i128::from(rests.value_at(at)),
-            }))
+    match rests.best(alloc)? {
+        Some((list, value)) => {
+            let value = i128::from(value);
+            Ok(Some(Found { list, value }))
         }
         None => Ok(None),
     }
@@ -128,14 +116,14 @@ pub fn trie_of(alloc: Global, bonus: &[(Breaks, i64)]) -> Result<Trie, NoMemory>
 }
 
 /// The best list by prices and by the bonuses of a trie that has no other prefixes than these.
-fn best_with(
+fn best_with<R: Rests>(
     alloc: Global,
-    rests: &BestRests<'_>,
+    rests: &R,
     trie: &Trie,
     bonus: &[(Breaks, i64)],
 ) -> Result<Option<Found>, NoMemory>
     requires prefixes { (front : List Break) → leads_further trie.now.entries front ≡ true → leads_further bonus.now front ≡ true }
-    ensures { IfOk result (IsBestFound rests.now trie.now.entries) }
+    ensures { IfOk result (IsBestFound (R.priced rests.now) trie.now.entries) }
 {
     let mut best = best_around(alloc, rests, trie, &[], None)?;
     for (prefix, _) in bonus {
@@ -145,28 +133,27 @@ fn best_with(
 }
 
 /// The best list where all lists get the same bonuses.
-fn best_alike(alloc: Global, rests: &BestRests<'_>, trie: &Trie) -> Result<Option<Found>, NoMemory>
+fn best_alike<R: Rests>(alloc: Global, rests: &R, trie: &Trie) -> Result<Option<Found>, NoMemory>
     requires { (list : List Break) → bonus_of trie.now.entries list ≡ bonus_of trie.now.entries [] }
-    ensures { IfOk result (IsBestFound rests.now trie.now.entries) }
+    ensures { IfOk result (IsBestFound (R.priced rests.now) trie.now.entries) }
 {
-    let Some(at) = rests.opening() else {
-        return Ok(None);
-    };
-    let list = rests.completed(at, Vec::new(alloc))?;
-    Ok(better(rests, trie, list, None))
+    match rests.best(alloc)? {
+        Some((list, _)) => Ok(better(rests, trie, list, None)),
+        None => Ok(None),
+    }
 }
 
 /// The best list by prices and by the bonuses of a trie, with a step for each of the beginnings of its prefixes but the
 /// empty one.
-pub fn best_by_beginnings<L: Ledger>(
+pub fn best_by_beginnings<R: Rests, L: Ledger>(
     alloc: Global,
-    rests: &BestRests<'_>,
+    rests: &R,
     trie: &Trie,
     beginnings: &Beginnings,
     steps: &mut Steps<L>,
 ) -> Result<Option<Found>, NoMemory>
     requires beginnings { AreBeginnings trie.now.entries beginnings.now }
-    ensures best { IfOk result (IsBestFound rests.now trie.now.entries) }
+    ensures best { IfOk result (IsBestFound (R.priced rests.now) trie.now.entries) }
     ensures steps { steps.new ≤ steps.old + length beginnings.now }
 {
     if beginnings.is_empty() {
@@ -181,14 +168,14 @@ pub fn best_by_beginnings<L: Ledger>(
 }
 
 /// The best list by prices and bonuses.
-fn best_list(
+fn best_list<R: Rests>(
     alloc: Global,
-    rests: &BestRests<'_>,
+    rests: &R,
     bonus: &[(Breaks, i64)],
 ) -> Result<Option<Found>, NoMemory>
     requires few { length bonus.now ≤ 2 ^ 33 }
     requires small { All (λ e. unsigned_abs e.1 ≤ 1000000000000) bonus.now }
-    ensures { IfOk result (IsBestFound rests.now bonus.now) }
+    ensures { IfOk result (IsBestFound (R.priced rests.now) bonus.now) }
 {
     if bonus.is_empty() {
         return best_by_prices(alloc, rests);
@@ -229,25 +216,32 @@ fn best_over(
     }
 }
 
-/// The best list of a shift on a day by prices alone, without a graph.
+/// The best list of a shift on a day by layers of spots.
 fn best_without_graph(
     alloc: Global,
     instance: &Instance,
     shift: u16,
     day: u8,
     prices: &[i64],
+    bonus: &[(Breaks, i64)],
 ) -> Result<Option<(Pattern, i128)>, NoMemory>
     requires shift { shift < length (shift_list instance.now) }
     requires count { length prices.now ≡ slots instance.now }
     requires prices { AreSmallPrices prices.now }
-    ensures best { IfOk result (λ found. MatchOption found ((list : List Break) → is_list_of instance.now shift list ≡ false) (λ p. IsBest instance.now shift day prices.now [] p.0.list p.1)) }
+    requires few { length bonus.now ≤ 2 ^ 33 }
+    requires small { All (λ e. unsigned_abs e.1 ≤ 1000000000000) bonus.now }
+    ensures best { IfOk result (λ found. MatchOption found ((list : List Break) → is_list_of instance.now shift list ≡ false) (λ p. IsBest instance.now shift day prices.now bonus.now p.0.list p.1)) }
     ensures len { IfOk result (λ found. MatchOption found (Unit {0}) (λ p. IsSomeAnd (slice_get (shift_list instance.now) shift) (λ x. p.0.len ≡ x.0.len))) }
 {
     let rule = instance.rule_of(shift);
     let len = instance.shift(shift).len;
     let sums = price_sums(alloc, instance, shift, day, prices)?;
-    match best_by_layers(alloc, rule, len, sums)? {
-        Some((list, value)) => Ok(Some((Pattern { list, len }, value))),
+    let rests = LayerRests::new(alloc, rule, len, sums)?;
+    match best_list(alloc, &rests, bonus)? {
+        Some(found) => {
+            let Found { list, value } = found;
+            Ok(Some((Pattern { list, len }, value)))
+        }
         None => Ok(None),
     }
 }
@@ -255,7 +249,8 @@ fn best_without_graph(
 /// The least legal break list of greatest reduced value of a shift on a day, with that value: the prices of the slots in
 /// which a duty with it works, and the numbers of the bonuses with whose prefix it begins. Of lists of one value the least
 /// in the order of lists is meant (break by break, a proper prefix first). `None` where no list is legal. There is a price
-/// for each slot of the planning period, of at most 10^10 in size, and a bonus is at most 10^12 in size.
+/// for each slot of the planning period, of at most 10^10 in size, and a bonus is at most 10^12 in size. Where the instance
+/// keeps no graph of the shift, lists are valued by layers of spots.
 pub fn best_pattern(
     alloc: Global,
     instance: &Instance,
@@ -274,11 +269,6 @@ pub fn best_pattern(
 {
     match instance.graph(shift) {
         Some(kept) => best_over(alloc, instance, kept, shift, day, prices, bonus),
-        None if bonus.is_empty() => best_without_graph(alloc, instance, shift, day, prices),
-        None => {
-            let len = instance.shift(shift).len;
-            let made = Graph::new(alloc, instance.rule_of(shift), len)?;
-            best_over(alloc, instance, &made, shift, day, prices, bonus)
-        }
+        None => best_without_graph(alloc, instance, shift, day, prices, bonus),
     }
 }

@@ -26,7 +26,7 @@ pub struct Subject {
     pub shift: u16,
     /// The day.
     pub day: u8,
-    /// The graph of the shift's break lists.
+    /// The graph of the shift's break lists: the instance's where it keeps one, and else one of its own.
     pub graph: Arc<Graph>,
     /// The bonuses.
     pub trie: Trie,
@@ -34,7 +34,7 @@ pub struct Subject {
     pub beginnings: Beginnings,
 }
 
-/// The graph of a shift, which is the instance's where it keeps one.
+/// The graph of a shift: the instance's where it keeps one, and else a new one.
 fn graph_of(alloc: Global, instance: &Instance, shift: u16) -> Result<Arc<Graph>, NoMemory>
     requires { shift < length (shift_list instance.now) }
     ensures { IfOk result (λ g. (x : Shift × Rule) → IsShiftOf instance.now shift x → IsGraph x.1 x.0.len (arc_value g)) }

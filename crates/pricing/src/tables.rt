@@ -22,7 +22,8 @@ use std::snapshot::Snapshot;
 use std::sync::ledger::Ledger;
 
 /// The values of a shift on a day at prices and bonuses, which are kept: where prices change, only what they reach is found
-/// anew.
+/// anew. Where the instance keeps no graph of the shift, tables make one when they are made, and keep it: they hold a value for each
+/// of its nodes.
 #[derive(Drop)]
 pub struct Tables {
     alloc: Global,

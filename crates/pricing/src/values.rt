@@ -12,7 +12,7 @@ ghost use Rattle.pricing.specs.Values.{reach_of, AreFit, IsFirstWith, IsMostReac
 ghost use Rattle.pricing.specs.Keeping.{AreValuesAbove};
 
 use crate::steps::Steps;
-use break_graph::{Edge, Node};
+use break_graph::{Edge, Graph};
 use break_rules::{NoMemory, Rule};
 use price_sums::{resumption, sum_before};
 use std::alloc::Global;
@@ -79,18 +79,16 @@ fn whole_of(edges: &[Edge], len: u16, sums: &[i64], values: &[i64]) -> i64
 }
 
 /// The value of a node, by those of the nodes before it.
-fn value_of(rule: &Rule, len: u16, nodes: &[Node], k: usize, sums: &[i64], values: &[i64]) -> i64
+fn value_of(rule: &Rule, len: u16, graph: &Graph, k: usize, sums: &[i64], values: &[i64]) -> i64
     requires rule { IsRule rule.now }
-    requires graph { IsGraph rule.now len nodes.now }
+    requires graph { IsGraph rule.now len graph.now }
     requires sums { AreSums len sums.now }
-    requires k { k < length nodes.now }
-    requires known { AreValues rule.now len sums.now nodes.now k values.now }
-    ensures { (list : List Break) → StandsAt rule.now len nodes.now k list → IsValue rule.now len sums.now list result }
+    requires k { k < length graph.now }
+    requires known { AreValues rule.now len sums.now graph.now k values.now }
+    ensures { (list : List Break) → StandsAt rule.now len graph.now k list → IsValue rule.now len sums.now list result }
 {
-    let node = &nodes[k];
-    let edges = &node.edges;
-    let whole = whole_of(edges.as_slice(), len, sums, values);
-    difference(whole, sum_before(sums, resumption(rule, node.spot)))
+    let whole = whole_of(graph.edges(k), len, sums, values);
+    difference(whole, sum_before(sums, resumption(rule, graph.spot(k))))
 }
 
 /// The value of each node of a graph.
@@ -98,17 +96,17 @@ pub fn node_values(
     alloc: Global,
     rule: &Rule,
     len: u16,
-    nodes: &[Node],
+    graph: &Graph,
     sums: &[i64],
 ) -> Result<Vec<i64>, NoMemory>
     requires rule { IsRule rule.now }
-    requires graph { IsGraph rule.now len nodes.now }
+    requires graph { IsGraph rule.now len graph.now }
     requires sums { AreSums len sums.now }
-    ensures { IfOk result (λ values. AreValues rule.now len sums.now nodes.now (length nodes.now) values.items) }
+    ensures { IfOk result (λ values. AreValues rule.now len sums.now graph.now (length graph.now) values.items) }
 {
-    let mut values = Vec::with_capacity(alloc, nodes.len())?;
-    for k in 0..nodes.len() {
-        let value = value_of(rule, len, nodes, k, sums, &values);
+    let mut values = Vec::with_capacity(alloc, graph.node_count())?;
+    for k in 0..graph.node_count() {
+        let value = value_of(rule, len, graph, k, sums, &values);
         values.push(value)?;
     }
     Ok(values)
@@ -120,24 +118,24 @@ pub fn values_anew<L: Ledger>(
     alloc: Global,
     rule: &Rule,
     len: u16,
-    nodes: &[Node],
+    graph: &Graph,
     sums: &[i64],
     kept: &[i64],
     last: u16,
     steps: &mut Steps<L>,
 ) -> Result<Vec<i64>, NoMemory>
     requires rule { IsRule rule.now }
-    requires graph { IsGraph rule.now len nodes.now }
+    requires graph { IsGraph rule.now len graph.now }
     requires sums { AreSums len sums.now }
-    requires kept { AreValuesAbove rule.now len sums.now nodes.now last kept.now }
-    ensures values { IfOk result (λ values. AreValues rule.now len sums.now nodes.now (length nodes.now) values.items) }
-    ensures steps { steps.new ≤ steps.old + count_by (λ n. nat_le n.spot.offset last) nodes.now }
+    requires kept { AreValuesAbove rule.now len sums.now graph.now last kept.now }
+    ensures values { IfOk result (λ values. AreValues rule.now len sums.now graph.now (length graph.now) values.items) }
+    ensures steps { steps.new ≤ steps.old + count_by (λ n. nat_le n.spot.offset last) graph.now }
 {
-    let mut values = Vec::with_capacity(alloc, nodes.len())?;
-    for k in 0..nodes.len() {
-        let value = if nodes[k].spot.offset <= last {
+    let mut values = Vec::with_capacity(alloc, graph.node_count())?;
+    for k in 0..graph.node_count() {
+        let value = if graph.spot(k).offset <= last {
             steps.tick();
-            value_of(rule, len, nodes, k, sums, &values)
+            value_of(rule, len, graph, k, sums, &values)
         } else {
             sum_before(kept, k)
         };

@@ -4,7 +4,7 @@ use mir.Syntax.{w128}
 use Rattle.std.proofs.lemmas.Int.{to_z-of_z}
 use Rattle.price_sums.specs.Along.{sum_at}
 use Rattle.price_sums.specs.Days.{sums_on}
-use Rattle.pricing.specs.Values.{Priced}
+use Rattle.break_layers.specs.Rests.{Priced}
 use Rattle.pricing.proofs.Beyond.{best_prices}
 use Rattle.pricing.proofs.day_lists.best_on.Goals as goal
 
@@ -13,7 +13,7 @@ returns c =
     let rests = c.args.rests.now in
     let sums = sums_on c.args.day rests.sums.now in
     let inv = c.requires.rests in
-    let p : Priced = record { rule = rests.rule.now; len = rests.len; nodes = rests.nodes.now; sums = sums } in
+    let p : Priced = record { rule = rests.rule.now; len = rests.len; sums = sums } in
     best_prices p (sum_at (sums_on c.args.day rests.values.now) c.args.opening) _ [] c.in_ok-list.list.items _ refl c.new.ensures
     (to_z-of_z w128 c.from-value.result (record { sfits = c.from-value.type_inv }) ∙ c.from-value.ensures ∙ to_z-of_z w64 c.number_on.result (record { sfits = c.number_on.type_inv }) ∙ c.number_on.ensures)
     (inv.known c.args.opening [] c.requires.opening.within c.requires.opening) c.in_ok-list.ensures

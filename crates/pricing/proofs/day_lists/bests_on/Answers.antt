@@ -12,7 +12,7 @@ loop-day-preserved c =
     let i = c.loop-day.invariant in
     let best = c.in_ok-best.best in
     let items : c.push.new.self.items ≡ bests ++ best ∷ [] = c.in_ok-push.ensures.items in
-    let P : ℕ → List Break × ℤ → Type 0 = λ day b. IsBestBy rests.rule.now rests.len rests.nodes.now (sums_on day rests.sums.now) b in
+    let P : ℕ → List Break × ℤ → Type 0 = λ day b. IsBestBy rests.rule.now rests.len (sums_on day rests.sums.now) b in
     let here : P c.loop-day.day best = subst (λ n. P n best) c.from-in-loop-day.ensures c.in_ok-best.ensures in
     record {
       many = ap length items ∙ length-append bests (best ∷ []) ∙ omega (arith, i.many);

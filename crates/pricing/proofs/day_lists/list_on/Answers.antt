@@ -13,7 +13,7 @@ loop-edge-init c =
     let sums = sums_on c.args.day rests.sums.now in
     let none : c.new-list.result.items ≡ [] = c.new-list.ensures.items in
     record {
-      stands = subst (StandsAt rests.rule.now rests.len rests.nodes.now c.args.opening) (sym none) c.requires.opening;
+      stands = subst (StandsAt rests.rule.now rests.len rests.graph.now c.args.opening) (sym none) c.requires.opening;
       leads = λ tail t.
           subst (λ (l : List Break). IsBestTail rests.rule.now rests.len sums [] (l ++ tail)) (sym none)
           (subst (λ (l : List Break). IsBestTail rests.rule.now rests.len sums l tail) none t);
@@ -29,13 +29,13 @@ loop-edge-preserved c =
     let list = c.loop-edge.list.items in
     let e = c.in-Some.edge in
     let i = c.loop-edge.invariant in
-    let on : LeadsOn rests.rule.now rests.len sums rests.nodes.now list e = c.in-Some.ensures.leads list i.stands in
+    let on : LeadsOn rests.rule.now rests.len sums rests.graph.now list e = c.in-Some.ensures.leads list i.stands in
     let longer : list ++ e.stop ∷ [] ≡ c.push.new.self.items = sym c.in_ok-push.ensures.items in
     record {
-      stands = subst (StandsAt rests.rule.now rests.len rests.nodes.now e.next) longer on.behind;
+      stands = subst (StandsAt rests.rule.now rests.len rests.graph.now e.next) longer on.behind;
       leads = λ tail t.
           subst (λ (l : List Break). IsBestTail rests.rule.now rests.len sums [] (l ++ tail)) longer
-          (leads_on rests.rule.now rests.len sums rests.nodes.now [] list list e on i.leads tail (subst (λ (l : List Break). IsBestTail rests.rule.now rests.len sums l tail) (sym longer) t));
+          (leads_on rests.rule.now rests.len sums rests.graph.now [] list list e on i.leads tail (subst (λ (l : List Break). IsBestTail rests.rule.now rests.len sums l tail) (sym longer) t));
     }
 
 pub returns : goal.returns

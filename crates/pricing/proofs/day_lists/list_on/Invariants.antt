@@ -7,7 +7,7 @@ use Rattle.pricing.proofs.day_lists.list_on.Given as goal
 
 abbrev pub invariant-loop-edge : goal.invariant-loop-edge
 invariant-loop-edge l = record {
-  stands : StandsAt l.rests.rule.now l.rests.len l.rests.nodes.now l.at l.list.items;
+  stands : StandsAt l.rests.rule.now l.rests.len l.rests.graph.now l.at l.list.items;
   leads : (tail : List Break) → IsBestTail l.rests.rule.now l.rests.len (sums_on l.day l.rests.sums.now) l.list.items tail → IsBestTail l.rests.rule.now l.rests.len (sums_on l.day l.rests.sums.now) [] (l.list.items ++ tail);
 }
 

@@ -1,12 +1,10 @@
-use Rattle.std.proofs.Common.{◌≡◌, ◌+ℤ◌, ℤ, List, [], get_or, sym, ap, subst, ◌∙◌, to_z, of_z, FitsSigned}
+use Rattle.std.proofs.Common.{◌≡◌, ◌+ℤ◌, ℤ, List, sym, ap, subst, ◌∙◌, to_z, of_z, FitsSigned}
 use Rattle.std.specs.Prelude.{MatchOption}
 use Rattle.std.specs.Int.{w64}
 use Rattle.std.proofs.lemmas.Int.{to_z-of_z}
-use Rattle.std.proofs.lemmas.List.{get_or_default}
 use Rattle.break_rules.specs.Walk.{end_of_all}
 use Rattle.break_rules.proofs.Lists.{Has}
 use Rattle.break_graph.specs.declared.Edge.{Edge}
-use Rattle.break_graph.specs.declared.Node.{Node}
 use Rattle.break_graph.specs.Graph.{node_at}
 use Rattle.price_sums.specs.Along.{sum_at, resumes}
 use Rattle.price_sums.specs.Days.{sums_on}
@@ -22,10 +20,9 @@ returns-clause-leads c =
     let rule = s.rule.now in
     let sums = sums_on day s.sums.now in
     let values = sums_on day s.values.now in
-    let nodes = s.nodes.now in
+    let nodes = s.graph.now in
     let at = c.args.at in
-    let node : get_or nodes at c.index-rests-at.result ≡ node_at nodes at = get_or_default nodes at c.index-rests-at.result (record { spot = record { offset = 0; used = 0; lunches = 0 }; edges = [] }) c.requires.at in
-    let edges : c.as_slice.result.now ≡ (node_at nodes at).edges = c.as_slice.ensures ∙ ap (λ (n : Node). n.edges) node in
+    let edges : c.edges.result.now ≡ (node_at nodes at).edges = c.edges.ensures in
     let first : AreFit (reach_of sums values) (node_at nodes at).edges
     → MatchOption c.first_reaching_on.result ((e : Edge) → Has (node_at nodes at).edges e → reach_of sums values e ≡ to_z w64 (of_z w64 c.total-whole.result) → ⊥) (λ e. (f : IsFirstWith (reach_of sums values) (node_at nodes at).edges (to_z w64 (of_z w64 c.total-whole.result))) × (f.edge ≡ e)) =
     subst (λ (es : List Edge). AreFit (reach_of sums values) es → MatchOption c.first_reaching_on.result ((e : Edge) → Has es e → reach_of sums values e ≡ to_z w64 (of_z w64 c.total-whole.result) → ⊥) (λ e. (f : IsFirstWith (reach_of sums values) es (to_z w64 (of_z w64 c.total-whole.result))) × (f.edge ≡ e))) edges
@@ -33,7 +30,7 @@ returns-clause-leads c =
     λ list st.
     let start : to_z w64 (of_z w64 c.number_on-start.result) ≡ sum_at sums (resumes rule (end_of_all list)) =
     to_z-of_z w64 c.number_on-start.result (record { sfits = c.number_on-start.type_inv }) ∙ c.number_on-start.ensures
-    ∙ ap (sum_at sums) (c.resumption.ensures ∙ ap (λ (n : Node). resumes rule n.spot.offset) node ∙ ap (λ p. resumes rule p.offset) st.spot) in
+    ∙ ap (sum_at sums) (c.resumption.ensures ∙ ap (λ p. resumes rule p.offset) (c.spot.ensures ∙ st.spot)) in
     let value : to_z w64 (of_z w64 c.number_on.result) ≡ sum_at values at =
     to_z-of_z w64 c.number_on.result (record { sfits = c.number_on.type_inv }) ∙ c.number_on.ensures in
     let both : to_z w64 (of_z w64 c.number_on.result) +ℤ to_z w64 (of_z w64 c.number_on-start.result) ≡ sum_at values at +ℤ sum_at sums (resumes rule (end_of_all list)) =
@@ -46,7 +43,6 @@ returns-clause-leads c =
 pub returns-clause-back : goal.returns-clause-back
 returns-clause-back c =
     let s = c.args.rests.now in
-    let node : get_or s.nodes.now c.args.at c.index-rests-at.result ≡ node_at s.nodes.now c.args.at = get_or_default s.nodes.now c.args.at c.index-rests-at.result (record { spot = record { offset = 0; used = 0; lunches = 0 }; edges = [] }) c.requires.at in
-    let edges : c.as_slice.result.now ≡ (node_at s.nodes.now c.args.at).edges = c.as_slice.ensures ∙ ap (λ (n : Node). n.edges) node in
-    leads_back s.rule.now s.len s.nodes.now c.args.at c.first_reaching_on.result c.requires.rests.graph c.requires.at
+    let edges : c.edges.result.now ≡ (node_at s.graph.now c.args.at).edges = c.edges.ensures in
+    leads_back s.rule.now s.len s.graph.now c.args.at c.first_reaching_on.result c.requires.rests.graph c.requires.at
     (subst (λ (es : List Edge). MatchOption c.first_reaching_on.result (Unit {0}) (Has es)) edges c.first_reaching_on.ensures.has)

@@ -21,9 +21,9 @@ loop-k-preserved c =
           let sums = sums_on day c.args.sums.now in
           let before : List ℤ = sums_on day values in
           let kept : c.deref.result.now ≡ values = c.deref.ensures.value in
-          let own = subst (λ (vs : List (List ℤ)). AreValues c.args.rule.now c.args.len sums c.args.nodes.now c.loop-k.k (sums_on day vs)) (sym kept) (i.known day less small) in
-          subst (AreValues c.args.rule.now c.args.len sums c.args.nodes.now (c.loop-k.k + 1)) (sym (ap (sums_on day) items ∙ map-append (λ (lane : List ℤ). sum_at lane day) values (x ∷ [])))
-          (values_more c.args.rule.now c.args.len sums c.args.nodes.now c.loop-k.k before (sum_at x day) (length-map values (λ (lane : List ℤ). sum_at lane day) ∙ i.many) (i.known day less small) (c.value_by_day-value.ensures day less small own));
+          let own = subst (λ (vs : List (List ℤ)). AreValues c.args.rule.now c.args.len sums c.args.graph.now c.loop-k.k (sums_on day vs)) (sym kept) (i.known day less small) in
+          subst (AreValues c.args.rule.now c.args.len sums c.args.graph.now (c.loop-k.k + 1)) (sym (ap (sums_on day) items ∙ map-append (λ (lane : List ℤ). sum_at lane day) values (x ∷ [])))
+          (values_more c.args.rule.now c.args.len sums c.args.graph.now c.loop-k.k before (sum_at x day) (length-map values (λ (lane : List ℤ). sum_at lane day) ∙ i.many) (i.known day less small) (c.value_by_day-value.ensures day less small own));
     }
 
 pub returns : goal.returns

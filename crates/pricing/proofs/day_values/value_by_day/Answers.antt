@@ -3,9 +3,7 @@ use Rattle.std.specs.Int.{w64}
 use Rattle.break_rules.specs.Breaks.{is_legal}
 use Rattle.break_rules.specs.Walk.{end_of_all}
 use Rattle.break_graph.specs.declared.Edge.{Edge}
-use Rattle.break_graph.specs.declared.Node.{Node}
 use Rattle.break_graph.specs.Graph.{node_at}
-use Rattle.std.proofs.lemmas.List.{get_or_default}
 use Rattle.price_sums.specs.Along.{sum_at, resumes}
 use Rattle.price_sums.specs.Days.{sums_on}
 use Rattle.pricing.specs.Values.{reach_of, AreFit, IsMostReached, IsValue}
@@ -23,23 +21,22 @@ returns c = λ day less small known list st.
     let rule = a.rule.now in
     let sums = sums_on day a.sums.now in
     let values = sums_on day a.values.now in
-    let node = node_at a.nodes.now a.k in
-    let at : c.index-nodes-k.result ≡ node = c.index-nodes-k.is ∙ get_or_default a.nodes.now a.k c.index-nodes-k.result (record { spot = record { offset = 0; used = 0; lunches = 0 }; edges = [] }) r.k in
-    let edges : c.as_slice.result.now ≡ node.edges = c.as_slice.ensures ∙ ap (λ (n : Node). n.edges) at in
+    let node = node_at a.graph.now a.k in
+    let edges : c.edges.result.now ≡ node.edges = c.edges.ensures in
     let from : sum_at c.lane_at.result.now day ≡ sum_at sums (resumes rule (end_of_all list)) =
-    c.lane_at.ensures day ∙ ap (sum_at sums) (c.resumption.ensures ∙ ap (λ (n : Node). resumes rule n.spot.offset) at ∙ ap (λ s. resumes rule s.offset) st.spot) in
+    c.lane_at.ensures day ∙ ap (sum_at sums) (c.resumption.ensures ∙ ap (λ s. resumes rule s.offset) (c.spot.ensures ∙ st.spot)) in
     let exact : (w : ℤ) → sum_at c.whole_by_day-whole.result day ≡ w → IsValue rule a.len sums list (w -ℤ sum_at sums (resumes rule (end_of_all list))) → IsValue rule a.len sums list (sum_at c.lane_difference.result day) =
     λ w is v.
     let both : sum_at c.whole_by_day-whole.result day -ℤ sum_at c.lane_at.result.now day ≡ w -ℤ sum_at sums (resumes rule (end_of_all list)) =
     ap (λ (z : ℤ). z -ℤ sum_at c.lane_at.result.now day) is ∙ ap (λ (z : ℤ). w -ℤ z) from in
     subst (IsValue rule a.len sums list) (sym (c.lane_difference.ensures day less (subst (FitsSigned w64) (sym both) (value_small rule a.len sums list _ small v)) ∙ both)) v in
-    elim (empty_or c.as_slice.result.now) [
+    elim (empty_or c.edges.result.now) [
       | inl none ↦
           let legal : is_legal rule a.len list ≡ true = sym (r.graph.ends a.k list st) ∙ ap (λ es. length es == 0) (sym edges ∙ none) in
           exact (sum_at sums a.len) (c.whole_by_day-whole.ensures.end none day) (value_at_end rule a.len sums list r.rule legal)
       | inr some ↦
           let most : IsMostReached (reach_of sums values) node.edges (sum_at c.whole_by_day-whole.result day) =
           subst (λ es. IsMostReached (reach_of sums values) es (sum_at c.whole_by_day-whole.result day)) edges
-          (c.whole_by_day-whole.ensures.most some day less (subst (AreFit (reach_of sums values)) (sym edges) (fits rule a.len sums a.nodes.now a.k values list r.rule r.graph small known st))) in
-          exact (sum_at c.whole_by_day-whole.result day) refl (value_by_edges rule a.len sums a.nodes.now a.k values list r.rule r.graph small known st (sum_at c.whole_by_day-whole.result day) most)
+          (c.whole_by_day-whole.ensures.most some day less (subst (AreFit (reach_of sums values)) (sym edges) (fits rule a.len sums a.graph.now a.k values list r.rule r.graph small known st))) in
+          exact (sum_at c.whole_by_day-whole.result day) refl (value_by_edges rule a.len sums a.graph.now a.k values list r.rule r.graph small known st (sum_at c.whole_by_day-whole.result day) most)
     ]

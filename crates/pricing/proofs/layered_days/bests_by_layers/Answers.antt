@@ -1,4 +1,4 @@
-use Rattle.std.proofs.Common.{◌≡◌, ◌<◌, ℕ, false, List, [], Option, length, sym, subst, ◌∙◌}
+use Rattle.std.proofs.Common.{◌≡◌, ◌<◌, ℕ, false, List, Option, length, sym, subst, ◌∙◌}
 use Rattle.std.specs.Prelude.{MatchOption}
 use Rattle.break_rules.specs.declared.Break.{Break}
 use Rattle.break_rules.specs.Breaks.{is_legal}
@@ -17,8 +17,8 @@ returns-in-Some c =
     let len = c.shift-len.result.len in
     let lanes = c.along-lanes.result.now in
     let days = c.days.ensures.days in
-    let found : (length c.in-Some.bests.items ≡ c.days.result) × ((day : ℕ) → day < c.days.result → IsBestBy rule len [] (sums_on day lanes) (best_at c.in-Some.bests.items day)) =
-    subst (λ (o : Option _). MatchOption o ((list : List Break) → is_legal rule len list ≡ false) (λ bests. (length bests.items ≡ c.days.result) × ((day : ℕ) → day < c.days.result → IsBestBy rule len [] (sums_on day lanes) (best_at bests.items day)))) c.in-Some.is c.in_ok-bests.ensures in
-    bests_of_days c.args.instance.now c.args.shift c.args.sums.now.prices lanes c.shift-len.result rule [] c.in-Some.bests.items
+    let found : (length c.in-Some.bests.items ≡ c.days.result) × ((day : ℕ) → day < c.days.result → IsBestBy rule len (sums_on day lanes) (best_at c.in-Some.bests.items day)) =
+    subst (λ (o : Option _). MatchOption o ((list : List Break) → is_legal rule len list ≡ false) (λ bests. (length bests.items ≡ c.days.result) × ((day : ℕ) → day < c.days.result → IsBestBy rule len (sums_on day lanes) (best_at bests.items day)))) c.in-Some.is c.in_ok-bests.ensures in
+    bests_of_days c.args.instance.now c.args.shift c.args.sums.now.prices lanes c.shift-len.result rule c.in-Some.bests.items
     c.shift-len.ensures.shift c.rule_of-rule.ensures.rule c.shift-len.ensures.valid c.shift-len.ensures.within c.along-lanes.ensures
     (found.0 ∙ days) (λ day less. found.1 day (subst (λ n. day < n) (sym days) less))

@@ -2,8 +2,8 @@ use Rattle.pricing.specs.Found.{IsFound, Keeps, CoversAlong}
 use Rattle.pricing.proofs.search.best_along.Given as goal
 
 abbrev pub invariant-loop-end : goal.invariant-loop-end
-invariant-loop-end l = record {
-  found : IsFound l.rests l.trie.entries l.best;
-  keeps : Keeps l.rests l.trie.entries l.fn.best l.best;
-  covers : CoversAlong l.rests l.trie.entries l.best l.prefix l.end;
+invariant-loop-end g l = record {
+  found : IsFound (g.R.Rests.priced l.rests) l.trie.entries l.best;
+  keeps : Keeps (g.R.Rests.priced l.rests) l.trie.entries l.fn.best l.best;
+  covers : CoversAlong (g.R.Rests.priced l.rests) l.trie.entries l.best l.prefix l.end;
 }

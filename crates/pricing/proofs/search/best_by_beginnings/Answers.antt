@@ -9,7 +9,7 @@ use Rattle.pricing.proofs.search.best_by_beginnings.Goals as goal
 
 pub loop-front-preserved : goal.loop-front-preserved
 loop-front-preserved g c =
-    let p = c.args.rests.now in
+    let p = (g.R.Rests.priced c.args.rests.now) in
     let entries = c.args.trie.now.entries in
     let i = c.loop-front.front-index in
     let inv = c.loop-front.invariant in
@@ -32,7 +32,7 @@ pub returns-clause-best : goal.returns-clause-best
 returns-clause-best g c =
     let inv = c.loop-front.invariant in
     let many : length c.args.beginnings.now ≡ length c.lists-front-items.result.now = ap length (sym c.lists-front-items.ensures.lists) ∙ length-map c.lists-front-items.result.now (λ v. v.items) in
-    best_of_beginnings c.args.rests.now c.args.trie.now.entries c.loop-front.best c.args.beginnings.now c.loop-front.front-index (omega (arith, many, c.loop-front-test.false)) c.requires.beginnings inv.found inv.start inv.along
+    best_of_beginnings (g.R.Rests.priced c.args.rests.now) c.args.trie.now.entries c.loop-front.best c.args.beginnings.now c.loop-front.front-index (omega (arith, many, c.loop-front-test.false)) c.requires.beginnings inv.found inv.start inv.along
 
 pub best_alike-requires : goal.best_alike-requires
 best_alike-requires g c =

@@ -1,15 +1,19 @@
-use Rattle.std.proofs.Common.{[], ◌∙◌}
+use Rattle.std.proofs.Common.{rules, ◌≡◌, ◌∙◌, ℤ, false, List, Option, subst}
+use Rattle.std.specs.Prelude.{MatchOption, FitsSigned}
 use Rattle.std.specs.Int.{w64}
 use mir.Syntax.{w128}
 use Rattle.std.proofs.lemmas.Int.{to_z-of_z}
-use Rattle.pricing.proofs.Beyond.{none_legal, best_prices}
+use Rattle.break_rules.specs.declared.Break.{Break}
+use Rattle.break_rules.specs.Breaks.{is_legal}
+use Rattle.break_layers.specs.Rests.{IsBestList}
+use Rattle.pricing.proofs.Layered.{plain_best}
 use Rattle.pricing.proofs.search.best_by_prices.Goals as goal
 
-pub returns-in_ok-list-in-Some : goal.returns-in_ok-list-in-Some
-returns-in_ok-list-in-Some c =
-    best_prices c.args.rests.now c.value_at.result _ c.new.result.items c.in_ok-list-in-Some.list.items c.new-in-Some.result c.new.ensures.items c.new-in-Some.ensures
-    (to_z-of_z w128 c.from.result (record { sfits = c.from.type_inv }) ∙ c.from.ensures ∙ to_z-of_z w64 c.value_at.result (record { sfits = c.value_at.type_inv }))
-    (c.value_at.ensures [] c.in-Some.ensures) c.in_ok-list-in-Some.ensures
-
-pub returns-in-None : goal.returns-in-None
-returns-in-None c = let p = c.args.rests.now in none_legal p.rule p.len c.in-None.ensures
+pub returns-in-Some : goal.returns-in-Some
+returns-in-Some g c =
+    let p = g.R.Rests.priced c.args.rests.now in
+    let found : IsBestList p.rule p.len p.sums (c.in-Some.list, c.in-Some.value) =
+    subst (λ (o : Option (List Break × ℤ)). MatchOption o ((list : List Break) → is_legal p.rule p.len list ≡ false) (IsBestList p.rule p.len p.sums)) c.in-Some.is c.in_ok-list.ensures in
+    let fits : FitsSigned w64 c.in-Some.value = search rules in
+    plain_best p.rule p.len p.sums c.in-Some.list c.in-Some.value _
+    (to_z-of_z w128 c.from-value.result (record { sfits = c.from-value.type_inv }) ∙ c.from-value.ensures ∙ to_z-of_z w64 c.in-Some.value fits) found

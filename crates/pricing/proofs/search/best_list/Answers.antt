@@ -12,13 +12,13 @@ none_at [] e = refl
 none_at (x ∷ xs) e = absurd (omega arith)
 
 pub returns-then-is_empty : goal.returns-then-is_empty
-returns-then-is_empty c =
+returns-then-is_empty g c =
     let none : c.args.bonus.now ≡ [] = none_at c.args.bonus.now (eqb-true (length c.args.bonus.now) 0 (sym c.is_empty.ensures ∙ c.if-is_empty.true)) in
-    subst (λ (es : List (List Break × ℤ)). IfOk c.best_by_prices.result (IsBestFound c.args.rests.now es)) (sym none) c.best_by_prices.ensures
+    subst (λ (es : List (List Break × ℤ)). IfOk c.best_by_prices.result (IsBestFound (g.R.Rests.priced c.args.rests.now) es)) (sym none) c.best_by_prices.ensures
 
 pub returns : goal.returns
-returns c =
-    let p = c.args.rests.now in
+returns g c =
+    let p = g.R.Rests.priced c.args.rests.now in
     ok_map c.best_with.result (IsBestFound p c.in_ok-trie.trie.entries) (IsBestFound p c.args.bonus.now)
     (λ x h. best_same p c.in_ok-trie.trie.entries c.args.bonus.now x (λ list. ap (λ (z : ℤ). earned_from (price_in p.sums) p.rule p.len 0 list +ℤ z) (c.in_ok-trie.ensures.sums list)) h)
     c.best_with.ensures

@@ -3,8 +3,8 @@ use Rattle.pricing.specs.Found.{IsFound, CoversFrom, CoversAlong}
 use Rattle.pricing.proofs.search.best_with.Given as goal
 
 abbrev pub invariant-loop-prefix : goal.invariant-loop-prefix
-invariant-loop-prefix l = record {
-  found : IsFound l.rests l.trie.entries l.best;
-  start : CoversFrom l.rests l.trie.entries l.best [];
-  along : (j : ℕ) → j < l.prefix-index → CoversAlong l.rests l.trie.entries l.best (get_or l.bonus j ([], pos 0)).0 (length (get_or l.bonus j ([], pos 0)).0);
+invariant-loop-prefix g l = record {
+  found : IsFound (g.R.Rests.priced l.rests) l.trie.entries l.best;
+  start : CoversFrom (g.R.Rests.priced l.rests) l.trie.entries l.best [];
+  along : (j : ℕ) → j < l.prefix-index → CoversAlong (g.R.Rests.priced l.rests) l.trie.entries l.best (get_or l.bonus j ([], pos 0)).0 (length (get_or l.bonus j ([], pos 0)).0);
 }

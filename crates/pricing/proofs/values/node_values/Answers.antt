@@ -10,7 +10,7 @@ loop-k-init c = record { many = ap length c.in_ok-values.ensures.items; known = 
 
 pub value_of-value-requires-clause-known : goal.value_of-value-requires-clause-known
 value_of-value-requires-clause-known c =
-    subst (AreValues c.args.rule.now c.args.len c.args.sums.now c.args.nodes.now c.loop-k.k) (sym c.deref.ensures.value) c.loop-k.invariant.known
+    subst (AreValues c.args.rule.now c.args.len c.args.sums.now c.args.graph.now c.loop-k.k) (sym c.deref.ensures.value) c.loop-k.invariant.known
 
 pub loop-k-preserved : goal.loop-k-preserved
 loop-k-preserved c =
@@ -21,8 +21,8 @@ loop-k-preserved c =
     c.in_ok-push.ensures.items ∙ ap (λ (z : ℤ). values ++ z ∷ []) (to_z-of_z w64 x (record { sfits = c.value_of-value.type_inv })) in
     record {
       many = ap length items ∙ length-append values (x ∷ []) ∙ omega (arith, i.many);
-      known = subst (AreValues c.args.rule.now c.args.len c.args.sums.now c.args.nodes.now (c.loop-k.k + 1)) (sym items)
-          (values_more c.args.rule.now c.args.len c.args.sums.now c.args.nodes.now c.loop-k.k values x i.many i.known c.value_of-value.ensures);
+      known = subst (AreValues c.args.rule.now c.args.len c.args.sums.now c.args.graph.now (c.loop-k.k + 1)) (sym items)
+          (values_more c.args.rule.now c.args.len c.args.sums.now c.args.graph.now c.loop-k.k values x i.many i.known c.value_of-value.ensures);
     }
 
 pub returns : goal.returns

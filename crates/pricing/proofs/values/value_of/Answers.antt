@@ -3,9 +3,7 @@ use Rattle.std.specs.Int.{w64}
 use Rattle.break_rules.specs.Breaks.{is_legal}
 use Rattle.break_rules.specs.Walk.{end_of_all}
 use Rattle.break_graph.specs.declared.Edge.{Edge}
-use Rattle.break_graph.specs.declared.Node.{Node}
 use Rattle.break_graph.specs.Graph.{node_at}
-use Rattle.std.proofs.lemmas.List.{get_or_default}
 use Rattle.std.proofs.lemmas.Int.{to_z-of_z}
 use Rattle.price_sums.specs.Along.{sum_at, resumes}
 use Rattle.pricing.specs.Values.{reach_of, AreFit, IsMostReached, IsValue}
@@ -22,11 +20,10 @@ returns c = λ list st.
     let r = c.requires in
     let rule = a.rule.now in
     let sums = a.sums.now in
-    let node = node_at a.nodes.now a.k in
-    let at : c.index-nodes-k.result ≡ node = c.index-nodes-k.is ∙ get_or_default a.nodes.now a.k c.index-nodes-k.result (record { spot = record { offset = 0; used = 0; lunches = 0 }; edges = [] }) r.k in
-    let edges : c.as_slice.result.now ≡ node.edges = c.as_slice.ensures ∙ ap (λ (n : Node). n.edges) at in
+    let node = node_at a.graph.now a.k in
+    let edges : c.edges.result.now ≡ node.edges = c.edges.ensures in
     let from : c.sum_before.result ≡ sum_at sums (resumes rule (end_of_all list)) =
-    c.sum_before.ensures ∙ ap (sum_at sums) (c.resumption.ensures ∙ ap (λ (n : Node). resumes rule n.spot.offset) at ∙ ap (λ s. resumes rule s.offset) st.spot) in
+    c.sum_before.ensures ∙ ap (sum_at sums) (c.resumption.ensures ∙ ap (λ s. resumes rule s.offset) (c.spot.ensures ∙ st.spot)) in
     let exact : (w : ℤ) → c.whole_of-whole.result ≡ w → IsValue rule a.len sums list (w -ℤ sum_at sums (resumes rule (end_of_all list))) → IsValue rule a.len sums list c.difference.result =
     λ w is v.
     let one : to_z w64 (of_z w64 c.whole_of-whole.result) ≡ w = to_z-of_z w64 c.whole_of-whole.result (record { sfits = c.whole_of-whole.type_inv }) ∙ is in
@@ -34,13 +31,13 @@ returns c = λ list st.
     let both : to_z w64 (of_z w64 c.whole_of-whole.result) -ℤ to_z w64 (of_z w64 c.sum_before.result) ≡ w -ℤ sum_at sums (resumes rule (end_of_all list)) =
     ap (λ (z : ℤ). z -ℤ to_z w64 (of_z w64 c.sum_before.result)) one ∙ ap (λ (z : ℤ). w -ℤ z) two in
     subst (IsValue rule a.len sums list) (sym (c.difference.ensures (subst (FitsSigned w64) (sym both) (value_small rule a.len sums list _ r.sums v)) ∙ both)) v in
-    subst (IsValue rule a.len sums list) (sym (to_z-of_z w64 c.difference.result (record { sfits = c.difference.type_inv }))) (elim (empty_or c.as_slice.result.now) [
+    subst (IsValue rule a.len sums list) (sym (to_z-of_z w64 c.difference.result (record { sfits = c.difference.type_inv }))) (elim (empty_or c.edges.result.now) [
       | inl none ↦
           let legal : is_legal rule a.len list ≡ true = sym (r.graph.ends a.k list st) ∙ ap (λ es. length es == 0) (sym edges ∙ none) in
           exact (sum_at sums a.len) (c.whole_of-whole.ensures.end none) (value_at_end rule a.len sums list r.rule legal)
       | inr some ↦
           let most : IsMostReached (reach_of sums a.values.now) node.edges c.whole_of-whole.result =
           subst (λ es. IsMostReached (reach_of sums a.values.now) es c.whole_of-whole.result) edges
-          (c.whole_of-whole.ensures.most some (subst (AreFit (reach_of sums a.values.now)) (sym edges) (fits rule a.len sums a.nodes.now a.k a.values.now list r.rule r.graph r.sums r.known st))) in
-          exact c.whole_of-whole.result refl (value_by_edges rule a.len sums a.nodes.now a.k a.values.now list r.rule r.graph r.sums r.known st c.whole_of-whole.result most)
+          (c.whole_of-whole.ensures.most some (subst (AreFit (reach_of sums a.values.now)) (sym edges) (fits rule a.len sums a.graph.now a.k a.values.now list r.rule r.graph r.sums r.known st))) in
+          exact c.whole_of-whole.result refl (value_by_edges rule a.len sums a.graph.now a.k a.values.now list r.rule r.graph r.sums r.known st c.whole_of-whole.result most)
     ])

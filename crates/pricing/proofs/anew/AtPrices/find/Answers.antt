@@ -8,7 +8,8 @@ use Rattle.shift_instance.specs.declared.Shift.{Shift}
 use Rattle.shift_instance.specs.Problem.{shift_list}
 use Rattle.price_sums.specs.Along.{AreSums, ArePricesOf}
 use Rattle.price_sums.proofs.Prices.{some_at}
-use Rattle.pricing.specs.Values.{AreBestRests, AreValues, Priced}
+use Rattle.break_layers.specs.Rests.{Priced}
+use Rattle.pricing.specs.Values.{AreBestRests, AreValues, PricedNodes, priced_of}
 use Rattle.pricing.specs.Found.{IsBestFound}
 use Rattle.pricing.specs.Keeping.{AreValuesAbove}
 use Rattle.pricing.proofs.Worths.{some_of}
@@ -36,12 +37,11 @@ values_anew-requires-clause-kept g c =
     let x = some_shift g own in
     let is = the_shift g own x.0 x.1 in
     let kept = c.args.kept.now in
-    let nodes : c.nodes.result.now ≡ arc_value c.args.subject.now.graph = c.nodes.ensures ∙ c.deref-graph.ensures in
     let base : AreValuesAbove x.0.1 x.0.0.len c.in_ok-sums.sums.items (arc_value c.args.subject.now.graph) c.args.last kept = c.requires.kept x.0 x.1 c.in_ok-sums.sums.items (c.in_ok-sums.ensures.prices x.0 x.1) in
-    subst (λ (r : Rule). AreValuesAbove r c.shift-len.result.len c.deref.result.now c.nodes.result.now c.args.last kept) (sym is.rule)
-    (subst (λ (n : ℕ). AreValuesAbove x.0.1 n c.deref.result.now c.nodes.result.now c.args.last kept) (sym is.len)
-    (subst (λ (l : List ℤ). AreValuesAbove x.0.1 x.0.0.len l c.nodes.result.now c.args.last kept) (sym c.deref.ensures.value)
-    (subst (λ (l : List Node). AreValuesAbove x.0.1 x.0.0.len c.in_ok-sums.sums.items l c.args.last kept) (sym nodes) base)))
+    subst (λ (r : Rule). AreValuesAbove r c.shift-len.result.len c.deref.result.now c.deref-graph.result.now c.args.last kept) (sym is.rule)
+    (subst (λ (n : ℕ). AreValuesAbove x.0.1 n c.deref.result.now c.deref-graph.result.now c.args.last kept) (sym is.len)
+    (subst (λ (l : List ℤ). AreValuesAbove x.0.1 x.0.0.len l c.deref-graph.result.now c.args.last kept) (sym c.deref.ensures.value)
+    (subst (λ (l : List Node). AreValuesAbove x.0.1 x.0.0.len c.in_ok-sums.sums.items l c.args.last kept) (sym c.deref-graph.ensures) base)))
 
 pub with_values-rests-requires : goal.with_values-rests-requires
 with_values-rests-requires g c =
@@ -58,7 +58,7 @@ with_values-rests-requires g c =
           (subst (λ (r : Rule). IsGraph r len (arc_value c.args.subject.now.graph)) (sym is.rule) (subst (λ (n : ℕ). IsGraph x.0.1 n (arc_value c.args.subject.now.graph)) (sym is.len) graph));
       small = subst (λ (n : ℕ). AreSums n c.in_ok-sums.sums.items) (sym is.len) (c.in_ok-sums.ensures.small x.0 x.1);
       known = subst (λ (l : List ℤ). AreValues rule len l c.deref-graph.result.now (length c.deref-graph.result.now) values) c.deref.ensures.value
-          (subst (λ (l : List Node). AreValues rule len c.deref.result.now l (length l) values) c.nodes.ensures c.in_ok-values.ensures.values);
+          c.in_ok-values.ensures.values;
     }
 
 pub returns-clause-found : goal.returns-clause-found
@@ -72,11 +72,11 @@ returns-clause-found g c = λ x e.
     c.with_values-rests.ensures ∙ ap (λ (r : Rule). record { rule = r; len = c.shift-len.result.len; nodes = c.deref-graph.result.now; sums = sums }) is.rule
     ∙ ap (λ (n : ℕ). record { rule = x.1; len = n; nodes = c.deref-graph.result.now; sums = sums }) is.len
     ∙ ap (λ (l : List Node). record { rule = x.1; len = x.0.len; nodes = l; sums = sums }) c.deref-graph.ensures in
-    let same : back ≡ sums = c.into_sums_and_values-sums.ensures.sums ∙ ap (λ (p : Priced). p.sums) made in
-    let best : IsBestFound (record { rule = x.1; len = x.0.len; nodes = nodes; sums = sums }) c.args.subject.now.trie.entries c.in_ok-best.best =
-    subst (λ (p : Priced). IsBestFound p c.args.subject.now.trie.entries c.in_ok-best.best) made c.in_ok-best.ensures.best in
+    let same : back ≡ sums = c.into_sums_and_values-sums.ensures.sums ∙ ap (λ (p : PricedNodes). p.sums) made in
+    let best : IsBestFound (record { rule = x.1; len = x.0.len; sums = sums }) c.args.subject.now.trie.entries c.in_ok-best.best =
+    subst (λ (p : Priced). IsBestFound p c.args.subject.now.trie.entries c.in_ok-best.best) (ap priced_of made) c.in_ok-best.ensures.best in
     record {
       sums_of = subst (ArePricesOf c.args.instance.now x.0 c.args.subject.now.day c.args.prices.now) (sym same) (c.in_ok-sums.ensures.prices x e);
-      rests = subst (λ (p : Priced). AreBestRests p.rule p.len p.nodes back c.into_sums_and_values-sums.result.1.items) made c.into_sums_and_values-sums.ensures.rests;
-      is_best = subst (λ (l : List ℤ). IsBestFound (record { rule = x.1; len = x.0.len; nodes = nodes; sums = l }) c.args.subject.now.trie.entries c.in_ok-best.best) (sym same) best;
+      rests = subst (λ (p : PricedNodes). AreBestRests p.rule p.len p.nodes back c.into_sums_and_values-sums.result.1.items) made c.into_sums_and_values-sums.ensures.rests;
+      is_best = subst (λ (l : List ℤ). IsBestFound (record { rule = x.1; len = x.0.len; sums = l }) c.args.subject.now.trie.entries c.in_ok-best.best) (sym same) best;
     }

@@ -7,10 +7,9 @@ use Rattle.break_rules.specs.Breaks.{is_legal}
 use Rattle.break_rules.specs.Walk.{end_of_all}
 use Rattle.break_rules.proofs.Lists.{Has}
 use Rattle.break_graph.specs.declared.Edge.{Edge}
-use Rattle.break_graph.specs.declared.Node.{Node}
 use Rattle.break_graph.specs.Graph.{StandsAt, node_at}
 use Rattle.price_sums.specs.Along.{sum_at, resumes}
-use Rattle.pricing.specs.Values.{Priced, LeadsOn, reach_of, AreFit, IsFirstWith}
+use Rattle.pricing.specs.Values.{PricedNodes, LeadsOn, reach_of, AreFit, IsFirstWith}
 use Rattle.pricing.proofs.Walks.{whole_fits, first_leads, leads_back}
 use Rattle.pricing.proofs.rests.BestRests.next_at.Goals as goal
 
@@ -23,19 +22,19 @@ returns-clause-leads c =
     let values = s.values.items in
     let nodes = s.graph.now in
     let at = c.args.at in
-    let edges : c.as_slice.result.now ≡ (node_at nodes at).edges = c.as_slice.ensures ∙ ap (λ (n : Node). n.edges) c.node_of-node.ensures in
+    let edges : c.edges.result.now ≡ (node_at nodes at).edges = c.edges.ensures in
     let first : AreFit (reach_of sums values) (node_at nodes at).edges
     → MatchOption c.first_reaching.result ((e : Edge) → Has (node_at nodes at).edges e → reach_of sums values e ≡ to_z w64 (of_z w64 c.total-whole.result) → ⊥) (λ e. (f : IsFirstWith (reach_of sums values) (node_at nodes at).edges (to_z w64 (of_z w64 c.total-whole.result))) × (f.edge ≡ e)) =
     subst (λ (es : List Edge). AreFit (reach_of sums values) es → MatchOption c.first_reaching.result ((e : Edge) → Has es e → reach_of sums values e ≡ to_z w64 (of_z w64 c.total-whole.result) → ⊥) (λ e. (f : IsFirstWith (reach_of sums values) es (to_z w64 (of_z w64 c.total-whole.result))) × (f.edge ≡ e))) edges
-    (subst (λ (vs : List ℤ). AreFit (reach_of sums vs) c.as_slice.result.now → MatchOption c.first_reaching.result ((e : Edge) → Has c.as_slice.result.now e → reach_of sums vs e ≡ to_z w64 (of_z w64 c.total-whole.result) → ⊥) (λ e. (f : IsFirstWith (reach_of sums vs) c.as_slice.result.now (to_z w64 (of_z w64 c.total-whole.result))) × (f.edge ≡ e))) c.deref-4.ensures.value
-    (subst (λ (ss : List ℤ). AreFit (reach_of ss c.deref-4.result.now) c.as_slice.result.now → MatchOption c.first_reaching.result ((e : Edge) → Has c.as_slice.result.now e → reach_of ss c.deref-4.result.now e ≡ to_z w64 (of_z w64 c.total-whole.result) → ⊥) (λ e. (f : IsFirstWith (reach_of ss c.deref-4.result.now) c.as_slice.result.now (to_z w64 (of_z w64 c.total-whole.result))) × (f.edge ≡ e))) c.deref-3.ensures.value
+    (subst (λ (vs : List ℤ). AreFit (reach_of sums vs) c.edges.result.now → MatchOption c.first_reaching.result ((e : Edge) → Has c.edges.result.now e → reach_of sums vs e ≡ to_z w64 (of_z w64 c.total-whole.result) → ⊥) (λ e. (f : IsFirstWith (reach_of sums vs) c.edges.result.now (to_z w64 (of_z w64 c.total-whole.result))) × (f.edge ≡ e))) c.deref-4.ensures.value
+    (subst (λ (ss : List ℤ). AreFit (reach_of ss c.deref-4.result.now) c.edges.result.now → MatchOption c.first_reaching.result ((e : Edge) → Has c.edges.result.now e → reach_of ss c.deref-4.result.now e ≡ to_z w64 (of_z w64 c.total-whole.result) → ⊥) (λ e. (f : IsFirstWith (reach_of ss c.deref-4.result.now) c.edges.result.now (to_z w64 (of_z w64 c.total-whole.result))) × (f.edge ≡ e))) c.deref-3.ensures.value
     c.first_reaching.ensures.first)) in
     let own : (list : List Break) → StandsAt rule s.len nodes at list → MatchOption c.first_reaching.result (is_legal rule s.len list ≡ true) (LeadsOn rule s.len sums nodes list) =
     λ list st.
     let start : to_z w64 (of_z w64 c.sum_before-start.result) ≡ sum_at sums (resumes rule (end_of_all list)) =
     to_z-of_z w64 c.sum_before-start.result (record { sfits = c.sum_before-start.type_inv }) ∙ c.sum_before-start.ensures
     ∙ ap (λ (l : List ℤ). sum_at l c.resumption.result) c.deref.ensures.value
-    ∙ ap (sum_at sums) (c.resumption.ensures ∙ ap (λ (n : Node). resumes rule n.spot.offset) c.node_of-node.ensures ∙ ap (λ p. resumes rule p.offset) st.spot) in
+    ∙ ap (sum_at sums) (c.resumption.ensures ∙ ap (λ p. resumes rule p.offset) (c.spot.ensures ∙ st.spot)) in
     let value : to_z w64 (of_z w64 c.sum_before.result) ≡ sum_at values at =
     to_z-of_z w64 c.sum_before.result (record { sfits = c.sum_before.type_inv }) ∙ c.sum_before.ensures ∙ ap (λ (l : List ℤ). sum_at l at) c.deref-2.ensures.value in
     let both : to_z w64 (of_z w64 c.sum_before.result) +ℤ to_z w64 (of_z w64 c.sum_before-start.result) ≡ sum_at values at +ℤ sum_at sums (resumes rule (end_of_all list)) =
@@ -44,12 +43,12 @@ returns-clause-leads c =
     to_z-of_z w64 c.total-whole.result (record { sfits = c.total-whole.type_inv })
     ∙ c.total-whole.ensures (subst (FitsSigned w64) (sym both) (whole_fits rule s.len sums nodes at values list inv.well_formed inv.graph inv.small inv.known st)) ∙ both in
     first_leads rule s.len sums nodes at values list inv.well_formed inv.graph inv.small inv.known st c.first_reaching.result _ whole first in
-    subst (λ (v : Priced). (list : List Break) → StandsAt v.rule v.len v.nodes at list → MatchOption c.first_reaching.result (is_legal v.rule v.len list ≡ true) (LeadsOn v.rule v.len v.sums v.nodes list)) c.self.view_is own
+    subst (λ (v : PricedNodes). (list : List Break) → StandsAt v.rule v.len v.nodes at list → MatchOption c.first_reaching.result (is_legal v.rule v.len list ≡ true) (LeadsOn v.rule v.len v.sums v.nodes list)) c.self.view_is own
 
 pub returns-clause-back : goal.returns-clause-back
 returns-clause-back c =
     let s = c.self.inside in
-    let edges : c.as_slice.result.now ≡ (node_at s.graph.now c.args.at).edges = c.as_slice.ensures ∙ ap (λ (n : Node). n.edges) c.node_of-node.ensures in
+    let edges : c.edges.result.now ≡ (node_at s.graph.now c.args.at).edges = c.edges.ensures in
     leads_back s.rule.now s.len s.graph.now c.args.at c.first_reaching.result c.self.invariant.graph
-    (subst (λ (v : Priced). c.args.at < length v.nodes) (sym c.self.view_is) c.requires)
+    (subst (λ (v : PricedNodes). c.args.at < length v.nodes) (sym c.self.view_is) c.requires)
     (subst (λ (es : List Edge). MatchOption c.first_reaching.result (Unit {0}) (Has es)) edges c.first_reaching.ensures.has)

@@ -2,8 +2,8 @@ use Rattle.std.proofs.Common.{◌≡◌, ℤ, List, ap, subst, ◌∙◌, to_z, 
 use Rattle.std.specs.Int.{w64}
 use Rattle.std.proofs.lemmas.Int.{to_z-of_z}
 use Rattle.price_sums.specs.Along.{earned_from, price_in}
-use Rattle.pricing.specs.Values.{Priced}
-use Rattle.pricing.proofs.rests.BestRests.earned.Goals as goal
+use Rattle.pricing.specs.Values.{PricedNodes}
+use Rattle.pricing.proofs.rests.BestRestsRests.earned.Goals as goal
 
 pub returns-clause-earned : goal.returns-clause-earned
 returns-clause-earned c =
@@ -11,4 +11,4 @@ returns-clause-earned c =
     let own : to_z w64 (of_z w64 c.earned_along.result) ≡ earned_from (price_in s.sums.items) s.rule.now s.len 0 c.args.list.now =
     to_z-of_z w64 c.earned_along.result (record { sfits = c.earned_along.type_inv }) ∙ c.earned_along.ensures.earned
     ∙ ap (λ (l : List ℤ). earned_from (price_in l) s.rule.now s.len 0 c.args.list.now) c.deref.ensures.value in
-    subst (λ (v : Priced). to_z w64 (of_z w64 c.earned_along.result) ≡ earned_from (price_in v.sums) v.rule v.len 0 c.args.list.now) c.self.view_is own
+    subst (λ (v : PricedNodes). to_z w64 (of_z w64 c.earned_along.result) ≡ earned_from (price_in v.sums) v.rule v.len 0 c.args.list.now) c.self.view_is own
