@@ -2,3 +2,4 @@ pub mod Sizes
 pub mod Pairs
 pub mod Priced
 pub mod ShiftTerms
+pub mod Uncut

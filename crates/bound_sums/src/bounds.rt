@@ -23,9 +23,10 @@ pub trait DayValues {
     /// this out.
     ghost serves: { Self → Problem → List Cut → Prices → Type 0 } = { λ _ _ _ _. ⊤ };
 
-    /// The greatest reduced values of the duties of a shift, day by day, and `None` where no break list is legal.
+    /// The greatest reduced values of the duties of a shift, day by day, and `None` where no break list is legal. It may keep
+    /// memory in which the next ones are found.
     fn of_shift(
-        &self,
+        &mut self,
         alloc: Global,
         instance: &Instance,
         cuts: &Cuts,
@@ -33,27 +34,29 @@ pub trait DayValues {
         shift: u16,
     ) -> Result<Option<Vec<i128>>, NoMemory>
         requires shift { shift < length (shift_list instance.now) }
-        requires serves { serves self.now instance.now cuts.now prices.now }
+        requires serves { serves self.old instance.now cuts.now prices.now }
         requires few { length cuts.now ≤ 2 ^ 33 }
         requires passes { IsTrue (are_prices instance.now cuts.now prices.now) }
-        ensures { IfOk result (λ found. MatchOption found (IsTrue (is_nil (lists_of instance.now shift))) (λ values. AreValues instance.now cuts.now prices.now shift instance.now.days values.items)) };
+        ensures values { IfOk result (λ found. MatchOption found (IsTrue (is_nil (lists_of instance.now shift))) (λ values. AreValues instance.now cuts.now prices.now shift instance.now.days values.items)) }
+        ensures serves { serves self.new instance.now cuts.now prices.now };
 }
 
 /// The term of a shift.
 fn shift_term<V: DayValues>(
     alloc: Global,
-    values: &V,
+    values: &mut V,
     instance: &Instance,
     cuts: &Cuts,
     prices: &Prices,
     shift: u16,
 ) -> Result<i128, NoMemory>
     requires shift { shift < length (shift_list instance.now) }
-    requires serves { V.serves values.now instance.now cuts.now prices.now }
+    requires serves { V.serves values.old instance.now cuts.now prices.now }
     requires few { length cuts.now ≤ 2 ^ 33 }
     requires passes { IsTrue (are_prices instance.now cuts.now prices.now) }
     ensures term { IfOk result (λ z. z ≡ term instance.now cuts.now prices.now shift) }
     ensures small { IfOk result (λ z. unsigned_abs z ≤ 2 ^ 94) }
+    ensures serves { V.serves values.new instance.now cuts.now prices.now }
 {
     match values.of_shift(alloc, instance, cuts, prices, shift)? {
         Some(days) => Ok(term(instance, cuts, prices, shift, &days)),
@@ -64,14 +67,15 @@ fn shift_term<V: DayValues>(
 /// The sum of the terms of all shifts.
 fn terms<V: DayValues>(
     alloc: Global,
-    values: &V,
+    values: &mut V,
     instance: &Instance,
     cuts: &Cuts,
     prices: &Prices,
 ) -> Result<i128, NoMemory>
-    requires serves { V.serves values.now instance.now cuts.now prices.now }
+    requires serves { V.serves values.old instance.now cuts.now prices.now }
     requires few { length cuts.now ≤ 2 ^ 33 }
     requires passes { IsTrue (are_prices instance.now cuts.now prices.now) }
+    ensures serves { V.serves values.new instance.now cuts.now prices.now }
     ensures terms { IfOk result (λ z. z ≡ int_sum_by (term instance.now cuts.now prices.now) (below (length (shift_list instance.now)))) }
     ensures small { IfOk result (λ z. unsigned_abs z ≤ 2 ^ 104) }
 {
@@ -82,19 +86,20 @@ fn terms<V: DayValues>(
     Ok(sum)
 }
 
-/// The bound of a price set, with the values of duties found in some way.
+/// The bound of a price set, with the values of duties found in some way, which then serves as before.
 pub fn bound_by<V: DayValues>(
     alloc: Global,
-    values: &V,
+    values: &mut V,
     instance: &Instance,
     cuts: &Cuts,
     prices: &Prices,
 ) -> Result<u64, NoMemory>
     requires valid { IsValid instance.now }
-    requires serves { V.serves values.now instance.now cuts.now prices.now }
+    requires serves { V.serves values.old instance.now cuts.now prices.now }
     requires few { length cuts.now ≤ 2 ^ 33 }
     requires passes { IsTrue (are_prices instance.now cuts.now prices.now) }
-    ensures { IfOk result (λ b. b ≡ bound_of instance.now cuts.now prices.now) }
+    ensures bound { IfOk result (λ b. b ≡ bound_of instance.now cuts.now prices.now) }
+    ensures serves { V.serves values.new instance.now cuts.now prices.now }
 {
     let terms = terms(alloc, values, instance, cuts, prices)?;
     Ok(bound_of(instance, cuts, prices, terms))

@@ -1,8 +1,10 @@
 //! What a shift adds to the total of a price set.
-ghost use Rattle.std.specs.Prelude.{◌≡◌, ◌≤◌, ◌<◌, ◌^◌, ◌||◌, nat_lt, pos, ◌*ℤ◌, ◌-ℤ◌, if◌then◌else◌};
+ghost use Rattle.std.specs.Prelude.{◌≡◌, ◌≤◌, ◌<◌, ◌^◌, ◌==◌, ◌||◌, nat_lt, pos, ◌*ℤ◌, ◌-ℤ◌, if◌then◌else◌};
+ghost use Rattle.std.specs.List.{list_any};
 ghost use Rattle.std.specs.Int.{int_max, int_min};
 ghost use Rattle.std.specs.Int.RustNames.{unsigned_abs};
 ghost use Rattle.head_splits.specs.Bound.{term};
+ghost use Rattle.head_splits.specs.Cuts.{high, low, whole_class};
 ghost use Rattle.bound_sums.specs.Values.{AreValues};
 
 use head_splits::{Cuts, Prices, whole_range};
@@ -42,6 +44,27 @@ fn needs_duty(is_forced: bool, low: u16) -> bool
     is_forced || 0 < low
 }
 
+/// Whether some cut bounds duties of a shift.
+fn has_cut(cuts: &Cuts, shift: u16) -> bool
+    ensures { result ≡ list_any (λ c. c.class.shift == shift) cuts.now }
+{
+    cuts.as_slice().iter().any(|cut| cut.class.shift == shift)
+}
+
+/// The least and the greatest number of all duties of a shift on a day that cuts leave, by whether one of them bounds duties of the
+/// shift at all.
+fn range_on(instance: &Instance, cuts: &Cuts, is_cut: bool, shift: u16, day: u8) -> (u16, u16)
+    requires cut { is_cut ≡ list_any (λ c. c.class.shift == shift) cuts.now }
+    ensures low { result.0 ≡ low cuts.now (whole_class shift day) }
+    ensures high { result.1 ≡ high instance.now cuts.now (whole_class shift day) }
+{
+    if is_cut {
+        whole_range(instance, cuts, shift, day)
+    } else {
+        (0, instance.heads())
+    }
+}
+
 /// What a used shift costs at a scale, less what its duties are worth; where the shift may stay unused, no more than 0.
 fn term_of(paid: u64, is_forced: bool, ranged: i128, free: i128) -> i128
     requires ranged { unsigned_abs ranged ≤ 2 ^ 93 }
@@ -69,12 +92,13 @@ pub(crate) fn term(
     ensures small { unsigned_abs result ≤ 2 ^ 94 }
 {
     let (_, _, cost) = instance.weights();
+    let is_cut = has_cut(cuts, shift);
     let mut is_forced = false;
     let mut ranged = 0;
     let mut free = 0;
     for day in 0..instance.days() {
         let value = values[usize::from(day)];
-        let (low, high) = whole_range(instance, cuts, shift, day);
+        let (low, high) = range_on(instance, cuts, is_cut, shift, day);
         is_forced = needs_duty(is_forced, low);
         ranged += ranged_value(value, low, high);
         free += free_value(value, high);

@@ -26,7 +26,7 @@ use Rattle.dual_bound.specs.BestLists.{IsBestOn}
 use Rattle.dual_bound.proofs.BestLists.{best_found}
 use Rattle.dual_bound.proofs.Values.{length_below, nil_without, value_of_best}
 use Rattle.dual_bound.specs.declared.day_tables.DayTables.{DayTables}
-use Rattle.dual_bound.specs.KeptTables.{AreKept, AreKeptBelow, AreTablesBelow, IsKept, IsAt, days_of, place_of}
+use Rattle.dual_bound.specs.KeptTables.{AreKept, AreKeptOrNone, AreKeptBelow, AreTablesBelow, IsKept, IsAt, place_of}
 
 -- one element more, with its index
 pub enumerate_more : {X : Type 0} (n : ℕ) (xs : List X) (x : X) → enumerate_from n (xs ++ x ∷ []) ≡ enumerate_from n xs ++ (n + length xs, x) ∷ []
@@ -114,7 +114,7 @@ module _ (i : Problem) (cuts : List Cut) (prices : Prices) (s day : ℕ) (t : Da
 
 -- the tables of one shift more
 pub tables_more : (i : Problem) (cuts : List Cut) (prices : Prices) (n : ℕ) (all : List (Vec DayTables Global)) (v : Vec DayTables Global)
-    → AreTablesBelow i cuts prices n all → AreKept i n (days_of i cuts n) v.items → All (IsAt cuts prices) v.items → AreTablesBelow i cuts prices (n + 1) (all ++ v ∷ [])
+    → AreTablesBelow i cuts prices n all → AreKeptOrNone i n v.items → All (IsAt cuts prices) v.items → AreTablesBelow i cuts prices (n + 1) (all ++ v ∷ [])
 tables_more i cuts prices n all v so_far own at =
     let count = so_far.kept.count in
     record {
@@ -122,12 +122,12 @@ tables_more i cuts prices n all v so_far own at =
         count = length-append all (v ∷ []) ∙ omega arith;
         each = λ s d less.
             let longer = length-append all (v ∷ []) in
-            each_more (λ k (w : Vec DayTables Global). AreKept i k (days_of i cuts k) w.items) d all v n count (λ k below_n. so_far.kept.each k d (omega arith)) own s (omega arith);
+            each_more (λ k (w : Vec DayTables Global). AreKeptOrNone i k w.items) d all v n count (λ k below_n. so_far.kept.each k d (omega arith)) own s (omega arith);
       };
       at = all_more (λ (w : Vec DayTables Global). All (IsAt cuts prices) w.items) all v so_far.at at;
     }
 
-module _ (i : Problem) (cuts : List Cut) (shifts k : ℕ) (all : List (Vec DayTables Global)) (v : Vec DayTables Global) (ws : List DayTables) where
+module _ (i : Problem) (shifts k : ℕ) (all : List (Vec DayTables Global)) (v : Vec DayTables Global) (ws : List DayTables) where
   abbrev changed : Vec DayTables Global
   changed = with_items (get_or all k v) ws
 
@@ -137,20 +137,21 @@ module _ (i : Problem) (cuts : List Cut) (shifts k : ℕ) (all : List (Vec DayTa
       with_items_is (get_or all k v) ws (sym (length-map ws place_of) ∙ ap length places ∙ length-map (get_or all k v).items place_of ∙ sym (get_or all k v).ok.0)
 
   -- the tables of a shift are changed, and each of them is for the shift and day that it was for
-  pub kept_changed : AreKeptBelow i cuts shifts all → k < length all → map place_of ws ≡ map place_of (get_or all k v).items → All (IsKept i) ws
-      → AreKeptBelow i cuts shifts (set all k (with_items (get_or all k v) ws))
+  pub kept_changed : AreKeptBelow i shifts all → k < length all → map place_of ws ≡ map place_of (get_or all k v).items → All (IsKept i) ws
+      → AreKeptBelow i shifts (set all k (with_items (get_or all k v) ws))
   kept_changed kept inside places each =
-      let own : AreKept i k (days_of i cuts k) (with_items (get_or all k v) ws).items =
-      subst (λ (xs : List DayTables). AreKept i k (days_of i cuts k) xs) (sym (items_of_changed places)) (record { places = places ∙ (kept.each k v inside).places; each = each }) in
+      let old = kept.each k v inside in
+      let own : AreKeptOrNone i k (with_items (get_or all k v) ws).items =
+      subst (AreKeptOrNone i k) (sym (items_of_changed places)) (old.0, old.1, record { places = places ∙ old.2.places; each = each }) in
       record {
         count = length-set all k changed ∙ kept.count;
         each = λ s d less.
             elim (cases_eq s k) [
               | inl e ↦
-                  subst (λ (w : Vec DayTables Global). AreKept i s (days_of i cuts s) w.items) (sym (get_or-set_at all k s changed d e inside))
-                  (subst (λ n. AreKept i n (days_of i cuts n) (with_items (get_or all k v) ws).items) (sym e) own)
+                  subst (λ (w : Vec DayTables Global). AreKeptOrNone i s w.items) (sym (get_or-set_at all k s changed d e inside))
+                  (subst (λ n. AreKeptOrNone i n (with_items (get_or all k v) ws).items) (sym e) own)
               | inr other ↦
                   let same = length-set all k changed in
-                  subst (λ (w : Vec DayTables Global). AreKept i s (days_of i cuts s) w.items) (sym (get_or-set_other all k s changed d other)) (kept.each s d (omega arith))
+                  subst (λ (w : Vec DayTables Global). AreKeptOrNone i s w.items) (sym (get_or-set_other all k s changed d other)) (kept.each s d (omega arith))
             ];
       }

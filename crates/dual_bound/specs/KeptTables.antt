@@ -1,5 +1,5 @@
 -- Tables that are kept while the prices of slots and cuts change.
-use Rattle.std.specs.Prelude.{◌≡◌, ℕ, ◌<◌, ◌==◌, ◌&&◌, not, Bool, List, All, length, map, slice_index_or, Vec, if◌then◌else◌}
+use Rattle.std.specs.Prelude.{◌≡◌, ◌⊎◌, ℕ, ◌<◌, ◌==◌, ◌&&◌, not, Bool, List, All, length, map, slice_index_or, Vec}
 use Rattle.std.specs.List.{zip, list_any}
 use Rattle.std.specs.declared.alloc.Global.{Global}
 use Rattle.shift_instance.specs.Problem.{Problem, below, shift_list, slots}
@@ -36,18 +36,18 @@ pub record AreKept (i : Problem) (s days : ℕ) (tables : List DayTables) : Type
   pub places : map place_of tables ≡ map (λ day. (s, day)) (below days)
   pub each : All (IsKept i) tables
 
--- how many days of a shift have tables: all, where some cut bounds duties of it that begin with some break, and else none
-abbrev pub days_of : Problem → List Cut → ℕ → ℕ
-days_of i cuts s = if have_prefix cuts s then i.days else 0
+-- the tables of a shift, on all days or on none
+abbrev pub AreKeptOrNone : Problem → ℕ → List DayTables → Type 0
+AreKeptOrNone i s tables = (days : ℕ) × ((days ≡ 0) ⊎ (days ≡ i.days)) × AreKept i s days tables
 
 -- the tables of the first shifts, one shift after another
-pub record AreKeptBelow (i : Problem) (cuts : List Cut) (shifts : ℕ) (all : List (Vec DayTables Global)) : Type 0 where
+pub record AreKeptBelow (i : Problem) (shifts : ℕ) (all : List (Vec DayTables Global)) : Type 0 where
   pub count : length all ≡ shifts
-  pub each : (s : ℕ) (d : Vec DayTables Global) → s < length all → AreKept i s (days_of i cuts s) (slice_index_or all s d).items
+  pub each : (s : ℕ) (d : Vec DayTables Global) → s < length all → AreKeptOrNone i s (slice_index_or all s d).items
 
 -- the tables of all shifts
-abbrev pub AreAllKept : Problem → List Cut → List (Vec DayTables Global) → Type 0
-AreAllKept i cuts all = AreKeptBelow i cuts (length (shift_list i)) all
+abbrev pub AreAllKept : Problem → List (Vec DayTables Global) → Type 0
+AreAllKept i all = AreKeptBelow i (length (shift_list i)) all
 
 -- the tables of a shift on all days, at the prices of slots and cuts
 pub record AreTablesAt (i : Problem) (cuts : List Cut) (prices : Prices) (s : ℕ) (tables : List DayTables) : Type 0 where
@@ -56,7 +56,7 @@ pub record AreTablesAt (i : Problem) (cuts : List Cut) (prices : Prices) (s : �
 
 -- the tables of the first shifts, at the prices of slots and cuts
 pub record AreTablesBelow (i : Problem) (cuts : List Cut) (prices : Prices) (shifts : ℕ) (all : List (Vec DayTables Global)) : Type 0 where
-  pub kept : AreKeptBelow i cuts shifts all
+  pub kept : AreKeptBelow i shifts all
   pub at : All (λ tables. All (IsAt cuts prices) tables.items) all
 
 -- the tables of all shifts, at the prices of slots and cuts

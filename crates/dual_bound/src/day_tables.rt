@@ -10,7 +10,7 @@ ghost use Rattle.shift_instance.specs.Worth.{IsBest};
 ghost use Rattle.head_splits.specs.Bound.{are_prices, entries_of};
 ghost use Rattle.price_sums.specs.Along.{AreSmallPrices};
 ghost use Rattle.pricing.specs.Tables.{MeanTheSame};
-ghost use Rattle.dual_bound.specs.KeptTables.{AreAllKept, AreAllTables, AreKept, AreTablesAt, IsAt, IsKept, place_of};
+ghost use Rattle.dual_bound.specs.KeptTables.{AreAllKept, AreAllTables, AreKept, AreTablesAt, IsAt, IsKept, have_prefix, place_of};
 
 use crate::best_lists::entries;
 use crate::terms::has_prefix;
@@ -190,7 +190,17 @@ fn shift_tables<L: Ledger>(
     Ok(tables)
 }
 
-/// The tables of all shifts at some prices. A shift has none where no cut bounds duties of it that begin with some break.
+/// Whether tables are kept of a shift: where some cut bounds duties of it that begin with some break, and the instance keeps its
+/// graph.
+fn keeps_tables(instance: &Instance, cuts: &Cuts, shift: u16) -> bool
+    requires { shift < length (shift_list instance.now) }
+    ensures { IsTrue result → IsTrue (have_prefix cuts.now shift) }
+{
+    has_prefix(cuts, shift) && instance.graph(shift).is_some()
+}
+
+/// The tables of all shifts at some prices. A shift has none where no cut bounds duties of it that begin with some break, or where
+/// the instance keeps no graph of it.
 pub(crate) fn kept_tables<L: Ledger>(
     alloc: Global,
     instance: &Instance,
@@ -201,12 +211,12 @@ pub(crate) fn kept_tables<L: Ledger>(
     requires valid { IsValid instance.now }
     requires few { length cuts.now ≤ 2 ^ 33 }
     requires passes { IsTrue (are_prices instance.now cuts.now prices.now) }
-    ensures kept { IfOk result (λ tables. AreAllKept instance.now cuts.now tables.items) }
+    ensures kept { IfOk result (λ tables. AreAllKept instance.now tables.items) }
     ensures at { IfOk result (λ tables. AreAllTables instance.now cuts.now prices.now tables.items) }
 {
     let mut all = Vec::with_capacity(alloc, instance.shifts().len())?;
     for shift in 0..instance.shifts().len() as u16 {
-        let tables = if has_prefix(cuts, shift) {
+        let tables = if keeps_tables(instance, cuts, shift) {
             shift_tables(alloc, instance, cuts, prices, shift, steps)?
         } else {
             Vec::new(alloc)
@@ -255,8 +265,8 @@ pub(crate) fn reprice_tables<L: Ledger>(
     requires few { length cuts.now ≤ 2 ^ 33 }
     requires passes { IsTrue (are_prices instance.now cuts.now prices.now) }
     requires changes { changes.now ≡ enumerate_from 0 prices.now.slots }
-    requires kept { AreAllKept instance.now cuts.now all.old }
-    ensures kept { AreAllKept instance.now cuts.now all.new }
+    requires kept { AreAllKept instance.now all.old }
+    ensures kept { AreAllKept instance.now all.new }
     ensures at { OnOk result (AreAllTables instance.now cuts.now prices.now all.new) }
 {
     for days in all.iter_mut() {

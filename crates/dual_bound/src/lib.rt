@@ -13,7 +13,7 @@ mod terms;
 pub use best_lists::best_of_day;
 pub use laws::faultless_prices;
 pub use pricer::Pricer;
-pub use proving::{Proved, prove};
+pub use proving::{Buffers, Proved, prove};
 pub use settling::{Fixing, SettledNode, settle};
 use std::error::Error;
 use std::fmt;

@@ -1,5 +1,5 @@
 //! Prices with the best break lists at them, kept while the prices change.
-ghost use Rattle.std.specs.Prelude.{◌≡◌, ◌≤◌, ◌<◌, ◌^◌, IfOk, OnOk, OnErr, IsTrue, List, MatchOption, MatchResult, None, Some, false, length, map};
+ghost use Rattle.std.specs.Prelude.{◌≡◌, ◌≤◌, ◌<◌, ◌^◌, All, IfOk, OnOk, OnErr, IsTrue, List, MatchOption, MatchResult, None, Some, false, length, map};
 ghost use Rattle.break_rules.specs.declared.Break.{Break};
 ghost use Rattle.break_rules.specs.Causes.{first_cause};
 ghost use Rattle.shift_instance.specs.Problem.{shift_list};
@@ -9,10 +9,11 @@ ghost use Rattle.head_splits.specs.Bound.{are_prices, bound_of, is_nil};
 ghost use Rattle.pricing.specs.Days.{AreBestByDay};
 ghost use Rattle.dual_bound.specs.BestLists.{IsBestOn};
 ghost use Rattle.dual_bound.specs.Faults.{Answers, price_causes};
-ghost use Rattle.dual_bound.specs.KeptTables.{AreAllKept, AreAllTables, AreTablesAt, have_prefix};
+ghost use Rattle.dual_bound.specs.KeptTables.{AreAllKept, AreAllTables, AreKeptOrNone, AreTablesAt, IsAt};
 ghost use Rattle.dual_bound.specs.Pricer.{AreAllBests, AreBests, AreBestsOf, IsPriced};
 
 use crate::PriceFault;
+use crate::best_lists::best_of_day;
 use crate::day_tables::{DayTables, best_of_tables, changes_to, kept_tables, reprice_tables};
 use crate::faults::first_fault;
 use crate::terms::has_prefix;
@@ -63,6 +64,57 @@ fn bests_by_tables(
     Ok(Some(Sequence::new(bests)))
 }
 
+/// The best break lists of a shift on the first days, each by a search of its own, and `None` only where no list is legal.
+fn bests_by_lists(
+    alloc: Global,
+    instance: &Instance,
+    cuts: &Cuts,
+    prices: &Prices,
+    shift: u16,
+    days: u8,
+) -> Result<Option<ShiftBests>, NoMemory>
+    requires valid { IsValid instance.now }
+    requires shift { shift < length (shift_list instance.now) }
+    requires few { length cuts.now ≤ 2 ^ 33 }
+    requires passes { IsTrue (are_prices instance.now cuts.now prices.now) }
+    ensures { IfOk result (λ found. MatchOption found (IsTrue (is_nil (lists_of instance.now shift))) (AreBests instance.now cuts.now prices.now shift days)) }
+{
+    let mut bests = Vec::with_capacity(alloc, usize::from(days))?;
+    for day in 0..days {
+        let best = match best_of_day(alloc, instance, cuts, prices, shift, day)? {
+            Some(best) => best,
+            None => return Ok(None),
+        };
+        bests.push(best)?;
+    }
+    Ok(Some(Sequence::new(bests)))
+}
+
+/// The best break lists of a shift on all days, where some cut bounds duties of it that begin with some break: by its tables, if
+/// it has some, and else each by a search of its own.
+fn bests_with_prefixes(
+    alloc: Global,
+    instance: &Instance,
+    cuts: &Cuts,
+    prices: &Prices,
+    shift: u16,
+    tables: &[DayTables],
+) -> Result<Option<ShiftBests>, NoMemory>
+    requires valid { IsValid instance.now }
+    requires shift { shift < length (shift_list instance.now) }
+    requires few { length cuts.now ≤ 2 ^ 33 }
+    requires passes { IsTrue (are_prices instance.now cuts.now prices.now) }
+    requires kept { AreKeptOrNone instance.now shift tables.now }
+    requires at { All (IsAt cuts.now prices.now) tables.now }
+    ensures { IfOk result (λ found. MatchOption found (IsTrue (is_nil (lists_of instance.now shift))) (AreBests instance.now cuts.now prices.now shift instance.now.days)) }
+{
+    let days = instance.days();
+    if tables.is_empty() {
+        return bests_by_lists(alloc, instance, cuts, prices, shift, days);
+    }
+    bests_by_tables(alloc, instance, cuts, prices, shift, tables)
+}
+
 /// The best break lists of a shift on all days, in one walk, where no cut bounds duties of it that begin with some break.
 fn bests_by_walk(
     alloc: Global,
@@ -81,7 +133,7 @@ fn bests_by_walk(
 }
 
 /// The best break lists of a shift, and `None` where no list is legal. The sums are those of the slots' prices, and the tables
-/// are those of the shift, which are needed where a cut bounds duties of it that begin with some break.
+/// are those of the shift, if it has some. Where no cut bounds duties of it that begin with some break, none are needed.
 fn shift_bests(
     alloc: Global,
     instance: &Instance,
@@ -96,11 +148,12 @@ fn shift_bests(
     requires few { length cuts.now ≤ 2 ^ 33 }
     requires passes { IsTrue (are_prices instance.now cuts.now prices.now) }
     requires sums { sums.now ≡ record { instance = instance.now; prices = prices.now.slots } }
-    requires tables { IsTrue (have_prefix cuts.now shift) → AreTablesAt instance.now cuts.now prices.now shift tables.now }
+    requires kept { AreKeptOrNone instance.now shift tables.now }
+    requires at { All (IsAt cuts.now prices.now) tables.now }
     ensures bests { IfOk result (AreBestsOf instance.now cuts.now prices.now shift) }
 {
     if has_prefix(cuts, shift) {
-        return bests_by_tables(alloc, instance, cuts, prices, shift, tables);
+        return bests_with_prefixes(alloc, instance, cuts, prices, shift, tables);
     }
     bests_by_walk(alloc, instance, shift, sums)
 }
@@ -146,7 +199,7 @@ impl DayValues for Bests {
     ghost serves = { λ bests i cuts prices. AreAllBests i cuts prices bests.shifts.items };
 
     fn of_shift(
-        &self,
+        &mut self,
         alloc: Global,
         _instance: &Instance,
         _cuts: &Cuts,
@@ -181,8 +234,8 @@ fn bests_with_bound(
     requires tables { AreAllTables instance.now cuts.now prices.now tables.now }
     ensures { IfOk result (λ b. IsPriced (record { instance = instance.now; cuts = cuts.now; prices = prices.now }) b.bound b.bests.shifts.items) }
 {
-    let bests = all_bests(alloc, instance, cuts, prices, tables)?;
-    let bound = bound_by(alloc, &bests, instance, cuts, prices)?;
+    let mut bests = all_bests(alloc, instance, cuts, prices, tables)?;
+    let bound = bound_by(alloc, &mut bests, instance, cuts, prices)?;
     Ok(Bounded { bound, bests })
 }
 
@@ -197,7 +250,7 @@ fn first_bests<L: Ledger>(
     requires valid { IsValid instance.now }
     requires few { length cuts.now ≤ 2 ^ 33 }
     requires passes { IsTrue (are_prices instance.now cuts.now prices.now) }
-    ensures kept { IfOk result (λ r. AreAllKept instance.now cuts.now r.0.items) }
+    ensures kept { IfOk result (λ r. AreAllKept instance.now r.0.items) }
     ensures priced { IfOk result (λ r. IsPriced (record { instance = instance.now; cuts = cuts.now; prices = prices.now }) r.1.bound r.1.bests.shifts.items) }
 {
     let tables = kept_tables(alloc, instance, cuts, prices, steps)?;
@@ -217,8 +270,8 @@ fn next_bests<L: Ledger>(
     requires valid { IsValid instance.now }
     requires few { length cuts.now ≤ 2 ^ 33 }
     requires passes { IsTrue (are_prices instance.now cuts.now prices.now) }
-    requires kept { AreAllKept instance.now cuts.now tables.old }
-    ensures kept { AreAllKept instance.now cuts.now tables.new }
+    requires kept { AreAllKept instance.now tables.old }
+    ensures kept { AreAllKept instance.now tables.new }
     ensures priced { IfOk result (λ b. IsPriced (record { instance = instance.now; cuts = cuts.now; prices = prices.now }) b.bound b.bests.shifts.items) }
 {
     let changes = changes_to(alloc, prices.slots.as_slice())?;
@@ -266,7 +319,7 @@ impl Model for Pricer {
 
     ghost view = { λ p. record { instance = p.instance.value; cuts = p.cuts; prices = p.prices } };
 
-    ghost invariant = { λ p. IsPriced (record { instance = p.instance.value; cuts = p.cuts; prices = p.prices }) p.bound p.bests.shifts.items × AreAllKept p.instance.value p.cuts p.tables.items };
+    ghost invariant = { λ p. IsPriced (record { instance = p.instance.value; cuts = p.cuts; prices = p.prices }) p.bound p.bests.shifts.items × AreAllKept p.instance.value p.tables.items };
 }
 
 impl Pricer {

@@ -12,6 +12,7 @@ use crate::PriceFault;
 use crate::faults::first_fault;
 use crate::terms::bound_by_pricing;
 use head_splits::{Cuts, Prices};
+use price_sums::Lane;
 use shift_instance::Instance;
 use std::alloc::Global;
 use std::marker::Model;
@@ -36,6 +37,51 @@ impl Model for Proved {
     ghost invariant = { λ p. IsProved (record { instance = p.instance.value; cuts = p.cuts; prices = p.prices; bound = p.bound }) };
 }
 
+/// Memory in which the bounds of price sets are found, kept from one price set to the next.
+#[derive(Drop)]
+pub struct Buffers {
+    alloc: Global,
+    lanes: Vec<Lane>,
+}
+
+impl Buffers {
+    /// Buffers without memory, which they take as price sets are proved in them.
+    pub fn new(alloc: Global) -> Buffers {
+        Buffers {
+            alloc,
+            lanes: Vec::new(alloc),
+        }
+    }
+
+    /// Proves the bound of prices for cuts as [`prove`] does, in the memory that the buffers have from earlier price sets.
+    pub fn prove(
+        &mut self,
+        instance: &Instance,
+        cuts: Cuts,
+        prices: Prices,
+    ) -> Result<Proved, PriceFault>
+        requires { length cuts ≤ 2 ^ 33 }
+        ensures ok { IfOk result (λ p. (p.instance ≡ instance.now) × (p.cuts ≡ cuts) × (p.prices ≡ prices)) }
+        ensures bound { IfOk result (λ p. p.bound ≡ bound_of instance.now cuts prices) }
+        ensures fault { MatchResult result (λ _. first_cause (price_causes instance.now cuts prices) ≡ None) (λ e. Answers e (first_cause (price_causes instance.now cuts prices))) }
+    {
+        match first_fault(instance, &cuts, &prices) {
+            Some(fault) => return Err(fault),
+            None => {}
+        }
+        let bound = match bound_by_pricing(self.alloc, instance, &cuts, &prices, &mut self.lanes) {
+            Ok(bound) => bound,
+            Err(_) => return Err(PriceFault::NoMemory),
+        };
+        Ok(Proved {
+            cuts,
+            prices,
+            bound,
+            instance: Snapshot::of(instance),
+        })
+    }
+}
+
 /// The bound of prices for cuts, or their first fault: first that of the scale, then of the slots' prices their number and
 /// the first one outside its range, and then the same of the cuts' prices. Where no fault applies, only want of memory is
 /// left as a refusal.
@@ -50,20 +96,7 @@ pub fn prove(
     ensures bound { IfOk result (λ p. p.bound ≡ bound_of instance.now cuts prices) }
     ensures fault { MatchResult result (λ _. first_cause (price_causes instance.now cuts prices) ≡ None) (λ e. Answers e (first_cause (price_causes instance.now cuts prices))) }
 {
-    match first_fault(instance, &cuts, &prices) {
-        Some(fault) => return Err(fault),
-        None => {}
-    }
-    let bound = match bound_by_pricing(alloc, instance, &cuts, &prices) {
-        Ok(bound) => bound,
-        Err(_) => return Err(PriceFault::NoMemory),
-    };
-    Ok(Proved {
-        cuts,
-        prices,
-        bound,
-        instance: Snapshot::of(instance),
-    })
+    Buffers::new(alloc).prove(instance, cuts, prices)
 }
 
 impl Proved {

@@ -12,7 +12,7 @@ use crate::best_lists::best_of_day;
 use bound_sums::{DayValues, bound_by};
 use break_rules::{Breaks, NoMemory};
 use head_splits::{Cut, Cuts, Prices};
-use price_sums::DaySums;
+use price_sums::{DaySums, Lane};
 use pricing::most_by_day;
 use shift_instance::Instance;
 use std::alloc::Global;
@@ -97,6 +97,7 @@ fn best_values(
     prices: &Prices,
     sums: &DaySums,
     shift: u16,
+    lanes: &mut Vec<Lane>,
 ) -> Result<Option<Vec<i128>>, NoMemory>
     requires shift { shift < length (shift_list instance.now) }
     requires few { length cuts.now ≤ 2 ^ 33 }
@@ -108,13 +109,14 @@ fn best_values(
     if has_prefix(cuts, shift) {
         return values_by_lists(alloc, instance, cuts, prices, shift, days);
     }
-    most_by_day(alloc, instance, shift, sums)
+    most_by_day(alloc, instance, shift, sums, lanes)
 }
 
-/// The values of duties by pricing, at slot prices with these sums.
+/// The values of duties by pricing, at slot prices with these sums, and lanes whose memory is used for each shift.
 #[derive(Drop)]
 struct ByPricing {
     sums: DaySums,
+    lanes: Vec<Lane>,
 }
 
 impl DayValues for ByPricing {
@@ -123,23 +125,32 @@ impl DayValues for ByPricing {
     ghost serves = { λ values i _ prices. values.sums ≡ record { instance = i; prices = prices.slots } };
 
     fn of_shift(
-        &self,
+        &mut self,
         alloc: Global,
         instance: &Instance,
         cuts: &Cuts,
         prices: &Prices,
         shift: u16,
     ) -> Result<Option<Vec<i128>>, NoMemory> {
-        best_values(alloc, instance, cuts, prices, &self.sums, shift)
+        best_values(
+            alloc,
+            instance,
+            cuts,
+            prices,
+            &self.sums,
+            shift,
+            &mut self.lanes,
+        )
     }
 }
 
-/// The bound of a price set, with the values of duties by pricing.
+/// The bound of a price set, with the values of duties by pricing. The memory of the lanes is used, and serves again.
 pub(crate) fn bound_by_pricing(
     alloc: Global,
     instance: &Instance,
     cuts: &Cuts,
     prices: &Prices,
+    lanes: &mut Vec<Lane>,
 ) -> Result<u64, NoMemory>
     requires valid { IsValid instance.now }
     requires few { length cuts.now ≤ 2 ^ 33 }
@@ -147,5 +158,11 @@ pub(crate) fn bound_by_pricing(
     ensures { IfOk result (λ b. b ≡ bound_of instance.now cuts.now prices.now) }
 {
     let sums = DaySums::new(alloc, instance, prices.slots.as_slice())?;
-    bound_by(alloc, &ByPricing { sums }, instance, cuts, prices)
+    let mut values = ByPricing {
+        sums,
+        lanes: std::mem::replace(lanes, Vec::new(alloc)),
+    };
+    let bound = bound_by(alloc, &mut values, instance, cuts, prices);
+    *lanes = values.lanes;
+    bound
 }

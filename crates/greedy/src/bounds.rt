@@ -73,8 +73,9 @@ pub(crate) fn next_shift(
     ensures bounds { OnOk result (AreBounds instance.now draft.now.cover.duties bounds.new.items) }
 {
     let sums = DaySums::new(alloc, instance, prices)?;
+    let mut lanes = Vec::new(alloc);
     'looks: while let Some(shift) = leading(bounds) {
-        let values = day_values(alloc, instance, &sums, shift)?;
+        let values = day_values(alloc, instance, &sums, shift, &mut lanes)?;
         let gain = gain(instance, draft, &values, shift);
         if gain == bounds[usize::from(shift)] {
             return Ok(Some(Taken { shift, values }));

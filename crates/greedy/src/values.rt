@@ -24,19 +24,20 @@ fn lane_of(values: &[i128]) -> Lane
 }
 
 /// The values of a shift at the prices that the sums are of, one for each day: what a duty with its best list earns, and 0
-/// where no list is legal.
+/// where no list is legal. They are found in the memory of the lanes.
 pub(crate) fn day_values(
     alloc: Global,
     instance: &Instance,
     sums: &DaySums,
     shift: u16,
+    lanes: &mut Vec<Lane>,
 ) -> Result<Lane, NoMemory>
     requires sums { sums.now.instance ≡ instance.now }
     requires prices { ArePrices instance.now sums.now.prices }
     requires shift { shift < length (shift_list instance.now) }
     ensures { IfOk result (λ lane. AreValuesOf instance.now sums.now.prices shift lane) }
 {
-    match most_by_day(alloc, instance, shift, sums)? {
+    match most_by_day(alloc, instance, shift, sums, lanes)? {
         Some(most) => Ok(lane_of(&most)),
         None => Ok([0; LANES]),
     }

@@ -19,7 +19,7 @@ use Rattle.search_core.specs.Core.{Core, empty_hands, hand, happens, is_node, is
 use Rattle.search_core.specs.Running.{core_at, take_fault, CommitPrevents, CoreView, CrashPrevents, IsRefused, IsRunning, LeavesOpen, Prevents}
 use Rattle.search_core.specs.State.{StateView, book_or_opening}
 use Rattle.search_core.specs.Taking.{IsStateOf, PostsStop}
-use Rattle.search_core.proofs.Runs.{book_after-append, event_sound, front_folds}
+use Rattle.search_core.proofs.Runs.{book_after-append, empty_apart, event_sound, front_folds, no_hand}
 use Rattle.search_core.proofs.Sound.{bind_some, fold_sound}
 use Rattle.search_core.proofs.Taking.{some_is}
 
@@ -38,6 +38,15 @@ pub running_from : (s : StateView) (acked : ℕ) (hands : List (Option ℕ)) →
 running_from s acked hands c folds sixteen =
     let same : c.book ≡ s.book = cc (c.folds, folds) in
     record { folds = folds; holds = subst (λ (b : Book). HoldsApart b hands) same c.hands; sixteen = sixteen; within = c.acked }
+
+-- the state without posts and empty hands
+pub opened_running : (i : Problem) (spare : ℕ) → IsRunning (record { instance = i; history = []; book = opening i; spare = spare }) 0 empty_hands
+opened_running i spare = record {
+  folds = refl;
+  holds = record { distinct = empty_apart; unsplit = λ w x e. absurd (no_hand 16 w x e) };
+  sixteen = refl;
+  within = omega arith;
+}
 
 -- the core after an event is sound too
 pub running_next : (i : Problem) (s t : StateView) (acked later : ℕ) (hands after : List (Option ℕ)) (event : Event) → IsRunning s acked hands → t.instance ≡ s.instance → happens s.instance (core_at s acked hands) event ≡ Some (core_at t later after)

@@ -20,7 +20,7 @@ use crate::outline::{NodeState, Outline, least_floor, next_node};
 use crate::stepping::{draft_of, stays_open};
 use crate::{Hands, StepPosts};
 use break_rules::NoMemory;
-use dual_bound::{Fixing, prove, settle};
+use dual_bound::{Buffers, Fixing, settle};
 use head_splits::{Class, Cut, Cuts, Hint, Prices, Side, is_live_class, range};
 use post_codec::Post;
 use rota_cost::recount;
@@ -40,6 +40,8 @@ pub struct State {
     outline: Outline,
     // the empty rota, which is best where there is no plan
     none: Rows,
+    // memory in which the posted prices are judged
+    buffers: Buffers,
 }
 
 impl Model for State {
@@ -109,6 +111,7 @@ impl State {
             posts: Vec::new(alloc),
             outline,
             none,
+            buffers: Buffers::new(alloc),
         })
     }
 
@@ -365,7 +368,7 @@ impl State {
             return Err(fault);
         }
         let cuts = self.cuts_of(node)?;
-        let proved = prove(self.alloc, instance, cuts, prices)?;
+        let proved = self.buffers.prove(instance, cuts, prices)?;
         let bound = proved.bound();
         let (_cuts, prices) = proved.into_parts();
         self.reserve(1)?;

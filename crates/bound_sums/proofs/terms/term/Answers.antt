@@ -27,19 +27,19 @@ loop-day-preserved c =
     let end = c.days-day-end.ensures.days in
     let inside = c.loop-day-test.true in
     let limit : (day + 1) * 2 ^ 90 < 2 ^ 127 = omega arith in
-    let lo = c.whole_range-low.result.0 in
-    let hi = c.whole_range-low.result.1 in
+    let lo = c.range_on-low.result.0 in
+    let hi = c.range_on-low.result.1 in
     let f : ℕ → ℤ = day_value i cuts prices s in
     let g : ℕ → ℤ = free_day_value i cuts prices s in
     let needs : ℕ → Bool = λ d. nat_lt 0 (low cuts (whole_class s d)) in
     let of_range : c.ranged_value-ranged.result ≡ f day =
-    c.ranged_value-ranged.ensures.value ∙ ap (λ (z : ℤ). int_max (z *ℤ pos lo) (z *ℤ pos hi)) read ∙ day_worth i cuts prices s day v lo hi value c.whole_range-low.ensures.low c.whole_range-low.ensures.high in
+    c.ranged_value-ranged.ensures.value ∙ ap (λ (z : ℤ). int_max (z *ℤ pos lo) (z *ℤ pos hi)) read ∙ day_worth i cuts prices s day v lo hi value c.range_on-low.ensures.low c.range_on-low.ensures.high in
     let of_free : c.free_value-free.result ≡ g day =
-    c.free_value-free.ensures.value ∙ ap (λ (z : ℤ). int_max (pos 0) (z *ℤ pos hi)) read ∙ free_worth i cuts prices s day v lo hi value c.whole_range-low.ensures.low c.whole_range-low.ensures.high in
+    c.free_value-free.ensures.value ∙ ap (λ (z : ℤ). int_max (pos 0) (z *ℤ pos hi)) read ∙ free_worth i cuts prices s day v lo hi value c.range_on-low.ensures.low c.range_on-low.ensures.high in
     let fit = fits c.ranged_value-ranged.result (2 ^ 90) c.ranged_value-ranged.ensures.small (omega arith) in
     let fit_free = fits c.free_value-free.result (2 ^ 90) c.free_value-free.ensures.small (omega arith) in
     record {
-      forced = c.needs_duty-is_forced.ensures ∙ ap (λ (n : ℕ). c.loop-day.is_forced || nat_lt 0 n) c.whole_range-low.ensures.low
+      forced = c.needs_duty-is_forced.ensures ∙ ap (λ (n : ℕ). c.loop-day.is_forced || nat_lt 0 n) c.range_on-low.ensures.low
           ∙ ap (λ (b : Bool). b || needs day) c.loop-day.invariant.forced ∙ sym (any_below_more needs day);
       worth = added _ c.ranged_value-ranged.result (f day) day (2 ^ 90) fit of_range c.ranged_value-ranged.ensures.small c.loop-day.invariant.small limit
           ∙ ap (λ (z : ℤ). z +ℤ f day) c.loop-day.invariant.worth ∙ sym (int_sum_below_more f day);

@@ -3,10 +3,10 @@ use Rattle.std.specs.Int.RustNames.{unsigned_abs}
 use Rattle.break_rules.specs.declared.Break.{Break}
 use Rattle.bound_sums.proofs.Priced.{slots_small}
 use Rattle.pricing.proofs.Followed.{each_more}
-use Rattle.std.specs.Prelude.{Vec, Bool, if◌then◌else◌, ◌<◌}
+use Rattle.std.specs.Prelude.{Vec, ◌<◌}
 use Rattle.std.specs.declared.alloc.Global.{Global}
 use Rattle.dual_bound.specs.declared.day_tables.DayTables.{DayTables}
-use Rattle.dual_bound.specs.KeptTables.{AreKept, AreTablesAt, IsAt, days_of}
+use Rattle.dual_bound.specs.KeptTables.{AreKeptOrNone, IsAt}
 use Rattle.dual_bound.specs.Pricer.{AreBestsOf}
 use Rattle.dual_bound.proofs.pricer.all_bests.Goals as goal
 
@@ -26,11 +26,9 @@ loop-shift-preserved c =
       each = λ s less. subst (λ (xs : List (Option (List (List Break × ℤ)))). P s (get_or xs s None)) (sym items) (each_more P None shifts bests c.loop-shift.shift i.count i.each c.in_ok-bests.ensures.bests s less);
     }
 
-pub shift_bests-requires-clause-tables : goal.shift_bests-requires-clause-tables
-shift_bests-requires-clause-tables c t =
+pub shift_bests-requires-clause-kept : goal.shift_bests-requires-clause-kept
+shift_bests-requires-clause-kept c =
     let i = c.args.instance.now in
-    let cuts = c.args.cuts.now in
-    let prices = c.args.prices.now in
     let s = c.loop-shift.shift in
     let all = c.args.tables.now in
     let v = c.index-tables-from.result in
@@ -39,8 +37,19 @@ shift_bests-requires-clause-tables c t =
     let few = c.requires.tables.kept.count in
     let inside : s < length all = omega (arith, c.shifts-2.ensures.count) in
     let is : v ≡ get_or all s v = c.index-tables-from.is ∙ ap (λ n. get_or all n v) c.from.ensures in
-    let own : AreKept i s (days_of i cuts s) v.items = subst (λ (w : Vec DayTables Global). AreKept i s (days_of i cuts s) w.items) (sym is) (c.requires.tables.kept.each s v inside) in
-    let at : All (IsAt cuts prices) v.items = subst (λ (w : Vec DayTables Global). All (IsAt cuts prices) w.items) (sym is) (c.requires.tables.at s v inside) in
-    let many : days_of i cuts s ≡ i.days = ap (λ (b : Bool). if b then i.days else 0) t in
-    let there : AreTablesAt i cuts prices s v.items = record { kept = subst (λ n. AreKept i s n v.items) many own; at = at } in
-    subst (AreTablesAt i cuts prices s) (sym c.as_slice-days.ensures.value) there
+    let own : AreKeptOrNone i s v.items = subst (λ (w : Vec DayTables Global). AreKeptOrNone i s w.items) (sym is) (c.requires.tables.kept.each s v inside) in
+    subst (AreKeptOrNone i s) (sym c.as_slice-days.ensures.value) own
+
+pub shift_bests-requires-clause-at : goal.shift_bests-requires-clause-at
+shift_bests-requires-clause-at c =
+    let P = IsAt c.args.cuts.now c.args.prices.now in
+    let s = c.loop-shift.shift in
+    let all = c.args.tables.now in
+    let v = c.index-tables-from.result in
+    let test = c.loop-shift-test.true in
+    let end = c.loop-shift.auto.shift-end in
+    let few = c.requires.tables.kept.count in
+    let inside : s < length all = omega (arith, c.shifts-2.ensures.count) in
+    let is : v ≡ get_or all s v = c.index-tables-from.is ∙ ap (λ n. get_or all n v) c.from.ensures in
+    let own : All P v.items = subst (λ (w : Vec DayTables Global). All P w.items) (sym is) (c.requires.tables.at s v inside) in
+    subst (λ (xs : List DayTables). All P xs) (sym c.as_slice-days.ensures.value) own

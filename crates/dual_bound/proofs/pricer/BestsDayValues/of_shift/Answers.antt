@@ -18,4 +18,7 @@ returns-in_ok-values_of-in-Some c =
     let at : get_or shifts s None ≡ Some bests =
     ap (λ n. get_or shifts n None) (sym c.from.ensures) ∙ sym (get_or_default shifts c.from.result c.index.result.now None inside) ∙ sym c.index.ensures ∙ c.in-Some.is in
     let own : AreBests i cuts prices s i.days bests = at_some (get_or shifts s None) bests _ _ at (c.requires.serves.each s c.requires.shift) in
-    values_of_bests i cuts prices s i.days bests c.in_ok-values_of-in-Some.field-0.items own (c.in_ok-values_of-in-Some.ensures ∙ ap (map (λ (b : List Break × ℤ). b.1)) c.as_slice.ensures)
+    record {
+      values = values_of_bests i cuts prices s i.days bests c.in_ok-values_of-in-Some.field-0.items own (c.in_ok-values_of-in-Some.ensures ∙ ap (map (λ (b : List Break × ℤ). b.1)) c.as_slice.ensures);
+      serves = c.requires.serves;
+    }

@@ -11,7 +11,7 @@ first_bests-requires-clause-passes g c = passes c.args.instance.now c.args.cuts.
 
 pub invariant_of-result : goal.invariant_of-result
 invariant_of-result g c =
-    let whole : Problem → List Cut → Type 0 = λ i cuts. IsPriced (record { instance = i; cuts = cuts; prices = c.args.prices }) c.in-Ok.bounded.bound c.in-Ok.bounded.bests.shifts.items × AreAllKept i cuts c.in-Ok.tables.items in
+    let whole : Problem → List Cut → Type 0 = λ i cuts. IsPriced (record { instance = i; cuts = cuts; prices = c.args.prices }) c.in-Ok.bounded.bound c.in-Ok.bounded.bests.shifts.items × AreAllKept i c.in-Ok.tables.items in
     let copy = c.in-Ok-copy_of.cuts in
     subst (λ i. whole i copy) (sym c.of.ensures) (subst (whole c.args.instance.now) (sym c.in-Ok-copy_of.ensures) (c.in-Ok.ensures.priced, c.in-Ok.ensures.kept))
 

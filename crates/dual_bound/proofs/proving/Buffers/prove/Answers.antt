@@ -2,7 +2,7 @@ use Rattle.std.proofs.Common.{subst, sym}
 use Rattle.shift_instance.specs.Problem.{Problem}
 use Rattle.dual_bound.specs.Proved.{Proving, IsProved}
 use Rattle.dual_bound.proofs.Causes.{passes}
-use Rattle.dual_bound.proofs.proving.prove.Goals as goal
+use Rattle.dual_bound.proofs.proving.Buffers.prove.Goals as goal
 
 pub bound_by_pricing-requires-clause-passes : goal.bound_by_pricing-requires-clause-passes
 bound_by_pricing-requires-clause-passes c = passes c.args.instance.now c.args.cuts c.args.prices (sym c.in-None.ensures.fault)
