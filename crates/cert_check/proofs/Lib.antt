@@ -1,5 +1,6 @@
 pub mod Greatest
 pub mod Values
+pub mod WaysOn
 pub mod WithStart
 pub mod Whole
 pub mod ShiftTerms

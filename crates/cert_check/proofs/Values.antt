@@ -1,13 +1,13 @@
 -- The values of the nodes, one after another.
-use Rattle.std.proofs.Common.{◌≡◌, ℕ, zero, suc, ◌+◌, ◌*◌, ◌<◌, ◌≤◌, ℤ, ◌+ℤ◌, ◌-ℤ◌, List, [], ◌∷◌, ◌++◌, length, map, take, refl, sym, ap, ◌∙◌, subst, arith, Some, get_or}
+use Rattle.std.proofs.Common.{◌≡◌, ℕ, zero, suc, ◌+◌, ◌*◌, ◌<◌, ◌≤◌, ℤ, ◌+ℤ◌, ◌-ℤ◌, List, [], ◌∷◌, ◌++◌, length, map, take, refl, sym, ap, ◌∙◌, subst, arith, Some, get_or, FitsSigned}
 use Rattle.std.specs.Prelude.{slice_get}
+use Rattle.std.specs.Int.{w64}
 use Rattle.std.specs.Int.RustNames.{unsigned_abs}
-use Rattle.std.proofs.lemmas.Int.{ints}
-use Rattle.std.proofs.lemmas.List.{take_more, take_all, get_or_default}
+use Rattle.std.proofs.lemmas.Int.{fits_signed_from_abs}
+use Rattle.std.proofs.lemmas.List.{take_more, get_or_default}
 use Rattle.std.proofs.lemmas.List.Sums.{fold-append}
 use Rattle.break_rules.specs.declared.Break.{Break}
 use Rattle.break_rules.specs.declared.Rule.{Rule}
-use Rattle.break_rules.specs.declared.Spot.{Spot}
 use Rattle.break_rules.specs.Breaks.{end_of}
 use Rattle.break_rules.specs.Ranges.{IsRule}
 use Rattle.break_rules.specs.Walk.{end_of_all, spot_of}
@@ -15,7 +15,7 @@ use Rattle.break_rules.proofs.Reaching.{rest_first}
 use Rattle.break_rules.proofs.Steps.{bounds, from_next}
 use Rattle.break_graph.specs.declared.Edge.{Edge}
 use Rattle.break_graph.specs.declared.Node.{Node}
-use Rattle.break_graph.specs.Graph.{StandsAt, IsGraph, node_at, live_nexts}
+use Rattle.break_graph.specs.Graph.{StandsAt, IsGraph, node_at}
 use Rattle.price_sums.specs.Along.{sum_at, price_in, AreSums, resumes, earned_from, Completes}
 use Rattle.cert_check.specs.Rests.{rest_worth, IsGreatest}
 use Rattle.price_sums.proofs.Stretches.{earned_more, earned_end, earned_small, spaced_rest, resumes_behind}
@@ -32,6 +32,12 @@ rest_small sums rule len list rest s =
 -- a stretch before a break
 abbrev pub before_of : List ℤ → Rule → List Break → Break → ℤ
 before_of sums rule list b = sum_at sums b.start -ℤ sum_at sums (resumes rule (end_of_all list))
+
+-- the prices of a stretch before a break fit
+pub before_fits : (sums : List ℤ) (rule : Rule) (len : ℕ) (list : List Break) (b : Break) → AreSums len sums → FitsSigned w64 (before_of sums rule list b)
+before_fits sums rule len list b s =
+    let size = abs_sub (sum_at sums b.start) (sum_at sums (resumes rule (end_of_all list))) _ _ (s.size b.start) (s.size (resumes rule (end_of_all list))) in
+    fits_signed_from_abs w64 _ (omega (arith, size))
 
 module _ (sums : List ℤ) (rule : Rule) (len : ℕ) (list : List Break) (r : IsRule rule) where
   -- a rest that begins with a break earns the stretch before it and what is earned behind it
@@ -50,21 +56,6 @@ module _ (sums : List ℤ) (rule : Rule) (len : ℕ) (list : List Break) (r : Is
   pub worth_end : Completes rule len list [] → rest_worth sums rule len list [] ≡ sum_at sums len -ℤ sum_at sums (resumes rule (end_of_all list))
   worth_end h = earned_end sums rule len (resumes rule (end_of_all list)) (spaced_rest rule len list [] r h)
 
-  -- the numbers of a rest through a break fit
-  pub via_fits : (b : Break) (v : ℤ) → AreSums len sums → IsGreatest (Completes rule len (list ++ b ∷ [])) (rest_worth sums rule len (list ++ b ∷ [])) v
-      → (unsigned_abs v ≤ 10000000000 * 65535) × (unsigned_abs (before_of sums rule list b) ≤ 10000000000 * 65535 + 10000000000 * 65535) × (unsigned_abs (before_of sums rule list b +ℤ v) ≤ 10000000000 * 65535)
-  via_fits b v s g =
-      let tail = g.reached.0 in
-      let step : ℤ = before_of sums rule list b in
-      let part : rest_worth sums rule len (list ++ b ∷ []) tail ≡ v = g.reached.2 in
-      let whole : rest_worth sums rule len list (b ∷ tail) ≡ step +ℤ v = worth_more b tail g.reached.1 ∙ ap (λ (z : ℤ). step +ℤ z) part in
-      let both : unsigned_abs (step +ℤ v) ≤ 10000000000 * 65535 = subst (λ (z : ℤ). unsigned_abs z ≤ 10000000000 * 65535) whole (rest_small sums rule len list (b ∷ tail) s) in
-      let rest : unsigned_abs v ≤ 10000000000 * 65535 = subst (λ (z : ℤ). unsigned_abs z ≤ 10000000000 * 65535) part (rest_small sums rule len (list ++ b ∷ []) tail s) in
-      let alone : unsigned_abs step ≤ 10000000000 * 65535 + 10000000000 * 65535 =
-      let again : (step +ℤ v) -ℤ v ≡ step = omega (arith, ints) in
-      subst (λ (z : ℤ). unsigned_abs z ≤ 10000000000 * 65535 + 10000000000 * 65535) again (abs_sub (step +ℤ v) v _ _ both rest) in
-      (rest, alone, both)
-
 -- the breaks of the first edges, and of one more
 pub stops_more : (edges : List Edge) (i : ℕ) (e : Edge) → i < length edges → e ≡ get_or edges i e → map (λ (e : Edge). e.stop) (take (i + 1) edges) ≡ map (λ (e : Edge). e.stop) (take i edges) ++ e.stop ∷ []
 stops_more edges i e inside is =
@@ -82,10 +73,6 @@ edge_at (x ∷ xs) (suc i) e inside is = edge_at xs i e (omega arith) is
 abbrev pub no_edge : Edge
 no_edge = record { stop = record { start = 0; len = 0 }; next = 0 }
 
--- a node as it is read
-pub node_is : (nodes : List Node) (k : ℕ) (n : Node) → k < length nodes → n ≡ get_or nodes k n → n ≡ node_at nodes k
-node_is nodes k n inside is = is ∙ get_or_default nodes k n (record { spot = record { offset = 0; used = 0; lunches = 0 }; edges = [] }) inside
-
 module _ (rule : Rule) (len : ℕ) (nodes : List Node) (k : ℕ) (edges : List Edge) (g : IsGraph rule len nodes) (inside : k < length nodes) (are : edges ≡ (node_at nodes k).edges) where
   -- an edge of the node
   edge_there : (i : ℕ) → i < length edges → slice_get (node_at nodes k).edges i ≡ Some (get_or edges i no_edge)
@@ -96,17 +83,6 @@ module _ (rule : Rule) (len : ℕ) (nodes : List Node) (k : ℕ) (edges : List E
 
   pub edge_behind : (i : ℕ) (list : List Break) → i < length edges → StandsAt rule len nodes k list → StandsAt rule len nodes (get_or edges i no_edge).next (list ++ (get_or edges i no_edge).stop ∷ [])
   edge_behind i list l at = g.behind k i (get_or edges i no_edge) list at (edge_there i l)
-
-  pub edge_stops : (i : ℕ) → i < length edges → map (λ (e : Edge). e.stop) (take (i + 1) edges) ≡ map (λ (e : Edge). e.stop) (take i edges) ++ (get_or edges i no_edge).stop ∷ []
-  edge_stops i l = stops_more edges i (get_or edges i no_edge) l (get_or_default edges i no_edge (get_or edges i no_edge) l)
-
-  -- all edges lead to the live next breaks
-  pub all_stops : (i : ℕ) (list : List Break) → length edges ≤ i → StandsAt rule len nodes k list → map (λ (e : Edge). e.stop) (take i edges) ≡ live_nexts rule len list
-  all_stops i list l at = ap (map (λ (e : Edge). e.stop)) (take_all i edges l) ∙ ap (map (λ (e : Edge). e.stop)) are ∙ g.edges k list at
-
--- the offset where work counts again behind a list
-pub resumes_at : (rule : Rule) (len : ℕ) (nodes : List Node) (k : ℕ) (n : Node) (list : List Break) → n ≡ node_at nodes k → StandsAt rule len nodes k list → resumes rule n.spot.offset ≡ resumes rule (end_of_all list)
-resumes_at rule len nodes k n list is at = ap (λ (n : Node). resumes rule n.spot.offset) is ∙ ap (λ (s : Spot). resumes rule s.offset) at.spot
 
 -- the greatest worth is small
 pub greatest_small : (sums : List ℤ) (rule : Rule) (len : ℕ) (list : List Break) (v : ℤ) → AreSums len sums → IsGreatest (Completes rule len list) (rest_worth sums rule len list) v → unsigned_abs v ≤ 10000000000 * 65535

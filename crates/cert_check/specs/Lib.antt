@@ -1,4 +1,5 @@
 pub mod Rests
+pub mod Walks
 pub mod Below
 pub mod Passed
 pub mod Judged

@@ -5,15 +5,14 @@ ghost use Rattle.std.specs.Int.{w64};
 ghost use Rattle.std.specs.Int.RustNames.{unsigned_abs};
 ghost use Rattle.break_rules.specs.declared.Break.{Break};
 ghost use Rattle.break_rules.specs.Ranges.{IsRule};
-ghost use Rattle.break_graph.specs.Graph.{IsGraph, StandsAt};
 ghost use Rattle.head_splits.specs.Bound.{bonus, signed_price};
 ghost use Rattle.price_sums.specs.Along.{sum_at, AreSums, Completes};
 ghost use Rattle.price_sums.specs.Days.{sums_on};
 ghost use Rattle.cert_check.specs.Rests.{AreValues, IsGreatest, greater_of};
 ghost use Rattle.cert_check.specs.Below.{bonuses, duty_with, goes_further, is_further, whole_worth};
 
+use crate::walks::Walk;
 use bound_sums::signed_price;
-use break_graph::Node;
 use break_rules::{Break, NoMemory, Rule};
 use head_splits::Cut;
 use price_sums::{Lane, lane_at, resumption};
@@ -32,19 +31,15 @@ pub struct Duties<'a> {
     pub day: u8,
 }
 
-/// What rests earn in the shifts of a rule and a length, at the prices of a shift on each day.
+/// The shifts of a rule and a length, and the prices of their work.
 #[derive(Drop)]
-pub struct Rests<'a> {
+pub struct Work<'a> {
     /// The break rule of the shift.
     pub rule: &'a Rule,
     /// The length of the shift, in slots.
     pub len: u16,
-    /// The graph of the shift's break lists.
-    pub nodes: &'a [Node],
     /// The sums of the prices of the shift's first offsets, on all days side by side.
     pub sums: &'a [Lane],
-    /// For each node, the most that a rest earns behind it, on all days side by side.
-    pub values: Vec<Lane>,
 }
 
 /// What a cut with its price adds to a duty.
@@ -148,41 +143,38 @@ fn earned_and(earned: i64, other: i128) -> i128
     i128::from(earned) + other
 }
 
-/// The most that a duty is worth whose breaks are a legal list that begins with some breaks, which stand at a node: what it
-/// earns behind them, and what all cuts add.
-pub fn best_below(
+/// The most that a duty is worth whose breaks are a legal list that begins with some breaks, which stand at a place of a walk:
+/// what it earns behind them, and what all cuts add.
+pub fn best_below<W: Walk>(
     alloc: Global,
     duties: &Duties<'_>,
-    rests: &Rests<'_>,
+    work: &Work<'_>,
+    walk: &W,
     list: &[Break],
-    k: usize,
+    place: W::Place,
 ) -> Result<i128, NoMemory>
-    requires rule { IsRule rests.now.rule.now }
+    requires rule { IsRule work.now.rule.now }
     requires day { duties.now.day < 8 }
-    requires sums { AreSums rests.now.len (sums_on duties.now.day rests.now.sums.now) }
-    requires graph { IsGraph rests.now.rule.now rests.now.len rests.now.nodes.now }
-    requires values { AreValues rests.now.rule.now rests.now.len (sums_on duties.now.day rests.now.sums.now) rests.now.nodes.now (length rests.now.nodes.now) (sums_on duties.now.day rests.now.values.items) }
+    requires sums { AreSums work.now.len (sums_on duties.now.day work.now.sums.now) }
     requires count { length duties.now.prices.now ≡ length duties.now.cuts.now }
     requires few { length duties.now.cuts.now ≤ 2 ^ 33 }
     requires small { (k : ℕ) → slice_index duties.now.prices.now k ≤ 1000000000000 }
-    requires stands { StandsAt rests.now.rule.now rests.now.len rests.now.nodes.now k list.now }
-    ensures greatest { IfOk result (λ v. IsGreatest (Completes rests.now.rule.now rests.now.len list.now) (whole_worth duties.now.cuts.now duties.now.prices.now duties.now.shift duties.now.day (sums_on duties.now.day rests.now.sums.now) rests.now.rule.now rests.now.len list.now) v) }
+    requires stands { W.stands walk.now work.now.rule.now work.now.len (sums_on duties.now.day work.now.sums.now) place list.now }
+    ensures greatest { IfOk result (λ v. IsGreatest (Completes work.now.rule.now work.now.len list.now) (whole_worth duties.now.cuts.now duties.now.prices.now duties.now.shift duties.now.day (sums_on duties.now.day work.now.sums.now) work.now.rule.now work.now.len list.now) v) }
     ensures size { IfOk result (λ v. unsigned_abs v ≤ 2 ^ 74) }
 {
     let day = duties.day;
-    let alone = earned_and(number_on(&rests.values, k, day), bonuses(duties, list));
+    let alone = earned_and(walk.value(place), bonuses(duties, list));
     if !goes_further(duties, list) {
         return Ok(alone);
     }
-    let node = &rests.nodes[k];
-    let from = resumption(rests.rule, node.spot);
-    let edges = &node.edges;
-    let edges = edges.as_slice();
+    let from = resumption(work.rule, walk.spot(place));
+    let ways = walk.ways(alloc, place)?;
     let mut best = None;
-    for edge in edges {
-        let longer = longer(alloc, list, edge.stop)?;
-        let behind = best_below(alloc, duties, rests, &longer, edge.next as usize)?;
-        let before = stretch_on(rests.sums, from, usize::from(edge.stop.start), day);
+    for way in ways.as_slice() {
+        let longer = longer(alloc, list, way.0)?;
+        let behind = best_below(alloc, duties, work, walk, &longer, way.1)?;
+        let before = stretch_on(work.sums, from, usize::from(way.0.start), day);
         best = Some(greater(best, earned_and(before, behind)));
     }
     match best {

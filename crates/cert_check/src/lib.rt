@@ -6,11 +6,14 @@ mod below;
 mod checking;
 mod judged;
 mod judging;
+mod layers;
+mod nodes;
 mod prices;
 mod rests;
 mod settled;
 mod terms;
 mod tree;
+mod walks;
 
 pub use checking::check;
 pub use judged::{Accepted, Refused};

@@ -9,7 +9,7 @@ ghost use Rattle.price_sums.specs.Along.{sum_at, AreSums, Completes};
 ghost use Rattle.price_sums.specs.Days.{sums_on};
 ghost use Rattle.cert_check.specs.Rests.{rest_worth, worth_with_start, AreValues, IsGreatest};
 
-use break_graph::{Edge, Node};
+use break_graph::{Edge, Graph};
 use break_rules::{NoMemory, Rule};
 use price_sums::{Lane, lane_at, lane_difference, lane_total, raise_lane, resumption};
 use std::alloc::Global;
@@ -29,18 +29,16 @@ fn most_with_start(
     rule: &Rule,
     len: u16,
     sums: &[Lane],
-    nodes: &[Node],
+    graph: &Graph,
     k: usize,
     values: &[Lane],
 ) -> Lane
     requires rule { IsRule rule.now }
-    requires graph { IsGraph rule.now len nodes.now }
-    requires node { k < length nodes.now }
-    ensures { (day : ℕ) → day < 8 → AreSums len (sums_on day sums.now) → AreValues rule.now len (sums_on day sums.now) nodes.now k (sums_on day values.now) → (list : List Break) → StandsAt rule.now len nodes.now k list → IsGreatest (Completes rule.now len list) (worth_with_start (sums_on day sums.now) rule.now len list) (sum_at result day) }
+    requires graph { IsGraph rule.now len graph.now }
+    requires node { k < length graph.now }
+    ensures { (day : ℕ) → day < 8 → AreSums len (sums_on day sums.now) → AreValues rule.now len (sums_on day sums.now) graph.now k (sums_on day values.now) → (list : List Break) → StandsAt rule.now len graph.now k list → IsGreatest (Completes rule.now len list) (worth_with_start (sums_on day sums.now) rule.now len list) (sum_at result day) }
 {
-    let node = &nodes[k];
-    let edges = &node.edges;
-    let Some((first, others)) = edges.as_slice().split_first() else {
+    let Some((first, others)) = graph.edges(k).split_first() else {
         return *lane_at(sums, usize::from(len));
     };
     let mut most = had_by(sums, values, *first);
@@ -51,22 +49,14 @@ fn most_with_start(
 }
 
 /// The most that a rest earns behind a node on each day, by the nodes before it.
-fn rest_lane(
-    rule: &Rule,
-    len: u16,
-    sums: &[Lane],
-    nodes: &[Node],
-    k: usize,
-    values: &[Lane],
-) -> Lane
+fn rest_lane(rule: &Rule, len: u16, sums: &[Lane], graph: &Graph, k: usize, values: &[Lane]) -> Lane
     requires rule { IsRule rule.now }
-    requires graph { IsGraph rule.now len nodes.now }
-    requires node { k < length nodes.now }
-    ensures { (day : ℕ) → day < 8 → AreSums len (sums_on day sums.now) → AreValues rule.now len (sums_on day sums.now) nodes.now k (sums_on day values.now) → (list : List Break) → StandsAt rule.now len nodes.now k list → IsGreatest (Completes rule.now len list) (rest_worth (sums_on day sums.now) rule.now len list) (sum_at result day) }
+    requires graph { IsGraph rule.now len graph.now }
+    requires node { k < length graph.now }
+    ensures { (day : ℕ) → day < 8 → AreSums len (sums_on day sums.now) → AreValues rule.now len (sums_on day sums.now) graph.now k (sums_on day values.now) → (list : List Break) → StandsAt rule.now len graph.now k list → IsGreatest (Completes rule.now len list) (rest_worth (sums_on day sums.now) rule.now len list) (sum_at result day) }
 {
-    let node = &nodes[k];
-    let most = most_with_start(rule, len, sums, nodes, k, values);
-    lane_difference(&most, lane_at(sums, resumption(rule, node.spot)))
+    let most = most_with_start(rule, len, sums, graph, k, values);
+    lane_difference(&most, lane_at(sums, resumption(rule, graph.spot(k))))
 }
 
 /// For each node, the most that a rest earns on each day with which a list that stands there is legal.
@@ -75,15 +65,15 @@ pub fn rest_lanes(
     rule: &Rule,
     len: u16,
     sums: &[Lane],
-    nodes: &[Node],
+    graph: &Graph,
 ) -> Result<Vec<Lane>, NoMemory>
     requires rule { IsRule rule.now }
-    requires graph { IsGraph rule.now len nodes.now }
-    ensures { IfOk result (λ values. (day : ℕ) → day < 8 → AreSums len (sums_on day sums.now) → AreValues rule.now len (sums_on day sums.now) nodes.now (length nodes.now) (sums_on day values.items)) }
+    requires graph { IsGraph rule.now len graph.now }
+    ensures { IfOk result (λ values. (day : ℕ) → day < 8 → AreSums len (sums_on day sums.now) → AreValues rule.now len (sums_on day sums.now) graph.now (length graph.now) (sums_on day values.items)) }
 {
-    let mut values = Vec::with_capacity(alloc, nodes.len())?;
-    for k in 0..nodes.len() {
-        let value = rest_lane(rule, len, sums, nodes, k, &values);
+    let mut values = Vec::with_capacity(alloc, graph.node_count())?;
+    for k in 0..graph.node_count() {
+        let value = rest_lane(rule, len, sums, graph, k, &values);
         values.push(value)?;
     }
     Ok(values)

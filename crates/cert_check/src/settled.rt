@@ -2,16 +2,16 @@
 
 ghost use Rattle.std.specs.Prelude.{◌≡◌, ◌<◌, ◌++◌, ◌∷◌, [], length, nat_lt, not, true, IfOk, None, Some, if◌then◌else◌};
 ghost use Rattle.shift_instance.specs.Problem.{shift_list};
-ghost use Rattle.head_splits.specs.Below.{IsClear, IsGraphOf, StandsOn, duties_below, shift_duties};
+ghost use Rattle.head_splits.specs.Below.{IsClear, StandsOn, duties_below, shift_duties};
 ghost use Rattle.head_splits.specs.Nodes.{settled_floor};
 ghost use Rattle.head_splits.specs.Settled.{class_of, is_settled, settled_rows};
 ghost use Rattle.shift_instance.specs.AllDuties.{all_duties};
 ghost use Rattle.cert_check.specs.Passed.{IsPassed};
 
 use crate::below::longer;
-use break_graph::{Graph, Node};
 use break_rules::{Break, Breaks, NoMemory};
 use head_splits::{Class, Cuts, meets, range};
+use list_walks::{ListWalks, Standing};
 use rota_cost::{legal_rows, recount};
 use shift_instance::{Instance, Row, Rows, TOP};
 use std::alloc::Global;
@@ -48,18 +48,18 @@ fn pass(class: &Class, low: u16, high: u16, rows: &mut Vec<Row>) -> Result<bool,
     Ok(true)
 }
 
-/// Whether the cuts fix the number of each legal duty of a class, whose prefix stands at a node. If so, the rows of those
-/// duties are added.
+/// Whether the cuts fix the number of each legal duty of a class, whose prefix stands there. If so, the rows of those duties
+/// are added.
 fn pass_class(
     alloc: Global,
     instance: &Instance,
     cuts: &Cuts,
-    nodes: &[Node],
-    k: usize,
+    lists: &ListWalks<'_>,
+    at: Standing,
     class: &Class,
     rows: &mut Vec<Row>,
 ) -> Result<bool, NoMemory>
-    requires stands { StandsOn instance.now class.now.shift nodes.now k class.now.prefix }
+    requires stands { StandsOn instance.now class.now.shift lists.now at class.now.prefix }
     requires clear { IsClear instance.now cuts.now class.now.shift class.now.day class.now.prefix }
     ensures { IfOk result (λ fixed. IsPassed instance.now cuts.now (duties_below instance.now class.now.shift class.now.day class.now.prefix) fixed rows.old.items rows.new.items) }
 {
@@ -67,14 +67,14 @@ fn pass_class(
     if high == 0 {
         return Ok(true);
     }
-    let edges = nodes[k].edges.as_slice();
-    if edges.is_empty() {
+    let onward = lists.ways(alloc, at)?;
+    let ways = onward.as_slice();
+    if ways.is_empty() {
         return pass(class, low, high, rows);
     }
-    for edge in edges {
-        let longer = extended(alloc, class, edge.stop)?;
-        let next = edge.next as usize;
-        let fixed = pass_class(alloc, instance, cuts, nodes, next, &longer, rows)?;
+    for way in ways {
+        let longer = extended(alloc, class, way.stop)?;
+        let fixed = pass_class(alloc, instance, cuts, lists, way.at, &longer, rows)?;
         if !fixed {
             return Ok(false);
         }
@@ -93,26 +93,23 @@ fn whole_class(alloc: Global, shift: u16, day: u8) -> Class
     }
 }
 
-/// Whether the cuts fix the number of each legal duty of a shift, by the nodes of the shift's graph. If so, the rows of
-/// those duties are added.
+/// Whether the cuts fix the number of each legal duty of a shift, day by day from where the empty list stands. If so, the rows
+/// of those duties are added.
 fn pass_days(
     alloc: Global,
     instance: &Instance,
     cuts: &Cuts,
-    nodes: &[Node],
+    lists: &ListWalks<'_>,
+    opening: Standing,
     shift: u16,
     rows: &mut Vec<Row>,
 ) -> Result<bool, NoMemory>
-    requires graph { IsGraphOf instance.now shift nodes.now }
+    requires { StandsOn instance.now shift lists.now opening [] }
     ensures { IfOk result (λ fixed. IsPassed instance.now cuts.now (shift_duties instance.now shift) fixed rows.old.items rows.new.items) }
 {
-    if nodes.is_empty() {
-        return Ok(true);
-    }
     for day in 0..instance.days() {
         let class = whole_class(alloc, shift, day);
-        let opening = nodes.len() - 1;
-        let fixed = pass_class(alloc, instance, cuts, nodes, opening, &class, rows)?;
+        let fixed = pass_class(alloc, instance, cuts, lists, opening, &class, rows)?;
         if !fixed {
             return Ok(false);
         }
@@ -131,13 +128,10 @@ fn pass_shift(
     requires shift { shift < length (shift_list instance.now) }
     ensures { IfOk result (λ fixed. IsPassed instance.now cuts.now (shift_duties instance.now shift) fixed rows.old.items rows.new.items) }
 {
-    match instance.graph(shift) {
-        Some(graph) => pass_days(alloc, instance, cuts, graph.nodes(), shift, rows),
-        None => {
-            let len = instance.shift(shift).len;
-            let graph = Graph::new(alloc, instance.rule_of(shift), len)?;
-            pass_days(alloc, instance, cuts, graph.nodes(), shift, rows)
-        }
+    let lists = ListWalks::of_shift(alloc, instance, shift)?;
+    match lists.opening() {
+        Some(opening) => pass_days(alloc, instance, cuts, &lists, opening, shift, rows),
+        None => Ok(true),
     }
 }
 

@@ -1,70 +1,36 @@
 //! The values of the duties of shifts, by the walk over their breaks.
 
-ghost use Rattle.std.specs.Prelude.{◌≡◌, ◌≢◌, ◌≤◌, ◌<◌, ◌^◌, IfOk, IsSomeAnd, IsTrue, MatchOption, [], length, slice_get};
+ghost use Rattle.std.specs.Prelude.{◌≡◌, ◌≤◌, ◌<◌, ◌^◌, ⊤, ℕ, [], false, IfOk, IsSomeAnd, IsTrue, MatchOption, length, slice_get, slice_index};
+ghost use Rattle.std.specs.Int.RustNames.{unsigned_abs};
+ghost use Rattle.break_rules.specs.Breaks.{is_live};
+ghost use Rattle.break_rules.specs.Ranges.{IsRule};
 ghost use Rattle.break_graph.specs.Graph.{IsGraph};
 ghost use Rattle.shift_instance.specs.Problem.{shift_list};
 ghost use Rattle.shift_instance.specs.Rota.{lists_of};
 ghost use Rattle.shift_instance.specs.Valid.{IsValid};
 ghost use Rattle.head_splits.specs.Bound.{are_prices, bound_of, is_nil};
+ghost use Rattle.price_sums.specs.Along.{AreSums, Completes};
+ghost use Rattle.price_sums.specs.Days.{sums_on};
 ghost use Rattle.bound_sums.specs.Values.{AreValues};
+ghost use Rattle.cert_check.specs.Rests.{IsGreatest};
+ghost use Rattle.cert_check.specs.Below.{whole_worth};
 
-use crate::below::{Duties, Rests, best_below};
+use crate::below::{Duties, Work, best_below};
+use crate::layers::ByLayers;
+use crate::nodes::ByNodes;
 use crate::rests::rest_lanes;
 use bound_sums::{DayValues, bound_by};
-use break_graph::{Graph, Node};
-use break_rules::NoMemory;
+use break_graph::Graph;
+use break_layers::LayerValues;
+use break_rules::{NoMemory, Spot};
 use head_splits::{Cuts, Prices};
-use price_sums::DaySums;
+use price_sums::{DaySums, Lane};
 use shift_instance::Instance;
 use std::alloc::Global;
 
-/// The greatest reduced values of the duties of a shift, day by day, by the nodes of the shift's graph and the sums of the slots'
-/// prices. What rests earn is found in one walk along the graph for all days.
-fn day_values(
-    alloc: Global,
-    instance: &Instance,
-    cuts: &Cuts,
-    prices: &Prices,
-    sums: &DaySums,
-    nodes: &[Node],
-    shift: u16,
-) -> Result<Vec<i128>, NoMemory>
-    requires shift { shift < length (shift_list instance.now) }
-    requires few { length cuts.now ≤ 2 ^ 33 }
-    requires passes { IsTrue (are_prices instance.now cuts.now prices.now) }
-    requires sums { sums.now ≡ record { instance = instance.now; prices = prices.now.slots } }
-    requires graph { IsSomeAnd (slice_get (shift_list instance.now) shift) (λ x. IsGraph x.1 x.0.len nodes.now) }
-    requires some { nodes.now ≢ [] }
-    ensures { IfOk result (λ values. AreValues instance.now cuts.now prices.now shift instance.now.days values.items) }
-{
-    let rule = instance.rule_of(shift);
-    let len = instance.shift(shift).len;
-    let sums = sums.along(instance, shift);
-    let behind = rest_lanes(alloc, rule, len, sums, nodes)?;
-    let rests = Rests {
-        rule,
-        len,
-        nodes,
-        sums,
-        values: behind,
-    };
-    let mut values = Vec::new(alloc);
-    for day in 0..instance.days() {
-        let duties = Duties {
-            cuts: cuts.as_slice(),
-            prices: prices.cuts.as_slice(),
-            shift,
-            day,
-        };
-        let value = best_below(alloc, &duties, &rests, &[], nodes.len() - 1)?;
-        values.push(value)?;
-    }
-    Ok(values)
-}
-
-/// The greatest reduced values of the duties of a shift, day by day, by the graph of its break lists and the sums of the
-/// slots' prices, and `None` where no list is legal.
-fn values_over(
+/// The greatest reduced values of the duties of a shift, day by day, by the nodes of the shift's graph, and `None` where no
+/// list is legal. What rests earn is found in one walk along the graph for all days.
+fn values_by_nodes(
     alloc: Global,
     instance: &Instance,
     cuts: &Cuts,
@@ -80,11 +46,105 @@ fn values_over(
     requires graph { IsSomeAnd (slice_get (shift_list instance.now) shift) (λ x. IsGraph x.1 x.0.len graph.now) }
     ensures { IfOk result (λ found. MatchOption found (IsTrue (is_nil (lists_of instance.now shift))) (λ values. AreValues instance.now cuts.now prices.now shift instance.now.days values.items)) }
 {
-    let nodes = graph.nodes();
-    if nodes.is_empty() {
+    let nodes = graph.node_count();
+    if nodes == 0 {
         return Ok(None);
     }
-    let values = day_values(alloc, instance, cuts, prices, sums, nodes, shift)?;
+    let rule = instance.rule_of(shift);
+    let len = instance.shift(shift).len;
+    let sums = sums.along(instance, shift);
+    let work = Work { rule, len, sums };
+    let behind = rest_lanes(alloc, rule, len, sums, graph)?;
+    let mut values = Vec::new(alloc);
+    for day in 0..instance.days() {
+        let duties = Duties {
+            cuts: cuts.as_slice(),
+            prices: prices.cuts.as_slice(),
+            shift,
+            day,
+        };
+        let walk = ByNodes {
+            graph,
+            values: &behind,
+            day,
+        };
+        let value = best_below(alloc, &duties, &work, &walk, &[], nodes - 1)?;
+        values.push(value)?;
+    }
+    Ok(Some(values))
+}
+
+/// The sums of a day, of those of all days side by side.
+fn sums_of_day(alloc: Global, lanes: &[Lane], day: u8) -> Result<Vec<i64>, NoMemory>
+    requires { day < 8 }
+    ensures { IfOk result (λ sums. sums.items ≡ sums_on day lanes.now) }
+{
+    let mut sums = Vec::with_capacity(alloc, lanes.len())?;
+    for lane in lanes {
+        sums.push(lane[usize::from(day)])?;
+    }
+    Ok(sums)
+}
+
+/// The most that a duty of a shift on a day is worth, by layers, and `None` where no list is legal.
+fn layered_value(
+    alloc: Global,
+    duties: &Duties<'_>,
+    work: &Work<'_>,
+) -> Result<Option<i128>, NoMemory>
+    requires rule { IsRule work.now.rule.now }
+    requires day { duties.now.day < 8 }
+    requires sums { AreSums work.now.len (sums_on duties.now.day work.now.sums.now) }
+    requires count { length duties.now.prices.now ≡ length duties.now.cuts.now }
+    requires few { length duties.now.cuts.now ≤ 2 ^ 33 }
+    requires small { (k : ℕ) → slice_index duties.now.prices.now k ≤ 1000000000000 }
+    ensures greatest { IfOk result (λ found. MatchOption found (is_live work.now.rule.now work.now.len [] ≡ false) (λ v. IsGreatest (Completes work.now.rule.now work.now.len []) (whole_worth duties.now.cuts.now duties.now.prices.now duties.now.shift duties.now.day (sums_on duties.now.day work.now.sums.now) work.now.rule.now work.now.len []) v)) }
+    ensures size { IfOk result (λ found. MatchOption found ⊤ (λ v. unsigned_abs v ≤ 2 ^ 74)) }
+{
+    let sums = sums_of_day(alloc, work.sums, duties.day)?;
+    let layers = LayerValues::new(alloc, work.rule, work.len, sums)?;
+    let opening = Spot::opening();
+    if layers.value_at(opening).is_none() {
+        return Ok(None);
+    }
+    let walk = ByLayers { layers };
+    let value = best_below(alloc, duties, work, &walk, &[], opening)?;
+    Ok(Some(value))
+}
+
+/// The greatest reduced values of the duties of a shift, day by day, by layers, and `None` where no list is legal.
+fn values_by_layers(
+    alloc: Global,
+    instance: &Instance,
+    cuts: &Cuts,
+    prices: &Prices,
+    sums: &DaySums,
+    shift: u16,
+) -> Result<Option<Vec<i128>>, NoMemory>
+    requires shift { shift < length (shift_list instance.now) }
+    requires few { length cuts.now ≤ 2 ^ 33 }
+    requires passes { IsTrue (are_prices instance.now cuts.now prices.now) }
+    requires sums { sums.now ≡ record { instance = instance.now; prices = prices.now.slots } }
+    ensures { IfOk result (λ found. MatchOption found (IsTrue (is_nil (lists_of instance.now shift))) (λ values. AreValues instance.now cuts.now prices.now shift instance.now.days values.items)) }
+{
+    let work = Work {
+        rule: instance.rule_of(shift),
+        len: instance.shift(shift).len,
+        sums: sums.along(instance, shift),
+    };
+    let mut values = Vec::new(alloc);
+    for day in 0..instance.days() {
+        let duties = Duties {
+            cuts: cuts.as_slice(),
+            prices: prices.cuts.as_slice(),
+            shift,
+            day,
+        };
+        match layered_value(alloc, &duties, &work)? {
+            Some(value) => values.push(value)?,
+            None => return Ok(None),
+        }
+    }
     Ok(Some(values))
 }
 
@@ -100,7 +160,7 @@ impl DayValues for ByWalk {
     ghost serves = { λ values i _ prices. values.sums ≡ record { instance = i; prices = prices.slots } };
 
     fn of_shift(
-        &self,
+        &mut self,
         alloc: Global,
         instance: &Instance,
         cuts: &Cuts,
@@ -109,12 +169,8 @@ impl DayValues for ByWalk {
     ) -> Result<Option<Vec<i128>>, NoMemory> {
         let sums = &self.sums;
         match instance.graph(shift) {
-            Some(kept) => values_over(alloc, instance, cuts, prices, sums, kept, shift),
-            None => {
-                let len = instance.shift(shift).len;
-                let made = Graph::new(alloc, instance.rule_of(shift), len)?;
-                values_over(alloc, instance, cuts, prices, sums, &made, shift)
-            }
+            Some(graph) => values_by_nodes(alloc, instance, cuts, prices, sums, graph, shift),
+            None => values_by_layers(alloc, instance, cuts, prices, sums, shift),
         }
     }
 }
@@ -132,5 +188,5 @@ pub(crate) fn bound_by_walk(
     ensures { IfOk result (λ b. b ≡ bound_of instance.now cuts.now prices.now) }
 {
     let sums = DaySums::new(alloc, instance, prices.slots.as_slice())?;
-    bound_by(alloc, &ByWalk { sums }, instance, cuts, prices)
+    bound_by(alloc, &mut ByWalk { sums }, instance, cuts, prices)
 }

@@ -1,11 +1,12 @@
 use Rattle.std.proofs.Common.{◌≡◌, ℤ, ◌-ℤ◌, sym, ap, subst, ◌∙◌, arith, FitsSigned}
 use Rattle.std.specs.Int.{w64}
 use Rattle.std.proofs.lemmas.Int.{fits_signed_from_abs}
+use Rattle.break_rules.specs.declared.Spot.{Spot}
 use Rattle.break_rules.specs.Walk.{end_of_all}
 use Rattle.price_sums.specs.Along.{sum_at, resumes, Completes}
 use Rattle.price_sums.specs.Days.{sums_on}
 use Rattle.cert_check.specs.Rests.{rest_worth, IsGreatest}
-use Rattle.cert_check.proofs.Values.{node_is, resumes_at, greatest_small}
+use Rattle.cert_check.proofs.Values.{greatest_small}
 use Rattle.cert_check.proofs.WithStart.{less_start}
 use Rattle.cert_check.proofs.rests.rest_lane.Goals as goal
 
@@ -13,11 +14,10 @@ pub returns : goal.returns
 returns c = λ day less small known list st.
     let rule = c.args.rule.now in
     let len = c.args.len in
-    let nodes = c.args.nodes.now in
+    let nodes = c.args.graph.now in
     let sums = sums_on day c.args.sums.now in
-    let node = node_is nodes c.args.k c.index-nodes-k.result c.requires.node c.index-nodes-k.is in
     let start : ℤ = sum_at sums (resumes rule (end_of_all list)) in
-    let from : sum_at c.lane_at.result.now day ≡ start = c.lane_at.ensures day ∙ ap (sum_at sums) (c.resumption.ensures ∙ resumes_at rule len nodes c.args.k c.index-nodes-k.result list node st) in
+    let from : sum_at c.lane_at.result.now day ≡ start = c.lane_at.ensures day ∙ ap (sum_at sums) (c.resumption.ensures ∙ ap (λ (s : Spot). resumes rule s.offset) (c.spot.ensures ∙ st.spot)) in
     let most : ℤ = sum_at c.most_with_start-most.result day in
     let g : IsGreatest (Completes rule len list) (rest_worth sums rule len list) (most -ℤ start) = less_start sums rule len list most (c.most_with_start-most.ensures day less small known list st) in
     let size = greatest_small sums rule len list (most -ℤ start) small g in

@@ -18,9 +18,9 @@ loop-k-preserved c =
       known = λ day less small.
           let sums = sums_on day c.args.sums.now in
           let kept : c.deref.result.now ≡ values = c.deref.ensures.value in
-          let own = subst (λ (vs : List (List ℤ)). AreValues c.args.rule.now c.args.len sums c.args.nodes.now c.loop-k.k (sums_on day vs)) (sym kept) (i.known day less small) in
-          subst (AreValues c.args.rule.now c.args.len sums c.args.nodes.now (c.loop-k.k + 1)) (sym (ap (sums_on day) items ∙ sums_more values x day))
-          (values_more c.args.rule.now c.args.len sums c.args.nodes.now c.loop-k.k (sums_on day values) (sum_at x day) (length-map values (λ (lane : List ℤ). sum_at lane day) ∙ i.many) (i.known day less small) (c.rest_lane-value.ensures day less small own));
+          let own = subst (λ (vs : List (List ℤ)). AreValues c.args.rule.now c.args.len sums c.args.graph.now c.loop-k.k (sums_on day vs)) (sym kept) (i.known day less small) in
+          subst (AreValues c.args.rule.now c.args.len sums c.args.graph.now (c.loop-k.k + 1)) (sym (ap (sums_on day) items ∙ sums_more values x day))
+          (values_more c.args.rule.now c.args.len sums c.args.graph.now c.loop-k.k (sums_on day values) (sum_at x day) (length-map values (λ (lane : List ℤ). sum_at lane day) ∙ i.many) (i.known day less small) (c.rest_lane-value.ensures day less small own));
     }
 
 pub returns : goal.returns

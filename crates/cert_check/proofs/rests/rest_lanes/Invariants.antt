@@ -7,5 +7,5 @@ use Rattle.cert_check.proofs.rests.rest_lanes.Given as goal
 abbrev pub invariant-loop-k : goal.invariant-loop-k
 invariant-loop-k l = record {
   many : length l.values.items ≡ l.k;
-  known : (day : ℕ) → day < 8 → AreSums l.len (sums_on day l.sums) → AreValues l.rule l.len (sums_on day l.sums) l.nodes l.k (sums_on day l.values.items);
+  known : (day : ℕ) → day < 8 → AreSums l.len (sums_on day l.sums) → AreValues l.rule l.len (sums_on day l.sums) l.graph l.k (sums_on day l.values.items);
 }

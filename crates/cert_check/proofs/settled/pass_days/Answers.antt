@@ -1,24 +1,13 @@
-use Rattle.std.proofs.Common.{◌≡◌, ◌+◌, [], None, ℕ, Bool, List, arith, sym, ap, subst, ◌∙◌, eqb-true}
+use Rattle.std.proofs.Common.{◌≡◌, ◌+◌, [], None, ℕ, Bool, List, arith, ap, subst, ◌∙◌}
 use Rattle.std.specs.List.{flat_map}
 use Rattle.shift_instance.specs.declared.Duty.{Duty}
 use Rattle.shift_instance.specs.Problem.{below}
 use Rattle.head_splits.specs.declared.Class.{Class}
 use Rattle.head_splits.specs.Below.{IsWalked, duties_below, shift_duties}
-use Rattle.head_splits.proofs.Walked.{none_walked}
-use Rattle.head_splits.proofs.WholeWalk.{no_duties, shift_days}
+use Rattle.head_splits.proofs.WholeWalk.{shift_days}
 use Rattle.cert_check.specs.Passed.{IsPassed}
 use Rattle.cert_check.proofs.Passing.{all_passed, none_open, next_passed, stopped_passed}
 use Rattle.cert_check.proofs.settled.pass_days.Goals as goal
-
-pub returns-then-is_empty : goal.returns-then-is_empty
-returns-then-is_empty c =
-    let i = c.args.instance.now in
-    let cuts = c.args.cuts.now in
-    let s = c.args.shift in
-    all_passed i cuts (shift_duties i s) c.args.rows.now.items c.args.rows.now.items
-    (subst (λ ds. IsWalked i cuts ds None c.args.rows.now.items c.args.rows.now.items)
-    (sym (no_duties i cuts s c.args.nodes.now c.requires.graph (eqb-true _ 0 (sym c.is_empty.ensures ∙ c.if-is_empty.true))))
-    (none_walked i cuts c.args.rows.now.items))
 
 pub returns-then-not-fixed : goal.returns-then-not-fixed
 returns-then-not-fixed c =

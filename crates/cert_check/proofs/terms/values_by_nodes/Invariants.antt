@@ -1,5 +1,5 @@
 use Rattle.bound_sums.specs.Values.{AreValues}
-use Rattle.cert_check.proofs.terms.day_values.Given as goal
+use Rattle.cert_check.proofs.terms.values_by_nodes.Given as goal
 
 abbrev pub invariant-loop-day : goal.invariant-loop-day
 invariant-loop-day l = AreValues l.instance l.cuts l.prices l.shift l.day l.values.items

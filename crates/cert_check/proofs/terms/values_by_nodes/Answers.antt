@@ -1,21 +1,19 @@
-use Rattle.std.proofs.Common.{rules, ◌≡◌, ◌<◌, ◌≤◌, ℕ, ℤ, List, get_or, sym, ap, subst, arith, Some}
+use Rattle.std.proofs.Common.{rules, ◌≡◌, ◌<◌, ◌≤◌, ℕ, ℤ, List, length, get_or, sym, ap, subst, arith, Some}
 use Rattle.std.specs.Prelude.{slice_get}
 use Rattle.break_rules.specs.declared.Rule.{Rule}
 use Rattle.shift_instance.specs.declared.Shift.{Shift}
 use Rattle.shift_instance.specs.Problem.{shift_list}
-use Rattle.price_sums.specs.Days.{Priced, AreSumsByDay}
+use Rattle.price_sums.specs.Days.{Priced, AreSumsByDay, sums_on}
 use Rattle.bound_sums.proofs.Priced.{cut_small}
 use Rattle.bound_sums.proofs.ShiftTerms.{values_more}
+use Rattle.cert_check.specs.Rests.{AreValues}
 use Rattle.cert_check.proofs.ShiftTerms.{own_graph, own_sums, own_value}
-use Rattle.cert_check.proofs.terms.day_values.Goals as goal
+use Rattle.cert_check.proofs.WaysOn.{opening_node}
+use Rattle.cert_check.proofs.terms.values_by_nodes.Goals as goal
 
 pub rest_lanes-requires-clause-graph : goal.rest_lanes-requires-clause-graph
 rest_lanes-requires-clause-graph c =
-    own_graph c.args.instance.now c.args.shift c.shift-len.result c.rule_of-rule.result.now c.shift-len.ensures.shift c.rule_of-rule.ensures.rule c.args.nodes.now c.requires.graph
-
-pub best_below-requires-clause-graph : goal.best_below-requires-clause-graph
-best_below-requires-clause-graph c =
-    own_graph c.args.instance.now c.args.shift c.shift-len.result c.rule_of-rule.result.now c.shift-len.ensures.shift c.rule_of-rule.ensures.rule c.args.nodes.now c.requires.graph
+    own_graph c.args.instance.now c.args.shift c.shift-len.result c.rule_of-rule.result.now c.shift-len.ensures.shift c.rule_of-rule.ensures.rule c.args.graph.now c.requires.graph
 
 pub best_below-requires-clause-small : goal.best_below-requires-clause-small
 best_below-requires-clause-small c k =
@@ -26,12 +24,21 @@ best_below-requires-clause-sums c =
     let less : c.loop-day.day < c.args.instance.now.days = subst (λ (n : ℕ). c.loop-day.day < n) c.days-day-end.ensures.days c.loop-day-test.true in
     own_sums c.args.instance.now c.args.shift c.shift-len.result c.rule_of-rule.result.now c.shift-len.ensures.shift c.rule_of-rule.ensures.rule c.args.sums.now.prices c.along-sums.result.now c.loop-day.day c.along-sums.ensures less
 
-pub best_below-requires-clause-values : goal.best_below-requires-clause-values
-best_below-requires-clause-values c =
-    let less : c.loop-day.day < c.args.instance.now.days = subst (λ (n : ℕ). c.loop-day.day < n) c.days-day-end.ensures.days c.loop-day-test.true in
+pub best_below-requires-clause-stands : goal.best_below-requires-clause-stands
+best_below-requires-clause-stands c =
+    let i = c.args.instance.now in
+    let graph = c.args.graph.now in
+    let rule = c.rule_of-rule.result.now in
+    let len = c.shift-len.result.len in
+    let day = c.loop-day.day in
+    let less : day < i.days = subst (λ (n : ℕ). day < n) c.days-day-end.ensures.days c.loop-day-test.true in
     let week = c.days-day-end.ensures.valid.days in
-    c.in_ok-behind.ensures c.loop-day.day (omega (arith, less, week))
-    (own_sums c.args.instance.now c.args.shift c.shift-len.result c.rule_of-rule.result.now c.shift-len.ensures.shift c.rule_of-rule.ensures.rule c.args.sums.now.prices c.along-sums.result.now c.loop-day.day c.along-sums.ensures less)
+    let low : day < 8 = omega (arith, less, week) in
+    let sums = sums_on day c.along-sums.result.now in
+    let small = own_sums i c.args.shift c.shift-len.result rule c.shift-len.ensures.shift c.rule_of-rule.ensures.rule c.args.sums.now.prices c.along-sums.result.now day c.along-sums.ensures less in
+    let whole = own_graph i c.args.shift c.shift-len.result rule c.shift-len.ensures.shift c.rule_of-rule.ensures.rule graph c.requires.graph in
+    opening_node graph c.deref.result.now day rule len sums c.node_count-nodes.result low whole c.node_count-nodes.ensures (omega (arith, c.if-nodes-eq0.false))
+    (subst (λ (lanes : List (List ℤ)). AreValues rule len sums graph (length graph) (sums_on day lanes)) (sym c.deref.ensures.value) (c.in_ok-behind.ensures day low small))
 
 pub loop-day-preserved : goal.loop-day-preserved
 loop-day-preserved c =

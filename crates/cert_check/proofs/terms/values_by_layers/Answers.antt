@@ -1,0 +1,45 @@
+use Rattle.std.proofs.Common.{rules, ◌≡◌, ◌<◌, ◌≤◌, ◌^◌, ℕ, ℤ, false, List, [], Option, get_or, sym, ap, subst, Some}
+use Rattle.std.specs.Prelude.{slice_get, ⊤, MatchOption}
+use Rattle.std.specs.Int.RustNames.{unsigned_abs}
+use Rattle.break_rules.specs.declared.Rule.{Rule}
+use Rattle.break_rules.specs.Breaks.{is_live}
+use Rattle.shift_instance.specs.declared.Shift.{Shift}
+use Rattle.shift_instance.specs.Problem.{shift_list}
+use Rattle.price_sums.specs.Along.{Completes}
+use Rattle.price_sums.specs.Days.{Priced, AreSumsByDay, sums_on}
+use Rattle.bound_sums.proofs.Priced.{cut_small}
+use Rattle.bound_sums.proofs.ShiftTerms.{values_more}
+use Rattle.cert_check.specs.Rests.{IsGreatest}
+use Rattle.cert_check.specs.Below.{whole_worth}
+use Rattle.cert_check.proofs.ShiftTerms.{own_sums, own_value}
+use Rattle.cert_check.proofs.terms.values_by_layers.Goals as goal
+
+pub layered_value-requires-clause-small : goal.layered_value-requires-clause-small
+layered_value-requires-clause-small c k =
+    subst (λ (xs : List ℕ). get_or xs k 0 ≤ 1000000000000) (sym c.as_slice-in-loop-day.ensures) (cut_small c.args.instance.now c.args.cuts.now c.args.prices.now c.requires.passes k)
+
+pub layered_value-requires-clause-sums : goal.layered_value-requires-clause-sums
+layered_value-requires-clause-sums c =
+    let less : c.loop-day.day < c.args.instance.now.days = subst (λ (n : ℕ). c.loop-day.day < n) c.days-day-end.ensures.days c.loop-day-test.true in
+    own_sums c.args.instance.now c.args.shift c.shift.result c.rule_of.result.now c.shift.ensures.shift c.rule_of.ensures.rule c.args.sums.now.prices c.along.result.now c.loop-day.day c.along.ensures less
+
+pub loop-day-preserved : goal.loop-day-preserved
+loop-day-preserved c =
+    let i = c.args.instance.now in
+    let cuts = c.as_slice.result.now in
+    let prices = c.args.prices.now in
+    let ps = c.as_slice-in-loop-day.result.now in
+    let s = c.args.shift in
+    let day = c.loop-day.day in
+    let rule = c.rule_of.result.now in
+    let len = c.shift.result.len in
+    let lanes = c.along.result.now in
+    let sums = sums_on day lanes in
+    let less : day < i.days = subst (λ (n : ℕ). day < n) c.days-day-end.ensures.days c.loop-day-test.true in
+    let of = subst (λ (ps : List ℤ). (x : Shift × Rule) → slice_get (shift_list i) s ≡ Some x → AreSumsByDay i x.0 ps lanes) (ap (λ (q : Priced). q.prices) c.requires.sums) c.along.ensures in
+    let greatest : IsGreatest (Completes rule len []) (whole_worth cuts ps s day sums rule len []) c.in-Some.value =
+    subst (λ (o : Option ℤ). MatchOption o (is_live rule len [] ≡ false) (λ v. IsGreatest (Completes rule len []) (whole_worth cuts ps s day sums rule len []) v)) c.in-Some.is c.in_ok-value.ensures.greatest in
+    let size : unsigned_abs c.in-Some.value ≤ 2 ^ 74 = subst (λ (o : Option ℤ). MatchOption o ⊤ (λ v. unsigned_abs v ≤ 2 ^ 74)) c.in-Some.is c.in_ok-value.ensures.size in
+    values_more i c.args.cuts.now prices s day c.loop-day.values.items c.push.new.self.items c.in-Some.value c.loop-day.invariant
+    (own_value i s c.shift.result rule c.shift.ensures.shift c.rule_of.ensures.rule c.args.cuts.now cuts prices ps lanes day c.in-Some.value c.rule_of.ensures.valid c.as_slice.ensures c.as_slice-in-loop-day.ensures of less greatest size)
+    (search rules)
