@@ -83,10 +83,11 @@ fn value_all(rt: &impl Abort, alloc: Global, instance: &Instance, prices: &[i64]
 {
     assert_eq!(rt; prices.len(), instance.slots());
     let sums = DaySums::new(alloc, instance, prices)?;
+    let mut lanes = Vec::new(alloc);
     let mut sum = 0i128;
     for shift in 0..u16::try_from(instance.shifts().len()).unwrap_or(0) {
         assert!(rt; usize::from(shift) < instance.shifts().len());
-        if let Some(values) = most_by_day(alloc, instance, shift, &sums)? {
+        if let Some(values) = most_by_day(alloc, instance, shift, &sums, &mut lanes)? {
             sum = sum.wrapping_add(values.first().copied().unwrap_or(0));
         }
     }
