@@ -15,7 +15,7 @@ use Rattle.rota_cost.specs.Counted.{duties_of}
 use Rattle.rota_cost.proofs.Duties.{with_pushed, used_same, used_more}
 use Rattle.greedy.specs.Greedy.{best_list, duty, earned_with, marginal_price, marginal_prices}
 use Rattle.greedy.specs.Sizes.{IsWithin}
-use Rattle.greedy.proofs.BestLists.{worth_none, best_found, found_small}
+use Rattle.greedy.proofs.BestLists.{worth_none, best_found, earned_small}
 use Rattle.greedy.proofs.Falls.{times_one, slot_falls, price_at, pos_sum}
 use Rattle.greedy.proofs.Rounding.{prices_small}
 use Rattle.local_moves.specs.Moves.{fee}
@@ -117,7 +117,7 @@ best_duty_is i rota s day prices list value valid hs e h =
     record {
       first = (best_found i (marginal_prices i rota) s day list value b).0;
       legal = b.legal;
-      small = found_small i (marginal_prices i rota) s day list value (prices_small i rota (marginal_prices i rota) valid refl) b;
+      small = subst (IsWithin (2016 * 1000000)) (sym (best_found i (marginal_prices i rota) s day list value b).1) (earned_small i (marginal_prices i rota) (duty s day list) (prices_small i rota (marginal_prices i rota) valid refl));
       most = at_most (cost i (rota ++ duty s day list ∷ [])) (cost i rota + fee i rota s) value exact;
       exact = exact;
       least = λ other legal. least_with i rota s day list other value hs b legal;

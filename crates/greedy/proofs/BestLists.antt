@@ -113,11 +113,6 @@ earned_small i prices d h =
       | false ↦ record { above = omega (arith, ints); below = omega (arith, ints) }
     ]))
 
--- the value of a best list is small
-pub found_small : (i : Problem) (prices : List ℤ) (s day : ℕ) (list : List Break) (value : ℤ) → ArePrices i prices → IsBest i s day prices [] list value → IsWithin (2016 * 1000000) value
-found_small i prices s day list value h b =
-    subst (IsWithin (2016 * 1000000)) (sym (best_found i prices s day list value b).1) (earned_small i prices (duty s day list) h)
-
 -- what holds where nothing was found
 pub none_at : {X : Type 0} {A : Type 0} (o : Option X) (B : X → Type 0) → o ≡ None → MatchOption o A B → A
 none_at {X} {A} o B e h = subst (λ o. MatchOption o A B) e h

@@ -1,17 +1,15 @@
 -- The values of shifts, day by day, and those at other prices.
-use Rattle.std.proofs.Common.{◌≡◌, ℕ, zero, suc, refl, ◌*◌, ℤ, pos, inl, inr, Option, Some, None, List, length, get_or, sym, ap, ◌∙◌, subst, arith, false}
+use Rattle.std.proofs.Common.{◌≡◌, ℕ, zero, suc, refl, ◌*◌, ℤ, pos, Option, Some, None, List, get_or, sym, ap, ◌∙◌, subst, arith, false}
 use Rattle.std.specs.Prelude.{MatchOption, replicate}
 use Rattle.std.specs.Option.{option_map_or}
 use Rattle.std.proofs.lemmas.Int.{ints}
-use Rattle.std.proofs.lemmas.Bool.{cases_lt}
-use Rattle.std.proofs.lemmas.List.{get_or_past}
 use Rattle.break_rules.specs.declared.Break.{Break}
 use Rattle.shift_instance.specs.Problem.{Problem}
 use Rattle.shift_instance.specs.Rota.{is_list_of}
-use Rattle.pricing.specs.Days.{IsMostOn, AreMostByDay}
+use Rattle.pricing.specs.Days.{IsMostOn}
 use Rattle.greedy.specs.Greedy.{duty, earned_with, best_list, day_value}
 use Rattle.greedy.specs.Sizes.{ArePrices, IsWithin}
-use Rattle.greedy.proofs.BestLists.{best_found, best_missing, earned_small, found_small}
+use Rattle.greedy.proofs.BestLists.{best_found, best_missing, earned_small}
 
 -- what the best duty of a day earns is the day's value
 pub most_is : (i : Problem) (prices : List ℤ) (s day : ℕ) (value : ℤ) → IsMostOn i s day prices value → value ≡ day_value i prices s day
@@ -22,15 +20,6 @@ most_is i prices s day value m =
 
 none_small : IsWithin (2016 * 1000000) (pos 0)
 none_small = record { above = omega (arith, ints); below = omega (arith, ints) }
-
--- and all of these are small
-pub most_small : (i : Problem) (prices : List ℤ) (s days : ℕ) (values : List ℤ) → ArePrices i prices → AreMostByDay i s prices days values → (day : ℕ) → IsWithin (2016 * 1000000) (get_or values day (pos 0))
-most_small i prices s days values h m day =
-    let count : length values ≡ days = m.count in
-    elim (cases_lt day days) [
-      | inl l ↦ found_small i prices s day (m.each day l).0 (get_or values day (pos 0)) h (m.each day l).1
-      | inr g ↦ subst (IsWithin (2016 * 1000000)) (sym (get_or_past values day (pos 0) (omega arith))) none_small
-    ]
 
 -- what was found is as a clause says of it
 pub some_of : {X : Type 0} (A : Type 0) (o : Option X) (B : X → Type 0) (x : X) → o ≡ Some x → MatchOption o A B → B x

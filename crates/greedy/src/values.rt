@@ -1,5 +1,5 @@
 //! The values of a shift on all days at slot prices.
-ghost use Rattle.std.specs.Prelude.{◌≡◌, ℕ, ◌<◌, ◌≤◌, ◌*◌, pos, IfOk, length, slice_index_or};
+ghost use Rattle.std.specs.Prelude.{◌≡◌, ◌<◌, ◌*◌, pos, IfOk, length, slice_index_or};
 ghost use Rattle.shift_instance.specs.Problem.{shift_list};
 ghost use Rattle.greedy.specs.Sizes.{ArePrices, IsWithin};
 ghost use Rattle.greedy.specs.Values.{AreValuesOf};
@@ -9,19 +9,6 @@ use price_sums::{DaySums, LANES, Lane};
 use pricing::most_by_day;
 use shift_instance::Instance;
 use std::alloc::Global;
-
-/// Values, one for each day, as a lane.
-fn lane_of(values: &[i128]) -> Lane
-    requires few { length values.now ≤ 8 }
-    requires small { (day : ℕ) → IsWithin (2016 * 1000000) (slice_index_or values.now day (pos 0)) }
-    ensures { (day : ℕ) → day < length values.now → slice_index_or result day (pos 0) ≡ slice_index_or values.now day (pos 0) }
-{
-    let mut lane = [0; LANES];
-    for day in 0..values.len() {
-        lane[day] = values[day] as i64;
-    }
-    lane
-}
 
 /// The values of a shift at the prices that the sums are of, one for each day: what a duty with its best list earns, and 0
 /// where no list is legal. They are found in the memory of the lanes.
@@ -38,7 +25,7 @@ pub(crate) fn day_values(
     ensures { IfOk result (λ lane. AreValuesOf instance.now sums.now.prices shift lane) }
 {
     match most_by_day(alloc, instance, shift, sums, lanes)? {
-        Some(most) => Ok(lane_of(&most)),
+        Some(most) => Ok(most),
         None => Ok([0; LANES]),
     }
 }

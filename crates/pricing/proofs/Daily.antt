@@ -19,6 +19,7 @@ use Rattle.pricing.specs.Values.{IsValue, AreValues}
 use Rattle.pricing.specs.Days.{IsMostOn, AreMostByDay}
 use Rattle.pricing.proofs.Beyond.{best_prices, none_legal}
 use Rattle.pricing.proofs.Worths.{some_of, short_shift, best_is}
+use Rattle.pricing.proofs.Followed.{sums_of_days}
 
 most_is : (i : Problem) (s day : ℕ) (prices sums : List ℤ) (x : Shift × Rule) → slice_get (shift_list i) s ≡ Some x → x.0.len ≤ slots i → ArePricesOf i x.0 day prices sums → (v : ℤ)
     → IsValue x.1 x.0.len sums [] v → IsMostOn i s day prices v
@@ -45,20 +46,24 @@ opening_at rule len nodes k g last =
     let at : k ≡ length nodes - 1 = omega (arith, last) in
     subst (λ n. StandsAt rule len nodes n []) (sym at) (g.opening (some_nodes nodes k last))
 
--- the value of the last node is what the best duty earns
-pub most_at : (i : Problem) (s day : ℕ) (prices sums values : List ℤ) (shift : Shift) (rule : Rule) (nodes : List Node) (k : ℕ) (v : ℤ)
-    → IsSomeAnd (slice_get (shift_list i) s) (λ y. shift ≡ y.0) → IsSomeAnd (slice_get (shift_list i) s) (λ y. rule ≡ y.1) → IsGraph rule shift.len nodes → k + 1 ≡ length nodes
-    → IsValid i → IsShift i shift → ((x : Shift × Rule) → slice_get (shift_list i) s ≡ Some x → ArePricesOf i x.0 day prices sums) → AreValues rule shift.len sums nodes (length nodes) values → v ≡ sum_at values k
-    → IsMostOn i s day prices v
-most_at i s day prices sums values shift rule nodes k v own_shift own_rule graph last valid inside of known is =
+-- the values of no breaks on all days are what the best duties earn
+pub most_of_values : (i : Problem) (s : ℕ) (prices : List ℤ) (lanes : List (List ℤ)) (shift : Shift) (rule : Rule) (list : List ℤ)
+    → IsSomeAnd (slice_get (shift_list i) s) (λ y. shift ≡ y.0) → IsSomeAnd (slice_get (shift_list i) s) (λ y. rule ≡ y.1)
+    → IsValid i → IsShift i shift → ((x : Shift × Rule) → slice_get (shift_list i) s ≡ Some x → AreSumsByDay i x.0 prices lanes)
+    → ((day : ℕ) → day < i.days → IsValue rule shift.len (sums_on day lanes) [] (get_or list day (pos 0)))
+    → AreMostByDay i s prices i.days list
+most_of_values i s prices lanes shift rule list own_shift own_rule valid inside of values =
     let some = some_of (slice_get (shift_list i) s) (λ y. shift ≡ y.0) own_shift in
     let x = some.0 in
     let same_shift : shift ≡ x.0 = some_at (slice_get (shift_list i) s) x (λ y. shift ≡ y.0) some.1 own_shift in
     let same_rule : rule ≡ x.1 = some_at (slice_get (shift_list i) s) x (λ y. rule ≡ y.1) some.1 own_rule in
-    let value : IsValue rule shift.len sums [] (sum_at values k) = known k [] (omega (arith, last)) (opening_at rule shift.len nodes k graph last) in
-    let own : IsValue x.1 x.0.len sums [] v =
-    subst (IsValue x.1 x.0.len sums []) (sym is) (subst (λ (z : Shift). IsValue x.1 z.len sums [] (sum_at values k)) same_shift (subst (λ (r : Rule). IsValue r shift.len sums [] (sum_at values k)) same_rule value)) in
-    most_is i s day prices sums x some.1 (short_shift i x.0 valid (subst (IsShift i) same_shift inside)) (of x some.1) v own
+    record {
+      each = λ day less.
+          let v = get_or list day (pos 0) in
+          let own : IsValue x.1 x.0.len (sums_on day lanes) [] v =
+          subst (λ (z : Shift). IsValue x.1 z.len (sums_on day lanes) [] v) same_shift (subst (λ (r : Rule). IsValue r shift.len (sums_on day lanes) [] v) same_rule (values day less)) in
+          most_is i s day prices (sums_on day lanes) x some.1 (short_shift i x.0 valid (subst (IsShift i) same_shift inside)) ((of x some.1).each day less) v own;
+    }
 
 pub none_below : (n : ℕ) → (1 ≤ n → ⊥) → n ≡ 0
 none_below zero h = refl
@@ -81,16 +86,9 @@ pub most_of_days : (i : Problem) (s : ℕ) (prices : List ℤ) (lanes values : L
     → IsSomeAnd (slice_get (shift_list i) s) (λ y. shift ≡ y.0) → IsSomeAnd (slice_get (shift_list i) s) (λ y. rule ≡ y.1) → IsGraph rule shift.len nodes → k + 1 ≡ length nodes
     → IsValid i → IsShift i shift → ((x : Shift × Rule) → slice_get (shift_list i) s ≡ Some x → AreSumsByDay i x.0 prices lanes)
     → ((day : ℕ) → day < 8 → AreSums shift.len (sums_on day lanes) → AreValues rule shift.len (sums_on day lanes) nodes (length nodes) (sums_on day values))
-    → i.days ≤ 8 → length list ≡ i.days → ((day : ℕ) → day < i.days → get_or list day (pos 0) ≡ sum_at (sums_on day values) k)
+    → i.days ≤ 8 → ((day : ℕ) → day < i.days → get_or list day (pos 0) ≡ sum_at (sums_on day values) k)
     → AreMostByDay i s prices i.days list
-most_of_days i s prices lanes values shift rule nodes k list own_shift own_rule graph last valid inside of known few many is =
-    let some = some_of (slice_get (shift_list i) s) (λ y. shift ≡ y.0) own_shift in
-    let x = some.0 in
-    let same : shift ≡ x.0 = some_at (slice_get (shift_list i) s) x (λ y. shift ≡ y.0) some.1 own_shift in
-    record {
-      count = many;
-      each = λ day less.
-          let small : AreSums shift.len (sums_on day lanes) = subst (λ (z : Shift). AreSums z.len (sums_on day lanes)) (sym same) ((of x some.1).small day less) in
-          most_at i s day prices (sums_on day lanes) (sums_on day values) shift rule nodes k (get_or list day (pos 0)) own_shift own_rule graph last valid inside (λ y e. (of y e).each day less)
-          (known day (omega (arith, less, few)) small) (is day less);
-    }
+most_of_days i s prices lanes values shift rule nodes k list own_shift own_rule graph last valid inside of known few is =
+    most_of_values i s prices lanes shift rule list own_shift own_rule valid inside of
+    (λ day less. subst (IsValue rule shift.len (sums_on day lanes) []) (sym (is day less))
+    (known day (omega (arith, less, few)) (sums_of_days i s prices lanes shift own_shift of day less) k [] (omega (arith, last)) (opening_at rule shift.len nodes k graph last)))

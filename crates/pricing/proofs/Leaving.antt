@@ -22,7 +22,7 @@ use Rattle.pricing.proofs.ByEdges.{worth_more}
 use Rattle.pricing.proofs.Covered.{covers_on}
 
 -- of two beginnings of a list one is a beginning of the other
-split_two : {X : Type 0} (q bs p r : List X) → q ++ bs ≡ p ++ r → ((s : List X) × (q ≡ p ++ s)) ⊎ ((s : List X) × (p ≡ q ++ s))
+pub split_two : {X : Type 0} (q bs p r : List X) → q ++ bs ≡ p ++ r → ((s : List X) × (q ≡ p ++ s)) ⊎ ((s : List X) × (p ≡ q ++ s))
 split_two [] bs p r e = inr (p, refl)
 split_two (x ∷ q) bs [] r e = inl (x ∷ q, refl)
 split_two {X} (x ∷ q) bs (y ∷ p) r e =
@@ -48,7 +48,7 @@ bonus_same entries q bs t none =
     ap (λ b. cond b e.1 (pos 0)) (same_tests (begins_with (q ++ bs) e.0) (begins_with (q ++ t) e.0) (begins_both q bs t e.0 out) (begins_both q t bs e.0 out)))
 
 -- what breaks at the front earn is the same for all rests
-front_worth : (rule : Rule) (len : ℕ) (sums : List ℤ) (list q : List Break) → IsRule rule
+pub front_worth : (rule : Rule) (len : ℕ) (sums : List ℤ) (list q : List Break) → IsRule rule
     → (k : ℤ) × ((rest : List Break) → Completes rule len list (q ++ rest) → rest_worth sums rule len list (q ++ rest) ≡ k +ℤ rest_worth sums rule len (list ++ q) rest)
 front_worth rule len sums list [] r = (
   pos 0,

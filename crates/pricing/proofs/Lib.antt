@@ -18,3 +18,4 @@ pub mod Reused
 pub mod Tabling
 pub mod Layered
 pub mod Onward
+pub mod Ways

@@ -4,39 +4,15 @@ use Rattle.std.proofs.lemmas.Bool.{false≢true}
 use Rattle.break_rules.specs.declared.Break.{Break}
 use Rattle.break_rules.specs.Breaks.{is_legal, is_live}
 use Rattle.break_rules.specs.Ranges.{IsRule}
-use Rattle.break_rules.specs.Walk.{nexts_of, spot_of}
-use Rattle.break_rules.proofs.Lists.{Has, Has-append_cases, Has-append_left, Has-append_right, Has-filter}
+use Rattle.break_rules.proofs.Lists.{Has, Has-append_cases}
 use Rattle.break_rules.proofs.LegalLists.{live_rest, no_longer_list}
 use Rattle.break_rules.proofs.Reaching.{rest_first, live_back, live_legal}
-use Rattle.break_graph.specs.Graph.{live_nexts}
-use Rattle.break_layers.specs.Rests.{IsBestFrom, Priced}
+use Rattle.break_layers.specs.Rests.{Priced}
 use Rattle.pricing.specs.declared.found.Found.{Found}
-use Rattle.pricing.specs.Found.{IsLegal, Covers, CoversFrom, AreBestOnward, AreBestAround}
+use Rattle.pricing.specs.Found.{IsLegal, Covers, CoversFrom, AreBestAround}
 use Rattle.pricing.proofs.Beyond.{covers_next}
 
 module _ (p : Priced) (front : List Break) where
-  legal_of : (start whole : List Break) → IsBestFrom p.rule p.len p.sums start whole → IsLegal p whole
-  legal_of start whole f = ap (is_legal p.rule p.len) f.1 ∙ f.2.1.allowed
-
-  -- one list more
-  pub onward_more : (stops : List Break) (b : Break) (lists : List (List Break)) (start whole : List Break) → start ≡ front ++ b ∷ [] → IsBestFrom p.rule p.len p.sums start whole → AreBestOnward p front stops lists
-      → AreBestOnward p front (stops ++ b ∷ []) (lists ++ whole ∷ [])
-  onward_more stops b lists start whole is from h =
-      let own : IsBestFrom p.rule p.len p.sums (front ++ b ∷ []) whole = subst (λ (l : List Break). IsBestFrom p.rule p.len p.sums l whole) is from in
-      record {
-        legal = λ list m. elim (Has-append_cases lists (whole ∷ []) list m) [
-          | inl a ↦ h.legal list a
-          | inr e ↦ elim e [ inl s ↦ subst (IsLegal p) s (legal_of start whole from) | inr none ↦ absurd none ]
-        ];
-        best = λ c m. elim (Has-append_cases stops (b ∷ []) c m) [
-          | inl a ↦ let w = h.best c a in (w.0, Has-append_left lists (whole ∷ []) w.0 w.1, w.2)
-          | inr e ↦ elim e [
-            | inl s ↦ (whole, Has-append_right lists (whole ∷ []) whole (inl refl), subst (λ (x : Break). IsBestFrom p.rule p.len p.sums (front ++ x ∷ []) whole) s own)
-            | inr none ↦ absurd none
-          ]
-        ];
-      }
-
   -- none go on from breaks with which no legal list begins
   pub around_dead : (lists : List (List Break)) → IsRule p.rule → is_live p.rule p.len front ≡ false → lists ≡ [] → AreBestAround p front lists
   around_dead lists r dead none =
@@ -66,18 +42,6 @@ module _ (p : Priced) (front : List Break) where
       longer b live =
           let rest = live_rest p.rule p.len (front ++ b ∷ []) live in
           some b rest.0 (no_longer_list p.rule p.len front (b ∷ rest.0) whole (ap (is_legal p.rule p.len) (sym (append_assoc front (b ∷ []) rest.0)) ∙ rest.1))
-
-  -- from breaks that are no legal list all go on with a further break
-  pub around_onward : (stops : List Break) (lists : List (List Break)) → IsRule p.rule → is_legal p.rule p.len front ≡ false → stops ≡ live_nexts p.rule p.len front → AreBestOnward p front stops lists → AreBestAround p front lists
-  around_onward stops lists r unfinished is h = record {
-    well_formed = r;
-    legal = h.legal;
-    onward = λ b live.
-        let rest = live_rest p.rule p.len (front ++ b ∷ []) live in
-        let first = rest_first p.rule p.len front b rest.0 (ap (is_legal p.rule p.len) (sym (append_assoc front (b ∷ []) rest.0)) ∙ rest.1) in
-        h.best b (subst (λ l. Has l b) (sym is) (Has-filter (λ c. is_live p.rule p.len (front ++ c ∷ [])) (nexts_of p.rule p.len (spot_of p.rule front)) b first.1 first.0));
-    itself = λ legal. absurd (false≢true (sym unfinished ∙ legal));
-  }
 
   -- what covers these lists covers each legal list that leaves all prefixes directly behind the breaks
   pub covers_around : (entries : List (List Break × ℤ)) (best : Option Found) (lists : List (List Break)) → AreBestAround p front lists → ((list : List Break) → Has lists list → Covers p entries best list) → CoversFrom p entries best front

@@ -13,7 +13,6 @@ IsMostOn i s day prices value = (list : List Break) × IsBest i s day prices [] 
 
 -- these of the first days, one after another
 pub record AreMostByDay (i : Problem) (s : ℕ) (prices : List ℤ) (days : ℕ) (values : List ℤ) : Type 0 where
-  pub count : length values ≡ days
   pub each : (day : ℕ) → day < days → IsMostOn i s day prices (slice_index_or values day (pos 0))
 
 -- the best list of a day with what it earns, of those of all days

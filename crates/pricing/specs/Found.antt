@@ -59,12 +59,7 @@ abbrev pub IsBestFound : Priced → List (List Break × ℤ) → Option Found �
 IsBestFound p entries found =
     MatchOption found ((list : List Break) → is_legal p.rule p.len list ≡ false) (λ f. IsBestRest (IsLegal p) (worth_of p entries) f.value f.list)
 
--- legal lists: for each of some breaks that may come next, one that goes on with it by a best rest
-pub record AreBestOnward (p : Priced) (front stops : List Break) (lists : List (List Break)) : Type 0 where
-  pub legal : (list : List Break) → Has lists list → IsLegal p list
-  pub best : (b : Break) → Has stops b → (whole : List Break) × Has lists whole × IsBestFrom p.rule p.len p.sums (front ++ b ∷ []) whole
-
--- the same for each break with which some legal list goes on from some breaks, and these breaks alone where they are legal
+-- legal lists: for each break with which some legal list goes on from some breaks, one that goes on with it by a best rest, and these breaks alone where they are legal
 pub record AreBestAround (p : Priced) (front : List Break) (lists : List (List Break)) : Type 0 where
   pub well_formed : IsRule p.rule
   pub legal : (list : List Break) → Has lists list → IsLegal p list

@@ -6,8 +6,10 @@ ghost use Rattle.break_rules.specs.declared.Break.{Break};
 ghost use Rattle.break_rules.specs.Breaks.{is_legal};
 ghost use Rattle.price_sums.specs.Along.{earned_from, price_in};
 ghost use Rattle.break_layers.specs.Rests.{Priced, IsBestList};
-ghost use Rattle.pricing.specs.Found.{IsLegal, AreBestAround};
+ghost use Rattle.pricing.specs.Found.{IsLegal};
+ghost use Rattle.pricing.specs.Keeping.{AreEnoughAround, better_way};
 
+use crate::beginnings::Beginnings;
 use break_rules::{Break, Breaks, NoMemory};
 use std::alloc::Global;
 
@@ -26,10 +28,15 @@ pub trait Rests {
     fn best(&self, alloc: Global) -> Result<Option<(Breaks, i64)>, NoMemory>
         ensures { IfOk result (λ found. MatchOption found ((list : List Break) → is_legal (priced self.now).rule (priced self.now).len list ≡ false) (IsBestList (priced self.now).rule (priced self.now).len (priced self.now).sums)) };
 
-    /// For each break with which some legal list goes on from some breaks the best list that goes on with it, and the list of
-    /// these breaks alone where it is legal.
-    fn around(&self, alloc: Global, front: &[Break]) -> Result<Vec<Breaks>, NoMemory>
-        ensures { IfOk result (λ lists. AreBestAround (priced self.now) front.now lists.items) };
+    /// Legal lists that begin with some breaks, among them the best one by prices of those whose next break leads to none of
+    /// the named lists.
+    fn around(
+        &self,
+        alloc: Global,
+        front: &[Break],
+        named: &Beginnings,
+    ) -> Result<Vec<Breaks>, NoMemory>
+        ensures { IfOk result (λ lists. AreEnoughAround (priced self.now) named.now front.now lists.items) };
 }
 
 /// The list of some breaks, and no other list.
@@ -49,4 +56,20 @@ pub fn with_next(alloc: Global, front: &[Break], next: Break) -> Result<Vec<Brea
     let mut list = Vec::from_slice(alloc, front)?;
     list.push(next)?;
     Ok(list)
+}
+
+/// The better of the best way on so far and a later one, each with what the best rests reach by it.
+pub fn better_way<W: Copy>(best: Option<(W, i64)>, way: W, reach: i64) -> Option<(W, i64)>
+    ensures { result ≡ better_way best way reach }
+{
+    match best {
+        Some((old, most)) => {
+            if most < reach {
+                Some((way, reach))
+            } else {
+                Some((old, most))
+            }
+        }
+        None => Some((way, reach)),
+    }
 }

@@ -5,7 +5,7 @@ ghost use Rattle.std.specs.List.{IsDistinct};
 ghost use Rattle.break_rules.specs.declared.Break.{Break};
 ghost use Rattle.break_rules.specs.Breaks.{same_list};
 ghost use Rattle.break_rules.proofs.Lists.{Has};
-ghost use Rattle.pricing.specs.Keeping.{AreBeginnings, HaveFirst, IsBeginning};
+ghost use Rattle.pricing.specs.Keeping.{AreBeginnings, HaveFirst, IsBeginning, is_named};
 
 use break_rules::{Break, Breaks, NoMemory};
 use indexmap::IndexSet;
@@ -52,6 +52,13 @@ impl Beginnings {
         ensures { result ≡ (length self.now == 0) }
     {
         self.set.as_slice().is_empty()
+    }
+
+    /// Whether a list is there. It takes no memory.
+    pub fn has(&self, list: &[Break]) -> bool
+        ensures { result ≡ is_named self.now list.now }
+    {
+        self.set.contains(list)
     }
 
     /// Adds a list, unless it is there.

@@ -1,11 +1,10 @@
 //! What the best duties of a shift earn, day by day, at the prices of slots alone.
 
-ghost use Rattle.std.specs.Prelude.{◌≡◌, ◌<◌, ◌≤◌, ℕ, List, IfOk, IsSomeAnd, MatchOption, length, false, slice_get, slice_index_or, pos};
+ghost use Rattle.std.specs.Prelude.{◌≡◌, ◌<◌, List, IfOk, IsSomeAnd, MatchOption, length, false, slice_get};
 ghost use Rattle.break_rules.specs.declared.Break.{Break};
 ghost use Rattle.break_graph.specs.Graph.{IsGraph};
 ghost use Rattle.shift_instance.specs.Problem.{shift_list};
 ghost use Rattle.shift_instance.specs.Rota.{is_list_of};
-ghost use Rattle.price_sums.specs.Along.{sum_at};
 ghost use Rattle.pricing.specs.Days.{AreMostByDay};
 
 use crate::day_values::set_values_by_day;
@@ -16,33 +15,19 @@ use price_sums::{DaySums, Lane, lane_at};
 use shift_instance::Instance;
 use std::alloc::Global;
 
-/// The numbers of the first days of a lane.
-fn day_list(alloc: Global, lane: &Lane, days: u8) -> Result<Vec<i128>, NoMemory>
-    requires { days ≤ 8 }
-    ensures count { IfOk result (λ list. length list.items ≡ days) }
-    ensures each { IfOk result (λ list. (day : ℕ) → day < days → slice_index_or list.items day (pos 0) ≡ sum_at lane.now day) }
-{
-    let mut list = Vec::with_capacity(alloc, usize::from(days))?;
-    for day in 0..days {
-        list.push(i128::from(lane[usize::from(day)]))?;
-    }
-    Ok(list)
-}
-
 /// What the best duties of a shift earn, day by day, by the nodes of its graph and the sums of the prices along it, and
 /// `None` where no list is legal.
 fn most_over(
-    alloc: Global,
     instance: &Instance,
     graph: &Graph,
     shift: u16,
     sums: &DaySums,
     lanes: &mut Vec<Lane>,
-) -> Result<Option<Vec<i128>>, NoMemory>
+) -> Result<Option<Lane>, NoMemory>
     requires shift { shift < length (shift_list instance.now) }
     requires graph { IsSomeAnd (slice_get (shift_list instance.now) shift) (λ x. IsGraph x.1 x.0.len graph.now) }
     requires sums { sums.now.instance ≡ instance.now }
-    ensures { IfOk result (λ found. MatchOption found ((list : List Break) → is_list_of instance.now shift list ≡ false) (λ most. AreMostByDay instance.now shift sums.now.prices instance.now.days most.items)) }
+    ensures { IfOk result (λ found. MatchOption found ((list : List Break) → is_list_of instance.now shift list ≡ false) (λ most. AreMostByDay instance.now shift sums.now.prices instance.now.days most)) }
 {
     let Some(opening) = graph.node_count().checked_sub(1) else {
         return Ok(None);
@@ -50,8 +35,7 @@ fn most_over(
     let len = instance.shift(shift).len;
     let sums = sums.along(instance, shift);
     set_values_by_day(instance.rule_of(shift), len, graph, sums, lanes)?;
-    let list = day_list(alloc, lane_at(lanes, opening), instance.days())?;
-    Ok(Some(list))
+    Ok(Some(*lane_at(lanes, opening)))
 }
 
 /// What the best duties of a shift earn at the prices that the sums are of, one value for each day: the greatest price of the
@@ -64,13 +48,13 @@ pub fn most_by_day(
     shift: u16,
     sums: &DaySums,
     lanes: &mut Vec<Lane>,
-) -> Result<Option<Vec<i128>>, NoMemory>
+) -> Result<Option<Lane>, NoMemory>
     requires shift { shift < length (shift_list instance.now) }
     requires sums { sums.now.instance ≡ instance.now }
-    ensures { IfOk result (λ found. MatchOption found ((list : List Break) → is_list_of instance.now shift list ≡ false) (λ most. AreMostByDay instance.now shift sums.now.prices instance.now.days most.items)) }
+    ensures { IfOk result (λ found. MatchOption found ((list : List Break) → is_list_of instance.now shift list ≡ false) (λ most. AreMostByDay instance.now shift sums.now.prices instance.now.days most)) }
 {
     match instance.graph(shift) {
-        Some(kept) => most_over(alloc, instance, kept, shift, sums, lanes),
+        Some(kept) => most_over(instance, kept, shift, sums, lanes),
         None => most_by_layers(alloc, instance, shift, sums),
     }
 }

@@ -1,18 +1,19 @@
-//! The best break lists of a shift on all days where no graph of it is kept.
+//! The best break lists of a shift on all days, and what they earn, where no graph of it is kept.
 
-ghost use Rattle.std.specs.Prelude.{◌≡◌, ◌<◌, ◌≤◌, ℕ, List, [], map, IfOk, MatchOption, length, false};
+ghost use Rattle.std.specs.Prelude.{◌≡◌, ◌<◌, ◌≤◌, ℕ, List, [], IfOk, MatchOption, length, false};
 ghost use Rattle.break_rules.specs.declared.Break.{Break};
 ghost use Rattle.break_rules.specs.Breaks.{is_legal};
 ghost use Rattle.break_rules.specs.Ranges.{IsRule};
 ghost use Rattle.shift_instance.specs.Problem.{shift_list};
 ghost use Rattle.shift_instance.specs.Rota.{is_list_of};
-ghost use Rattle.price_sums.specs.Along.{AreSums};
+ghost use Rattle.price_sums.specs.Along.{AreSums, sum_at};
 ghost use Rattle.price_sums.specs.Days.{sums_on};
+ghost use Rattle.break_layers.specs.Rests.{IsMostEarned};
 ghost use Rattle.pricing.specs.Days.{AreBestByDay, AreMostByDay, IsBestBy, best_at};
 
 use break_layers::LayerValues;
-use break_rules::{Breaks, NoMemory, Rule};
-use price_sums::{DaySums, Lane};
+use break_rules::{Breaks, NoMemory, Rule, Spot};
+use price_sums::{DaySums, LANES, Lane};
 use shift_instance::Instance;
 use std::alloc::Global;
 
@@ -91,30 +92,62 @@ pub fn bests_by_layers(
     }
 }
 
-/// The values alone.
-fn values_of(alloc: Global, bests: &[(Breaks, i128)]) -> Result<Vec<i128>, NoMemory>
-    ensures { IfOk result (λ values. values.items ≡ map (λ best. best.1) bests.now) }
+/// What the best list for a rule and a length earns by sums of prices, and `None` where no list is legal.
+fn most_of_lists(
+    alloc: Global,
+    rule: &Rule,
+    len: u16,
+    sums: Vec<i64>,
+) -> Result<Option<i64>, NoMemory>
+    requires rule { IsRule rule.now }
+    requires sums { AreSums len sums.items }
+    ensures { IfOk result (λ found. MatchOption found ((list : List Break) → is_legal rule.now len list ≡ false) (IsMostEarned rule.now len sums.items [])) }
 {
-    let mut values = Vec::with_capacity(alloc, bests.len())?;
-    for best in bests {
-        values.push(best.1)?;
-    }
-    Ok(values)
+    let values = LayerValues::new(alloc, rule, len, sums)?;
+    Ok(values.value_at(Spot::opening()))
 }
 
-/// What the best list of a shift earns on each day, and `None` where no list is legal.
+/// What the best lists for a rule and a length earn on the first days, and `None` only where no list is legal.
+fn most_on_days(
+    alloc: Global,
+    rule: &Rule,
+    len: u16,
+    lanes: &[Lane],
+    days: u8,
+) -> Result<Option<Lane>, NoMemory>
+    requires days { days ≤ 8 }
+    requires rule { IsRule rule.now }
+    requires sums { (day : ℕ) → day < days → AreSums len (sums_on day lanes.now) }
+    ensures { IfOk result (λ found. MatchOption found ((list : List Break) → is_legal rule.now len list ≡ false) (λ most. (day : ℕ) → day < days → IsMostEarned rule.now len (sums_on day lanes.now) [] (sum_at most day))) }
+{
+    let mut most = [0; LANES];
+    for day in 0..days {
+        let day_sums = sums_of_day(alloc, lanes, usize::from(day))?;
+        let value = match most_of_lists(alloc, rule, len, day_sums)? {
+            Some(value) => value,
+            None => return Ok(None),
+        };
+        most[usize::from(day)] = value;
+    }
+    Ok(Some(most))
+}
+
+/// What the best list of a shift earns on each day, without the list, and `None` where no list is legal.
 pub fn most_by_layers(
     alloc: Global,
     instance: &Instance,
     shift: u16,
     sums: &DaySums,
-) -> Result<Option<Vec<i128>>, NoMemory>
+) -> Result<Option<Lane>, NoMemory>
     requires shift { shift < length (shift_list instance.now) }
     requires sums { sums.now.instance ≡ instance.now }
-    ensures { IfOk result (λ found. MatchOption found ((list : List Break) → is_list_of instance.now shift list ≡ false) (λ most. AreMostByDay instance.now shift sums.now.prices instance.now.days most.items)) }
+    ensures { IfOk result (λ found. MatchOption found ((list : List Break) → is_list_of instance.now shift list ≡ false) (λ most. AreMostByDay instance.now shift sums.now.prices instance.now.days most)) }
 {
-    match bests_by_layers(alloc, instance, shift, sums)? {
-        Some(bests) => Ok(Some(values_of(alloc, &bests)?)),
+    let rule = instance.rule_of(shift);
+    let len = instance.shift(shift).len;
+    let lanes = sums.along(instance, shift);
+    match most_on_days(alloc, rule, len, lanes, instance.days())? {
+        Some(most) => Ok(Some(most)),
         None => Ok(None),
     }
 }

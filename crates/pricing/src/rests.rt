@@ -1,6 +1,6 @@
 //! The best rests of break lists at given prices.
 
-ghost use Rattle.std.specs.Prelude.{◌≡◌, ◌+◌, ◌-◌, ◌*◌, ◌<◌, ◌≤◌, List, [], IfOk, MatchOption, length, map, true, false};
+ghost use Rattle.std.specs.Prelude.{◌≡◌, ◌+◌, ◌-◌, ◌*◌, ◌<◌, ◌≤◌, ◌++◌, ◌∷◌, List, [], IfOk, MatchOption, length, map, true, false};
 ghost use Rattle.std.specs.Int.RustNames.{unsigned_abs};
 ghost use Rattle.break_rules.specs.declared.Break.{Break};
 ghost use Rattle.break_rules.specs.Breaks.{is_legal, is_live};
@@ -8,10 +8,11 @@ ghost use Rattle.break_rules.specs.Ranges.{IsRule};
 ghost use Rattle.break_graph.specs.Graph.{IsGraph, StandsAt, node_at};
 ghost use Rattle.price_sums.specs.Along.{AreSums, earned_from, price_in};
 ghost use Rattle.pricing.specs.Values.{IsValue, LeadsOn, AreBestRests, priced_of};
-ghost use Rattle.pricing.specs.Found.{AreBestOnward};
+ghost use Rattle.pricing.specs.Keeping.{AreEnoughAround, IsBestEdge, Reaches};
 ghost use Rattle.break_layers.specs.Rests.{IsBestFrom};
 
-use crate::around::{Rests, alone, with_next};
+use crate::around::{Rests, alone, better_way, with_next};
+use crate::beginnings::Beginnings;
 use crate::values::{difference, first_reaching, node_values, total};
 use break_graph::{Edge, Graph};
 use break_rules::{Break, Breaks, NoMemory, Rule};
@@ -184,17 +185,60 @@ impl<'a> BestRests<'a> {
         self.graph.node_behind(front)
     }
 
-    /// For each edge of the node where some breaks stand the best list that goes on with it.
-    fn onward(&self, alloc: Global, front: &[Break], at: usize) -> Result<Vec<Breaks>, NoMemory>
+    /// What the best rests reach that go on by an edge: the prices before its break, and what is earned behind it. It takes no
+    /// memory.
+    fn reach_by(&self, edge: Edge) -> i64
+        requires { edge.next < length self.now.nodes }
+        ensures { (front : List Break) → StandsAt self.now.rule self.now.len self.now.nodes edge.next (front ++ edge.stop ∷ []) → Reaches (priced_of self.now) front edge.stop result }
+    {
+        let behind = self.value_at(edge.next as usize);
+        total(sum_before(&self.sums, usize::from(edge.stop.start)), behind)
+    }
+
+    /// Of the edges of the node where some breaks stand that lead to no named list, the first by which the best rests reach
+    /// most, with that.
+    fn best_edge(
+        &self,
+        alloc: Global,
+        front: &[Break],
+        at: usize,
+        named: &Beginnings,
+    ) -> Result<Option<(Edge, i64)>, NoMemory>
         requires { StandsAt self.now.rule self.now.len self.now.nodes at front.now }
-        ensures { IfOk result (λ lists. AreBestOnward (priced_of self.now) front.now (map (λ e. e.stop) (node_at self.now.nodes at).edges) lists.items) }
+        ensures { IfOk result (IsBestEdge self.now named.now front.now (map (λ e. e.stop) (node_at self.now.nodes at).edges)) }
+    {
+        let mut best = None;
+        for edge in self.edges_at(at) {
+            let longer = with_next(alloc, front, edge.stop)?;
+            if !named.has(&longer) {
+                best = better_way(best, *edge, self.reach_by(*edge));
+            }
+        }
+        Ok(best)
+    }
+
+    /// The best list that goes on from some breaks, which are no legal list, with a break that leads to no named list.
+    fn onward(
+        &self,
+        alloc: Global,
+        front: &[Break],
+        at: usize,
+        named: &Beginnings,
+    ) -> Result<Vec<Breaks>, NoMemory>
+        requires stands { StandsAt self.now.rule self.now.len self.now.nodes at front.now }
+        requires unfinished { is_legal self.now.rule self.now.len front.now ≡ false }
+        requires graph { IsGraph self.now.rule self.now.len self.now.nodes }
+        requires rule { IsRule self.now.rule }
+        ensures { IfOk result (λ lists. AreEnoughAround (priced_of self.now) named.now front.now lists.items) }
     {
         let mut lists = Vec::new(alloc);
-        for edge in self.edges_at(at) {
-            let list = with_next(alloc, front, edge.stop)?;
-            let whole = self.completed(edge.next as usize, list)?;
-            lists.push(Breaks::new(whole))?;
-        }
+        let (edge, _) = match self.best_edge(alloc, front, at, named)? {
+            Some(best) => best,
+            None => return Ok(lists),
+        };
+        let list = with_next(alloc, front, edge.stop)?;
+        let whole = self.completed(edge.next as usize, list)?;
+        lists.push(Breaks::new(whole))?;
         Ok(lists)
     }
 }
@@ -214,13 +258,18 @@ impl<'a> Rests for BestRests<'a> {
         Ok(Some((Breaks::new(list), self.value_at(at))))
     }
 
-    fn around(&self, alloc: Global, front: &[Break]) -> Result<Vec<Breaks>, NoMemory> {
+    fn around(
+        &self,
+        alloc: Global,
+        front: &[Break],
+        named: &Beginnings,
+    ) -> Result<Vec<Breaks>, NoMemory> {
         let Some(at) = self.node_behind(front) else {
             return Ok(Vec::new(alloc));
         };
         if self.edges_at(at).is_empty() {
             return alone(alloc, front);
         }
-        self.onward(alloc, front, at)
+        self.onward(alloc, front, at, named)
     }
 }

@@ -50,20 +50,22 @@ fn best_among<R: Rests>(
     best
 }
 
-/// The best list of those so far and of the best ones by prices that go on from some breaks in each way that there is.
+/// The best list of those so far and of those that go on from some breaks and leave all prefixes directly behind them.
 fn best_around<R: Rests>(
     alloc: Global,
     rests: &R,
     trie: &Trie,
+    beginnings: &Beginnings,
     front: &[Break],
     best: Option<Found>,
 ) -> Result<Option<Found>, NoMemory>
+    requires beginnings { AreBeginnings trie.now.entries beginnings.now }
     requires found { IsFound (R.priced rests.now) trie.now.entries best }
     ensures found { IfOk result (IsFound (R.priced rests.now) trie.now.entries) }
     ensures keeps { IfOk result (Keeps (R.priced rests.now) trie.now.entries best) }
     ensures covers { IfOk result (λ r. CoversFrom (R.priced rests.now) trie.now.entries r front.now) }
 {
-    let lists = rests.around(alloc, front)?;
+    let lists = rests.around(alloc, front, beginnings)?;
     Ok(best_among(rests, trie, lists, best))
 }
 
@@ -72,9 +74,11 @@ fn best_along<R: Rests>(
     alloc: Global,
     rests: &R,
     trie: &Trie,
+    beginnings: &Beginnings,
     prefix: &[Break],
     best: Option<Found>,
 ) -> Result<Option<Found>, NoMemory>
+    requires beginnings { AreBeginnings trie.now.entries beginnings.now }
     requires found { IsFound (R.priced rests.now) trie.now.entries best }
     ensures found { IfOk result (IsFound (R.priced rests.now) trie.now.entries) }
     ensures keeps { IfOk result (Keeps (R.priced rests.now) trie.now.entries best) }
@@ -82,7 +86,7 @@ fn best_along<R: Rests>(
 {
     let mut best = best;
     for end in 0..prefix.len() {
-        best = best_around(alloc, rests, trie, &prefix[..end + 1], best)?;
+        best = best_around(alloc, rests, trie, beginnings, &prefix[..end + 1], best)?;
     }
     Ok(best)
 }
@@ -120,14 +124,16 @@ fn best_with<R: Rests>(
     alloc: Global,
     rests: &R,
     trie: &Trie,
+    beginnings: &Beginnings,
     bonus: &[(Breaks, i64)],
 ) -> Result<Option<Found>, NoMemory>
+    requires beginnings { AreBeginnings trie.now.entries beginnings.now }
     requires prefixes { (front : List Break) → leads_further trie.now.entries front ≡ true → leads_further bonus.now front ≡ true }
     ensures { IfOk result (IsBestFound (R.priced rests.now) trie.now.entries) }
 {
-    let mut best = best_around(alloc, rests, trie, &[], None)?;
+    let mut best = best_around(alloc, rests, trie, beginnings, &[], None)?;
     for (prefix, _) in bonus {
-        best = best_along(alloc, rests, trie, prefix.as_slice(), best)?;
+        best = best_along(alloc, rests, trie, beginnings, prefix.as_slice(), best)?;
     }
     Ok(best)
 }
@@ -159,10 +165,10 @@ pub fn best_by_beginnings<R: Rests, L: Ledger>(
     if beginnings.is_empty() {
         return best_alike(alloc, rests, trie);
     }
-    let mut best = best_around(alloc, rests, trie, &[], None)?;
+    let mut best = best_around(alloc, rests, trie, beginnings, &[], None)?;
     for front in beginnings.lists() {
         steps.tick();
-        best = best_around(alloc, rests, trie, front.as_slice(), best)?;
+        best = best_around(alloc, rests, trie, beginnings, front.as_slice(), best)?;
     }
     Ok(best)
 }
@@ -181,7 +187,8 @@ fn best_list<R: Rests>(
         return best_by_prices(alloc, rests);
     }
     let trie = trie_of(alloc, bonus)?;
-    best_with(alloc, rests, &trie, bonus)
+    let beginnings = Beginnings::of(alloc, bonus)?;
+    best_with(alloc, rests, &trie, &beginnings, bonus)
 }
 
 /// The best list of a shift on a day by the nodes of the shift's graph.

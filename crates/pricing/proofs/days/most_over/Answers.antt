@@ -1,4 +1,4 @@
-use Rattle.std.proofs.Common.{rules, ◌<◌, ℤ, List, refl, sym, ap, ◌∙◌, subst, arith}
+use Rattle.std.proofs.Common.{rules, ℤ, List, refl, sym, ap, ◌∙◌, arith}
 use Rattle.std.specs.Prelude.{slice_get}
 use Rattle.shift_instance.specs.Problem.{shift_list}
 use Rattle.price_sums.specs.Along.{sum_at}
@@ -20,9 +20,8 @@ returns c =
     let nodes = c.args.graph.now in
     let values = c.set_values_by_day.new.values.items in
     let graph = own_graph (slice_get (shift_list i) c.args.shift) c.shift-len.result c.rule_of.result.now c.args.graph.now nodes c.shift-len.ensures.shift c.rule_of.ensures.rule c.requires.graph refl in
-    let days = c.days.ensures.days in
-    let week = c.days.ensures.valid.days in
-    most_of_days i c.args.shift c.args.sums.now.prices c.along-sums.result.now values c.shift-len.result c.rule_of.result.now nodes c.in-Some.opening c.in_ok-list.list.items
+    let week = c.shift-len.ensures.valid.days in
+    most_of_days i c.args.shift c.args.sums.now.prices c.along-sums.result.now values c.shift-len.result c.rule_of.result.now nodes c.in-Some.opening c.lane_at.result.now
     c.shift-len.ensures.shift c.rule_of.ensures.rule graph (search rules) c.shift-len.ensures.valid c.shift-len.ensures.within c.along-sums.ensures c.in_ok-set_values_by_day.ensures
-    (omega (arith, week)) (c.in_ok-list.ensures.count ∙ days)
-    (λ day less. c.in_ok-list.ensures.each day (subst (λ n. day < n) (sym days) less) ∙ c.lane_at.ensures day ∙ ap (λ (vs : List (List ℤ)). sum_at (sums_on day vs) c.in-Some.opening) c.deref.ensures.value)
+    (omega (arith, week))
+    (λ day less. c.lane_at.ensures day ∙ ap (λ (vs : List (List ℤ)). sum_at (sums_on day vs) c.in-Some.opening) c.deref.ensures.value)

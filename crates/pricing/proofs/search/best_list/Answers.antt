@@ -22,3 +22,12 @@ returns g c =
     ok_map c.best_with.result (IsBestFound p c.in_ok-trie.trie.entries) (IsBestFound p c.args.bonus.now)
     (λ x h. best_same p c.in_ok-trie.trie.entries c.args.bonus.now x (λ list. ap (λ (z : ℤ). earned_from (price_in p.sums) p.rule p.len 0 list +ℤ z) (c.in_ok-trie.ensures.sums list)) h)
     c.best_with.ensures
+
+pub best_with-requires-clause-beginnings : goal.best_with-requires-clause-beginnings
+best_with-requires-clause-beginnings g c =
+    let own = c.in_ok-beginnings.ensures in
+    record {
+      each = λ list m. let e = own.each list m in (e.0, e.1, e.2, c.in_ok-trie.ensures.kept list e.3);
+      all = λ b bs leads. own.all b bs (c.in_ok-trie.ensures.prefixes (b ∷ bs) leads);
+      once = own.once;
+    }
