@@ -3,3 +3,5 @@ pub mod Pairs
 pub mod Priced
 pub mod ShiftTerms
 pub mod Uncut
+pub mod Unseen
+pub mod Keeping

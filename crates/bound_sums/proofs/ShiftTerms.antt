@@ -1,8 +1,5 @@
 -- The term of a shift by the values of its days.
-use Rattle.std.proofs.Math.Seq.{get_or-append_seam}
-use Rattle.std.proofs.lemmas.Bool.{cases_lt}
-use Rattle.std.proofs.lemmas.List.{get_or_append_left}
-use Rattle.std.proofs.Common.{◌≡◌, inl, inr, length-append, ℕ, ◌+◌, ◌*◌, ◌<◌, ℤ, pos, ◌-ℤ◌, ◌*ℤ◌, Bool, false, cond, List, [], ◌∷◌, ◌++◌, length, get_or, sym, ap, ◌∙◌, subst, arith}
+use Rattle.std.proofs.Common.{◌≡◌, ℕ, ◌*◌, ℤ, pos, ◌-ℤ◌, ◌*ℤ◌, Bool, false, cond, List, sym, ap, ◌∙◌}
 use Rattle.std.specs.Int.{int_max, int_min}
 use Rattle.break_rules.specs.Sums.{int_sum_by}
 use Rattle.shift_instance.specs.Problem.{Problem, below}
@@ -11,7 +8,7 @@ use Rattle.head_splits.specs.declared.Cut.{Cut}
 use Rattle.head_splits.specs.declared.Prices.{Prices}
 use Rattle.head_splits.specs.Cuts.{low, high, whole_class}
 use Rattle.head_splits.specs.Bound.{is_nil, is_forced, day_value, free_day_value, term}
-use Rattle.bound_sums.specs.Values.{IsValue, AreValues}
+use Rattle.bound_sums.specs.Values.{IsValue}
 
 module _ (i : Problem) (cuts : List Cut) (prices : Prices) (s day : ℕ) (v : ℤ) (lo hi : ℕ) (value : IsValue i cuts prices s day v) (is_low : lo ≡ low cuts (whole_class s day)) (is_high : hi ≡ high i cuts (whole_class s day)) where
   pub day_worth : int_max (v *ℤ pos lo) (v *ℤ pos hi) ≡ day_value i cuts prices s day
@@ -39,22 +36,3 @@ term_is i cuts prices s z ranged free forced paid some is is_forced_ is_ranged i
     ∙ ap (λ (y : ℤ). cond (is_forced i cuts s) (pos (prices.q * i.shift) -ℤ y) (int_min (pos 0) (pos (prices.q * i.shift) -ℤ free))) is_ranged
     ∙ ap (λ (y : ℤ). cond (is_forced i cuts s) (pos (prices.q * i.shift) -ℤ int_sum_by (day_value i cuts prices s) (below i.days)) (int_min (pos 0) (pos (prices.q * i.shift) -ℤ y))) is_free
     ∙ sym (ap (λ (b : Bool). cond b (pos 0) rest) some)
-
--- the values of one day more
-pub values_more : (i : Problem) (cuts : List Cut) (prices : Prices) (s day : ℕ) (values more : List ℤ) (v : ℤ) → AreValues i cuts prices s day values → IsValue i cuts prices s day v → more ≡ values ++ v ∷ []
-    → AreValues i cuts prices s (day + 1) more
-values_more i cuts prices s day values more v before here are =
-    let count = before.count in
-    subst (AreValues i cuts prices s (day + 1)) (sym are) (record { count = omega (arith, length-append values (v ∷ [])); each = λ d inside. by d inside })
-  where
-    by : (d : ℕ) → d < day + 1 → IsValue i cuts prices s d (get_or (values ++ v ∷ []) d (pos 0))
-    by d inside =
-        let count : length values ≡ day = before.count in
-        elim (cases_lt d day) [
-          | inl less ↦ subst (IsValue i cuts prices s d) (sym (get_or_append_left values (v ∷ []) (pos 0) d (omega arith))) (before.each d less)
-          | inr last ↦
-              let at : d ≡ day = omega arith in
-              subst (λ (n : ℕ). IsValue i cuts prices s n (get_or (values ++ v ∷ []) n (pos 0))) (sym at)
-              (subst (λ (n : ℕ). IsValue i cuts prices s day (get_or (values ++ v ∷ []) n (pos 0))) count
-              (subst (IsValue i cuts prices s day) (sym (get_or-append_seam values v [] (pos 0))) here))
-        ]

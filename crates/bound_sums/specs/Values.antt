@@ -1,5 +1,5 @@
 -- The value of a duty that the total takes, and its size.
-use Rattle.std.specs.Prelude.{◌≡◌, ℕ, ◌≤◌, ◌<◌, ◌^◌, ℤ, pos, List, IsFalse, length, slice_index_or}
+use Rattle.std.specs.Prelude.{◌≡◌, ℕ, ◌≤◌, ◌<◌, ◌^◌, ℤ, pos, List, IsFalse, slice_index_or}
 use Rattle.std.specs.Int.RustNames.{unsigned_abs}
 use Rattle.shift_instance.specs.Problem.{Problem}
 use Rattle.shift_instance.specs.Rota.{lists_of}
@@ -13,7 +13,6 @@ pub record IsValue (i : Problem) (cuts : List Cut) (prices : Prices) (s day : �
   pub is : v ≡ best_value i cuts prices s day
   pub small : unsigned_abs v ≤ 2 ^ 74
 
--- these of the first days of a shift, one after another
+-- these of the first days of a shift, at the places of the days
 pub record AreValues (i : Problem) (cuts : List Cut) (prices : Prices) (s days : ℕ) (values : List ℤ) : Type 0 where
-  pub count : length values ≡ days
   pub each : (day : ℕ) → day < days → IsValue i cuts prices s day (slice_index_or values day (pos 0))

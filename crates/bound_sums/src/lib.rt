@@ -3,9 +3,12 @@
 #![tactic(auto)]
 
 mod bounds;
+mod changes;
+mod kept;
 mod prices;
 mod terms;
 mod totals;
 
-pub use bounds::{DayValues, bound_by};
+pub use bounds::{DayValues, bound_by, values_of_lane};
+pub use kept::{KeptValues, has_prefix_cut};
 pub use prices::{is_cut_price, is_slot_price, signed_price};

@@ -8,6 +8,7 @@ ghost use Rattle.head_splits.specs.Cuts.{high, low, whole_class};
 ghost use Rattle.bound_sums.specs.Values.{AreValues};
 
 use head_splits::{Cuts, Prices, whole_range};
+use price_sums::LANES;
 use shift_instance::Instance;
 
 /// What so many duties of one value are worth.
@@ -85,7 +86,7 @@ pub(crate) fn term(
     cuts: &Cuts,
     prices: &Prices,
     shift: u16,
-    values: &[i128],
+    values: &[i128; LANES],
 ) -> i128
     requires values { AreValues instance.now cuts.now prices.now shift instance.now.days values.now }
     ensures term { result ≡ term instance.now cuts.now prices.now shift }
