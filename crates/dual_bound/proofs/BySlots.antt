@@ -40,16 +40,13 @@ module _ (i : Problem) (cuts : List Cut) (prices : Prices) (s : ℕ) (valid : Is
       (subst (λ (entries : List (List Break × ℤ)). IsBest i s day prices.slots entries most.0 v) (sym (entries_none cuts prices.cuts s day none)) most.1)
 
   -- what the best duties earn, day by day, are the values, and without a list there is none
-  pub values_of_most : {V : Type 0} (items : V → List ℤ) (slots : List ℤ) (found : Option V) → slots ≡ prices.slots
-      → MatchOption found ((list : List Break) → is_list_of i s list ≡ false) (λ v. AreMostByDay i s slots i.days (items v))
-      → MatchOption found (is_nil (lists_of i s) ≡ true) (λ v. AreValues i cuts prices s i.days (items v))
-  values_of_most items slots None same no_list = nil_without i s no_list
-  values_of_most items slots (Some v) same most =
-      let at_prices : AreMostByDay i s prices.slots i.days (items v) = subst (λ (xs : List ℤ). AreMostByDay i s xs i.days (items v)) same most in
-      record {
-        count = at_prices.count;
-        each = λ day less. value_of_most day _ (at_prices.each day less);
-      }
+  pub values_of_most : (slots : List ℤ) (found : Option (List ℤ)) → slots ≡ prices.slots
+      → MatchOption found ((list : List Break) → is_list_of i s list ≡ false) (AreMostByDay i s slots i.days)
+      → MatchOption found (is_nil (lists_of i s) ≡ true) (AreValues i cuts prices s i.days)
+  values_of_most slots None same no_list = nil_without i s no_list
+  values_of_most slots (Some values) same most =
+      let at_prices : AreMostByDay i s prices.slots i.days values = subst (λ (xs : List ℤ). AreMostByDay i s xs i.days values) same most in
+      record { each = λ day less. value_of_most day _ (at_prices.each day less) }
 
   -- the best list by the prices of slots is the best one
   best_of_slots : (day : ℕ) (b : List Break × ℤ) → IsBest i s day prices.slots [] b.0 b.1 → IsBestOn i cuts prices s day b.0 b.1

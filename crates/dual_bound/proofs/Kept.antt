@@ -1,24 +1,27 @@
--- The values of best lists that are kept.
-use Rattle.std.proofs.Common.{◌≡◌, ℕ, ℤ, pos, get_or, List, [], map, sym, ◌∙◌, subst}
-use Rattle.std.proofs.Math.ListN.{get_or-map}
-use Rattle.std.proofs.lemmas.List.{length-map}
+-- Best lists that are kept, and their values.
+use Rattle.std.proofs.Common.{◌≡◌, ℕ, ◌<◌, ℤ, pos, get_or, List, Option, Some, None, length, sym, ap, ◌∙◌, subst, arith}
+use Rattle.std.proofs.lemmas.List.{get_or_default}
 use Rattle.break_rules.specs.declared.Break.{Break}
-use Rattle.shift_instance.specs.Problem.{Problem}
+use Rattle.shift_instance.specs.Problem.{Problem, shift_list}
 use Rattle.head_splits.specs.declared.Cut.{Cut}
 use Rattle.head_splits.specs.declared.Prices.{Prices}
 use Rattle.bound_sums.specs.Values.{AreValues, IsValue}
 use Rattle.pricing.specs.Days.{best_at}
-use Rattle.dual_bound.specs.Pricer.{AreBests}
+use Rattle.dual_bound.specs.Pricer.{AreBests, AreAllBests}
+use Rattle.dual_bound.proofs.Values.{at_some}
 
--- the value at a place
-value_at : (bests : List (List Break × ℤ)) (k : ℕ) → get_or (map (λ (b : List Break × ℤ). b.1) bests) k (pos 0) ≡ (best_at bests k).1
-value_at bests k = get_or-map (λ (b : List Break × ℤ). b.1) bests k ([], pos 0)
+-- those of a shift, read at its place
+pub bests_read : (i : Problem) (cuts : List Cut) (prices : Prices) (s k : ℕ) (shifts : List (Option (List (List Break × ℤ)))) (read : Option (List (List Break × ℤ))) (bests : List (List Break × ℤ))
+    → AreAllBests i cuts prices shifts → s < length (shift_list i) → k ≡ s → read ≡ get_or shifts k read → read ≡ Some bests
+    → AreBests i cuts prices s i.days bests
+bests_read i cuts prices s k shifts read bests all less place is some =
+    let inside : k < length shifts = omega (arith, all.count, place, less) in
+    let at : get_or shifts s None ≡ Some bests = ap (λ n. get_or shifts n None) (sym place) ∙ sym (get_or_default shifts k read None inside) ∙ sym is ∙ some in
+    at_some (get_or shifts s None) bests _ _ at (all.each s less)
 
-pub values_of_bests : (i : Problem) (cuts : List Cut) (prices : Prices) (s days : ℕ) (bests : List (List Break × ℤ)) (values : List ℤ) → AreBests i cuts prices s days bests → values ≡ map (λ (b : List Break × ℤ). b.1) bests
+-- their values
+pub values_of_bests : (i : Problem) (cuts : List Cut) (prices : Prices) (s days : ℕ) (bests : List (List Break × ℤ)) (values : List ℤ) → AreBests i cuts prices s days bests
+    → ((day : ℕ) → day < days → get_or values day (pos 0) ≡ (best_at bests day).1)
     → AreValues i cuts prices s days values
 values_of_bests i cuts prices s days bests values own is =
-    subst (AreValues i cuts prices s days) (sym is)
-    (record {
-      count = length-map bests (λ (b : List Break × ℤ). b.1) ∙ own.count;
-      each = λ day less. subst (IsValue i cuts prices s day) (sym (value_at bests day)) (own.each day less).valued;
-    })
+    record { each = λ day less. subst (IsValue i cuts prices s day) (sym (is day less)) (own.each day less).valued }

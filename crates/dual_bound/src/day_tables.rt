@@ -13,7 +13,7 @@ ghost use Rattle.pricing.specs.Tables.{MeanTheSame};
 ghost use Rattle.dual_bound.specs.KeptTables.{AreAllKept, AreAllTables, AreKept, AreTablesAt, IsAt, IsKept, have_prefix, place_of};
 
 use crate::best_lists::entries;
-use crate::terms::has_prefix;
+use bound_sums::has_prefix_cut;
 use break_rules::{Breaks, NoMemory};
 use head_splits::{Cuts, Prices};
 use pricing::{Steps, Tables};
@@ -196,7 +196,7 @@ fn keeps_tables(instance: &Instance, cuts: &Cuts, shift: u16) -> bool
     requires { shift < length (shift_list instance.now) }
     ensures { IsTrue result → IsTrue (have_prefix cuts.now shift) }
 {
-    has_prefix(cuts, shift) && instance.graph(shift).is_some()
+    has_prefix_cut(cuts, shift) && instance.graph(shift).is_some()
 }
 
 /// The tables of all shifts at some prices. A shift has none where no cut bounds duties of it that begin with some break, or where

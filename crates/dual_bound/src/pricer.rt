@@ -1,12 +1,12 @@
 //! Prices with the best break lists at them, kept while the prices change.
-ghost use Rattle.std.specs.Prelude.{◌≡◌, ◌≤◌, ◌<◌, ◌^◌, All, IfOk, OnOk, OnErr, IsTrue, List, MatchOption, MatchResult, None, Some, false, length, map};
+ghost use Rattle.std.specs.Prelude.{◌≡◌, ◌≤◌, ◌<◌, ◌^◌, ℕ, All, IfOk, OnOk, OnErr, IsTrue, List, MatchOption, MatchResult, None, Some, false, length, pos, slice_index_or};
 ghost use Rattle.break_rules.specs.declared.Break.{Break};
 ghost use Rattle.break_rules.specs.Causes.{first_cause};
 ghost use Rattle.shift_instance.specs.Problem.{shift_list};
 ghost use Rattle.shift_instance.specs.Rota.{is_list_of, lists_of};
 ghost use Rattle.shift_instance.specs.Valid.{IsValid};
 ghost use Rattle.head_splits.specs.Bound.{are_prices, bound_of, is_nil};
-ghost use Rattle.pricing.specs.Days.{AreBestByDay};
+ghost use Rattle.pricing.specs.Days.{AreBestByDay, best_at};
 ghost use Rattle.dual_bound.specs.BestLists.{IsBestOn};
 ghost use Rattle.dual_bound.specs.Faults.{Answers, price_causes};
 ghost use Rattle.dual_bound.specs.KeptTables.{AreAllKept, AreAllTables, AreKeptOrNone, AreTablesAt, IsAt};
@@ -16,11 +16,10 @@ use crate::PriceFault;
 use crate::best_lists::best_of_day;
 use crate::day_tables::{DayTables, best_of_tables, changes_to, kept_tables, reprice_tables};
 use crate::faults::first_fault;
-use crate::terms::has_prefix;
-use bound_sums::{DayValues, bound_by};
+use bound_sums::{DayValues, bound_by, has_prefix_cut};
 use break_rules::{Break, Breaks, NoMemory, Sequence};
 use head_splits::{Cuts, Prices};
-use price_sums::DaySums;
+use price_sums::{DaySums, LANES};
 use pricing::{Steps, best_by_day};
 use shift_instance::Instance;
 use std::alloc::Global;
@@ -152,7 +151,7 @@ fn shift_bests(
     requires at { All (IsAt cuts.now prices.now) tables.now }
     ensures bests { IfOk result (AreBestsOf instance.now cuts.now prices.now shift) }
 {
-    if has_prefix(cuts, shift) {
+    if has_prefix_cut(cuts, shift) {
         return bests_with_prefixes(alloc, instance, cuts, prices, shift, tables);
     }
     bests_by_walk(alloc, instance, shift, sums)
@@ -182,15 +181,17 @@ fn all_bests(
     Ok(Bests { shifts })
 }
 
-/// The values alone.
-fn values_of(alloc: Global, bests: &[(Breaks, i128)]) -> Result<Vec<i128>, NoMemory>
-    ensures { IfOk result (λ values. values.items ≡ map (λ best. best.1) bests.now) }
+/// The values alone, each at the place of its day.
+fn values_of(bests: &[(Breaks, i128)], days: u8) -> [i128; LANES]
+    requires days { days ≤ 8 }
+    requires count { length bests.now ≡ days }
+    ensures { (day : ℕ) → day < days → slice_index_or result day (pos 0) ≡ (best_at bests.now day).1 }
 {
-    let mut values = Vec::with_capacity(alloc, bests.len())?;
-    for best in bests {
-        values.push(best.1)?;
+    let mut values = [0; LANES];
+    for day in 0..usize::from(days) {
+        values[day] = bests[day].1;
     }
-    Ok(values)
+    values
 }
 
 impl DayValues for Bests {
@@ -200,14 +201,15 @@ impl DayValues for Bests {
 
     fn of_shift(
         &mut self,
-        alloc: Global,
-        _instance: &Instance,
+        _alloc: Global,
+        instance: &Instance,
         _cuts: &Cuts,
         _prices: &Prices,
         shift: u16,
-    ) -> Result<Option<Vec<i128>>, NoMemory> {
+    ) -> Result<Option<[i128; LANES]>, NoMemory> {
+        let days = instance.days();
         match &self.shifts[usize::from(shift)] {
-            Some(bests) => Ok(Some(values_of(alloc, bests.as_slice())?)),
+            Some(bests) => Ok(Some(values_of(bests.as_slice(), days))),
             None => Ok(None),
         }
     }

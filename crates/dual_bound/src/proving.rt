@@ -11,6 +11,7 @@ ghost use Rattle.dual_bound.specs.Proved.{IsProved};
 use crate::PriceFault;
 use crate::faults::first_fault;
 use crate::terms::bound_by_pricing;
+use bound_sums::KeptValues;
 use head_splits::{Cuts, Prices};
 use price_sums::Lane;
 use shift_instance::Instance;
@@ -37,39 +38,59 @@ impl Model for Proved {
     ghost invariant = { λ p. IsProved (record { instance = p.instance.value; cuts = p.cuts; prices = p.prices; bound = p.bound }) };
 }
 
-/// Memory in which the bounds of price sets are found, kept from one price set to the next.
+/// Memory in which the bounds of price sets for an instance are found, with the values of duties that stay the same from one
+/// price set to the next.
+///
+/// Contracts see the instance.
 #[derive(Drop)]
 pub struct Buffers {
     alloc: Global,
     lanes: Vec<Lane>,
+    kept: KeptValues,
+}
+
+impl Model for Buffers {
+    ghost use Rattle.shift_instance.specs.Problem.{Problem};
+
+    ghost Value = { Problem };
+
+    ghost view = { λ b. b.kept };
 }
 
 impl Buffers {
-    /// Buffers without memory, which they take as price sets are proved in them.
-    pub fn new(alloc: Global) -> Buffers {
+    /// Makes buffers for an instance. They have no memory yet, and take it as price sets are proved in them.
+    pub fn new(alloc: Global, instance: &Instance) -> Buffers
+        ensures instance { result ≡ instance.now }
+    {
         Buffers {
             alloc,
             lanes: Vec::new(alloc),
+            kept: KeptValues::new(alloc, instance),
         }
     }
 
-    /// Proves the bound of prices for cuts as [`prove`] does, in the memory that the buffers have from earlier price sets.
+    /// Proves the bound of prices for cuts as [`prove`] does, in the memory that the buffers have from earlier price sets, and with
+    /// the values of duties that are known from them.
     pub fn prove(
         &mut self,
         instance: &Instance,
         cuts: Cuts,
         prices: Prices,
     ) -> Result<Proved, PriceFault>
-        requires { length cuts ≤ 2 ^ 33 }
+        requires few { length cuts ≤ 2 ^ 33 }
+        requires instance { self.old ≡ instance.now }
         ensures ok { IfOk result (λ p. (p.instance ≡ instance.now) × (p.cuts ≡ cuts) × (p.prices ≡ prices)) }
         ensures bound { IfOk result (λ p. p.bound ≡ bound_of instance.now cuts prices) }
         ensures fault { MatchResult result (λ _. first_cause (price_causes instance.now cuts prices) ≡ None) (λ e. Answers e (first_cause (price_causes instance.now cuts prices))) }
+        ensures instance { self.new ≡ self.old }
     {
         match first_fault(instance, &cuts, &prices) {
             Some(fault) => return Err(fault),
             None => {}
         }
-        let bound = match bound_by_pricing(self.alloc, instance, &cuts, &prices, &mut self.lanes) {
+        let kept = &mut self.kept;
+        let lanes = &mut self.lanes;
+        let bound = match bound_by_pricing(self.alloc, kept, instance, &cuts, &prices, lanes) {
             Ok(bound) => bound,
             Err(_) => return Err(PriceFault::NoMemory),
         };
@@ -96,7 +117,7 @@ pub fn prove(
     ensures bound { IfOk result (λ p. p.bound ≡ bound_of instance.now cuts prices) }
     ensures fault { MatchResult result (λ _. first_cause (price_causes instance.now cuts prices) ≡ None) (λ e. Answers e (first_cause (price_causes instance.now cuts prices))) }
 {
-    Buffers::new(alloc).prove(instance, cuts, prices)
+    Buffers::new(alloc, instance).prove(instance, cuts, prices)
 }
 
 impl Proved {

@@ -49,13 +49,13 @@ impl Model for State {
 
     ghost Value = { StateView };
 
-    ghost use Rattle.std.specs.Prelude.{◌+◌, ◌≤◌, vec_len, vec_capacity};
+    ghost use Rattle.std.specs.Prelude.{◌≡◌, ◌+◌, ◌≤◌, vec_len, vec_capacity};
     ghost use Rattle.search_core.specs.State.{book_or_opening};
     ghost use Rattle.search_core.specs.Kept.{IsKept};
 
     ghost view = { λ s. record { instance = s.instance.value; history = s.posts.items; book = book_or_opening s.instance.value s.posts.items; spare = s.outline.spare } };
 
-    ghost invariant = { λ s. IsKept s.instance.value s.posts.items s.none s.outline (book_or_opening s.instance.value s.posts.items) × (vec_len s.posts + s.outline.spare ≤ vec_capacity s.posts) };
+    ghost invariant = { λ s. IsKept s.instance.value s.posts.items s.none s.outline (book_or_opening s.instance.value s.posts.items) × (vec_len s.posts + s.outline.spare ≤ vec_capacity s.posts) × (s.buffers ≡ s.instance.value) };
 }
 
 /// The rows of a plan.
@@ -111,7 +111,7 @@ impl State {
             posts: Vec::new(alloc),
             outline,
             none,
-            buffers: Buffers::new(alloc),
+            buffers: Buffers::new(alloc, instance),
         })
     }
 

@@ -9,5 +9,5 @@ returns c = record {
   bests =
       map_ok c.bests_by_walk.result _ _ c.bests_by_walk.ensures
       (λ found best.
-      bests_of_slots c.args.instance.now c.args.cuts.now c.args.prices.now c.args.shift c.requires.valid c.requires.passes c.requires.few (sym c.has_prefix.ensures ∙ c.if-has_prefix.false) c.args.sums.now.prices found (ap (λ (s : Priced). s.prices) c.requires.sums) best);
+      bests_of_slots c.args.instance.now c.args.cuts.now c.args.prices.now c.args.shift c.requires.valid c.requires.passes c.requires.few (sym c.has_prefix_cut.ensures ∙ c.if-has_prefix_cut.false) c.args.sums.now.prices found (ap (λ (s : Priced). s.prices) c.requires.sums) best);
 }

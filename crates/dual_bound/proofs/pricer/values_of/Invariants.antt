@@ -1,5 +1,9 @@
-use Rattle.std.proofs.Common.{◌≡◌, map, take}
+use Rattle.std.proofs.Common.{◌≡◌, ◌<◌, ℕ, pos, length, get_or}
+use Rattle.pricing.specs.Days.{best_at}
 use Rattle.dual_bound.proofs.pricer.values_of.Given as goal
 
-abbrev pub invariant-loop-best : goal.invariant-loop-best
-invariant-loop-best l = l.values.items ≡ map (λ b. b.1) (take l.best-index l.bests)
+abbrev pub invariant-loop-day : goal.invariant-loop-day
+invariant-loop-day l = record {
+  many : length l.values ≡ 8;
+  done : (day : ℕ) → day < l.day → get_or l.values day (pos 0) ≡ (best_at l.bests day).1;
+}

@@ -1,9 +1,14 @@
 use Rattle.std.proofs.Common.{sum_by, vec_len, arith}
+use denote.Param.Send.{param_send, arg_send}
 use Rattle.search_core.specs.Calls.{IsFresh}
+use Rattle.search_book.proofs.Crosses.{book_send}
 use Rattle.search_book.specs.Search.{board_of}
 use Rattle.solve_runs.proofs.Ending.{run_ends}
 use Rattle.solve_runs.proofs.Telling.{are_told}
 use Rattle.solve_runs.proofs.search.run_search.Goals as goal
+
+pub run_workers-requires-send-B : goal.run_workers-requires-send-B
+run_workers-requires-send-B g c κs within = let s = c.type_bounds.send-D in search (book_send, param_send, arg_send)
 
 pub returns-clause-goes_on : goal.returns-clause-goes_on
 returns-clause-goes_on g c = let r = c.run_workers.ensures in record { same = r.same; begins = r.begins }

@@ -1,24 +1,29 @@
-use Rattle.std.proofs.Common.{◌≡◌, ◌<◌, ℤ, List, Option, Some, None, get_or, length, map, sym, ap, ◌∙◌, arith}
-use Rattle.std.proofs.lemmas.List.{get_or_default}
+use Rattle.std.proofs.Common.{◌<◌, ℤ, List, length, sym, ap, ◌∙◌, subst}
 use Rattle.break_rules.specs.declared.Break.{Break}
+use Rattle.pricing.specs.Days.{best_at}
 use Rattle.dual_bound.specs.Pricer.{AreBests}
-use Rattle.dual_bound.proofs.Kept.{values_of_bests}
-use Rattle.dual_bound.proofs.Values.{at_some}
+use Rattle.dual_bound.proofs.Kept.{bests_read, values_of_bests}
 use Rattle.dual_bound.proofs.pricer.BestsDayValues.of_shift.Goals as goal
 
-pub returns-in_ok-values_of-in-Some : goal.returns-in_ok-values_of-in-Some
-returns-in_ok-values_of-in-Some c =
-    let i = c.args._instance.now in
+pub values_of-requires-clause-count : goal.values_of-requires-clause-count
+values_of-requires-clause-count c =
+    let i = c.args.instance.now in
+    let own : AreBests i c.args._cuts.now c.args._prices.now c.args.shift i.days c.in-Some.bests =
+    bests_read i c.args._cuts.now c.args._prices.now c.args.shift c.from.result c.args.self.now.shifts.items c.index.result.now c.in-Some.bests c.requires.serves c.requires.shift c.from.ensures c.index.ensures c.in-Some.is in
+    ap length c.as_slice.ensures ∙ own.count ∙ sym c.days-days.ensures.days
+
+pub returns-in-Some : goal.returns-in-Some
+returns-in-Some c =
+    let i = c.args.instance.now in
     let cuts = c.args._cuts.now in
     let prices = c.args._prices.now in
     let s = c.args.shift in
-    let shifts : List (Option (List (List Break × ℤ))) = c.args.self.now.shifts.items in
     let bests : List (List Break × ℤ) = c.in-Some.bests in
-    let inside : c.from.result < length shifts = omega (arith, c.requires.serves.count, c.from.ensures, c.requires.shift) in
-    let at : get_or shifts s None ≡ Some bests =
-    ap (λ n. get_or shifts n None) (sym c.from.ensures) ∙ sym (get_or_default shifts c.from.result c.index.result.now None inside) ∙ sym c.index.ensures ∙ c.in-Some.is in
-    let own : AreBests i cuts prices s i.days bests = at_some (get_or shifts s None) bests _ _ at (c.requires.serves.each s c.requires.shift) in
+    let own : AreBests i cuts prices s i.days bests =
+    bests_read i cuts prices s c.from.result c.args.self.now.shifts.items c.index.result.now bests c.requires.serves c.requires.shift c.from.ensures c.index.ensures c.in-Some.is in
     record {
-      values = values_of_bests i cuts prices s i.days bests c.in_ok-values_of-in-Some.field-0.items own (c.in_ok-values_of-in-Some.ensures ∙ ap (map (λ (b : List Break × ℤ). b.1)) c.as_slice.ensures);
+      values =
+          values_of_bests i cuts prices s i.days bests c.values_of.result own
+          (λ day less. c.values_of.ensures day (subst (λ n. day < n) (sym c.days-days.ensures.days) less) ∙ ap (λ (bs : List (List Break × ℤ)). (best_at bs day).1) c.as_slice.ensures);
       serves = c.requires.serves;
     }

@@ -12,6 +12,6 @@ invariant_of-result c =
     let whole : Problem → Proving = λ i. record { instance = i; cuts = c.args.cuts; prices = c.args.prices; bound = c.in-Ok.bound } in
     let proved : IsProved (whole c.args.instance.now) = record {
       passes = passes c.args.instance.now c.args.cuts c.args.prices (sym c.in-None.ensures.fault);
-      exact = c.in-Ok.ensures;
+      exact = c.in-Ok.ensures.bound;
     } in
     subst (λ (i : Problem). IsProved (whole i)) (sym c.of.ensures) proved

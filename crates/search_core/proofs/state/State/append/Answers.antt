@@ -16,7 +16,7 @@ invariant_of-self c =
     (search rules) c.act.ensures c.push_reserved.ensures.items in
     let less : c.act.new.self.spare ≡ b.outline.spare - 1 = ap (λ (o : OutlineView). o.spare) c.act.ensures ∙ spare_less b.outline c.args.post c.args.value c.len-at.result in
     let some : 0 < b.outline.spare = subst (λ (v : StateView). 0 < v.spare) (sym c.self.view_is) c.requires.room in
-    (kept.0, omega (arith, less, some, c.self.invariant.1, c.push_reserved.ensures.len, c.push_reserved.ensures.capacity))
+    (kept.0, omega (arith, less, some, c.self.invariant.1, c.push_reserved.ensures.len, c.push_reserved.ensures.capacity), c.self.invariant.2)
 
 pub returns-clause-step : goal.returns-clause-step
 returns-clause-step c =
