@@ -1,11 +1,12 @@
 -- The value of a duty.
-use Rattle.std.proofs.Common.{◌≡◌, inl, ℕ, ◌-◌, ◌^◌, ◌≤◌, ℤ, pos, ◌+ℤ◌, ◌≤ℤ◌, true, false, cond, List, [], ◌∷◌, map, refl, sym, ap, ◌∙◌, subst, arith, Option, Some, None}
+use Rattle.std.proofs.Common.{◌≡◌, inl, inr, ℕ, ◌+◌, ◌-◌, ◌^◌, ◌≤◌, ℤ, pos, ◌+ℤ◌, ◌≤ℤ◌, true, false, cond, List, [], ◌∷◌, length, map, set, refl, sym, ap, ◌∙◌, subst, arith, Option, Some, None}
+use Rattle.std.proofs.lemmas.List.{get_or-set_same, get_or-set_other}
 use Rattle.std.specs.Prelude.{slice_get, IsSomeAnd, ◌<◌}
 use Rattle.std.specs.Int.RustNames.{unsigned_abs}
 use Rattle.std.specs.List.{range_with_len}
 use Rattle.std.specs.Option.{option_map_or}
 use Rattle.std.proofs.lemmas.Int.{ints}
-use Rattle.std.proofs.lemmas.Bool.{false≢true}
+use Rattle.std.proofs.lemmas.Bool.{false≢true, cases_lt}
 use Rattle.break_rules.specs.declared.Break.{Break}
 use Rattle.break_rules.specs.declared.Rule.{Rule}
 use Rattle.break_rules.specs.Breaks.{is_legal, is_live, legal_lists, works_at}
@@ -26,11 +27,11 @@ use Rattle.break_graph.specs.Graph.{IsGraph}
 use Rattle.head_splits.specs.declared.Cut.{Cut}
 use Rattle.head_splits.specs.declared.Prices.{Prices}
 use Rattle.head_splits.specs.Bound.{is_nil, reduced}
-use Rattle.price_sums.specs.Along.{price_in, earned_from, AreSums, ArePricesOf, Completes}
+use Rattle.price_sums.specs.Along.{sum_at, price_in, earned_from, AreSums, ArePricesOf, Completes}
 use Rattle.price_sums.specs.Days.{sums_on, AreSumsByDay}
 use Rattle.cert_check.specs.Rests.{IsGreatest}
 use Rattle.cert_check.specs.Below.{duty_with, bonuses, whole_worth}
-use Rattle.bound_sums.specs.Values.{IsValue}
+use Rattle.bound_sums.specs.Values.{AreValues, IsValue}
 
 not_nil : {X : Type 0} (xs : List X) (x : X) → Has xs x → is_nil xs ≡ false
 not_nil [] x h = absurd h
@@ -114,3 +115,19 @@ module _ (i : Problem) (s : ℕ) (shift : Shift) (rule : Rule) (own_shift : IsSo
       (subst (λ (z : Shift). IsGreatest (Completes rule z.len []) (whole_worth cuts prices.cuts s day sums rule z.len []) v) x.2
       (subst (λ (qs : List ℕ). IsGreatest (Completes rule shift.len []) (whole_worth cuts qs s day sums rule shift.len []) v) same_prices
       (subst (λ (ds : List Cut). IsGreatest (Completes rule shift.len []) (whole_worth ds ps s day sums rule shift.len []) v) same_cuts g)))) size
+
+-- the values of one day more
+pub values_set : (i : Problem) (cuts : List Cut) (prices : Prices) (s day k : ℕ) (values : List ℤ) (v w : ℤ) → k ≡ day → day < length values → w ≡ v → AreValues i cuts prices s day values → IsValue i cuts prices s day v
+    → AreValues i cuts prices s (day + 1) (set values k w)
+values_set i cuts prices s day k values v w here inside is before value =
+    subst (λ (n : ℕ). AreValues i cuts prices s (day + 1) (set values n w)) (sym here) (record { each = λ d l. by d l })
+  where
+    by : (d : ℕ) → d < day + 1 → IsValue i cuts prices s d (sum_at (set values day w) d)
+    by d l =
+        elim (cases_lt d day) [
+          | inl less ↦ subst (IsValue i cuts prices s d) (sym (get_or-set_other values day d w (pos 0) (omega arith))) (before.each d less)
+          | inr last ↦
+              let at : d ≡ day = omega arith in
+              subst (λ (n : ℕ). IsValue i cuts prices s n (sum_at (set values day w) n)) (sym at)
+              (subst (IsValue i cuts prices s day) (sym (get_or-set_same values day w (pos 0) inside ∙ is)) value)
+        ]

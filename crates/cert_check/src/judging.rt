@@ -10,7 +10,7 @@ ghost use Rattle.cert_check.specs.Judged.{bad_line, line_cause, IsFirstBad};
 use crate::judged::Refused;
 use crate::prices::are_prices;
 use crate::settled::settled_floor;
-use crate::terms::bound_by_walk;
+use crate::terms::{WalkMemory, bound_by_walk};
 use crate::tree::Tree;
 use break_rules::NoMemory;
 use certificate::{Line, Lines};
@@ -52,11 +52,14 @@ fn split_node(
 fn price_node(
     alloc: Global,
     instance: &Instance,
+    memory: &mut WalkMemory,
     tree: &mut Tree,
     node: u32,
     prices: &Prices,
 ) -> Result<bool, NoMemory>
-    ensures { IfOk result (λ good. nodes_after instance.now tree.old (Priced node prices.now ∷ []) ≡ (if good then Some tree.new else None)) }
+    requires memory { memory.old ≡ instance.now }
+    ensures nodes { IfOk result (λ good. nodes_after instance.now tree.old (Priced node prices.now ∷ []) ≡ (if good then Some tree.new else None)) }
+    ensures memory { memory.new ≡ memory.old }
 {
     let node = node as usize;
     if !tree.is_unsplit(node) {
@@ -66,7 +69,7 @@ fn price_node(
     if !are_prices(instance, &cuts, prices) {
         return Ok(false);
     }
-    let bound = bound_by_walk(alloc, instance, &cuts, prices)?;
+    let bound = bound_by_walk(alloc, memory, instance, &cuts, prices)?;
     tree.raise_floor(node, bound);
     Ok(true)
 }
@@ -98,14 +101,17 @@ fn settle_node(
 fn judge_line(
     alloc: Global,
     instance: &Instance,
+    memory: &mut WalkMemory,
     tree: &mut Tree,
     line: &Line,
 ) -> Result<bool, NoMemory>
-    ensures { IfOk result (λ good. nodes_after instance.now tree.old (line.now ∷ []) ≡ (if good then Some tree.new else None)) }
+    requires memory { memory.old ≡ instance.now }
+    ensures nodes { IfOk result (λ good. nodes_after instance.now tree.old (line.now ∷ []) ≡ (if good then Some tree.new else None)) }
+    ensures memory { memory.new ≡ memory.old }
 {
     match line {
         Line::Split { node, class, m } => split_node(instance, tree, *node, class, *m),
-        Line::Priced { node, prices } => price_node(alloc, instance, tree, *node, prices),
+        Line::Priced { node, prices } => price_node(alloc, instance, memory, tree, *node, prices),
         Line::Settled { node } => settle_node(alloc, instance, tree, *node),
     }
 }
@@ -132,9 +138,10 @@ pub fn judge_lines(alloc: Global, instance: &Instance, lines: &Lines) -> Result<
     ensures bad { IfErr result (IsFirstBad instance.now lines.now) }
 {
     let mut tree = Tree::root(alloc)?;
+    let mut memory = WalkMemory::new(alloc, instance);
     let mut reader = lines.reader();
     while let Some(line) = reader.next_line(alloc)? {
-        if !judge_line(alloc, instance, &mut tree, &line)? {
+        if !judge_line(alloc, instance, &mut memory, &mut tree, &line)? {
             let number = lines.len() - reader.len();
             return Err(bad_line(&line, number as u64));
         }

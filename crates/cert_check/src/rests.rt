@@ -1,6 +1,6 @@
 //! For each node of the graph of a shift's break lists, the most that a rest earns behind it: on all days side by side.
 
-ghost use Rattle.std.specs.Prelude.{◌≡◌, ◌<◌, ◌+ℤ◌, ℕ, List, length, IfOk, FitsSigned};
+ghost use Rattle.std.specs.Prelude.{◌≡◌, ◌<◌, ◌+ℤ◌, ℕ, List, length, OnOk, FitsSigned};
 ghost use Rattle.std.specs.Int.{w64};
 ghost use Rattle.break_rules.specs.declared.Break.{Break};
 ghost use Rattle.break_rules.specs.Ranges.{IsRule};
@@ -12,7 +12,6 @@ ghost use Rattle.cert_check.specs.Rests.{rest_worth, worth_with_start, AreValues
 use break_graph::{Edge, Graph};
 use break_rules::{NoMemory, Rule};
 use price_sums::{Lane, lane_at, lane_difference, lane_total, raise_lane, resumption};
-use std::alloc::Global;
 
 /// What is had by an edge on each day: the sum of the prices before its break, and the most that a rest earns behind it.
 fn had_by(sums: &[Lane], values: &[Lane], edge: Edge) -> Lane
@@ -59,22 +58,24 @@ fn rest_lane(rule: &Rule, len: u16, sums: &[Lane], graph: &Graph, k: usize, valu
     lane_difference(&most, lane_at(sums, resumption(rule, graph.spot(k))))
 }
 
-/// For each node, the most that a rest earns on each day with which a list that stands there is legal.
-pub fn rest_lanes(
-    alloc: Global,
+/// Sets lanes to the most that a rest earns on each day, for each node, with which a list that stands there is legal. The room that
+/// the lanes have is used again.
+pub fn set_rest_lanes(
     rule: &Rule,
     len: u16,
     sums: &[Lane],
     graph: &Graph,
-) -> Result<Vec<Lane>, NoMemory>
+    lanes: &mut Vec<Lane>,
+) -> Result<(), NoMemory>
     requires rule { IsRule rule.now }
     requires graph { IsGraph rule.now len graph.now }
-    ensures { IfOk result (λ values. (day : ℕ) → day < 8 → AreSums len (sums_on day sums.now) → AreValues rule.now len (sums_on day sums.now) graph.now (length graph.now) (sums_on day values.items)) }
+    ensures { OnOk result ((day : ℕ) → day < 8 → AreSums len (sums_on day sums.now) → AreValues rule.now len (sums_on day sums.now) graph.now (length graph.now) (sums_on day lanes.new.items)) }
 {
-    let mut values = Vec::with_capacity(alloc, graph.node_count())?;
+    lanes.clear();
+    lanes.reserve(graph.node_count())?;
     for k in 0..graph.node_count() {
-        let value = rest_lane(rule, len, sums, graph, k, &values);
-        values.push(value)?;
+        let value = rest_lane(rule, len, sums, graph, k, lanes);
+        lanes.push(value)?;
     }
-    Ok(values)
+    Ok(())
 }

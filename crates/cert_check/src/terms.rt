@@ -18,18 +18,20 @@ ghost use Rattle.cert_check.specs.Below.{whole_worth};
 use crate::below::{Duties, Work, best_below};
 use crate::layers::ByLayers;
 use crate::nodes::ByNodes;
-use crate::rests::rest_lanes;
-use bound_sums::{DayValues, bound_by};
+use crate::rests::set_rest_lanes;
+use bound_sums::{DayValues, KeptValues, has_prefix_cut, values_of_lane};
 use break_graph::Graph;
 use break_layers::LayerValues;
 use break_rules::{NoMemory, Spot};
 use head_splits::{Cuts, Prices};
-use price_sums::{DaySums, Lane};
+use price_sums::{DaySums, LANES, Lane, lane_at};
 use shift_instance::Instance;
 use std::alloc::Global;
+use std::marker::Model;
 
 /// The greatest reduced values of the duties of a shift, day by day, by the nodes of the shift's graph, and `None` where no
-/// list is legal. What rests earn is found in one walk along the graph for all days.
+/// list is legal. What rests earn is found in one walk along the graph for all days, in lent lanes. Where no cut bounds duties of the
+/// shift that begin with some break, whole lists are worth what they earn.
 fn values_by_nodes(
     alloc: Global,
     instance: &Instance,
@@ -38,13 +40,14 @@ fn values_by_nodes(
     sums: &DaySums,
     graph: &Graph,
     shift: u16,
-) -> Result<Option<Vec<i128>>, NoMemory>
+    lanes: &mut Vec<Lane>,
+) -> Result<Option<[i128; LANES]>, NoMemory>
     requires shift { shift < length (shift_list instance.now) }
     requires few { length cuts.now ≤ 2 ^ 33 }
     requires passes { IsTrue (are_prices instance.now cuts.now prices.now) }
     requires sums { sums.now ≡ record { instance = instance.now; prices = prices.now.slots } }
     requires graph { IsSomeAnd (slice_get (shift_list instance.now) shift) (λ x. IsGraph x.1 x.0.len graph.now) }
-    ensures { IfOk result (λ found. MatchOption found (IsTrue (is_nil (lists_of instance.now shift))) (λ values. AreValues instance.now cuts.now prices.now shift instance.now.days values.items)) }
+    ensures { IfOk result (λ found. MatchOption found (IsTrue (is_nil (lists_of instance.now shift))) (λ values. AreValues instance.now cuts.now prices.now shift instance.now.days values)) }
 {
     let nodes = graph.node_count();
     if nodes == 0 {
@@ -53,9 +56,12 @@ fn values_by_nodes(
     let rule = instance.rule_of(shift);
     let len = instance.shift(shift).len;
     let sums = sums.along(instance, shift);
+    set_rest_lanes(rule, len, sums, graph, lanes)?;
+    if !has_prefix_cut(cuts, shift) {
+        return Ok(Some(values_of_lane(lane_at(lanes, nodes - 1))));
+    }
     let work = Work { rule, len, sums };
-    let behind = rest_lanes(alloc, rule, len, sums, graph)?;
-    let mut values = Vec::new(alloc);
+    let mut values = [0; LANES];
     for day in 0..instance.days() {
         let duties = Duties {
             cuts: cuts.as_slice(),
@@ -65,11 +71,11 @@ fn values_by_nodes(
         };
         let walk = ByNodes {
             graph,
-            values: &behind,
+            values: lanes,
             day,
         };
         let value = best_below(alloc, &duties, &work, &walk, &[], nodes - 1)?;
-        values.push(value)?;
+        values[usize::from(day)] = value;
     }
     Ok(Some(values))
 }
@@ -120,19 +126,19 @@ fn values_by_layers(
     prices: &Prices,
     sums: &DaySums,
     shift: u16,
-) -> Result<Option<Vec<i128>>, NoMemory>
+) -> Result<Option<[i128; LANES]>, NoMemory>
     requires shift { shift < length (shift_list instance.now) }
     requires few { length cuts.now ≤ 2 ^ 33 }
     requires passes { IsTrue (are_prices instance.now cuts.now prices.now) }
     requires sums { sums.now ≡ record { instance = instance.now; prices = prices.now.slots } }
-    ensures { IfOk result (λ found. MatchOption found (IsTrue (is_nil (lists_of instance.now shift))) (λ values. AreValues instance.now cuts.now prices.now shift instance.now.days values.items)) }
+    ensures { IfOk result (λ found. MatchOption found (IsTrue (is_nil (lists_of instance.now shift))) (λ values. AreValues instance.now cuts.now prices.now shift instance.now.days values)) }
 {
     let work = Work {
         rule: instance.rule_of(shift),
         len: instance.shift(shift).len,
         sums: sums.along(instance, shift),
     };
-    let mut values = Vec::new(alloc);
+    let mut values = [0; LANES];
     for day in 0..instance.days() {
         let duties = Duties {
             cuts: cuts.as_slice(),
@@ -141,17 +147,18 @@ fn values_by_layers(
             day,
         };
         match layered_value(alloc, &duties, &work)? {
-            Some(value) => values.push(value)?,
+            Some(value) => values[usize::from(day)] = value,
             None => return Ok(None),
         }
     }
     Ok(Some(values))
 }
 
-/// The values of duties by the walk over their breaks, at slot prices with these sums.
+/// The values of duties by the walk over their breaks, at slot prices with these sums, and lanes whose memory is used for each shift.
 #[derive(Drop)]
 struct ByWalk {
     sums: DaySums,
+    lanes: Vec<Lane>,
 }
 
 impl DayValues for ByWalk {
@@ -166,27 +173,66 @@ impl DayValues for ByWalk {
         cuts: &Cuts,
         prices: &Prices,
         shift: u16,
-    ) -> Result<Option<Vec<i128>>, NoMemory> {
+    ) -> Result<Option<[i128; LANES]>, NoMemory> {
         let sums = &self.sums;
+        let lanes = &mut self.lanes;
         match instance.graph(shift) {
-            Some(graph) => values_by_nodes(alloc, instance, cuts, prices, sums, graph, shift),
+            Some(graph) => values_by_nodes(
+                alloc, instance, cuts, prices, sums, graph, shift, lanes,
+            ),
             None => values_by_layers(alloc, instance, cuts, prices, sums, shift),
         }
     }
 }
 
-/// The bound of a price set, with the values of duties by the walk over their breaks.
+/// What is kept from one bound to the next: the values of an instance's shifts, and lanes whose memory serves again.
+#[derive(Drop)]
+pub(crate) struct WalkMemory {
+    values: KeptValues,
+    lanes: Vec<Lane>,
+}
+
+impl Model for WalkMemory {
+    ghost use Rattle.shift_instance.specs.Problem.{Problem};
+
+    ghost Value = { Problem };
+
+    ghost view = { λ m. m.values };
+}
+
+impl WalkMemory {
+    /// Nothing yet of an instance. It takes no memory.
+    pub(crate) fn new(alloc: Global, instance: &Instance) -> WalkMemory
+        ensures { result ≡ instance.now }
+    {
+        WalkMemory {
+            values: KeptValues::new(alloc, instance),
+            lanes: Vec::new(alloc),
+        }
+    }
+}
+
+/// The bound of a price set, with the values of duties that are kept, and all others by the walk over their breaks.
 pub(crate) fn bound_by_walk(
     alloc: Global,
+    memory: &mut WalkMemory,
     instance: &Instance,
     cuts: &Cuts,
     prices: &Prices,
 ) -> Result<u64, NoMemory>
     requires valid { IsValid instance.now }
+    requires memory { memory.old ≡ instance.now }
     requires few { length cuts.now ≤ 2 ^ 33 }
     requires passes { IsTrue (are_prices instance.now cuts.now prices.now) }
-    ensures { IfOk result (λ b. b ≡ bound_of instance.now cuts.now prices.now) }
+    ensures bound { IfOk result (λ b. b ≡ bound_of instance.now cuts.now prices.now) }
+    ensures memory { memory.new ≡ memory.old }
 {
     let sums = DaySums::new(alloc, instance, prices.slots.as_slice())?;
-    bound_by(alloc, &mut ByWalk { sums }, instance, cuts, prices)
+    let lanes = std::mem::replace(&mut memory.lanes, Vec::new(alloc));
+    let mut walk = ByWalk { sums, lanes };
+    let bound = memory
+        .values
+        .bound_by(alloc, &mut walk, instance, cuts, prices);
+    memory.lanes = walk.lanes;
+    bound
 }

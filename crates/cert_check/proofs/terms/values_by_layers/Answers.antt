@@ -1,6 +1,8 @@
-use Rattle.std.proofs.Common.{rules, ◌≡◌, ◌<◌, ◌≤◌, ◌^◌, ℕ, ℤ, false, List, [], Option, get_or, sym, ap, subst, Some}
+use Rattle.std.proofs.Common.{◌≡◌, ◌<◌, ◌≤◌, ◌^◌, ℕ, ℤ, false, List, [], Option, length, length-set, get_or, sym, ap, ◌∙◌, subst, arith, to_z, of_z, Some}
 use Rattle.std.specs.Prelude.{slice_get, ⊤, MatchOption}
+use Rattle.std.specs.Int.{w128}
 use Rattle.std.specs.Int.RustNames.{unsigned_abs}
+use Rattle.std.proofs.lemmas.Int.{to_z-of_z}
 use Rattle.break_rules.specs.declared.Rule.{Rule}
 use Rattle.break_rules.specs.Breaks.{is_live}
 use Rattle.shift_instance.specs.declared.Shift.{Shift}
@@ -8,10 +10,10 @@ use Rattle.shift_instance.specs.Problem.{shift_list}
 use Rattle.price_sums.specs.Along.{Completes}
 use Rattle.price_sums.specs.Days.{Priced, AreSumsByDay, sums_on}
 use Rattle.bound_sums.proofs.Priced.{cut_small}
-use Rattle.bound_sums.proofs.ShiftTerms.{values_more}
+use Rattle.bound_sums.proofs.Sizes.{fits}
 use Rattle.cert_check.specs.Rests.{IsGreatest}
 use Rattle.cert_check.specs.Below.{whole_worth}
-use Rattle.cert_check.proofs.ShiftTerms.{own_sums, own_value}
+use Rattle.cert_check.proofs.ShiftTerms.{own_sums, own_value, values_set}
 use Rattle.cert_check.proofs.terms.values_by_layers.Goals as goal
 
 pub layered_value-requires-clause-small : goal.layered_value-requires-clause-small
@@ -40,6 +42,10 @@ loop-day-preserved c =
     let greatest : IsGreatest (Completes rule len []) (whole_worth cuts ps s day sums rule len []) c.in-Some.value =
     subst (λ (o : Option ℤ). MatchOption o (is_live rule len [] ≡ false) (λ v. IsGreatest (Completes rule len []) (whole_worth cuts ps s day sums rule len []) v)) c.in-Some.is c.in_ok-value.ensures.greatest in
     let size : unsigned_abs c.in-Some.value ≤ 2 ^ 74 = subst (λ (o : Option ℤ). MatchOption o ⊤ (λ v. unsigned_abs v ≤ 2 ^ 74)) c.in-Some.is c.in_ok-value.ensures.size in
-    values_more i c.args.cuts.now prices s day c.loop-day.values.items c.push.new.self.items c.in-Some.value c.loop-day.invariant
-    (own_value i s c.shift.result rule c.shift.ensures.shift c.rule_of.ensures.rule c.args.cuts.now cuts prices ps lanes day c.in-Some.value c.rule_of.ensures.valid c.as_slice.ensures c.as_slice-in-loop-day.ensures of less greatest size)
-    (search rules)
+    let own = own_value i s c.shift.result rule c.shift.ensures.shift c.rule_of.ensures.rule c.args.cuts.now cuts prices ps lanes day c.in-Some.value c.rule_of.ensures.valid c.as_slice.ensures c.as_slice-in-loop-day.ensures of less greatest size in
+    let room : day < length c.loop-day.values = omega (arith, less, c.days-day-end.ensures.valid.days, c.loop-day.invariant.many) in
+    let read : to_z w128 (of_z w128 c.in-Some.value) ≡ c.in-Some.value = to_z-of_z w128 _ (fits c.in-Some.value (2 ^ 74) size (omega arith)) in
+    record {
+      many = length-set c.loop-day.values c.from.result (to_z w128 (of_z w128 c.in-Some.value)) ∙ c.loop-day.invariant.many;
+      known = values_set i c.args.cuts.now prices s day c.from.result c.loop-day.values c.in-Some.value _ c.from.ensures room read c.loop-day.invariant.known own;
+    }

@@ -5,11 +5,14 @@ use Rattle.price_sums.proofs.Windows.{sums_more}
 use Rattle.cert_check.specs.Rests.{AreValues}
 use Rattle.cert_check.proofs.WithStart.{values_more}
 use Rattle.std.proofs.lemmas.List.{length-map}
-use Rattle.cert_check.proofs.rests.rest_lanes.Goals as goal
+use Rattle.cert_check.proofs.rests.set_rest_lanes.Goals as goal
+
+pub loop-k-init : goal.loop-k-init
+loop-k-init c = record { many = ap length c.in_ok-reserve.ensures.items ∙ ap length c.clear.ensures.items; known = λ day less small k list none st. absurd (omega (arith, none)) }
 
 pub loop-k-preserved : goal.loop-k-preserved
 loop-k-preserved c =
-    let values = c.loop-k.values.items in
+    let values = c.loop-k.lanes.items in
     let x = c.rest_lane-value.result in
     let i = c.loop-k.invariant in
     let items : c.push.new.self.items ≡ values ++ x ∷ [] = c.in_ok-push.ensures.items in

@@ -2,10 +2,10 @@ use Rattle.std.proofs.Common.{◌≡◌, ◌<◌, ℕ, length}
 use Rattle.price_sums.specs.Along.{AreSums}
 use Rattle.price_sums.specs.Days.{sums_on}
 use Rattle.cert_check.specs.Rests.{AreValues}
-use Rattle.cert_check.proofs.rests.rest_lanes.Given as goal
+use Rattle.cert_check.proofs.rests.set_rest_lanes.Given as goal
 
 abbrev pub invariant-loop-k : goal.invariant-loop-k
 invariant-loop-k l = record {
-  many : length l.values.items ≡ l.k;
-  known : (day : ℕ) → day < 8 → AreSums l.len (sums_on day l.sums) → AreValues l.rule l.len (sums_on day l.sums) l.graph l.k (sums_on day l.values.items);
+  many : length l.lanes.items ≡ l.k;
+  known : (day : ℕ) → day < 8 → AreSums l.len (sums_on day l.sums) → AreValues l.rule l.len (sums_on day l.sums) l.graph l.k (sums_on day l.lanes.items);
 }
