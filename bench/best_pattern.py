@@ -10,8 +10,10 @@ import subprocess
 import sys
 import tempfile
 
+from five_minutes import week
+
 TOP = os.path.join(os.path.dirname(os.path.abspath(__file__)), os.pardir)
-CRATES = ["break_rules", "break_graph", "patterns", "shift_instance", "price_sums", "pricing"]
+CRATES = ["break_rules", "break_graph", "patterns", "shift_instance", "price_sums", "break_layers", "pricing"]
 
 
 def example(name):
@@ -19,16 +21,18 @@ def example(name):
         return json.load(source)
 
 
-def long_shifts(total):
-    """Weeks of 5-minute slots with shifts of 96 slots that have so many slots of breaks in pieces of 1 to 6."""
-    rule = {"lead": 12, "tail": 12, "work_min": 6, "work_max": 48, "long_work": 24, "long_rest": 2, "size_min": 1, "size_max": 6,
-            "totals": [[96, total]], "lunches": [[72, 6, 36, 66]], "resettle": 1}
-    return {"slot_minutes": 5, "days": 7, "types": [{"start_min": 72, "start_max": 91, "len_min": 96, "len_max": 96, "breaks": rule}]}
+def quarter_hours():
+    """A week of 15-minute slots with 360 shifts of 28 to 36 slots, two to four of them breaks."""
+    rule = {"lead": 6, "tail": 4, "work_min": 4, "work_max": 14, "long_work": 10, "long_rest": 2, "size_min": 1, "size_max": 2,
+            "totals": [[20, 2], [28, 4]], "lunches": [[28, 2, 12, 22]], "resettle": 0}
+    starts = [(20, 32), (36, 44), (52, 60), (84, 92)]
+    return {"slot_minutes": 15, "days": 7,
+            "types": [{"start_min": first, "start_max": last, "len_min": 28, "len_max": 36, "breaks": rule} for first, last in starts]}
 
 
-INSTANCES = [("usual week", example("usual_week"), 20000), ("call week", example("call_week"), 1500), ("airport day", example("airport_day"), 3000),
-             ("96 slots of 5 minutes, 12 of them breaks", long_shifts(12), 20), ("96 slots of 5 minutes, 18 of them breaks", long_shifts(18), 20),
-             ("96 slots of 5 minutes, 36 of them breaks", long_shifts(36), 5)]
+INSTANCES = [("usual week", example("usual_week"), 20000), ("call week", example("call_week"), 1500), ("15-minute week", quarter_hours(), 600),
+             ("airport week", {**example("airport_day"), "days": 7}, 300),
+             ("96 slots of 5 minutes, 18 of them breaks", week(18), 2), ("96 slots of 5 minutes, 48 of them breaks", week(48), 1)]
 
 HEAD = """//! Prices all shifts and days of an instance again and again: `price_rounds INSTANCE ROUNDS`.
 #![tactic(auto)]
@@ -88,7 +92,7 @@ fn value_all(rt: &impl Abort, alloc: Global, instance: &Instance, prices: &[i64]
     for shift in 0..u16::try_from(instance.shifts().len()).unwrap_or(0) {
         assert!(rt; usize::from(shift) < instance.shifts().len());
         if let Some(values) = most_by_day(alloc, instance, shift, &sums, &mut lanes)? {
-            sum = sum.wrapping_add(values.first().copied().unwrap_or(0));
+            sum = sum.wrapping_add(i128::from(values[0]));
         }
     }
     Ok(sum)
