@@ -3,7 +3,7 @@ use head_splits::{Class, Cuts, Hint, Prices};
 use shift_instance::Rows;
 
 /// What a worker asks for: advice for the node of these cuts.
-#[derive(Clone, Debug, Drop)]
+#[derive(Drop)]
 pub struct Ask {
     /// The cuts of the node, from the root on.
     pub cuts: Cuts,
@@ -16,7 +16,7 @@ pub struct Ask {
 }
 
 /// A way to split a node: its parts have at most `m`, and at least `m + 1`, duties of a class.
-#[derive(Clone, Debug, Drop)]
+#[derive(Drop)]
 pub struct Splitting {
     /// The class.
     pub class: Class,
@@ -25,7 +25,7 @@ pub struct Splitting {
 }
 
 /// What an adviser advises. Neither the prices nor the plan nor the split need be lawful: who asked judges each.
-#[derive(Clone, Debug, Drop)]
+#[derive(Drop)]
 pub struct Advice {
     /// Prices for the cuts.
     pub prices: Prices,

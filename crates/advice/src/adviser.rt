@@ -7,7 +7,7 @@ use break_rules::NoMemory;
 use shift_instance::Instance;
 
 /// What became of a step: the node that it was for, and what is known of the search behind it.
-#[derive(Clone, Copy, Debug, PartialEq, Eq, Drop)]
+#[derive(Clone, Copy, PartialEq, Eq, Drop)]
 pub struct Told {
     /// The number of the node.
     pub node: u32,

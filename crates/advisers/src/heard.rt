@@ -5,7 +5,7 @@ ghost use Rattle.advisers.specs.Hearing.{after, unheard};
 use advice::Told;
 
 /// How often an adviser was told something, and what it was told last.
-#[derive(Clone, Copy, Debug, Drop)]
+#[derive(Clone, Copy, Drop)]
 pub struct Heard {
     /// How often. At its type's end the number stands still.
     pub told: u64,

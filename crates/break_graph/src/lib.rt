@@ -16,7 +16,7 @@ use std::alloc::Global;
 use std::marker::Model;
 
 /// A break with which some legal list goes on from a spot.
-#[derive(Clone, Copy, Debug, PartialEq, Eq, Drop)]
+#[derive(Clone, Copy, PartialEq, Eq, Drop)]
 pub struct Edge {
     /// The break.
     pub stop: Break,
@@ -28,7 +28,7 @@ pub struct Edge {
 pub type Edges = Sequence<Edge>;
 
 /// A spot at which walks stand with which some legal list begins. Contracts see a graph as a list of these.
-#[derive(Clone, Debug, Drop)]
+#[derive(Drop)]
 pub struct Node {
     /// The spot.
     pub spot: Spot,
@@ -38,7 +38,7 @@ pub struct Node {
 
 /// A node whose edges lie among those of all nodes: they end at a place there, and begin where those of the node before it
 /// end.
-#[derive(Clone, Copy, Debug)]
+#[derive(Clone, Copy)]
 struct FlatNode {
     spot: Spot,
     end: usize,
@@ -46,7 +46,7 @@ struct FlatNode {
 
 /// The nodes of a rule and a length. Each edge leads to a node before its own; the empty list stands at the last node, and
 /// there is no node where no list is legal.
-#[derive(Clone, Debug, Drop)]
+#[derive(Drop)]
 pub struct Graph {
     nodes: Vec<FlatNode>,
     edges: Vec<Edge>,

@@ -13,7 +13,7 @@ use break_rules::{Break, NoMemory, Rule, Spot, after, nexts};
 use std::alloc::Global;
 
 /// A break with which some legal list goes on from a spot, and the spot behind it.
-#[derive(Clone, Copy, Debug, PartialEq, Eq, Drop)]
+#[derive(Clone, Copy, PartialEq, Eq, Drop)]
 pub struct Way {
     /// The break.
     pub stop: Break,

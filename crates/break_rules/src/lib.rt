@@ -44,7 +44,7 @@ pub struct Break {
 
 /// A lunch entry: a shift of at least `from_len` slots needs a break of exactly `size` slots that begins at `first`
 /// or later and ends at `last` or earlier.
-#[derive(Clone, Copy, Debug, PartialEq, Eq, Drop)]
+#[derive(Clone, Copy, PartialEq, Eq, Drop)]
 pub struct Lunch {
     /// The least length of a shift that needs it.
     pub from_len: u16,
@@ -64,7 +64,7 @@ pub type Totals = Sequence<(u16, u16)>;
 pub type Lunches = Sequence<Lunch>;
 
 /// The break rule of a shift type. All numbers are slots.
-#[derive(Clone, Debug, Drop)]
+#[derive(Drop)]
 pub struct Rule {
     /// The slots before the first break, at least.
     pub lead: u16,
@@ -91,7 +91,7 @@ pub struct Rule {
 }
 
 /// Where a walk from break to break stands.
-#[derive(Clone, Copy, Debug, PartialEq, Eq, Drop)]
+#[derive(Clone, Copy, PartialEq, Eq, Drop)]
 pub struct Spot {
     /// The end of the last break, and 0 at the start of the shift.
     pub offset: u16,

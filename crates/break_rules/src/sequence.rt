@@ -7,7 +7,7 @@ use std::marker::Model;
 use std::slice::Iter;
 
 /// A list of values in their order. Contracts see it as that list.
-#[derive(Clone, Debug, Drop)]
+#[derive(Clone, Drop)]
 pub struct Sequence<T> {
     list: Vec<T>,
 }

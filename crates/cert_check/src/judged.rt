@@ -6,7 +6,7 @@ ghost use Rattle.cert_check.specs.declared.judged.Refused.TheVariants.{NoMemory}
 use std::alloc::AllocError;
 
 /// What an accepted certificate shows.
-#[derive(Clone, Copy, Debug, PartialEq, Eq, Drop)]
+#[derive(Clone, Copy, PartialEq, Eq, Drop)]
 pub struct Accepted {
     /// What the plan costs, and none where there is no plan.
     pub cost: Option<u64>,
@@ -15,7 +15,7 @@ pub struct Accepted {
 }
 
 /// Why a certificate isn't accepted: the first cause in the order in which they stand here, the proof lines one after another.
-#[derive(Clone, Copy, Debug, PartialEq, Eq, Drop)]
+#[derive(Clone, Copy, PartialEq, Eq, Drop)]
 pub enum Refused {
     /// A node isn't split so, by the proof line of this number, counted from 1: the node isn't there or is split already, the
     /// shift or the day isn't one of the instance, the prefix has more than 48 breaks, or the number is above 200.

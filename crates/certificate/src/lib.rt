@@ -34,7 +34,7 @@ pub use writing::write;
 pub const BUNDLE_MAX: u64 = 268_435_456;
 
 /// What a certificate says of its plan.
-#[derive(Clone, Copy, Debug, PartialEq, Eq, Drop)]
+#[derive(Clone, Copy, PartialEq, Eq, Drop)]
 pub enum CertStatus {
     /// The plan costs the bound: no legal rota is said to cost less.
     Optimal,
@@ -45,7 +45,7 @@ pub enum CertStatus {
 }
 
 /// What a search found: a plan, a bound below which it says that no legal rota costs, and a proof of that.
-#[derive(Clone, Debug, Drop)]
+#[derive(Drop)]
 pub struct Cert {
     /// What is said of the plan.
     pub status: CertStatus,

@@ -11,7 +11,7 @@ use std::alloc::Global;
 use std::marker::Model;
 
 /// A step of a proof that no legal rota costs less than a bound. The nodes of the search tree have numbers from 0, the root, on.
-#[derive(Clone, Debug, Drop)]
+#[derive(Drop)]
 pub enum Line {
     /// A node, split by the number of a class's duties into at most `m` and at least `m + 1`.
     Split { node: u32, class: Class, m: u16 },
@@ -23,7 +23,7 @@ pub enum Line {
 
 /// Proof lines, in the order in which they are judged. They are kept as their text, which takes far less memory than their
 /// numbers do, and are read one after another by a [`LineReader`].
-#[derive(Clone, Debug, Drop)]
+#[derive(Drop)]
 pub struct Lines {
     text: Vec<u8>,
     count: usize,

@@ -6,7 +6,7 @@ ghost use Rattle.check_runs.specs.Status.{status_number};
 use instance_json::ReadRefusal;
 
 /// Why a report can't be judged.
-#[derive(Clone, Copy, Debug, PartialEq, Eq, Drop)]
+#[derive(Clone, Copy, PartialEq, Eq, Drop)]
 pub enum BundleFault {
     /// It has more than `BUNDLE_MAX` bytes.
     TooLong,
@@ -15,7 +15,7 @@ pub enum BundleFault {
 }
 
 /// How a run of `shift_check` ends.
-#[derive(Debug, Drop)]
+#[derive(Drop)]
 pub enum CheckStatus {
     /// The command accepts the report, and the line that says so was written.
     Accepted,

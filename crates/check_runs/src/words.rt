@@ -5,7 +5,7 @@ ghost use Rattle.std.specs.Option.{option_map};
 ghost use Rattle.check_runs.specs.Words.{command_of, is_file, request_of};
 
 /// What is done with a report.
-#[derive(Clone, Copy, Debug, PartialEq, Eq, Drop)]
+#[derive(Clone, Copy, PartialEq, Eq, Drop)]
 pub enum Command {
     /// Its proof is judged: its lines, its bound, its rows and their cost.
     Check,
@@ -14,7 +14,7 @@ pub enum Command {
 }
 
 /// The files that a command names.
-#[derive(Clone, Copy, Debug, Drop)]
+#[derive(Clone, Copy, Drop)]
 pub struct Files<'a> {
     /// The path of the instance document.
     pub instance: &'a str,
@@ -23,7 +23,7 @@ pub struct Files<'a> {
 }
 
 /// What the words of a command line ask for.
-#[derive(Clone, Copy, Debug, Drop)]
+#[derive(Clone, Copy, Drop)]
 pub struct Request<'a> {
     /// The command.
     pub command: Command,

@@ -25,7 +25,7 @@ use shift_instance::Rows;
 pub const CUT_PRICE_MAX: u64 = 1_000_000_000_000;
 
 /// The duties of a shift on a day whose breaks begin with a prefix.
-#[derive(Clone, Debug, Drop)]
+#[derive(Clone, Drop)]
 pub struct Class {
     /// The number of the shift, its place in the shift list.
     pub shift: u16,
@@ -36,7 +36,7 @@ pub struct Class {
 }
 
 /// From which side a cut bounds the number of a class's duties.
-#[derive(Clone, Copy, Debug, PartialEq, Eq, Drop)]
+#[derive(Clone, Copy, PartialEq, Eq, Drop)]
 pub enum Side {
     /// There are no more duties.
     AtMost,
@@ -45,7 +45,7 @@ pub enum Side {
 }
 
 /// A bound on the number of a class's duties: at most `m`, or at least `m`.
-#[derive(Clone, Debug, Drop)]
+#[derive(Clone, Drop)]
 pub struct Cut {
     /// The class.
     pub class: Class,
@@ -56,7 +56,7 @@ pub struct Cut {
 }
 
 /// A price set: what a slot's cover and a class's duties are taken to be worth. A price of `q` is worth a cost of 1.
-#[derive(Clone, Debug, Drop)]
+#[derive(Clone, Drop)]
 pub struct Prices {
     /// The scale, by which costs are multiplied before they are compared with prices.
     pub q: u16,
@@ -68,7 +68,7 @@ pub struct Prices {
 }
 
 /// What the cuts of a node leave: some number of duties that isn't fixed yet, or one plan, or nothing.
-#[derive(Clone, Debug, Drop)]
+#[derive(Drop)]
 pub enum Settle {
     /// The number of some legal duty isn't fixed: the class to split, and the number by which. That class is the shortest
     /// prefix whose number isn't fixed of the first such duty, by shift, then by day, then by break list. Its parts have

@@ -12,7 +12,7 @@ use shift_instance::Instance;
 use std::alloc::Global;
 
 /// Why no instance came of a source.
-#[derive(Debug, Drop)]
+#[derive(Drop)]
 pub enum Unread {
     /// The document is refused. Never holds `NoMemory`.
     Refused(ReadRefusal),

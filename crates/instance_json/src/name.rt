@@ -11,7 +11,7 @@ use std::str::from_utf8;
 const NAME_MAX: usize = 64;
 
 /// The name of a field, as a refusal shows it.
-#[derive(Clone, Debug, Drop)]
+#[derive(Debug, Drop)]
 pub struct FieldName {
     text: String,
 }

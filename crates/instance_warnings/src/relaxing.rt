@@ -7,7 +7,7 @@ use break_rules::{Lunch, Lunches, NoMemory, Rule, Totals};
 use std::alloc::Global;
 
 /// A part of a break rule that may forbid all breaks by itself.
-#[derive(Clone, Copy, Debug, PartialEq, Eq, Drop)]
+#[derive(Clone, Copy, PartialEq, Eq, Drop)]
 pub enum Part {
     /// The distances from both ends of a shift, `lead` and `tail`.
     Ends,

@@ -4,7 +4,7 @@ use crate::slots::Slots;
 use std::fmt;
 
 /// What a planner should know of an instance before it is searched. A `kind` is the number of a type, from 0 on.
-#[derive(Debug, Drop)]
+#[derive(Drop)]
 pub enum Warning {
     /// No length of a type has a legal break list, so no duty is of that type. `part` is the first part of its rule without
     /// which some length has one, if one part alone forbids them all.

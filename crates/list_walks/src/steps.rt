@@ -11,7 +11,7 @@ use break_rules::{Break, NoMemory, Spot};
 use std::alloc::Global;
 
 /// Where a list of breaks stands with which some legal list begins.
-#[derive(Clone, Copy, Debug, PartialEq, Eq, Drop)]
+#[derive(Clone, Copy, PartialEq, Eq, Drop)]
 pub struct Standing {
     /// The spot behind the list.
     pub spot: Spot,
@@ -20,7 +20,7 @@ pub struct Standing {
 }
 
 /// A break with which some legal list goes on, and where the list with that break stands.
-#[derive(Clone, Copy, Debug, PartialEq, Eq, Drop)]
+#[derive(Clone, Copy, PartialEq, Eq, Drop)]
 pub struct Way {
     /// The break.
     pub stop: Break,

@@ -8,7 +8,7 @@ use std::error::Error;
 use std::fmt;
 
 /// A move on a plan.
-#[derive(Clone, Debug, Drop)]
+#[derive(Drop)]
 pub enum Move {
     /// One duty more.
     Add {

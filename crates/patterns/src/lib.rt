@@ -11,7 +11,7 @@ use break_rules::{Break, Breaks, Rule};
 pub use trie::Trie;
 
 /// The breaks of a duty, with the length of its shift in slots.
-#[derive(Clone, Debug, Drop)]
+#[derive(Clone, Drop)]
 pub struct Pattern {
     /// The breaks, in the order of time.
     pub list: Breaks,

@@ -10,7 +10,7 @@ use std::alloc::Global;
 use std::cmp::Reverse;
 
 /// A slot with its employees and what it costs.
-#[derive(Clone, Copy, Debug, PartialEq, Eq, Drop)]
+#[derive(Clone, Copy, PartialEq, Eq, Drop)]
 pub struct CostlySlot {
     /// The slot, counted from the beginning of the planning period.
     pub slot: usize,

@@ -17,7 +17,7 @@ use std::alloc::Global;
 pub const COSTLIEST: usize = 5;
 
 /// A part of what a plan costs: so much of something, at a weight.
-#[derive(Clone, Copy, Debug, PartialEq, Eq, Drop)]
+#[derive(Clone, Copy, PartialEq, Eq, Drop)]
 pub struct CostPart {
     /// The cost of one.
     pub weight: u32,
@@ -42,7 +42,7 @@ impl CostPart {
 }
 
 /// What a plan does on a day.
-#[derive(Clone, Copy, Debug, PartialEq, Eq, Drop)]
+#[derive(Clone, Copy, PartialEq, Eq, Drop)]
 pub struct DaySummary {
     /// How many duties start on the day.
     pub duties: u64,
@@ -51,7 +51,7 @@ pub struct DaySummary {
 }
 
 /// What a plan adds up to.
-#[derive(Debug, Drop)]
+#[derive(Drop)]
 pub struct Summary {
     /// What the plan costs: its three parts together.
     pub cost: u64,

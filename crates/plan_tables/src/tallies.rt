@@ -9,7 +9,7 @@ use crate::Attendance;
 use shift_instance::{Instance, Row, Rows};
 
 /// Employees added up over slots: one employee in one slot counts 1.
-#[derive(Clone, Copy, Debug, PartialEq, Eq, Drop)]
+#[derive(Clone, Copy, PartialEq, Eq, Drop)]
 pub struct Totals {
     /// The employees that are wanted.
     pub wanted: u64,

@@ -5,7 +5,7 @@ use shift_instance::Instance;
 use std::fmt;
 
 /// A time of day, in minutes from the beginning of some day on. It is shown as a clock shows it, so midnight is `00:00`.
-#[derive(Clone, Copy, Debug, PartialEq, Eq, Drop)]
+#[derive(Clone, Copy, PartialEq, Eq, Drop)]
 pub struct ClockTime {
     /// The minutes, which may reach into a later day.
     pub minutes: u64,
@@ -45,7 +45,7 @@ impl fmt::Display for ClockTime {
 }
 
 /// The time from a beginning to an end, shown as `06:00-15:00`.
-#[derive(Clone, Copy, Debug, PartialEq, Eq, Drop)]
+#[derive(Clone, Copy, PartialEq, Eq, Drop)]
 pub struct Period {
     /// Its beginning.
     pub begin: ClockTime,
@@ -84,7 +84,7 @@ impl fmt::Display for Period {
 }
 
 /// A span of time, shown as whole hours and the minutes beyond them, as `37:30`.
-#[derive(Clone, Copy, Debug, PartialEq, Eq, Drop)]
+#[derive(Clone, Copy, PartialEq, Eq, Drop)]
 pub struct Hours {
     /// The minutes of the span.
     pub minutes: u64,

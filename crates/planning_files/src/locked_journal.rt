@@ -13,7 +13,7 @@ use std::rt::Files;
 const ASIDE_MOST: u16 = 9_999;
 
 /// Why a journal isn't this run's.
-#[derive(Debug, Drop)]
+#[derive(Drop)]
 pub enum LockFault {
     /// Another run has it.
     InUse,

@@ -6,7 +6,7 @@ ghost use Rattle.planning_progress.specs.Progress.{gap_of, progress_text};
 use std::alloc::{AllocError, Global};
 
 /// How far a search has come.
-#[derive(Clone, Copy, Debug, PartialEq, Eq)]
+#[derive(Clone, Copy, PartialEq, Eq)]
 pub struct Reached {
     /// The steps so far.
     pub steps: u64,

@@ -13,7 +13,7 @@ const GROWTH: u64 = 64;
 const LEAST: u32 = 1_000;
 
 /// What is known of a run's time. All times are in milliseconds.
-#[derive(Clone, Copy, Debug)]
+#[derive(Clone, Copy)]
 pub struct Pace {
     /// The steps so far.
     pub steps: u32,

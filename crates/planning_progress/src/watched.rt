@@ -12,7 +12,7 @@ use std::sync::Arc;
 use std::time::Clock;
 
 /// Where and how often the line of a search is said.
-#[derive(Clone, Copy, Debug, PartialEq, Eq)]
+#[derive(Clone, Copy, PartialEq, Eq)]
 pub enum Shown {
     /// On a terminal: a line each second, in place of the one before.
     InPlace,

@@ -19,7 +19,7 @@ use std::marker::Model;
 use std::{fmt, io};
 
 /// What kind of thing stands against a plan.
-#[derive(Clone, Copy, Debug, PartialEq, Eq)]
+#[derive(Clone, Copy, PartialEq, Eq)]
 pub enum Cause {
     /// The report isn't accepted.
     Refused,
@@ -61,7 +61,7 @@ impl Cause {
 }
 
 /// Why there is no plan: a cause, with the sentence that says so.
-#[derive(Debug, Drop)]
+#[derive(Drop)]
 pub struct Refusal {
     cause: Cause,
     /// The sentence that says why; none where there was no memory for one.

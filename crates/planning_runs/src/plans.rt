@@ -21,7 +21,7 @@ pub struct Plan {
 }
 
 /// Why a report shows no plan.
-#[derive(Debug, Drop)]
+#[derive(Drop)]
 pub enum Unshown {
     /// The document is refused. Never holds `NoMemory`.
     Document(ReadRefusal),

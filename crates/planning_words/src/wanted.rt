@@ -34,7 +34,7 @@ Examples:
       Judges a report that stands and shows its plan once more.";
 
 /// The words that ask for a plan.
-#[derive(Clone, Copy, Debug, Drop)]
+#[derive(Clone, Copy, Drop)]
 pub struct PlanWords<'a> {
     /// The file of the instance document.
     pub instance: &'a str,
@@ -51,7 +51,7 @@ pub struct PlanWords<'a> {
 }
 
 /// The words that ask for a report to be shown.
-#[derive(Clone, Copy, Debug, Drop)]
+#[derive(Clone, Copy, Drop)]
 pub struct ShowWords<'a> {
     /// The file of the instance document.
     pub instance: &'a str,
@@ -62,7 +62,7 @@ pub struct ShowWords<'a> {
 }
 
 /// What a command line asks for.
-#[derive(Clone, Copy, Debug, Drop)]
+#[derive(Clone, Copy, Drop)]
 pub enum Wanted<'a> {
     /// A search for a plan.
     Plan(PlanWords<'a>),

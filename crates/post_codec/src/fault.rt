@@ -34,7 +34,7 @@ impl fmt::Display for CodecFault {
 impl Error for CodecFault {}
 
 /// Why a reader of bytes stopped before it had a value.
-#[derive(Debug, Drop)]
+#[derive(Drop)]
 pub enum Stop {
     /// No memory was left.
     Memory,

@@ -4,7 +4,7 @@ use shift_instance::Rows;
 
 /// A change of the book of a search. Each kind has the number of the worker that found it, from 0 on. The nodes of the search
 /// tree have numbers from 0, the root, on.
-#[derive(Clone, Debug, Drop)]
+#[derive(Drop)]
 pub enum Post {
     /// A better plan: the rows of its rota, and the rota's cost.
     Plan {

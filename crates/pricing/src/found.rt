@@ -8,7 +8,7 @@ use break_rules::{Break, Breaks, is_less_list};
 use patterns::Trie;
 
 /// A legal break list, with what a duty with it is worth.
-#[derive(Debug, Drop)]
+#[derive(Drop)]
 pub struct Found {
     /// The breaks.
     pub list: Breaks,

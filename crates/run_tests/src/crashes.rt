@@ -14,7 +14,7 @@ use workers_tests::fixtures::{LIMIT, morning, seat_with};
 
 /// How many posts there are where a call of the disk failed: in the book that was being worked on, and in the book that its
 /// file opens to after a crash. Nothing stands where there is no book.
-#[derive(Clone, Copy, Debug, PartialEq, Eq, Drop)]
+#[derive(Clone, Copy, PartialEq, Eq, Drop)]
 struct Found {
     told: Option<u64>,
     /// All bytes are in the file that were written.

@@ -7,7 +7,7 @@ use post_codec::Post;
 use shift_instance::Instance;
 
 /// A post that isn't taken, by its place from 0 on, and why.
-#[derive(Debug, Drop)]
+#[derive(Drop)]
 pub struct Refusal {
     pub at: u64,
     pub why: StepFault,

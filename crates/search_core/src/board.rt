@@ -10,7 +10,7 @@ use break_rules::NoMemory;
 use head_splits::{Cuts, Hint};
 
 /// What a take answers, the first that applies.
-#[derive(Clone, Copy, Debug, PartialEq, Eq, Drop)]
+#[derive(Clone, Copy, PartialEq, Eq, Drop)]
 pub enum Taken {
     /// A commit failed on this board by its disk or its limit.
     Closed,
@@ -35,7 +35,7 @@ pub enum Taken {
 }
 
 /// What a commit made.
-#[derive(Clone, Copy, Debug, PartialEq, Eq, Drop)]
+#[derive(Clone, Copy, PartialEq, Eq, Drop)]
 pub struct Kept {
     /// Whether the step had a plan cheaper than the best before it.
     pub plan: bool,
@@ -83,7 +83,7 @@ pub enum CommitFault {
 }
 
 /// What shut a board.
-#[derive(Clone, Copy, Debug, PartialEq, Eq, Drop)]
+#[derive(Clone, Copy, PartialEq, Eq, Drop)]
 pub enum Shutting {
     /// A call on the disk failed while posts were recorded.
     DiskFault,

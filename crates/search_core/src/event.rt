@@ -2,7 +2,7 @@
 use crate::Posts;
 
 /// What may happen to a search. Each event but a crash is of one worker, by its number, from 0 on.
-#[derive(Clone, Debug, Drop)]
+#[derive(Drop)]
 pub enum Event {
     /// A worker takes an open node, given by its number, into its hand.
     Take { worker: u32, node: u32 },

@@ -6,7 +6,7 @@ ghost use Rattle.search_core.specs.Core.{empty_hands, hand, is_node, AreApart};
 use std::marker::Model;
 
 /// The node in the hand of each of sixteen workers, by its number. No node is in two hands.
-#[derive(Debug, Drop)]
+#[derive(Drop)]
 pub struct Hands {
     nodes: [Option<u32>; 16],
 }

@@ -1,22 +1,17 @@
 -- The graphs of break lists that an instance keeps, one more at a time.
-use Rattle.std.proofs.Common.{◌≡◌, ◌⊎◌, inl, inr, ℕ, ◌+◌, ◌-◌, ◌<◌, ◌≤◌, List, [], ◌∷◌, ◌++◌, length, map, get_or, refl, sym, ap, ◌∙◌, subst, arith, Option, Some, None, MatchOption, Bor}
-use Rattle.std.specs.List.{AllZip}
+use Rattle.std.proofs.Common.{◌≡◌, ◌⊎◌, inl, inr, ℕ, ◌+◌, ◌-◌, ◌<◌, ◌≤◌, List, [], ◌∷◌, ◌++◌, length, get_or, refl, sym, ap, ◌∙◌, subst, arith, Option, Some, None, MatchOption, Bor}
 use Rattle.std.specs.Prelude.{slice_get, IsSomeAnd, IfSome}
 use Rattle.std.proofs.lemmas.List.{length-append}
 use Rattle.std.proofs.lemmas.Bool.{cases_lt}
 use Rattle.std.proofs.lemmas.Option.{slice_get_within, get_or_from_slice_get, slice_get-get_or}
 use Rattle.std.proofs.Math.ListN.{get_or-append}
 use Rattle.std.proofs.Math.Seq.{get_or-append_seam}
-use Rattle.break_rules.specs.declared.Lunch.{Lunch}
 use Rattle.break_rules.specs.declared.Rule.{Rule}
-use Rattle.break_rules.specs.declared.Spot.{Spot}
-use Rattle.break_graph.specs.declared.Edge.{Edge}
 use Rattle.break_graph.specs.declared.Node.{Node}
 use Rattle.break_graph.specs.Graph.{IsGraph}
 use Rattle.shift_instance.specs.declared.Shift.{Shift}
 use Rattle.shift_instance.specs.Kind.{Kind}
 use Rattle.shift_instance.specs.Problem.{Problem, shift_list}
-use Rattle.shift_instance.specs.Valid.{IsInside}
 use Rattle.shift_instance.specs.Graphs.{AreGraphsOf, AreGraphs}
 use Rattle.shift_instance.proofs.Shifts.{some_at, Has_at, get_or_some, kind_of, is_some_and_from, is_some_and_at}
 
@@ -75,47 +70,9 @@ kept_found i j s y kind above graphs of nodes same drawn small found read len he
     is_some_and_from _ (λ x. IsGraph x.1 x.0.len nodes) x.0 x.1
     (subst (λ (r : Rule). IsGraph r x.0.0.len nodes) (sym k.1.rule) (subst (λ n. IsGraph k.0.rule n nodes) long (drawn y.kind k.0 of at here above nodes there)))
 
--- a node by its fields
-pub same_node : (x y : Node) → y.spot ≡ x.spot → y.edges ≡ x.edges → y ≡ x
-same_node x y s e = ap (λ (p : Spot). record { spot = p; edges = y.edges }) s ∙ ap (λ (es : List Edge). record { spot = x.spot; edges = es }) e
-
--- a pair, a rule, a type and an instance's numbers by their fields
+-- a pair by its parts
 pub same_pair : (x y : ℕ × ℕ) → y.0 ≡ x.0 → y.1 ≡ x.1 → y ≡ x
 same_pair x y a b = ap (λ (n : ℕ). (n, y.1)) a ∙ ap (λ (n : ℕ). (x.0, n)) b
-
-pub same_rule : (x y : Rule) → y.lead ≡ x.lead → y.tail ≡ x.tail → y.work_min ≡ x.work_min → y.work_max ≡ x.work_max → y.long_work ≡ x.long_work → y.long_rest ≡ x.long_rest → y.size_min ≡ x.size_min → y.size_max ≡ x.size_max
-    → y.totals ≡ x.totals → y.lunches ≡ x.lunches → y.resettle ≡ x.resettle → y ≡ x
-same_rule x y lead tail work_min work_max long_work long_rest size_min size_max totals lunches resettle =
-    let made : ℕ → ℕ → ℕ → ℕ → ℕ → ℕ → ℕ → ℕ → List (ℕ × ℕ) → List Lunch → ℕ → Rule =
-    λ a b c d e f g h i j k. record { lead = a; tail = b; work_min = c; work_max = d; long_work = e; long_rest = f; size_min = g; size_max = h; totals = i; lunches = j; resettle = k } in
-    let same : made y.lead y.tail y.work_min y.work_max y.long_work y.long_rest y.size_min y.size_max y.totals y.lunches y.resettle
-    ≡ made x.lead x.tail x.work_min x.work_max x.long_work x.long_rest x.size_min x.size_max x.totals x.lunches x.resettle = cc in
-    same
-
-pub same_kind : (x y : Kind) → y.name ≡ x.name → y.start_min ≡ x.start_min → y.start_max ≡ x.start_max → y.len_min ≡ x.len_min → y.len_max ≡ x.len_max → y.rule ≡ x.rule → y ≡ x
-same_kind x y name start_min start_max len_min len_max rule =
-    let made : List ℕ → ℕ → ℕ → ℕ → ℕ → Rule → Kind = λ a b c d e f. record { name = a; start_min = b; start_max = c; len_min = d; len_max = e; rule = f } in
-    let same : made y.name y.start_min y.start_max y.len_min y.len_max y.rule ≡ made x.name x.start_min x.start_max x.len_min x.len_max x.rule = cc in
-    same
-
-pub same_problem : (x y : Problem) → y.slot_minutes ≡ x.slot_minutes → y.days ≡ x.days → y.need ≡ x.need → y.heads ≡ x.heads → y.excess ≡ x.excess → y.shortage ≡ x.shortage → y.shift ≡ x.shift → y.kinds ≡ x.kinds → y ≡ x
-same_problem x y minutes days need heads excess shortage shift kinds =
-    let made : ℕ → ℕ → List ℕ → ℕ → ℕ → ℕ → ℕ → List Kind → Problem =
-    λ a b c d e f g h. record { slot_minutes = a; days = b; need = c; heads = d; excess = e; shortage = f; shift = g; kinds = h } in
-    let same : made y.slot_minutes y.days y.need y.heads y.excess y.shortage y.shift y.kinds ≡ made x.slot_minutes x.days x.need x.heads x.excess x.shortage x.shift x.kinds = cc in
-    same
-
--- what is read off two lists is the same where it is at each place
-pub same_mapped : {X Y : Type 0} (v : X → Y) (xs ys : List X) → AllZip (λ x y. v y ≡ v x) xs ys → map v ys ≡ map v xs
-same_mapped v [] [] h = refl
-same_mapped v [] (y ∷ ys) h = absurd h
-same_mapped v (x ∷ xs) [] h = absurd h
-same_mapped v (x ∷ xs) (y ∷ ys) h = ap (λ (z : _). z ∷ map v ys) h.0 ∙ ap (λ (zs : List _). v x ∷ zs) (same_mapped v xs ys h.1)
-
--- what an instance keeps is kept by what equals it
-pub same_inside : (i j : Problem) (ss ts : List Shift) (gs hs : List (List (List Node))) → j ≡ i → ts ≡ ss → hs ≡ gs → IsInside i ss gs → IsInside j ts hs
-same_inside i j ss ts gs hs e f g inside =
-    subst (λ (k : Problem). IsInside k ts hs) (sym e) (subst (λ (us : List Shift). IsInside i us hs) (sym f) (subst (IsInside i ss) (sym g) inside))
 
 -- a graph that is kept, if one is, is that of the shift
 pub graph_found : {V : Type 0} (nodes_of : V → List Node) (i j : Problem) (s : ℕ) (y : Shift) (kind : Kind) (above : ℕ) (graphs : List (List (List Node))) (of : List (List Node)) (found : Option (Bor V)) → i ≡ j → AreGraphs i.kinds graphs

@@ -20,7 +20,7 @@ const EDGES_KEPT: usize = 1 << 24;
 
 /// The graphs of a type's rule, by length from the type's least on, each shared with the types that have the same rule. The
 /// greatest lengths are left out where there is no room for their graphs.
-#[derive(Clone, Debug, Drop)]
+#[derive(Drop)]
 pub struct TypeGraphs {
     list: Vec<Arc<Graph>>,
 }

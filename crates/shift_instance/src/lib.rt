@@ -32,7 +32,7 @@ pub const TOP: u64 = 1_000_000_000_000_000;
 
 /// A shift of the shift list: the number of its type, its first slot, counted from the start of the day that a duty
 /// is on, and its length in slots.
-#[derive(Clone, Copy, Debug, PartialEq, Eq, Drop)]
+#[derive(Clone, Copy, PartialEq, Eq, Drop)]
 pub struct Shift {
     /// The number of its type, from 0 on.
     pub kind: u16,
@@ -43,7 +43,7 @@ pub struct Shift {
 }
 
 /// One duty of a rota: one employee works a shift, given by its number, on a day, from 0 on, with these breaks.
-#[derive(Clone, Debug, Drop)]
+#[derive(Drop)]
 pub struct Duty {
     /// The number of its shift, its place in the shift list.
     pub shift: u16,
@@ -54,7 +54,7 @@ pub struct Duty {
 }
 
 /// Duties that are alike, with their number.
-#[derive(Clone, Debug, Drop)]
+#[derive(Clone, Drop)]
 pub struct Row {
     /// The number of their shift, its place in the shift list.
     pub shift: u16,
@@ -67,7 +67,7 @@ pub struct Row {
 }
 
 /// A shift type, before it is judged: its name, its windows for start and length in slots, and its break rule.
-#[derive(Clone, Debug, Drop)]
+#[derive(Drop)]
 pub struct TypeParts {
     /// Its name.
     pub name: String,
@@ -101,7 +101,7 @@ impl Model for TypeParts {
 }
 
 /// The numbers of an instance, before they are judged.
-#[derive(Clone, Debug, Drop)]
+#[derive(Drop)]
 pub struct Parts {
     /// The minutes of a slot.
     pub slot_minutes: u16,
@@ -198,7 +198,7 @@ impl fmt::Display for InstanceFault {
 impl Error for InstanceFault {}
 
 /// An instance of the shift design problem: numbers within all limits, with their shift list.
-#[derive(Clone, Debug, Drop)]
+#[derive(Drop)]
 pub struct Instance {
     parts: Parts,
     shifts: Vec<Shift>,

@@ -12,7 +12,7 @@ const USAGE: &str =
     "usage: solve JOURNAL [--workers W] [--steps B] [--table] [--local | --thorough] or solve --demo N [--steps B]";
 
 /// How a run of `solve` ends.
-#[derive(Debug, Drop)]
+#[derive(Drop)]
 pub enum Status {
     /// The report or the line of a demonstration was written, and no legal plan costs less than the best one found.
     Optimal,

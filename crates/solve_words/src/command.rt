@@ -22,7 +22,7 @@ const STEPS_USUAL: u64 = 1_000;
 const DEMO_MOST: u64 = 999_999;
 
 /// How a search looks for plans and prices.
-#[derive(Clone, Copy, Debug, Drop)]
+#[derive(Clone, Copy, Drop)]
 pub enum Method {
     /// The greedy plan is taken as it is.
     Greedy,
@@ -33,7 +33,7 @@ pub enum Method {
 }
 
 /// What the words of a command line ask for.
-#[derive(Clone, Copy, Debug, Drop)]
+#[derive(Clone, Copy, Drop)]
 pub enum Command<'a> {
     /// A search over the journal at a path, by so many workers where the words say how many, of at most so many steps, with the
     /// table of its plan or without, and by a method.

@@ -20,7 +20,7 @@ use shift_instance::Instance;
 use std::alloc::Global;
 
 /// How a run ended.
-#[derive(Clone, Copy, Debug, PartialEq, Eq, Drop)]
+#[derive(Clone, Copy, PartialEq, Eq, Drop)]
 pub enum RunEnd {
     /// No node is open.
     Finished,

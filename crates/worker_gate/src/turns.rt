@@ -30,7 +30,7 @@ pub(crate) struct Work {
 }
 
 /// Why a worker has nothing to work on.
-#[derive(Clone, Copy, Debug, PartialEq, Eq, Drop)]
+#[derive(Clone, Copy, PartialEq, Eq, Drop)]
 pub(crate) enum Rest {
     /// It takes another turn.
     Again,
