@@ -1,5 +1,6 @@
 -- How many nodes and beginnings there are, each counted once.
 use Rattle.std.proofs.Common.{◌≡◌, inl, inr, ℕ, suc, ◌+◌, ◌-◌, ◌<◌, ◌≤◌, Bool, true, false, List, [], ◌∷◌, ◌++◌, map, filter, length, take, cond, get_or, refl, sym, ap, ◌∙◌, subst, arith, nat_le, length-append, leb-true, ℤ}
+use Rattle.std.specs.Arc.{arc_value}
 use Rattle.std.specs.List.{count_by, IsDistinct, AllByRecursion}
 use Rattle.std.proofs.lemmas.Bool.{false≢true, cond_both}
 use Rattle.std.proofs.lemmas.List.{length-map}
@@ -17,7 +18,9 @@ use Rattle.break_graph.specs.declared.Node.{Node}
 use Rattle.break_graph.specs.Graph.{IsGraph, node_at}
 use Rattle.pricing.specs.Found.{leads_further}
 use Rattle.pricing.specs.Tables.{HaveSpotsUpTo, HaveBeginnings, AreStepsUpTo}
-use Rattle.pricing.specs.Keeping.{AreBeginnings}
+use Rattle.pricing.specs.declared.anew.Kept.{Kept}
+use Rattle.pricing.specs.declared.anew.Kept.TheVariants.{OverGraph, ByLayers}
+use Rattle.pricing.specs.Keeping.{AreBeginnings, IsGraphKept, nodes_of}
 use Rattle.pricing.proofs.Leaving.{place_in}
 
 -- the first elements that pass a test are no more than all that do
@@ -120,11 +123,16 @@ beginnings_within kept bonus beginnings lists are same have =
     let e = are.each list m in
     subst (Has lists) (sym e.2) (have e.0 e.1 (subst (λ (l : List Break). leads_further bonus l ≡ true) e.2 (same list e.3))))
 
+-- so are those of a graph that is kept
+kept_within : (rule : Rule) (len last : ℕ) (kept : Kept) (spots : List Spot) → IsGraphKept rule len kept → HaveSpotsUpTo rule len last spots → count_by (λ n. nat_le n.spot.offset last) (nodes_of kept) ≤ length spots
+kept_within rule len last (OverGraph graph values) spots is have = nodes_within rule len last (arc_value graph) spots is have
+kept_within rule len last ByLayers spots is have = omega arith
+
 -- steps for the nodes up to an offset and for the beginnings
-pub steps_within : (rule : Rule) (len last bound : ℕ) (nodes : List Node) (kept bonus : List (List Break × ℤ)) (beginnings : List (List Break)) (old new : ℕ) → IsGraph rule len nodes → last ≤ bound
-    → AreBeginnings kept beginnings → ((front : List Break) → leads_further kept front ≡ true → leads_further bonus front ≡ true)
-    → new ≤ old + (count_by (λ n. nat_le n.spot.offset last) nodes + length beginnings) → AreStepsUpTo rule len bound bonus (new - old)
-steps_within rule len last bound nodes kept bonus beginnings old new graph low are same steps spots lists have has =
-    let a : count_by (λ n. nat_le n.spot.offset last) nodes ≤ length spots = nodes_within rule len last nodes spots graph (λ list walk end. have list walk (omega (arith, end))) in
-    let b : length beginnings ≤ length lists = beginnings_within kept bonus beginnings lists are same has in
+pub steps_within : (rule : Rule) (len last bound : ℕ) (kept : Kept) (entries bonus : List (List Break × ℤ)) (beginnings : List (List Break)) (old new : ℕ) → IsGraphKept rule len kept → last ≤ bound
+    → AreBeginnings entries beginnings → ((front : List Break) → leads_further entries front ≡ true → leads_further bonus front ≡ true)
+    → new ≤ old + (count_by (λ n. nat_le n.spot.offset last) (nodes_of kept) + length beginnings) → AreStepsUpTo rule len bound bonus (new - old)
+steps_within rule len last bound kept entries bonus beginnings old new graph low are same steps spots lists have has =
+    let a : count_by (λ n. nat_le n.spot.offset last) (nodes_of kept) ≤ length spots = kept_within rule len last kept spots graph (λ list walk end. have list walk (omega (arith, end))) in
+    let b : length beginnings ≤ length lists = beginnings_within entries bonus beginnings lists are same has in
     omega arith

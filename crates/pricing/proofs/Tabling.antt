@@ -1,6 +1,7 @@
 -- What tables say of the best list, and what stays when prices change.
 use Rattle.std.proofs.Common.{◌≡◌, ℕ, zero, suc, ◌+◌, ◌-◌, ◌<◌, ◌≤◌, ℤ, ◌+ℤ◌, ◌≤ℤ◌, true, false, nat_le, List, [], ◌∷◌, length, fold, refl, sym, ap, ◌∙◌, subst, arith, Option, Some, None}
 use Rattle.std.specs.Prelude.{slice_get, All}
+use Rattle.std.specs.Arc.{arc_value}
 use Rattle.std.specs.List.{count_by}
 use Rattle.std.specs.Int.RustNames.{unsigned_abs}
 use Rattle.std.proofs.lemmas.Bool.{and_parts}
@@ -17,11 +18,13 @@ use Rattle.shift_instance.specs.declared.Shift.{Shift}
 use Rattle.shift_instance.specs.Problem.{shift_list, slots}
 use Rattle.shift_instance.specs.Rota.{is_list_of}
 use Rattle.shift_instance.specs.Worth.{IsBest, worth, earned}
-use Rattle.price_sums.specs.Along.{ArePricesOf, AreSmallPrices}
+use Rattle.price_sums.specs.Along.{ArePricesOf, AreSmallPrices, price_in}
 use Rattle.pricing.specs.declared.found.Found.{Found}
+use Rattle.pricing.specs.declared.anew.Kept.{Kept}
+use Rattle.pricing.specs.declared.anew.Kept.TheVariants.{OverGraph, ByLayers}
 use Rattle.pricing.specs.Found.{IsBestFound}
 use Rattle.pricing.specs.Tables.{Tabled, MeanTheSame, IsShiftOf, repriced, NameNone, NameNoneAbove, AreStepsUpTo}
-use Rattle.pricing.specs.Keeping.{AreTables, AreValuesAbove, IsFoundAt, IsLastChange}
+use Rattle.pricing.specs.Keeping.{AreTables, AreValuesAbove, AreKeptAbove, AreRestsKept, IsGraphKept, IsFoundAt, IsLastChange, nodes_of}
 use Rattle.pricing.proofs.Changes.{length-repriced, small_repriced, some_named, last_within}
 use Rattle.pricing.proofs.Reached.{steps_within}
 use Rattle.pricing.proofs.Reused.{values_above}
@@ -44,22 +47,32 @@ some_got [] i l = absurd (omega arith)
 some_got (x ∷ xs) zero l = (x, refl)
 some_got (x ∷ xs) (suc i) l = some_got xs i (omega arith)
 
-module _ (t : Tabled) (nodes : List Node) (lists : List (List Break)) (sums values : List ℤ) (best : Option Found) (h : AreTables t nodes lists sums values best) where
+-- the graph that is kept with right values
+pub graph_kept : (rule : Rule) (len : ℕ) (sums : List ℤ) (kept : Kept) → AreRestsKept rule len sums kept → IsGraphKept rule len kept
+graph_kept rule len sums (OverGraph graph values) rests = rests.graph
+graph_kept rule len sums ByLayers rests = tt
+
+-- the kept values behind an offset stay right where the prices there stay
+rests_above : (rule : Rule) (len last : ℕ) (sums other : List ℤ) (kept : Kept) → ((o : ℕ) → last < o → o < len → price_in other o ≡ price_in sums o) → AreRestsKept rule len sums kept → AreKeptAbove rule len other last kept
+rests_above rule len last sums other (OverGraph graph values) same rests = values_above rule len last sums other values.items (arc_value graph) same rests.known
+rests_above rule len last sums other ByLayers same rests = tt
+
+module _ (t : Tabled) (lists : List (List Break)) (kept : Kept) (best : Option Found) (h : AreTables t lists kept best) where
   pub best_some : (f : Found) → best ≡ Some f → IsBest t.instance t.shift t.day t.prices t.bonus f.list f.value
   best_some f is =
       let s = some_got (shift_list t.instance) t.shift h.shift in
       let x = s.0 in
       let found = h.found x s.1 in
-      best_is t.instance t.shift t.day t.prices sums x s.1 (h.short x s.1) found.sums_of t.bonus f.list f.value
-      (found_some (record { rule = x.1; len = x.0.len; sums = sums }) t.bonus best f is found.is_best)
+      best_is t.instance t.shift t.day t.prices found.sums x s.1 (h.short x s.1) found.sums_of t.bonus f.list f.value
+      (found_some (record { rule = x.1; len = x.0.len; sums = found.sums }) t.bonus best f is found.is_best)
 
   pub best_none : best ≡ None → (list : List Break) → is_list_of t.instance t.shift list ≡ false
   best_none is list =
       let s = some_got (shift_list t.instance) t.shift h.shift in
       let x = s.0 in
       let found = h.found x s.1 in
-      list_is t.instance t.shift t.day t.prices sums x s.1 (h.short x s.1) found.sums_of list
-      ∙ subst (IsBestFound (record { rule = x.1; len = x.0.len; sums = sums }) t.bonus) is found.is_best list
+      list_is t.instance t.shift t.day t.prices found.sums x s.1 (h.short x s.1) found.sums_of list
+      ∙ subst (IsBestFound (record { rule = x.1; len = x.0.len; sums = found.sums }) t.bonus) is found.is_best list
 
   module _ (changes : List (ℕ × ℤ)) where
     pub count_after : length (repriced t.prices changes) ≡ slots t.instance
@@ -68,36 +81,38 @@ module _ (t : Tabled) (nodes : List Node) (lists : List (List Break)) (sums valu
     pub small_after : All (λ change. unsigned_abs change.1 ≤ 10000000000) changes → AreSmallPrices (repriced t.prices changes)
     small_after small = small_repriced t.prices changes h.small small
 
+    -- the graph that is kept is the shift's
+    pub graph_after : (x : Shift × Rule) → IsShiftOf t.instance t.shift x → IsGraphKept x.1 x.0.len kept
+    graph_after x e = let found = h.found x e in graph_kept x.1 x.0.len found.sums kept found.rests
+
     -- the values behind the last change are kept
     pub kept_after : (last : ℕ) (x : Shift × Rule) → IsShiftOf t.instance t.shift x → IsLastChange t.instance x.0 t.day t.prices (repriced t.prices changes) x.0.len (Some last)
-        → (other : List ℤ) → ArePricesOf t.instance x.0 t.day (repriced t.prices changes) other → AreValuesAbove x.1 x.0.len other nodes last values
+        → (other : List ℤ) → ArePricesOf t.instance x.0 t.day (repriced t.prices changes) other → AreKeptAbove x.1 x.0.len other last kept
     kept_after last x e change other of =
         let found = h.found x e in
-        values_above x.1 x.0.len last sums other values nodes (λ o above inside. of o inside ∙ change.2 o above inside ∙ sym (found.sums_of o inside)) found.rests.known
+        rests_above x.1 x.0.len last found.sums other kept (λ o above inside. of o inside ∙ change.2 o above inside ∙ sym (found.sums_of o inside)) found.rests
 
     -- where no price of the duties changed all of it is kept
     pub same_after : All (λ change. unsigned_abs change.1 ≤ 10000000000) changes → ((x : Shift × Rule) → IsShiftOf t.instance t.shift x → IsLastChange t.instance x.0 t.day t.prices (repriced t.prices changes) x.0.len None)
-        → AreTables (record { instance = t.instance; shift = t.shift; day = t.day; prices = repriced t.prices changes; bonus = t.bonus }) nodes lists sums values best
+        → AreTables (record { instance = t.instance; shift = t.shift; day = t.day; prices = repriced t.prices changes; bonus = t.bonus }) lists kept best
     same_after small none = record {
       shift = h.shift;
       count = count_after;
       small = small_after small;
       beginnings = h.beginnings;
-      graph = h.graph;
       short = h.short;
-      found = λ x e. let found = h.found x e in record { sums_of = λ o inside. found.sums_of o inside ∙ sym (none x e o inside); rests = found.rests; is_best = found.is_best };
+      found = λ x e. let found = h.found x e in record { sums = found.sums; sums_of = λ o inside. found.sums_of o inside ∙ sym (none x e o inside); rests = found.rests; is_best = found.is_best };
     }
 
     -- what was found anew
-    pub anew_after : All (λ change. unsigned_abs change.1 ≤ 10000000000) changes → (sums' values' : List ℤ) (best' : Option Found)
-        → ((x : Shift × Rule) → IsShiftOf t.instance t.shift x → IsFoundAt t.instance x t.day (repriced t.prices changes) t.bonus nodes sums' values' best')
-        → AreTables (record { instance = t.instance; shift = t.shift; day = t.day; prices = repriced t.prices changes; bonus = t.bonus }) nodes lists sums' values' best'
-    anew_after small sums' values' best' found = record {
+    pub anew_after : All (λ change. unsigned_abs change.1 ≤ 10000000000) changes → (kept' : Kept) (best' : Option Found)
+        → ((x : Shift × Rule) → IsShiftOf t.instance t.shift x → IsFoundAt t.instance x t.day (repriced t.prices changes) t.bonus kept' best')
+        → AreTables (record { instance = t.instance; shift = t.shift; day = t.day; prices = repriced t.prices changes; bonus = t.bonus }) lists kept' best'
+    anew_after small kept' best' found = record {
       shift = h.shift;
       count = count_after;
       small = small_after small;
       beginnings = h.beginnings;
-      graph = h.graph;
       short = h.short;
       found = found;
     }
@@ -108,9 +123,9 @@ module _ (t : Tabled) (nodes : List Node) (lists : List (List Break)) (sums valu
 
     -- the steps up to the last change
     pub steps_after : (x : Shift × Rule) → IsShiftOf t.instance t.shift x → (last bound old new : ℕ) → IsLastChange t.instance x.0 t.day t.prices (repriced t.prices changes) x.0.len (Some last)
-        → NameNoneAbove t.instance x.0 t.day changes bound → new ≤ old + (count_by (λ n. nat_le n.spot.offset last) nodes + length lists) → AreStepsUpTo x.1 x.0.len bound t.bonus (new - old)
+        → NameNoneAbove t.instance x.0 t.day changes bound → new ≤ old + (count_by (λ n. nat_le n.spot.offset last) (nodes_of kept) + length lists) → AreStepsUpTo x.1 x.0.len bound t.bonus (new - old)
     steps_after x e last bound old new change none steps =
-        steps_within x.1 x.0.len last bound nodes t.bonus t.bonus lists old new (h.graph x e) (last_within t.instance x.0 t.day t.prices changes last bound change none) h.beginnings (λ front leads. leads) steps
+        steps_within x.1 x.0.len last bound kept t.bonus t.bonus lists old new (graph_after x e) (last_within t.instance x.0 t.day t.prices changes last bound change none) h.beginnings (λ front leads. leads) steps
 
 -- a walk ends within its shift
 walk_within : (rule : Rule) (len offset used : ℕ) (list : List Break) → is_walk_from rule len offset used list ≡ true → offset ≤ len → fold (λ at b. end_of b) offset list ≤ len
@@ -121,8 +136,13 @@ walk_within rule len offset used (b ∷ bs) w l =
     walk_within rule len (end_of b) (used + b.len) bs p.1 (omega (arith, f.tail))
 
 -- so no node stands behind it
-pub none_above : (rule : Rule) (len : ℕ) (sums : List ℤ) (nodes : List Node) (kept : List ℤ) → AreValuesAbove rule len sums nodes len kept
+none_above : (rule : Rule) (len : ℕ) (sums : List ℤ) (nodes : List Node) (kept : List ℤ) → AreValuesAbove rule len sums nodes len kept
 none_above rule len sums nodes kept k list above st =
     let end : (node_at nodes k).spot.offset ≡ end_of_all list = ap (λ (s : Spot). s.offset) st.spot in
     let within : end_of_all list ≤ len = walk_within rule len 0 0 list st.walk (omega arith) in
     absurd (omega (arith, above, end, within))
+
+-- and all that is kept of nodes there is right
+pub none_kept_above : (rule : Rule) (len : ℕ) (sums : List ℤ) (kept : Kept) → AreKeptAbove rule len sums len kept
+none_kept_above rule len sums (OverGraph graph values) = none_above rule len sums (arc_value graph) values.items
+none_kept_above rule len sums ByLayers = tt

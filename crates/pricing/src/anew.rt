@@ -1,16 +1,15 @@
 //! What tables know at given prices, found anew as far as changed prices reach.
 
 ghost use Rattle.std.specs.Prelude.{◌≡◌, ◌+◌, ◌<◌, ◌≤◌, All, ℤ, List, IfOk, length, count_by, nat_le};
-ghost use Rattle.std.specs.Arc.{arc_value};
 ghost use Rattle.break_rules.specs.declared.Rule.{Rule};
-ghost use Rattle.break_graph.specs.Graph.{IsGraph};
 ghost use Rattle.shift_instance.specs.declared.Shift.{Shift};
 ghost use Rattle.shift_instance.specs.Problem.{shift_list, slots};
 ghost use Rattle.price_sums.specs.Along.{AreSmallPrices, ArePricesOf};
 ghost use Rattle.pricing.specs.Tables.{IsShiftOf, repriced};
-ghost use Rattle.pricing.specs.Keeping.{AreBeginnings, AreValuesAbove, IsFoundAt, IsLastChange};
+ghost use Rattle.pricing.specs.Keeping.{AreBeginnings, AreKeptAbove, IsFoundAt, IsGraphKept, IsLastChange, nodes_of};
 
 use crate::found::Found;
+use crate::layer_rests::LayerRests;
 use crate::rests::BestRests;
 use crate::search::best_by_beginnings;
 use crate::steps::Steps;
@@ -21,15 +20,28 @@ use break_rules::NoMemory;
 use price_sums::price_sums;
 use shift_instance::Instance;
 use std::alloc::Global;
+use std::sync::Arc;
 use std::sync::ledger::Ledger;
+
+/// What is kept of a search for the best list, for later prices.
+#[derive(Drop)]
+pub enum Kept {
+    /// The search went along the graph of the shift that the instance keeps.
+    OverGraph {
+        /// The graph.
+        graph: Arc<Graph>,
+        /// For each node of it what the best rest of the lists that stand there earns.
+        values: Vec<i64>,
+    },
+    /// The instance keeps no graph of the shift. The search went by layers, of which nothing is kept.
+    ByLayers,
+}
 
 /// What is known of a shift on a day at given prices.
 #[derive(Drop)]
 pub struct AtPrices {
-    /// The sums of the prices of the shift's first offsets.
-    pub sums: Vec<i64>,
-    /// For each node of the shift's graph what the best rest of the lists that stand there earns.
-    pub values: Vec<i64>,
+    /// What is kept of the search.
+    pub kept: Kept,
     /// The best list, if some list is legal.
     pub best: Option<Found>,
 }
@@ -74,35 +86,64 @@ pub fn last_change(
     last
 }
 
+impl Kept {
+    /// What is kept for a shift before its first search.
+    pub fn before_all(alloc: Global, instance: &Instance, shift: u16) -> Result<Kept, NoMemory>
+        requires { shift < length (shift_list instance.now) }
+        ensures { IfOk result (λ kept. (x : Shift × Rule) → IsShiftOf instance.now shift x → IsGraphKept x.1 x.0.len kept) }
+    {
+        match instance.shared_graph(shift)? {
+            Some(graph) => {
+                let values = Vec::new(alloc);
+                Ok(Kept::OverGraph { graph, values })
+            }
+            None => Ok(Kept::ByLayers),
+        }
+    }
+}
+
 impl AtPrices {
-    /// What is known at some prices, with the kept values of the nodes behind an offset. It takes a step for each other node
-    /// and one for each beginning of a bonus's prefix.
+    /// What is known at some prices. Over a graph the kept values of the nodes behind an offset stay, and each other node
+    /// takes a step. Each beginning of a bonus's prefix takes one too.
     pub fn find<L: Ledger>(
         alloc: Global,
         instance: &Instance,
         subject: &Subject,
         prices: &[i64],
-        kept: &[i64],
+        kept: &Kept,
         last: u16,
         steps: &mut Steps<L>,
     ) -> Result<AtPrices, NoMemory>
         requires shift { subject.now.shift < length (shift_list instance.now) }
-        requires graph { (x : Shift × Rule) → IsShiftOf instance.now subject.now.shift x → IsGraph x.1 x.0.len (arc_value subject.now.graph) }
         requires beginnings { AreBeginnings subject.now.trie.entries subject.now.beginnings }
         requires count { length prices.now ≡ slots instance.now }
         requires prices { AreSmallPrices prices.now }
-        requires kept { (x : Shift × Rule) → IsShiftOf instance.now subject.now.shift x → (sums : List ℤ) → ArePricesOf instance.now x.0 subject.now.day prices.now sums → AreValuesAbove x.1 x.0.len sums (arc_value subject.now.graph) last kept.now }
-        ensures found { IfOk result (λ a. (x : Shift × Rule) → IsShiftOf instance.now subject.now.shift x → IsFoundAt instance.now x subject.now.day prices.now subject.now.trie.entries (arc_value subject.now.graph) a.sums.items a.values.items a.best) }
-        ensures steps { steps.new ≤ steps.old + (count_by (λ n. nat_le n.spot.offset last) (arc_value subject.now.graph) + length subject.now.beginnings) }
+        requires graph { (x : Shift × Rule) → IsShiftOf instance.now subject.now.shift x → IsGraphKept x.1 x.0.len kept.now }
+        requires kept { (x : Shift × Rule) → IsShiftOf instance.now subject.now.shift x → (sums : List ℤ) → ArePricesOf instance.now x.0 subject.now.day prices.now sums → AreKeptAbove x.1 x.0.len sums last kept.now }
+        ensures found { IfOk result (λ a. (x : Shift × Rule) → IsShiftOf instance.now subject.now.shift x → IsFoundAt instance.now x subject.now.day prices.now subject.now.trie.entries a.kept a.best) }
+        ensures steps { steps.new ≤ steps.old + (count_by (λ n. nat_le n.spot.offset last) (nodes_of kept.now) + length subject.now.beginnings) }
     {
         let rule = instance.rule_of(subject.shift);
         let len = instance.shift(subject.shift).len;
         let sums = price_sums(alloc, instance, subject.shift, subject.day, prices)?;
-        let graph: &Graph = &subject.graph;
-        let values = values_anew(alloc, rule, len, graph, &sums, kept, last, steps)?;
-        let rests = BestRests::with_values(rule, len, graph, sums, values);
-        let best = best_by_beginnings(alloc, &rests, &subject.trie, &subject.beginnings, steps)?;
-        let (sums, values) = rests.into_sums_and_values();
-        Ok(AtPrices { sums, values, best })
+        let (trie, beginnings) = (&subject.trie, &subject.beginnings);
+        match kept {
+            Kept::OverGraph { graph, values } => {
+                let graph = Arc::try_clone(graph)?;
+                let nodes: &Graph = &graph;
+                let values = values_anew(alloc, rule, len, nodes, &sums, values, last, steps)?;
+                let rests = BestRests::with_values(rule, len, nodes, sums, values);
+                let best = best_by_beginnings(alloc, &rests, trie, beginnings, steps)?;
+                let values = rests.into_values();
+                let kept = Kept::OverGraph { graph, values };
+                Ok(AtPrices { kept, best })
+            }
+            Kept::ByLayers => {
+                let rests = LayerRests::new(alloc, rule, len, sums)?;
+                let best = best_by_beginnings(alloc, &rests, trie, beginnings, steps)?;
+                let kept = Kept::ByLayers;
+                Ok(AtPrices { kept, best })
+            }
+        }
     }
 }

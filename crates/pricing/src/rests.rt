@@ -110,19 +110,11 @@ impl<'a> BestRests<'a> {
         }
     }
 
-    /// The sums of the prices and the values of the nodes, given back. It takes no memory.
-    pub fn into_sums_and_values(self) -> (Vec<i64>, Vec<i64>)
-        ensures sums { result.0.items ≡ self.entry.sums }
-        ensures rests { AreBestRests self.entry.rule self.entry.len self.entry.nodes result.0.items result.1.items }
+    /// The values of the nodes, given back. It takes no memory.
+    pub fn into_values(self) -> Vec<i64>
+        ensures { AreBestRests self.entry.rule self.entry.len self.entry.nodes self.entry.sums result.items }
     {
-        let BestRests {
-            rule: _,
-            len: _,
-            graph: _,
-            sums,
-            values,
-        } = self;
-        (sums, values)
+        self.values
     }
 
     /// The node where the empty list stands, and `None` where no list is legal. It takes no memory.

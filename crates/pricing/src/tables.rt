@@ -11,7 +11,7 @@ ghost use Rattle.shift_instance.specs.Worth.{IsBest};
 ghost use Rattle.price_sums.specs.Along.{AreSmallPrices};
 ghost use Rattle.pricing.specs.Tables.{IsShiftOf, MeanTheSame, repriced, NameNone, NameNoneAbove, AreStepsUpTo};
 
-use crate::anew::{AtPrices, changed_prices, last_change};
+use crate::anew::{AtPrices, Kept, changed_prices, last_change};
 use crate::steps::Steps;
 use crate::subject::Subject;
 use break_rules::{Break, Breaks, NoMemory};
@@ -21,9 +21,11 @@ use std::marker::Model;
 use std::snapshot::Snapshot;
 use std::sync::ledger::Ledger;
 
-/// The values of a shift on a day at prices and bonuses, which are kept: where prices change, only what they reach is found
-/// anew. Where the instance keeps no graph of the shift, tables make one when they are made, and keep it: they hold a value for each
-/// of its nodes.
+/// What is known of a shift on a day at prices and bonuses, kept while prices change: only what changed prices reach is found
+/// anew. Where the instance keeps a graph of the shift, tables hold a value for each of its nodes. Where it keeps none, no
+/// graph is made: tables hold the best list alone, found by layers of spots, and find it anew where a price of the shift's
+/// duties on the day changed. A step is a node's value that is found, or a beginning of a bonus's prefix from which lists go
+/// on: the making of layers counts none.
 #[derive(Drop)]
 pub struct Tables {
     alloc: Global,
@@ -38,12 +40,11 @@ impl Model for Tables {
 
     ghost Value = { Tabled };
 
-    ghost use Rattle.std.specs.Arc.{arc_value};
     ghost use Rattle.pricing.specs.Keeping.{AreTables};
 
     ghost view = { λ t. record { instance = t.instance.value; shift = t.subject.shift; day = t.subject.day; prices = t.prices.items; bonus = t.subject.trie.entries } };
 
-    ghost invariant = { λ t. AreTables (record { instance = t.instance.value; shift = t.subject.shift; day = t.subject.day; prices = t.prices.items; bonus = t.subject.trie.entries }) (arc_value t.subject.graph) t.subject.beginnings t.found.sums.items t.found.values.items t.found.best };
+    ghost invariant = { λ t. AreTables (record { instance = t.instance.value; shift = t.subject.shift; day = t.subject.day; prices = t.prices.items; bonus = t.subject.trie.entries }) t.subject.beginnings t.found.kept t.found.best };
 }
 
 impl Tables {
@@ -68,10 +69,11 @@ impl Tables {
         ensures bonus { IfOk result (λ t. MeanTheSame t.bonus bonus.now) }
         ensures steps { (x : Shift × Rule) → IsShiftOf instance.now shift x → AreStepsUpTo x.1 x.0.len x.0.len bonus.now (steps.new - steps.old) }
     {
-        let subject = Subject::new(alloc, instance, shift, day, bonus)?;
+        let subject = Subject::new(alloc, shift, day, bonus)?;
         let prices = Vec::from_slice(alloc, prices)?;
         let len = instance.shift(shift).len;
-        let found = AtPrices::find(alloc, instance, &subject, &prices, &[], len, steps)?;
+        let kept = Kept::before_all(alloc, instance, shift)?;
+        let found = AtPrices::find(alloc, instance, &subject, &prices, &kept, len, steps)?;
         Ok(Tables {
             alloc,
             instance: Snapshot::of(instance),
@@ -105,7 +107,7 @@ impl Tables {
             self.prices = prices;
             return Ok(());
         };
-        let kept = &self.found.values;
+        let kept = &self.found.kept;
         let found = AtPrices::find(
             self.alloc,
             instance,

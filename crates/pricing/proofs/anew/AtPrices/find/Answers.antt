@@ -6,12 +6,12 @@ use Rattle.break_graph.specs.declared.Node.{Node}
 use Rattle.break_graph.specs.Graph.{IsGraph}
 use Rattle.shift_instance.specs.declared.Shift.{Shift}
 use Rattle.shift_instance.specs.Problem.{shift_list}
-use Rattle.price_sums.specs.Along.{AreSums, ArePricesOf}
+use Rattle.price_sums.specs.Along.{AreSums}
 use Rattle.price_sums.proofs.Prices.{some_at}
 use Rattle.break_layers.specs.Rests.{Priced}
 use Rattle.pricing.specs.Values.{AreBestRests, AreValues, PricedNodes, priced_of}
 use Rattle.pricing.specs.Found.{IsBestFound}
-use Rattle.pricing.specs.Keeping.{AreValuesAbove}
+use Rattle.pricing.specs.Keeping.{AreValuesAbove, AreKeptAbove, IsGraphKept}
 use Rattle.pricing.proofs.Worths.{some_of}
 use Rattle.pricing.proofs.anew.AtPrices.find.Given.{Over}
 use Rattle.pricing.proofs.anew.AtPrices.find.Goals as goal
@@ -36,12 +36,16 @@ values_anew-requires-clause-kept g c =
     let own = (goal.at.values_anew-requires-clause-kept g c).In_ok-sums in
     let x = some_shift g own in
     let is = the_shift g own x.0 x.1 in
-    let kept = c.args.kept.now in
-    let base : AreValuesAbove x.0.1 x.0.0.len c.in_ok-sums.sums.items (arc_value c.args.subject.now.graph) c.args.last kept = c.requires.kept x.0 x.1 c.in_ok-sums.sums.items (c.in_ok-sums.ensures.prices x.0 x.1) in
-    subst (λ (r : Rule). AreValuesAbove r c.shift-len.result.len c.deref.result.now c.deref-graph.result.now c.args.last kept) (sym is.rule)
-    (subst (λ (n : ℕ). AreValuesAbove x.0.1 n c.deref.result.now c.deref-graph.result.now c.args.last kept) (sym is.len)
-    (subst (λ (l : List ℤ). AreValuesAbove x.0.1 x.0.0.len l c.deref-graph.result.now c.args.last kept) (sym c.deref.ensures.value)
-    (subst (λ (l : List Node). AreValuesAbove x.0.1 x.0.0.len c.in_ok-sums.sums.items l c.args.last kept) (sym c.deref-graph.ensures) base)))
+    let sums = c.in_ok-sums.sums.items in
+    let values = c.in-OverGraph.values.items in
+    let nodes : c.deref-nodes.result.now ≡ arc_value c.in-OverGraph.graph = c.deref-nodes.ensures ∙ c.in_ok-graph-in-OverGraph.ensures in
+    let base : AreValuesAbove x.0.1 x.0.0.len sums (arc_value c.in-OverGraph.graph) c.args.last values =
+    subst (AreKeptAbove x.0.1 x.0.0.len sums c.args.last) c.in-OverGraph.is (c.requires.kept x.0 x.1 sums (c.in_ok-sums.ensures.prices x.0 x.1)) in
+    subst (λ (r : Rule). AreValuesAbove r c.shift-len.result.len c.deref.result.now c.deref-nodes.result.now c.args.last c.deref-in-OverGraph.result.now) (sym is.rule)
+    (subst (λ (n : ℕ). AreValuesAbove x.0.1 n c.deref.result.now c.deref-nodes.result.now c.args.last c.deref-in-OverGraph.result.now) (sym is.len)
+    (subst (λ (l : List ℤ). AreValuesAbove x.0.1 x.0.0.len l c.deref-nodes.result.now c.args.last c.deref-in-OverGraph.result.now) (sym c.deref.ensures.value)
+    (subst (λ (l : List Node). AreValuesAbove x.0.1 x.0.0.len sums l c.args.last c.deref-in-OverGraph.result.now) (sym nodes)
+    (subst (AreValuesAbove x.0.1 x.0.0.len sums (arc_value c.in-OverGraph.graph) c.args.last) (sym c.deref-in-OverGraph.ensures.value) base))))
 
 pub with_values-rests-requires : goal.with_values-rests-requires
 with_values-rests-requires g c =
@@ -50,33 +54,31 @@ with_values-rests-requires g c =
     let is = the_shift g own x.0 x.1 in
     let rule = c.rule_of-rule.result.now in
     let len = c.shift-len.result.len in
-    let values = c.in_ok-values.values.items in
-    let graph : IsGraph x.0.1 x.0.0.len (arc_value c.args.subject.now.graph) = c.requires.graph x.0 x.1 in
+    let values = c.in_ok-values-in-OverGraph.values.items in
+    let nodes : c.deref-nodes.result.now ≡ arc_value c.in-OverGraph.graph = c.deref-nodes.ensures ∙ c.in_ok-graph-in-OverGraph.ensures in
+    let graph : IsGraph x.0.1 x.0.0.len (arc_value c.in-OverGraph.graph) = subst (IsGraphKept x.0.1 x.0.0.len) c.in-OverGraph.is (c.requires.graph x.0 x.1) in
     record {
       well_formed = c.rule_of-rule.ensures.within;
-      graph = subst (λ (l : List Node). IsGraph rule len l) (sym c.deref-graph.ensures)
-          (subst (λ (r : Rule). IsGraph r len (arc_value c.args.subject.now.graph)) (sym is.rule) (subst (λ (n : ℕ). IsGraph x.0.1 n (arc_value c.args.subject.now.graph)) (sym is.len) graph));
+      graph = subst (IsGraph rule len) (sym nodes)
+          (subst (λ (r : Rule). IsGraph r len (arc_value c.in-OverGraph.graph)) (sym is.rule) (subst (λ (n : ℕ). IsGraph x.0.1 n (arc_value c.in-OverGraph.graph)) (sym is.len) graph));
       small = subst (λ (n : ℕ). AreSums n c.in_ok-sums.sums.items) (sym is.len) (c.in_ok-sums.ensures.small x.0 x.1);
-      known = subst (λ (l : List ℤ). AreValues rule len l c.deref-graph.result.now (length c.deref-graph.result.now) values) c.deref.ensures.value
-          c.in_ok-values.ensures.values;
+      known = subst (λ (l : List ℤ). AreValues rule len l c.deref-nodes.result.now (length c.deref-nodes.result.now) values) c.deref.ensures.value
+          c.in_ok-values-in-OverGraph.ensures.values;
     }
 
-pub returns-clause-found : goal.returns-clause-found
-returns-clause-found g c = λ x e.
-    let own = (goal.at.returns-clause-found g c).In_ok-sums in
+pub returns-in_ok-best-in-OverGraph-clause-found : goal.returns-in_ok-best-in-OverGraph-clause-found
+returns-in_ok-best-in-OverGraph-clause-found g c = λ x e.
+    let own = (goal.at.returns-in_ok-best-in-OverGraph-clause-found g c).In_ok-sums in
     let is = the_shift g own x e in
-    let nodes = arc_value c.args.subject.now.graph in
+    let nodes = arc_value c.in_ok-graph-in-OverGraph.graph in
     let sums = c.in_ok-sums.sums.items in
-    let back = c.into_sums_and_values-sums.result.0.items in
     let made : c.with_values-rests.result ≡ record { rule = x.1; len = x.0.len; nodes = nodes; sums = sums } =
-    c.with_values-rests.ensures ∙ ap (λ (r : Rule). record { rule = r; len = c.shift-len.result.len; nodes = c.deref-graph.result.now; sums = sums }) is.rule
-    ∙ ap (λ (n : ℕ). record { rule = x.1; len = n; nodes = c.deref-graph.result.now; sums = sums }) is.len
-    ∙ ap (λ (l : List Node). record { rule = x.1; len = x.0.len; nodes = l; sums = sums }) c.deref-graph.ensures in
-    let same : back ≡ sums = c.into_sums_and_values-sums.ensures.sums ∙ ap (λ (p : PricedNodes). p.sums) made in
-    let best : IsBestFound (record { rule = x.1; len = x.0.len; sums = sums }) c.args.subject.now.trie.entries c.in_ok-best.best =
-    subst (λ (p : Priced). IsBestFound p c.args.subject.now.trie.entries c.in_ok-best.best) (ap priced_of made) c.in_ok-best.ensures.best in
+    c.with_values-rests.ensures ∙ ap (λ (r : Rule). record { rule = r; len = c.shift-len.result.len; nodes = c.deref-nodes.result.now; sums = sums }) is.rule
+    ∙ ap (λ (n : ℕ). record { rule = x.1; len = n; nodes = c.deref-nodes.result.now; sums = sums }) is.len
+    ∙ ap (λ (l : List Node). record { rule = x.1; len = x.0.len; nodes = l; sums = sums }) c.deref-nodes.ensures in
     record {
-      sums_of = subst (ArePricesOf c.args.instance.now x.0 c.args.subject.now.day c.args.prices.now) (sym same) (c.in_ok-sums.ensures.prices x e);
-      rests = subst (λ (p : PricedNodes). AreBestRests p.rule p.len p.nodes back c.into_sums_and_values-sums.result.1.items) made c.into_sums_and_values-sums.ensures.rests;
-      is_best = subst (λ (l : List ℤ). IsBestFound (record { rule = x.1; len = x.0.len; sums = l }) c.args.subject.now.trie.entries c.in_ok-best.best) (sym same) best;
+      sums = sums;
+      sums_of = c.in_ok-sums.ensures.prices x e;
+      rests = subst (λ (p : PricedNodes). AreBestRests p.rule p.len p.nodes p.sums c.into_values-values.result.items) made c.into_values-values.ensures;
+      is_best = subst (λ (p : Priced). IsBestFound p c.args.subject.now.trie.entries c.in_ok-best-in-OverGraph.best) (ap priced_of made) c.in_ok-best-in-OverGraph.ensures.best;
     }

@@ -14,7 +14,7 @@ returns-in-Some c = λ bonus same.
     let own = c.self.inside in
     let t : Tabled = record { instance = own.instance.value; shift = own.subject.shift; day = own.subject.day; prices = own.prices.items; bonus = own.subject.trie.entries } in
     let fits : FitsSigned w128 best.value = search rules in
-    let is : IsBest t.instance t.shift t.day t.prices t.bonus best.list best.value = best_some t _ _ _ _ _ c.self.invariant best c.in-Some.is in
+    let is : IsBest t.instance t.shift t.day t.prices t.bonus best.list best.value = best_some t _ _ _ c.self.invariant best c.in-Some.is in
     let view = c.args.self.now in
     let here : IsBest view.instance view.shift view.day view.prices view.bonus best.list best.value = subst (λ (t : Tabled). IsBest t.instance t.shift t.day t.prices t.bonus best.list best.value) c.self.view_is is in
     subst (IsBest view.instance view.shift view.day view.prices bonus c.as_slice.result.now) (sym (to_z-of_z w128 best.value fits))
@@ -24,5 +24,5 @@ pub returns-in-None : goal.returns-in-None
 returns-in-None c = λ bonus same list.
     let own = c.self.inside in
     let t : Tabled = record { instance = own.instance.value; shift = own.subject.shift; day = own.subject.day; prices = own.prices.items; bonus = own.subject.trie.entries } in
-    let none : is_list_of t.instance t.shift list ≡ false = best_none t _ _ _ _ _ c.self.invariant c.in-None.is list in
+    let none : is_list_of t.instance t.shift list ≡ false = best_none t _ _ _ c.self.invariant c.in-None.is list in
     subst (λ (t : Tabled). is_list_of t.instance t.shift list ≡ false) c.self.view_is none
