@@ -3,6 +3,7 @@ pub mod Bounding
 pub mod DayValues
 pub mod Falls
 pub mod Growing
+pub mod Keeping
 pub mod Leading
 pub mod Lowering
 pub mod Places

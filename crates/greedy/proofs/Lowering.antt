@@ -113,9 +113,9 @@ value_of : (i : Problem) (prices : List ℤ) (s day : ℕ) (o : Option (List Bre
 unfolding day_value
 value_of i prices s day o e = ap (λ o. option_map_or (earned_with i prices s day) o (pos 0)) e
 
--- where no price rises no value does
-pub value_falls : (i : Problem) (new old : List ℤ) (s day : ℕ) → ((t : ℕ) → t < slots i → price_of new t ≤ℤ price_of old t) → day_value i new s day ≤ℤ day_value i old s day
-value_falls i new old s day h =
+-- where no duty earns more the value is no more
+pub value_no_more : (i : Problem) (new old : List ℤ) (s day : ℕ) → ((list : List Break) → earned_with i new s day list ≤ℤ earned_with i old s day list) → day_value i new s day ≤ℤ day_value i old s day
+value_no_more i new old s day h =
     elim (best_cases i new s day) [
       | inl none ↦ elim (best_cases i old s day) [
         | inl also ↦ no_more (day_value i new s day) (day_value i old s day) (value_of i new s day None none ∙ sym (value_of i old s day None also))
@@ -130,11 +130,15 @@ value_falls i new old s day h =
           let is : day_value i new s day ≡ earned_with i new s day some.0 = value_of i new s day (Some some.0) some.1 in
           let was : day_value i old s day ≡ earned_with i old s day b.0 = value_of i old s day (Some b.0) b.1 in
           chain (day_value i new s day) (earned_with i new s day some.0) (earned_with i old s day some.0) (earned_with i old s day b.0) (day_value i old s day) is
-          (earned_falls i new old (duty s day some.0) h) (best_most i old s day some.0 b.0 b.1 m) was
+          (h some.0) (best_most i old s day some.0 b.0 b.1 m) was
     ]
   where
     chain : (a b c d e : ℤ) → a ≡ b → b ≤ℤ c → c ≤ℤ d → e ≡ d → a ≤ℤ e
     chain a b c d e p q r s = omega (arith, ints)
+
+-- where no price rises no value does
+pub value_falls : (i : Problem) (new old : List ℤ) (s day : ℕ) → ((t : ℕ) → t < slots i → price_of new t ≤ℤ price_of old t) → day_value i new s day ≤ℤ day_value i old s day
+value_falls i new old s day h = value_no_more i new old s day (λ list. earned_falls i new old (duty s day list) h)
 
 -- ---- gains
 -- what a day adds to the gain doesn't rise where its value falls and its heads grow

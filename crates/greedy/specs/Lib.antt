@@ -1,5 +1,6 @@
 pub mod Bounds
+pub mod Drafts
 pub mod Greedy
+pub mod Kept
 pub mod Sizes
 pub mod Values
-pub mod Drafts

@@ -5,12 +5,13 @@ ghost use Rattle.shift_instance.specs.Problem.{shift_list};
 ghost use Rattle.greedy.specs.Bounds.{AreBounds, bound_at};
 ghost use Rattle.greedy.specs.Drafts.{IsDraft, Leads};
 ghost use Rattle.greedy.specs.Greedy.{gain, marginal_prices, next_shift};
+ghost use Rattle.greedy.specs.Kept.{KeepsEach};
 ghost use Rattle.greedy.specs.Sizes.{ArePrices, IsWithin};
 ghost use Rattle.greedy.specs.Values.{AreValuesOf};
 
 use crate::draft::Draft;
 use crate::gains::gain;
-use crate::values::day_values;
+use crate::known::{KnownDays, kept_values};
 use break_rules::NoMemory;
 use price_sums::{DaySums, Lane};
 use shift_instance::Instance;
@@ -54,28 +55,32 @@ fn leading(bounds: &[i64]) -> Option<u16>
     best
 }
 
-/// The shift to take next, with its values: that of greatest gain, and of least number among equals, where its gain is
-/// above 0. Its bound is its gain then.
+/// The shift to take next, with its values at the marginal prices that the sums are of: that of greatest gain, and of least number
+/// among equals, where its gain is above 0. Its bound is its gain then.
 pub(crate) fn next_shift(
     alloc: Global,
     instance: &Instance,
     draft: &Draft,
-    prices: &[i64],
+    sums: &DaySums,
     bounds: &mut Vec<i64>,
+    known: &mut [KnownDays],
 ) -> Result<Option<Taken>, NoMemory>
     requires draft { IsDraft instance.now draft.now.cover draft.now.heads.items draft.now.rows.items }
-    requires prices { prices.now ≡ marginal_prices instance.now draft.now.cover.duties }
-    requires priced { ArePrices instance.now prices.now }
+    requires sums { sums.now.instance ≡ instance.now }
+    requires prices { sums.now.prices ≡ marginal_prices instance.now draft.now.cover.duties }
+    requires priced { ArePrices instance.now sums.now.prices }
     requires bounds { AreBounds instance.now draft.now.cover.duties bounds.old.items }
+    requires known { KeepsEach instance.now sums.now.prices known.old }
     ensures next { IfOk result (λ found. MatchOption found (None ≡ next_shift instance.now draft.now.cover.duties) (λ taken. Some taken.shift ≡ next_shift instance.now draft.now.cover.duties)) }
-    ensures values { IfOk result (λ found. MatchOption found (None ≡ next_shift instance.now draft.now.cover.duties) (λ taken. AreValuesOf instance.now prices.now taken.shift taken.values)) }
+    ensures values { IfOk result (λ found. MatchOption found (None ≡ next_shift instance.now draft.now.cover.duties) (λ taken. AreValuesOf instance.now sums.now.prices taken.shift taken.values)) }
     ensures exact { IfOk result (λ found. MatchOption found (None ≡ next_shift instance.now draft.now.cover.duties) (λ taken. bound_at bounds.new.items taken.shift ≡ gain instance.now draft.now.cover.duties taken.shift)) }
     ensures bounds { OnOk result (AreBounds instance.now draft.now.cover.duties bounds.new.items) }
+    ensures known { OnOk result (KeepsEach instance.now sums.now.prices known.new) }
 {
-    let sums = DaySums::new(alloc, instance, prices)?;
     let mut lanes = Vec::new(alloc);
     'looks: while let Some(shift) = leading(bounds) {
-        let values = day_values(alloc, instance, &sums, shift, &mut lanes)?;
+        let entry = &mut known[usize::from(shift)];
+        let values = kept_values(alloc, instance, sums, shift, entry, &mut lanes)?;
         let gain = gain(instance, draft, &values, shift);
         if gain == bounds[usize::from(shift)] {
             return Ok(Some(Taken { shift, values }));

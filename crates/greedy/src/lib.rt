@@ -4,6 +4,8 @@
 mod bounds;
 mod draft;
 mod gains;
+mod kept;
+mod known;
 mod laws;
 mod lists;
 mod plan;

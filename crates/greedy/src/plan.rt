@@ -3,16 +3,17 @@ ghost use Rattle.std.specs.Prelude.{◌≡◌, ◌<◌, ◌≤◌, ◌+◌, ◌+
 ghost use Rattle.shift_instance.specs.Problem.{shift_list};
 ghost use Rattle.shift_instance.specs.Rota.{are_legal_rows, cost, heads_on, rota_of};
 ghost use Rattle.greedy.specs.Bounds.{AreBounds};
+ghost use Rattle.greedy.specs.Kept.{AreKept};
 ghost use Rattle.greedy.specs.Sizes.{ArePrices};
 ghost use Rattle.greedy.specs.Values.{AreValuesOf};
 ghost use Rattle.greedy.specs.Drafts.{IsDraft, LeadsToGreedy};
 ghost use Rattle.greedy.specs.Greedy.{best_duty, day_value, greedy_rows, is_wanted, marginal_prices, new_duties};
 
-use crate::bounds::{next_shift, opening_bounds, raise};
+use crate::bounds::{next_shift, raise};
 use crate::draft::Draft;
 use crate::gains::is_wanted;
+use crate::kept::Kept;
 use crate::lists::best_list;
-use crate::prices::marginal_prices;
 use crate::values::value_on;
 use break_rules::NoMemory;
 use price_sums::Lane;
@@ -70,27 +71,36 @@ fn add_days(
 }
 
 /// One round: takes the shift of greatest gain, and says whether there was one. The bounds are no less than the gains, and
-/// stay so.
+/// stay so; what is kept is at the marginal prices of the plan, and stays so while there are shifts to take.
 fn round(
     alloc: Global,
     instance: &Instance,
     draft: &mut Draft,
-    bounds: &mut Vec<i64>,
+    kept: &mut Kept,
 ) -> Result<bool, NoMemory>
     requires draft { IsDraft instance.now draft.old.cover draft.old.heads.items draft.old.rows.items }
-    requires bounds { AreBounds instance.now draft.old.cover.duties bounds.old.items }
+    requires bounds { AreBounds instance.now draft.old.cover.duties kept.old.bounds.items }
+    requires kept { AreKept instance.now draft.old.cover.duties kept.old.prices.items kept.old.sums kept.old.known.items }
     ensures draft { OnOk result (IsDraft instance.now draft.new.cover draft.new.heads.items draft.new.rows.items) }
     ensures leads { IfOk result (λ more. (rounds : ℕ) → LeadsToGreedy instance.now (rounds + 1) draft.old.cover.duties
         → MatchBool more (LeadsToGreedy instance.now rounds draft.new.cover.duties) (LeadsToGreedy instance.now 0 draft.new.cover.duties)) }
-    ensures bounds { OnOk result (AreBounds instance.now draft.new.cover.duties bounds.new.items) }
+    ensures bounds { OnOk result (AreBounds instance.now draft.new.cover.duties kept.new.bounds.items) }
+    ensures kept { OnOk result (AreKept instance.now draft.new.cover.duties kept.new.prices.items kept.new.sums kept.new.known.items) }
 {
-    let prices = marginal_prices(alloc, instance, &draft.cover)?;
-    match next_shift(alloc, instance, draft, &prices, bounds)? {
+    match next_shift(
+        alloc,
+        instance,
+        draft,
+        &kept.sums,
+        &mut kept.bounds,
+        &mut kept.known,
+    )? {
         Some(taken) => {
             let shift = taken.shift;
             let values = taken.values;
-            add_days(alloc, instance, draft, &prices, &values, shift)?;
-            raise(instance, bounds, shift);
+            add_days(alloc, instance, draft, &kept.prices, &values, shift)?;
+            raise(instance, &mut kept.bounds, shift);
+            kept.take_prices(alloc, instance, &draft.cover)?;
             Ok(true)
         }
         None => Ok(false),
@@ -103,12 +113,12 @@ fn greedy_draft(alloc: Global, instance: &Instance) -> Result<Draft, NoMemory>
     ensures leads { IfOk result (λ d. LeadsToGreedy instance.now 0 d.cover.duties) }
 {
     let mut draft = Draft::empty(alloc, instance)?;
-    let mut bounds = opening_bounds(alloc, instance)?;
+    let mut kept = Kept::opening(alloc, instance, &draft.cover)?;
     let most = instance.shifts().len()
         * usize::from(instance.days())
         * usize::from(instance.heads());
     'rounds: for _round in 0..most {
-        if !round(alloc, instance, &mut draft, &mut bounds)? {
+        if !round(alloc, instance, &mut draft, &mut kept)? {
             return Ok(draft);
         }
     }

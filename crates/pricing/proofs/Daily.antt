@@ -46,40 +46,50 @@ opening_at rule len nodes k g last =
     let at : k ≡ length nodes - 1 = omega (arith, last) in
     subst (λ n. StandsAt rule len nodes n []) (sym at) (g.opening (some_nodes nodes k last))
 
+-- the value of no breaks on a day is what the best duty of the day earns
+pub most_of_value : (i : Problem) (s : ℕ) (prices : List ℤ) (lanes : List (List ℤ)) (shift : Shift) (rule : Rule) (day : ℕ) (v : ℤ)
+    → IsSomeAnd (slice_get (shift_list i) s) (λ y. shift ≡ y.0) → IsSomeAnd (slice_get (shift_list i) s) (λ y. rule ≡ y.1)
+    → IsValid i → IsShift i shift → ((x : Shift × Rule) → slice_get (shift_list i) s ≡ Some x → AreSumsByDay i x.0 prices lanes)
+    → day < i.days → IsValue rule shift.len (sums_on day lanes) [] v
+    → IsMostOn i s day prices v
+most_of_value i s prices lanes shift rule day v own_shift own_rule valid inside of less value =
+    let some = some_of (slice_get (shift_list i) s) (λ y. shift ≡ y.0) own_shift in
+    let x = some.0 in
+    let same_shift : shift ≡ x.0 = some_at (slice_get (shift_list i) s) x (λ y. shift ≡ y.0) some.1 own_shift in
+    let same_rule : rule ≡ x.1 = some_at (slice_get (shift_list i) s) x (λ y. rule ≡ y.1) some.1 own_rule in
+    let own : IsValue x.1 x.0.len (sums_on day lanes) [] v =
+    subst (λ (z : Shift). IsValue x.1 z.len (sums_on day lanes) [] v) same_shift (subst (λ (r : Rule). IsValue r shift.len (sums_on day lanes) [] v) same_rule value) in
+    most_is i s day prices (sums_on day lanes) x some.1 (short_shift i x.0 valid (subst (IsShift i) same_shift inside)) ((of x some.1).each day less) v own
+
 -- the values of no breaks on all days are what the best duties earn
 pub most_of_values : (i : Problem) (s : ℕ) (prices : List ℤ) (lanes : List (List ℤ)) (shift : Shift) (rule : Rule) (list : List ℤ)
     → IsSomeAnd (slice_get (shift_list i) s) (λ y. shift ≡ y.0) → IsSomeAnd (slice_get (shift_list i) s) (λ y. rule ≡ y.1)
     → IsValid i → IsShift i shift → ((x : Shift × Rule) → slice_get (shift_list i) s ≡ Some x → AreSumsByDay i x.0 prices lanes)
     → ((day : ℕ) → day < i.days → IsValue rule shift.len (sums_on day lanes) [] (get_or list day (pos 0)))
     → AreMostByDay i s prices i.days list
-most_of_values i s prices lanes shift rule list own_shift own_rule valid inside of values =
-    let some = some_of (slice_get (shift_list i) s) (λ y. shift ≡ y.0) own_shift in
-    let x = some.0 in
-    let same_shift : shift ≡ x.0 = some_at (slice_get (shift_list i) s) x (λ y. shift ≡ y.0) some.1 own_shift in
-    let same_rule : rule ≡ x.1 = some_at (slice_get (shift_list i) s) x (λ y. rule ≡ y.1) some.1 own_rule in
-    record {
-      each = λ day less.
-          let v = get_or list day (pos 0) in
-          let own : IsValue x.1 x.0.len (sums_on day lanes) [] v =
-          subst (λ (z : Shift). IsValue x.1 z.len (sums_on day lanes) [] v) same_shift (subst (λ (r : Rule). IsValue r shift.len (sums_on day lanes) [] v) same_rule (values day less)) in
-          most_is i s day prices (sums_on day lanes) x some.1 (short_shift i x.0 valid (subst (IsShift i) same_shift inside)) ((of x some.1).each day less) v own;
-    }
+most_of_values i s prices lanes shift rule list own_shift own_rule valid inside of values = record {
+  each = λ day less. most_of_value i s prices lanes shift rule day (get_or list day (pos 0)) own_shift own_rule valid inside of less (values day less);
+}
 
 pub none_below : (n : ℕ) → (1 ≤ n → ⊥) → n ≡ 0
 none_below zero h = refl
 none_below (suc n) h = absurd (h (omega arith))
 
--- a graph without nodes is one of a shift without legal lists
+-- a graph without nodes is one of a rule and a length without legal lists
+pub no_nodes : (rule : Rule) (len : ℕ) (nodes : List Node) → IsGraph rule len nodes → length nodes ≡ 0 → (list : List Break) → is_legal rule len list ≡ false
+no_nodes rule len nodes graph none = none_legal rule len (graph.none (empty nodes none))
+  where
+    empty : (ns : List Node) → length ns ≡ 0 → ns ≡ []
+    empty [] h = refl
+    empty (n ∷ ns) h = absurd (omega (arith, h))
+
+-- and of a shift without them
 pub no_list : (i : Problem) (s : ℕ) (kept nodes : List Node) → IsSomeAnd (slice_get (shift_list i) s) (λ y. IsGraph y.1 y.0.len kept) → nodes ≡ kept → length nodes ≡ 0 → (list : List Break) → is_list_of i s list ≡ false
 no_list i s kept nodes own same none list =
     let some = some_of (slice_get (shift_list i) s) (λ y. IsGraph y.1 y.0.len kept) own in
     let x = some.0 in
     let graph : IsGraph x.1 x.0.len nodes = subst (IsGraph x.1 x.0.len) (sym same) (some_at (slice_get (shift_list i) s) x (λ y. IsGraph y.1 y.0.len kept) some.1 own) in
-    ap (λ o. option_map_or (λ (y : Shift × Rule). is_legal y.1 y.0.len list) o false) some.1 ∙ none_legal x.1 x.0.len (graph.none (empty nodes none)) list
-  where
-    empty : (ns : List Node) → length ns ≡ 0 → ns ≡ []
-    empty [] h = refl
-    empty (n ∷ ns) h = absurd (omega (arith, h))
+    ap (λ o. option_map_or (λ (y : Shift × Rule). is_legal y.1 y.0.len list) o false) some.1 ∙ no_nodes x.1 x.0.len nodes graph none list
 
 -- the values of the last node on all days are what the best duties earn
 pub most_of_days : (i : Problem) (s : ℕ) (prices : List ℤ) (lanes values : List (List ℤ)) (shift : Shift) (rule : Rule) (nodes : List Node) (k : ℕ) (list : List ℤ)

@@ -18,7 +18,7 @@ use shift_instance::Instance;
 use std::alloc::Global;
 
 /// The sums of a day, of those of all days side by side.
-fn sums_of_day(alloc: Global, lanes: &[Lane], day: usize) -> Result<Vec<i64>, NoMemory>
+pub fn sums_of_day(alloc: Global, lanes: &[Lane], day: usize) -> Result<Vec<i64>, NoMemory>
     requires { day < 8 }
     ensures { IfOk result (λ sums. sums.items ≡ sums_on day lanes.now) }
 {
@@ -93,7 +93,7 @@ pub fn bests_by_layers(
 }
 
 /// What the best list for a rule and a length earns by sums of prices, and `None` where no list is legal.
-fn most_of_lists(
+pub fn most_of_lists(
     alloc: Global,
     rule: &Rule,
     len: u16,

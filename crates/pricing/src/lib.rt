@@ -5,6 +5,7 @@ mod anew;
 mod around;
 mod beginnings;
 mod day_lists;
+mod day_value;
 mod day_values;
 mod days;
 mod found;
@@ -19,6 +20,7 @@ mod tables;
 mod values;
 
 pub use day_lists::best_by_day;
+pub use day_value::most_on_day;
 pub use days::most_by_day;
 pub use search::best_pattern;
 pub use spots::value_of_spot;

@@ -1,13 +1,12 @@
-use Rattle.std.proofs.Common.{List, sym, subst, rules}
-use Rattle.shift_instance.specs.declared.Duty.{Duty}
-use Rattle.greedy.specs.Bounds.{AreBounds}
+use Rattle.std.proofs.Common.{rules}
 use Rattle.greedy.proofs.Rounding.{last_round, next_round, rounds_done, opening_leads}
 use Rattle.greedy.proofs.plan.greedy_draft.Goals as goal
 
 pub rounds-init : goal.rounds-init
 rounds-init c = record {
   draft = c.in_ok-draft.ensures.draft;
-  bounds = subst (λ (ds : List Duty). AreBounds c.args.instance.now ds c.in_ok-bounds.bounds.items) (sym c.in_ok-draft.ensures.duties) c.in_ok-bounds.ensures;
+  bounds = c.in_ok-kept.ensures.bounds;
+  kept = c.in_ok-kept.ensures.kept;
   leads = opening_leads c.args.instance.now _ c.in_ok-draft.draft.cover.duties c.in_ok-draft.ensures.duties (search rules);
 }
 
@@ -15,6 +14,7 @@ pub rounds-preserved : goal.rounds-preserved
 rounds-preserved c = record {
   draft = c.in_ok-round.ensures.draft;
   bounds = c.in_ok-round.ensures.bounds;
+  kept = c.in_ok-round.ensures.kept;
   leads = next_round c.args.instance.now _ c.rounds._round c.rounds.draft.cover.duties c.round.new.draft.cover.duties c.in_ok-round.field-0
       c.rounds-test.true c.if-not-branch.false c.in_ok-round.ensures.leads c.rounds.invariant.leads;
 }
