@@ -124,10 +124,10 @@ unfolding slots_in
 slots_again [] h = refl
 slots_again (z ∷ zs) h = slots_by (joined signed_decimal (z ∷ zs)) (z ∷ zs) (some_text z zs (All-head (FitsSigned w64) z zs h)) (some_slots.again (z ∷ zs) (h, omega arith))
 
-slots_exact : Exact FitsSlots (joined signed_decimal) slots_in
+pub slots_exact : Exact FitsSlots (joined signed_decimal) slots_in
 slots_exact = record { takes = slots_takes; again = slots_again }
 
-slots_lack : (by : ℕ) → by < 44 → (prices : List ℤ) → FitsSlots prices → Lacks by (joined signed_decimal prices)
+pub slots_lack : (by : ℕ) → by < 44 → (prices : List ℤ) → FitsSlots prices → Lacks by (joined signed_decimal prices)
 slots_lack by small prices h = joined_lacks (FitsSigned w64) signed_decimal by small (slot_lacks by (omega arith)) prices (recursion_from_All (FitsSigned w64) prices h)
 
 -- ---- prices of cuts

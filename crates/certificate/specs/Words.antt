@@ -1,11 +1,13 @@
 -- How the words of a line are read, and one line after another. Contracts of private functions speak of it.
-use Rattle.std.specs.Prelude.{◌≡◌, ℕ, ℤ, pos, negsuc, zero, suc, ◌-◌, ◌^◌, Bool, true, false, not, ◌&&◌, nat_lt, nat_le, ◌==◌, if◌then◌else◌, List, [], ◌∷◌, length, take, drop, bytes_eq, Option, Some, None, option_map, Result, Ok, Err, codes}
+use Rattle.std.specs.Prelude.{◌≡◌, ℕ, ℤ, pos, negsuc, zero, suc, ◌-◌, ◌^◌, Bool, true, false, not, ◌&&◌, nat_lt, nat_le, ◌==◌, if◌then◌else◌, List, [], ◌∷◌, ◌++◌, All, FitsSigned, length, take, drop, bytes_eq, Option, Some, None, option_map, Result, Ok, Err, codes}
 use Rattle.std.specs.List.{slice_split}
 use Rattle.std.specs.Char.{is_ascii_digit}
-use Rattle.std.specs.Fmt.{decimal}
+use Rattle.std.specs.Fmt.{decimal, signed_decimal}
+use Rattle.std.specs.Int.{w64}
 use Rattle.std.specs.Str.Parse.{digits_value}
 use Rattle.break_rules.specs.declared.Break.{Break}
 use Rattle.shift_instance.specs.declared.Row.{Row}
+use Rattle.certificate.specs.LineText.{joined}
 use Rattle.certificate.specs.declared.proof_lines.Line.{Line as ProofLine}
 use Rattle.certificate.specs.declared.proof_lines.Line.TheVariants.{Split, Priced, Settled}
 use Rattle.post_codec.specs.Reading.{Reader}
@@ -122,6 +124,11 @@ parts_or_none read (b ∷ bs) = parts_in read (b ∷ bs)
 -- the price of each slot
 unfoldable pub slots_in : Words (List ℤ)
 slots_in text = parts_or_none slot_price_in text
+
+-- a text is the prices of some slots with commas between them, a blank and more text
+pub record IsSlotsBefore (text : List ℕ) (prices : List ℤ) (rest : List ℕ) : Type 0 where
+  pub is : text ≡ joined signed_decimal prices ++ 32 ∷ rest
+  pub fit : All (FitsSigned w64) prices
 
 -- the price of each cut
 unfoldable pub cuts_in : Words (List ℕ)

@@ -19,6 +19,7 @@ mod proof_lines;
 mod proof_words;
 mod proof_writing;
 mod reading;
+mod slot_words;
 mod words;
 mod writing;
 

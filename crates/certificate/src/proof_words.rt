@@ -3,6 +3,7 @@ ghost use Rattle.std.specs.Prelude.{◌≡◌, ◌<◌, ◌≤◌, ◌-◌, ◌^
 ghost use Rattle.certificate.specs.Words.{Finds, kept, led_by, led_or, parts_in, number_in, minus, slot_price_in, slots_in, cuts_in, split_in, priced_in, settled_in, any_line_in, has_slot, proof_line_in, proof_count_in};
 
 use crate::proof_lines::Line;
+use crate::slot_words::prices_of;
 use crate::words::{breaks_of, cut, number, rest_behind, sides, text_behind};
 use head_splits::{Class, CutPrices, Prices, SlotPrices};
 use post_codec::Stop;
@@ -78,7 +79,7 @@ fn cut_list(alloc: Global, text: &[u8], left: usize) -> Result<Vec<u64>, Stop>
 
 /// The prices of slots, which are none for no text.
 #[tactic(auto, unfolding(crate::specs::Words::slots_in))]
-fn slots_of(alloc: Global, text: &[u8], left: usize) -> Result<SlotPrices, Stop>
+pub(crate) fn slots_of(alloc: Global, text: &[u8], left: usize) -> Result<SlotPrices, Stop>
     ensures { Finds (λ p. p) left result (slots_in text.now) }
 {
     if text.is_empty() {
@@ -90,7 +91,7 @@ fn slots_of(alloc: Global, text: &[u8], left: usize) -> Result<SlotPrices, Stop>
 
 /// The prices of cuts, which are none for `-`.
 #[tactic(auto, unfolding(crate::specs::Words::cuts_in))]
-fn cuts_of(alloc: Global, text: &[u8], left: usize) -> Result<CutPrices, Stop>
+pub(crate) fn cuts_of(alloc: Global, text: &[u8], left: usize) -> Result<CutPrices, Stop>
     ensures { Finds (λ p. p) left result (cuts_in text.now) }
 {
     if text == b"-".as_slice() {
@@ -135,9 +136,7 @@ fn priced_of(alloc: Global, text: &[u8], left: usize) -> Result<Line, Stop>
     let node = number(node, 4_294_967_295, left)?;
     let (q, text) = sides(b' ', text, left)?;
     let q = number(q, 65535, left)?;
-    let (slots, cuts) = sides(b' ', text, left)?;
-    let slots = slots_of(alloc, slots, left)?;
-    let cuts = cuts_of(alloc, cuts, left)?;
+    let (slots, cuts) = prices_of(alloc, text, left)?;
     let prices = Prices {
         q: q as u16,
         slots,

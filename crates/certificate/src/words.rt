@@ -7,6 +7,7 @@ ghost use Rattle.std.specs.List.{position};
 
 use crate::CertStatus;
 use break_rules::{Break, Breaks};
+use memchr::memchr;
 use post_codec::Stop;
 use shift_instance::Row;
 use std::alloc::Global;
@@ -17,7 +18,7 @@ fn place(by: u8, text: &[u8]) -> Option<usize>
     ensures place { result ≡ position (λ b. b == by) text.now }
     ensures within { IfSome result (λ at. at < length text.now) }
 {
-    text.iter().position(|byte| *byte == by)
+    memchr(by, text)
 }
 
 /// The text before the first such byte, and the text behind it.
