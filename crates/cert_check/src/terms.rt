@@ -1,15 +1,15 @@
 //! The values of the duties of shifts, by the walk over their breaks.
 
-ghost use Rattle.std.specs.Prelude.{◌≡◌, ◌≤◌, ◌<◌, ◌^◌, ⊤, ℕ, [], false, IfOk, IsSomeAnd, IsTrue, MatchOption, length, slice_get, slice_index};
+ghost use Rattle.std.specs.Prelude.{◌≡◌, ◌≤◌, ◌<◌, ◌^◌, ⊤, ℕ, [], false, IfOk, IfSome, IsSomeAnd, IsTrue, MatchOption, length, slice_get, slice_index};
 ghost use Rattle.std.specs.Int.RustNames.{unsigned_abs};
 ghost use Rattle.break_rules.specs.Breaks.{is_live};
 ghost use Rattle.break_rules.specs.Ranges.{IsRule};
 ghost use Rattle.break_graph.specs.Graph.{IsGraph};
-ghost use Rattle.shift_instance.specs.Problem.{shift_list};
+ghost use Rattle.shift_instance.specs.Problem.{shift_list, slots};
 ghost use Rattle.shift_instance.specs.Rota.{lists_of};
 ghost use Rattle.shift_instance.specs.Valid.{IsValid};
 ghost use Rattle.head_splits.specs.Bound.{are_prices, bound_of, is_nil};
-ghost use Rattle.price_sums.specs.Along.{AreSums, Completes};
+ghost use Rattle.price_sums.specs.Along.{AreSmallPrices, AreSums, Completes};
 ghost use Rattle.price_sums.specs.Days.{sums_on};
 ghost use Rattle.bound_sums.specs.Values.{AreValues};
 ghost use Rattle.cert_check.specs.Rests.{IsGreatest};
@@ -154,17 +154,48 @@ fn values_by_layers(
     Ok(Some(values))
 }
 
+/// The sums of slot prices, and the prices themselves.
+#[derive(Drop)]
+struct SlotSums {
+    sums: DaySums,
+    slots: Vec<i64>,
+    ghost same: { sums.prices ≡ slots.items },
+}
+
+/// The sums of slot prices: those that were kept where they are of these prices, and else new ones.
+fn slot_sums(
+    alloc: Global,
+    kept: Option<SlotSums>,
+    instance: &Instance,
+    prices: &[i64],
+) -> Result<SlotSums, NoMemory>
+    requires count { length prices.now ≡ slots instance.now }
+    requires prices { AreSmallPrices prices.now }
+    requires kept { IfSome kept (λ k. k.sums.instance ≡ instance.now) }
+    ensures { IfOk result (λ s. s.sums ≡ record { instance = instance.now; prices = prices.now }) }
+{
+    if let Some(kept) = kept {
+        if kept.slots.as_slice() == prices {
+            return Ok(kept);
+        }
+    }
+    Ok(SlotSums {
+        sums: DaySums::new(alloc, instance, prices)?,
+        slots: prices.to_vec(alloc)?,
+    })
+}
+
 /// The values of duties by the walk over their breaks, at slot prices with these sums, and lanes whose memory is used for each shift.
 #[derive(Drop)]
 struct ByWalk {
-    sums: DaySums,
+    sums: SlotSums,
     lanes: Vec<Lane>,
 }
 
 impl DayValues for ByWalk {
     ghost use Rattle.std.specs.Prelude.{◌≡◌};
 
-    ghost serves = { λ values i _ prices. values.sums ≡ record { instance = i; prices = prices.slots } };
+    ghost serves = { λ values i _ prices. values.sums.sums ≡ record { instance = i; prices = prices.slots } };
 
     fn of_shift(
         &mut self,
@@ -174,7 +205,8 @@ impl DayValues for ByWalk {
         prices: &Prices,
         shift: u16,
     ) -> Result<Option<[i128; LANES]>, NoMemory> {
-        let sums = &self.sums;
+        let slot_sums = &self.sums;
+        let sums = &slot_sums.sums;
         let lanes = &mut self.lanes;
         match instance.graph(shift) {
             Some(graph) => values_by_nodes(
@@ -185,10 +217,12 @@ impl DayValues for ByWalk {
     }
 }
 
-/// What is kept from one bound to the next: the values of an instance's shifts, and lanes whose memory serves again.
+/// What is kept from one bound to the next: the values of an instance's shifts, the sums of the slot prices, and lanes whose memory
+/// serves again.
 #[derive(Drop)]
 pub(crate) struct WalkMemory {
     values: KeptValues,
+    sums: Option<SlotSums>,
     lanes: Vec<Lane>,
 }
 
@@ -198,6 +232,10 @@ impl Model for WalkMemory {
     ghost Value = { Problem };
 
     ghost view = { λ m. m.values };
+
+    ghost use Rattle.std.specs.Prelude.{◌≡◌, IfSome};
+
+    ghost invariant = { λ m. IfSome m.sums (λ s. s.sums.instance ≡ m.values) };
 }
 
 impl WalkMemory {
@@ -207,6 +245,7 @@ impl WalkMemory {
     {
         WalkMemory {
             values: KeptValues::new(alloc, instance),
+            sums: None,
             lanes: Vec::new(alloc),
         }
     }
@@ -227,12 +266,14 @@ pub(crate) fn bound_by_walk(
     ensures bound { IfOk result (λ b. b ≡ bound_of instance.now cuts.now prices.now) }
     ensures memory { memory.new ≡ memory.old }
 {
-    let sums = DaySums::new(alloc, instance, prices.slots.as_slice())?;
+    let kept = std::mem::replace(&mut memory.sums, None);
+    let sums = slot_sums(alloc, kept, instance, prices.slots.as_slice())?;
     let lanes = std::mem::replace(&mut memory.lanes, Vec::new(alloc));
     let mut walk = ByWalk { sums, lanes };
     let bound = memory
         .values
         .bound_by(alloc, &mut walk, instance, cuts, prices);
     memory.lanes = walk.lanes;
+    memory.sums = Some(walk.sums);
     bound
 }
