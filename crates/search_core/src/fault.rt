@@ -11,7 +11,7 @@ use std::error::Error;
 use std::fmt;
 
 /// Why a post isn't allowed.
-#[derive(Debug, Drop)]
+#[derive(Drop)]
 pub enum StepFault {
     /// The rows of a plan aren't legal.
     NotLegal(RowFault),
@@ -64,6 +64,13 @@ impl fmt::Display for StepFault {
             StepFault::Price(fault) => write!(f, "10 {fault}"),
             StepFault::NoMemory => f.write_str("no memory"),
         }
+    }
+}
+
+impl fmt::Debug for StepFault {
+    /// Writes what its text is, since a class has none of its own for debugging.
+    fn fmt<W: fmt::Write>(&self, f: &mut fmt::Formatter<W>) -> fmt::Result {
+        write!(f, "{self}")
     }
 }
 
