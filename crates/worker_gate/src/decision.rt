@@ -10,7 +10,7 @@ ghost use Rattle.worker_gate.specs.Decision.{cost_to_reach, lawful_plan, lawful_
 use crate::splitting::lawful_split;
 use advice::{Advice, Ask, Splitting};
 use break_rules::NoMemory;
-use dual_bound::{Fixing, PriceFault, Proved, prove, settle};
+use dual_bound::{Buffers, Fixing, PriceFault, Proved, settle};
 use head_splits::{CutPrices, Cuts, Prices, SlotPrices};
 use rota_cost::{Costed, cost_rows};
 use search_core::{Close, StepPosts};
@@ -54,13 +54,20 @@ fn zero_prices(alloc: Global, instance: &Instance, cuts: usize) -> Result<Prices
 }
 
 /// The bound of price 0 everywhere.
-fn prove_zero(alloc: Global, instance: &Instance, cuts: &Cuts) -> Result<Proved, NoMemory>
-    requires { length cuts.now ≤ 2 ^ 33 }
+fn prove_zero(
+    alloc: Global,
+    instance: &Instance,
+    buffers: &mut Buffers,
+    cuts: &Cuts,
+) -> Result<Proved, NoMemory>
+    requires few { length cuts.now ≤ 2 ^ 33 }
+    requires buffers { buffers.old ≡ instance.now }
     ensures prices { IfOk result (λ p. (p.instance ≡ instance.now) × (p.cuts ≡ cuts.now) × (p.prices ≡ zero_prices instance.now (length cuts.now))) }
     ensures proved { IfOk result (λ p. IsProved p) }
+    ensures buffers { buffers.new ≡ buffers.old }
 {
     let prices = zero_prices(alloc, instance, cuts.len())?;
-    match prove(alloc, instance, copy_of(cuts)?, prices) {
+    match buffers.prove(instance, copy_of(cuts)?, prices) {
         Ok(proved) => {
             // Its clauses say that the bound is the prices' own.
             let _bound = proved.bound();
@@ -75,14 +82,17 @@ fn prove_zero(alloc: Global, instance: &Instance, cuts: &Cuts) -> Result<Proved,
 fn prove_lawful(
     alloc: Global,
     instance: &Instance,
+    buffers: &mut Buffers,
     cuts: &Cuts,
     prices: Prices,
 ) -> Result<Proved, NoMemory>
-    requires { length cuts.now ≤ 2 ^ 33 }
+    requires few { length cuts.now ≤ 2 ^ 33 }
+    requires buffers { buffers.old ≡ instance.now }
     ensures prices { IfOk result (λ p. (p.instance ≡ instance.now) × (p.cuts ≡ cuts.now) × (p.prices ≡ lawful_prices instance.now cuts.now prices)) }
     ensures proved { IfOk result (λ p. IsProved p) }
+    ensures buffers { buffers.new ≡ buffers.old }
 {
-    match prove(alloc, instance, copy_of(cuts)?, prices) {
+    match buffers.prove(instance, copy_of(cuts)?, prices) {
         Ok(proved) => {
             // Its clauses say that the bound is the prices' own.
             let _bound = proved.bound();
@@ -90,7 +100,7 @@ fn prove_lawful(
         }
         Err(fault) => match fault {
             PriceFault::NoMemory => Err(AllocError),
-            _ => prove_zero(alloc, instance, cuts),
+            _ => prove_zero(alloc, instance, buffers, cuts),
         },
     }
 }
@@ -143,6 +153,25 @@ pub fn step_of(
     ensures decision { IfOk result (λ step. IsDecision instance.now node ask.cuts ask.floor ask.best advice step) }
     ensures fits { IfOk result (λ step. Fits instance.now step) }
 {
+    let mut buffers = Buffers::new(alloc, instance);
+    step_in(alloc, instance, &mut buffers, node, ask, advice)
+}
+
+/// What [`step_of`] makes, with its prices proved in buffers of the instance.
+pub(crate) fn step_in(
+    alloc: Global,
+    instance: &Instance,
+    buffers: &mut Buffers,
+    node: u32,
+    ask: Ask,
+    advice: Advice,
+) -> Result<StepPosts, NoMemory>
+    requires few { length ask.cuts ≤ 2 ^ 33 }
+    requires buffers { buffers.old ≡ instance.now }
+    ensures decision { IfOk result (λ step. IsDecision instance.now node ask.cuts ask.floor ask.best advice step) }
+    ensures fits { IfOk result (λ step. Fits instance.now step) }
+    ensures buffers { buffers.new ≡ buffers.old }
+{
     let Ask {
         cuts,
         floor,
@@ -155,7 +184,7 @@ pub fn step_of(
         split,
     } = advice;
     let plan = cost_plan(instance, plan);
-    let proved = prove_lawful(alloc, instance, &cuts, prices)?;
+    let proved = prove_lawful(alloc, instance, buffers, &cuts, prices)?;
     let close = if cost_to_reach(best, &plan) <= floor.max(proved.bound()) {
         Close::ByPrice
     } else {

@@ -13,6 +13,7 @@ use crate::worker::{closed_again, decide};
 use crate::{Gate, RunEnd};
 use advice::Adviser;
 use board_lock::Held;
+use dual_bound::Buffers;
 use search_core::{Board, Kept, Shutting, StepPosts, Taken};
 use shift_instance::Instance;
 use std::alloc::Global;
@@ -76,16 +77,19 @@ fn commit_alone<B: Board, L: Ledger>(
 fn finish<B: Board, L: Ledger>(
     alloc: Global,
     instance: &Instance,
+    buffers: &mut Buffers,
     held: &mut Held<B, L>,
     place: &mut Place<B, L>,
     work: Work,
 )
     requires knows { KnowsBoard B.seen instance.now place.old.number (root_at held.old.opened held.old.workers) }
+    requires buffers { buffers.old ≡ instance.now }
     requires running { (B.seen held.old.board).shut ≡ None }
     requires holds { hand (B.seen held.old.board).hands place.old.number ≡ Some work.node }
     requires cuts { work.ask.cuts ≡ cuts_in (book_at (B.seen held.old.board)).nodes work.node }
     requires few { length work.ask.cuts ≤ 2 ^ 24 }
     ensures root { root_at held.new.opened held.new.workers ≡ root_at held.old.opened held.old.workers }
+    ensures buffers { buffers.new ≡ buffers.old }
     ensures emptied { (B.seen held.new.board).shut ≡ None → (B.seen held.new.board).hands ≡ slice_set (B.seen held.old.board).hands place.old.number None }
     ensures taken { (B.seen held.new.board).taken ≡ (B.seen held.old.board).taken }
     ensures number { place.new.number ≡ place.old.number }
@@ -104,7 +108,7 @@ fn finish<B: Board, L: Ledger>(
         ask,
         taken: _,
     } = work;
-    let Ok(step) = decide(alloc, instance, seat, node, ask) else {
+    let Ok(step) = decide(alloc, instance, buffers, seat, node, ask) else {
         held.yield_node(*number);
         return;
     };
@@ -119,6 +123,7 @@ fn finish<B: Board, L: Ledger>(
 fn finish_node<B: Board, L: Ledger>(
     alloc: Global,
     instance: &Instance,
+    buffers: &mut Buffers,
     held: &mut Held<B, L>,
     place: &mut Place<B, L>,
     node: u32,
@@ -126,9 +131,11 @@ fn finish_node<B: Board, L: Ledger>(
     best: u64,
 )
     requires knows { KnowsBoard B.seen instance.now place.old.number (root_at held.old.opened held.old.workers) }
+    requires buffers { buffers.old ≡ instance.now }
     requires running { (B.seen held.old.board).shut ≡ None }
     requires holds { hand (B.seen held.old.board).hands place.old.number ≡ Some node }
     ensures root { root_at held.new.opened held.new.workers ≡ root_at held.old.opened held.old.workers }
+    ensures buffers { buffers.new ≡ buffers.old }
     ensures emptied { (B.seen held.new.board).shut ≡ None → (B.seen held.new.board).hands ≡ slice_set (B.seen held.old.board).hands place.old.number None }
     ensures taken { (B.seen held.new.board).taken ≡ (B.seen held.old.board).taken }
     ensures number { place.new.number ≡ place.old.number }
@@ -136,7 +143,7 @@ fn finish_node<B: Board, L: Ledger>(
         → told place.new.seat.adviser + place.old.seat.told ≡ told place.old.seat.adviser + place.new.seat.told }
 {
     if let Ok(work) = work_of(held, place.number, node, floor, best, false) {
-        finish(alloc, instance, held, place, work);
+        finish(alloc, instance, buffers, held, place, work);
     }
 }
 
@@ -144,11 +151,14 @@ fn finish_node<B: Board, L: Ledger>(
 fn empty_hand<B: Board, L: Ledger>(
     alloc: Global,
     instance: &Instance,
+    buffers: &mut Buffers,
     held: &mut Held<B, L>,
     place: &mut Place<B, L>,
 )
     requires knows { KnowsBoard B.seen instance.now place.old.number (root_at held.old.opened held.old.workers) }
+    requires buffers { buffers.old ≡ instance.now }
     ensures root { root_at held.new.opened held.new.workers ≡ root_at held.old.opened held.old.workers }
+    ensures buffers { buffers.new ≡ buffers.old }
     ensures emptied { (B.seen held.new.board).shut ≡ None → (B.seen held.new.board).hands ≡ slice_set (B.seen held.old.board).hands place.old.number None }
     ensures running { (B.seen held.new.board).shut ≡ None → (B.seen held.old.board).shut ≡ None }
     ensures number { place.new.number ≡ place.old.number }
@@ -167,20 +177,23 @@ fn empty_hand<B: Board, L: Ledger>(
         return;
     }
     let best = held.board.best_cost();
-    finish_node(alloc, instance, held, place, node, 0, best);
+    finish_node(alloc, instance, buffers, held, place, node, 0, best);
 }
 
 /// Empties each hand, unless the board is shut. The places have the numbers of the hands.
 pub(crate) fn empty_all<B: Board, L: Ledger>(
     alloc: Global,
     instance: &Instance,
+    buffers: &mut Buffers,
     held: &mut Held<B, L>,
     bench: &mut [Place<B, L>],
 )
     requires numbers { (i : ℕ) (d : _) → i < length bench.old → (slice_index_or bench.old i d).number ≡ i }
     requires all { length bench.old ≡ held.old.workers }
     requires knows { (i : ℕ) → i < held.old.workers → KnowsBoard B.seen instance.now i (root_at held.old.opened held.old.workers) }
+    requires buffers { buffers.old ≡ instance.now }
     ensures root { root_at held.new.opened held.new.workers ≡ root_at held.old.opened held.old.workers }
+    ensures buffers { buffers.new ≡ buffers.old }
     ensures empty { (B.seen held.new.board).shut ≡ None → (B.seen held.new.board).hands ≡ empty_hands }
     ensures len { length bench.new ≡ length bench.old }
     ensures numbers { (i : ℕ) (d : _) → i < length bench.old → (slice_index_or bench.new i d).number ≡ i }
@@ -188,7 +201,7 @@ pub(crate) fn empty_all<B: Board, L: Ledger>(
         → told (slice_index_or bench.new i d).seat.adviser + (slice_index_or bench.old i d).seat.told ≡ told (slice_index_or bench.old i d).seat.adviser + (slice_index_or bench.new i d).seat.told }
 {
     for place in bench.iter_mut() {
-        empty_hand(alloc, instance, held, place);
+        empty_hand(alloc, instance, buffers, held, place);
     }
 }
 
@@ -197,14 +210,17 @@ pub(crate) fn empty_all<B: Board, L: Ledger>(
 pub(crate) fn go_on<B: Board, L: Ledger, G: Gate>(
     alloc: Global,
     instance: &Instance,
+    buffers: &mut Buffers,
     held: &mut Held<B, L>,
     gate: &G,
     place: &mut Place<B, L>,
 ) -> RunEnd
     requires knows { KnowsBoard B.seen instance.now place.old.number (root_at held.old.opened held.old.workers) }
+    requires buffers { buffers.old ≡ instance.now }
     requires first { place.old.number ≡ 0 }
     requires empty { (B.seen held.old.board).shut ≡ None → (B.seen held.old.board).hands ≡ empty_hands }
     ensures root { root_at held.new.opened held.new.workers ≡ root_at held.old.opened held.old.workers }
+    ensures buffers { buffers.new ≡ buffers.old }
     ensures end { (before : BoardView) → WorkersEnd before (B.seen held.new.board) result }
     ensures told { told place.old.seat.adviser < 2 ^ 63 + place.old.seat.told
         → told place.new.seat.adviser + place.old.seat.told ≡ told place.old.seat.adviser + place.new.seat.told }
@@ -217,7 +233,7 @@ pub(crate) fn go_on<B: Board, L: Ledger, G: Gate>(
             Taken::Node { node, floor, best } => {
                 place.steps = place.steps.saturating_add(1);
                 gate.enter(0, place.steps);
-                finish_node(alloc, instance, held, place, node, floor, best);
+                finish_node(alloc, instance, buffers, held, place, node, floor, best);
             }
             Taken::Finished => return RunEnd::Finished,
             Taken::Spent => return RunEnd::Spent,

@@ -15,6 +15,7 @@ use crate::worker::decide;
 use crate::{Gate, Seat};
 use advice::Adviser;
 use break_rules::NoMemory;
+use dual_bound::Buffers;
 use search_core::{Board, Close, CommitFault, Kept, StepPosts, Taken, keeps_sound};
 use shift_instance::Instance;
 use std::alloc::Global;
@@ -72,20 +73,23 @@ fn take_node<B: Board>(board: &mut B) -> Result<TakenNode, RunEnd>
 fn decide_taken<B: Board>(
     alloc: Global,
     instance: &Instance,
+    buffers: &mut Buffers,
     seat: &mut Seat,
     board: &B,
     taken: TakenNode,
 ) -> Result<StepPosts, NoMemory>
     requires held { hand (B.seen board.now).hands 0 ≡ Some taken.node }
+    requires buffers { buffers.old ≡ instance.now }
     ensures decision { IfOk result (λ step. (advice : Advice) × IsDecision instance.now taken.node (cuts_in (book_at (B.seen board.now)).nodes taken.node) taken.floor taken.best advice step) }
     ensures fits { IfOk result (λ step. Fits instance.now step) }
     ensures adviser { told seat.new.adviser ≡ told seat.old.adviser }
     ensures told { seat.new.told ≡ seat.old.told }
     ensures share { seat.new.share ≡ seat.old.share }
+    ensures buffers { buffers.new ≡ buffers.old }
 {
     let TakenNode { node, floor, best } = taken;
     let ask = ask_of(board, WORKER, floor, best)?;
-    let step = decide(alloc, instance, seat, node, ask)?;
+    let step = decide(alloc, instance, buffers, seat, node, ask)?;
     Ok(step)
 }
 
@@ -128,6 +132,7 @@ fn commit_step<B: Board>(board: &mut B, step: StepPosts) -> Result<Kept, RunEnd>
 fn round<B: Board, G: Gate>(
     alloc: Global,
     instance: &Instance,
+    buffers: &mut Buffers,
     board: &mut B,
     seat: &mut Seat,
     gate: &G,
@@ -137,18 +142,20 @@ fn round<B: Board, G: Gate>(
     requires budget { (B.seen board.old).budget < 2 ^ 63 }
     requires share { seat.old.share ≡ (B.seen board.old).taken }
     requires each { seat.old.told ≡ seat.old.share }
+    requires buffers { buffers.old ≡ instance.now }
     ensures round { MatchOption result (IsRound (B.seen board.old) (B.seen board.new)) (IsEnded (B.seen board.old) (B.seen board.new)) }
     ensures share { MatchOption result (seat.new.share ≡ (B.seen board.new).taken) (λ end. seat.new.share ≡ committed end (B.seen board.new).taken) }
     ensures each { seat.new.told ≡ seat.new.share }
     ensures told { told seat.old.adviser < 2 ^ 63 + seat.old.told
         → told seat.new.adviser + seat.old.told ≡ told seat.old.adviser + seat.new.told }
+    ensures buffers { buffers.new ≡ buffers.old }
 {
     let taken = match take_node(board) {
         Ok(taken) => taken,
         Err(end) => return Some(end),
     };
     gate.enter(WORKER, seat.share + 1);
-    let Ok(step) = decide_taken(alloc, instance, seat, board, taken) else {
+    let Ok(step) = decide_taken(alloc, instance, buffers, seat, board, taken) else {
         return Some(give_up(board));
     };
     let kept = commit_step(board, step);
@@ -195,9 +202,10 @@ pub fn run_seat<B: Board, G: Gate>(
     ensures told { told seat.old.adviser < 2 ^ 63 → told seat.new.adviser ≡ told seat.old.adviser + seat.new.told }
 {
     keeps_sound(&*board);
+    let mut buffers = Buffers::new(alloc, instance);
     let mut end = None;
     while end.is_none() {
-        end = round(alloc, instance, board, seat, gate);
+        end = round(alloc, instance, &mut buffers, board, seat, gate);
     }
     match end {
         Some(end) => end,

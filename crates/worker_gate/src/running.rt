@@ -13,6 +13,7 @@ use crate::seating::{seat_all, unseat_all};
 use crate::{Gate, RunEnd, Seat};
 use advice::Adviser;
 use board_lock::{Held, Lock};
+use dual_bound::Buffers;
 use search_core::Board;
 use shift_instance::Instance;
 use std::alloc::Global;
@@ -39,8 +40,9 @@ fn finish_all<B: Board, L: Ledger, G: Gate>(
     ensures told { (i : ℕ) (d : _) → i < vec_len bench.old → told (slice_index_or bench.old.items i d).seat.adviser < 2 ^ 63 + (slice_index_or bench.old.items i d).seat.told
         → told (slice_index_or bench.new.items i d).seat.adviser + (slice_index_or bench.old.items i d).seat.told ≡ told (slice_index_or bench.old.items i d).seat.adviser + (slice_index_or bench.new.items i d).seat.told }
 {
-    empty_all(alloc, instance, held, bench.as_mut_slice());
-    go_on(alloc, instance, held, gate, &mut bench[0])
+    let mut buffers = Buffers::new(alloc, instance);
+    empty_all(alloc, instance, &mut buffers, held, bench.as_mut_slice());
+    go_on(alloc, instance, &mut buffers, held, gate, &mut bench[0])
 }
 
 /// What `run_workers` does, for the ledger that the blank stands for.

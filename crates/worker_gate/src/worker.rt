@@ -7,13 +7,14 @@ ghost use Rattle.board_lock.specs.Passes.{root_of, IsOutside, RestsAt};
 ghost use Rattle.worker_gate.specs.Decision.{IsDecision};
 ghost use Rattle.worker_gate.specs.Workers.{KnowsBoard};
 
-use crate::decision::{close_of, copy_of, step_of};
+use crate::decision::{close_of, copy_of, step_in};
 use crate::gate::Gate;
 use crate::seat::{Place, Seat};
 use crate::turns::{BoardLock, BoardPass, Left, Rest, Work, commit_turn, take_turn, yield_turn};
 use advice::{Adviser, Ask};
 use atomic_table::Badge;
 use break_rules::NoMemory;
+use dual_bound::Buffers;
 use search_core::{Board, Kept, StepPosts};
 use shift_instance::Instance;
 use std::alloc::Global;
@@ -21,15 +22,17 @@ use std::mem;
 use std::sync::Wait;
 use std::sync::ledger::{Ledger, Share};
 
-/// The step that a worker makes of what its adviser advises for a node.
+/// The step that a worker makes of what its adviser advises for a node, with its prices proved in the worker's buffers.
 pub(crate) fn decide(
     alloc: Global,
     instance: &Instance,
+    buffers: &mut Buffers,
     seat: &mut Seat,
     node: u32,
     ask: Ask,
 ) -> Result<StepPosts, NoMemory>
     requires few { length ask.cuts ≤ 2 ^ 24 }
+    requires buffers { buffers.old ≡ instance.now }
     ensures decision { IfOk result (λ step. (advice : Advice) × IsDecision instance.now node ask.cuts ask.floor ask.best advice step) }
     ensures node { IfOk result (λ step. step.node ≡ node) }
     ensures cuts { IfOk result (λ step. step.proved.cuts ≡ ask.cuts) }
@@ -37,9 +40,10 @@ pub(crate) fn decide(
     ensures adviser { told seat.new.adviser ≡ told seat.old.adviser }
     ensures told { seat.new.told ≡ seat.old.told }
     ensures share { seat.new.share ≡ seat.old.share }
+    ensures buffers { buffers.new ≡ buffers.old }
 {
     let advice = seat.adviser.advise(instance, &ask)?;
-    let step = step_of(alloc, instance, node, ask, advice)?;
+    let step = step_in(alloc, instance, buffers, node, ask, advice)?;
     Ok(step)
 }
 
@@ -146,6 +150,7 @@ fn round<B: Board, L: Ledger, G: Gate, R: Wait>(
     rt: &R,
     alloc: Global,
     instance: &Instance,
+    buffers: &mut Buffers,
     lock: &BoardLock<B, L>,
     gate: &G,
     pass: &mut BoardPass<B, L>,
@@ -153,8 +158,10 @@ fn round<B: Board, L: Ledger, G: Gate, R: Wait>(
 ) -> bool
     requires pass { IsOutside lock.now pass.old }
     requires knows { KnowsBoard B.seen instance.now place.old.number (root_of pass.old) }
+    requires buffers { buffers.old ≡ instance.now }
     ensures pass { IsOutside lock.now pass.new }
     ensures root { root_of pass.new ≡ root_of pass.old }
+    ensures buffers { buffers.new ≡ buffers.old }
     ensures number { place.new.number ≡ place.old.number }
     ensures told { told place.old.seat.adviser < 2 ^ 63 + place.old.seat.told
         → told place.new.seat.adviser + place.old.seat.told ≡ told place.old.seat.adviser + place.new.seat.told }
@@ -175,7 +182,7 @@ fn round<B: Board, L: Ledger, G: Gate, R: Wait>(
         *steps = steps.saturating_add(1);
         gate.enter(*number, *steps);
     }
-    let Ok(step) = decide(alloc, instance, seat, node, ask) else {
+    let Ok(step) = decide(alloc, instance, buffers, seat, node, ask) else {
         yield_turn(rt, lock, pass, *number);
         return false;
     };
@@ -205,8 +212,18 @@ pub(crate) fn work<B: Board, L: Ledger, G: Gate, R: Wait>(
 {
     let badge = mem::replace(&mut place.badge, Badge::blank());
     let mut pass = badge.into_seat();
+    let mut buffers = Buffers::new(alloc, instance);
     for _ in rt.forever() {
-        if !round(rt, alloc, instance, lock, gate, &mut pass, place) {
+        if !round(
+            rt,
+            alloc,
+            instance,
+            &mut buffers,
+            lock,
+            gate,
+            &mut pass,
+            place,
+        ) {
             break;
         }
     }

@@ -23,4 +23,5 @@ returns-in_default c =
     record {
       prices = subst (λ (z : Prices). IfOk c.prove_zero.result (λ (p : Proving). (p.instance ≡ i) × (p.cuts ≡ cuts) × (p.prices ≡ z))) (sym (unlawful i cuts c.args.prices c.in-Err.fault why c.in_default.not-NoMemory)) c.prove_zero.ensures.prices;
       proved = c.prove_zero.ensures.proved;
+      buffers = c.prove_zero.ensures.buffers ∙ c.in-Err.ensures.instance;
     }

@@ -17,6 +17,7 @@ empty_hand-requires g c =
     record {
       knows = subst (λ n. KnowsBoard g.B.Board.seen c.args.instance.now n (root_at c.loop-place.held.opened c.loop-place.held.workers)) (sym number)
           (subst (λ r. KnowsBoard g.B.Board.seen c.args.instance.now at r) (sym i.root) knows);
+      buffers = i.buffers ∙ c.requires.buffers;
     }
 
 pub loop-place-preserved : goal.loop-place-preserved
@@ -30,6 +31,7 @@ loop-place-preserved g c =
     let number = i.numbers at c.place-item.result low in
     record {
       root = e.root ∙ i.root;
+      buffers = e.buffers ∙ i.buffers;
       passed = λ still w near. subst (λ hands. hand hands w ≡ None) (sym (e.emptied still ∙ ap (λ n. slice_set before n None) number)) (emptied_more before at (i.passed (e.running still)) w near);
       numbers = set_each (λ j d p. p.number ≡ j) c.loop-place.bench at c.empty_hand.new.place (λ d. e.number ∙ number) i.numbers;
       told = set_each

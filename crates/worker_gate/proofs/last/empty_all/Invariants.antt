@@ -7,6 +7,7 @@ abbrev pub invariant-loop-place : goal.invariant-loop-place
 invariant-loop-place g l = record {
   root : root_at l.held.opened l.held.workers ≡ root_at l.initial.held.opened l.initial.held.workers;
   passed : (g.B.Board.seen l.held.board).shut ≡ None → (w : ℕ) → w < l.place-index → hand (g.B.Board.seen l.held.board).hands w ≡ None;
+  buffers : l.buffers ≡ l.initial.buffers;
   numbers : (i : ℕ) (d : _) → i < length l.bench → (slice_index_or l.bench i d).number ≡ i;
   told : (i : ℕ) (d : _) → i < length l.bench
       → (goal.Adviser-dyn g ((slice_index_or l.initial.bench i d).seat.adviser.vtable, (slice_index_or l.initial.bench i d).seat.adviser.value)).told (slice_index_or l.initial.bench i d).seat.adviser.value < 2 ^ 63 + (slice_index_or l.initial.bench i d).seat.told

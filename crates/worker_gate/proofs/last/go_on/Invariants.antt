@@ -7,6 +7,7 @@ abbrev pub invariant-loop-held : goal.invariant-loop-held
 invariant-loop-held g l = record {
   root : root_at l.held.opened l.held.workers ≡ root_at l.initial.held.opened l.initial.held.workers;
   number : l.place.number ≡ 0;
+  buffers : l.buffers ≡ l.initial.buffers;
   empty : (g.B.Board.seen l.held.board).shut ≡ None → (g.B.Board.seen l.held.board).hands ≡ empty_hands;
   told : (goal.Adviser-dyn g (l.initial.place.seat.adviser.vtable, l.initial.place.seat.adviser.value)).told l.initial.place.seat.adviser.value < 2 ^ 63 + l.initial.place.seat.told
       → (goal.Adviser-dyn g (l.place.seat.adviser.vtable, l.place.seat.adviser.value)).told l.place.seat.adviser.value + l.initial.place.seat.told

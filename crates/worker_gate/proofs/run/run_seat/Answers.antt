@@ -11,6 +11,7 @@ loop-end-init g c = record {
   run = start_run (g.B.Board.seen c.args.board.now) c.requires.fresh (record { running = c.requires.running; going = c.requires.going; empty = c.requires.empty });
   share = c.requires.share ∙ sym c.requires.fresh;
   each = c.requires.told ∙ sym c.requires.share;
+  buffers = c.new-buffers.ensures.instance;
   told = λ low. refl;
 }
 
@@ -27,6 +28,7 @@ loop-end-preserved g c =
       run = next_run before now after c.round-end.result run e.round;
       share = e.share;
       each = e.each;
+      buffers = e.buffers ∙ i.buffers;
       told = λ low.
           let a = i.told low in
           let b = e.told (omega (arith, a, low)) in

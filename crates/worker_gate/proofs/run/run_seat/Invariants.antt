@@ -9,6 +9,7 @@ invariant-loop-end g l = record {
   run : IsRun (g.B.Board.seen l.fn.board) (g.B.Board.seen l.board) l.end;
   share : MatchOption l.end (l.seat.share ≡ (g.B.Board.seen l.board).taken) (λ end. l.seat.share ≡ committed end (g.B.Board.seen l.board).taken);
   each : l.seat.told ≡ l.seat.share;
+  buffers : l.buffers ≡ l.fn.instance;
   told : (goal.Adviser-dyn g (l.initial.seat.adviser.vtable, l.initial.seat.adviser.value)).told l.initial.seat.adviser.value < 2 ^ 63 + l.initial.seat.told
       → (goal.Adviser-dyn g (l.seat.adviser.vtable, l.seat.adviser.value)).told l.seat.adviser.value + l.initial.seat.told
       ≡ (goal.Adviser-dyn g (l.initial.seat.adviser.vtable, l.initial.seat.adviser.value)).told l.initial.seat.adviser.value + l.seat.told;
