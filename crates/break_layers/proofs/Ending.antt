@@ -4,12 +4,13 @@ use Rattle.std.specs.Int.{w64}
 use Rattle.std.specs.Int.RustNames.{unsigned_abs}
 use Rattle.std.proofs.lemmas.Int.{ints, fits_signed_from_abs}
 use Rattle.std.proofs.lemmas.Bool.{false≢true, false_from_ne_true, cases_lt}
+use Rattle.std.proofs.Math.Nat.{mul-le-mul_right}
 use Rattle.std.proofs.Math.ListN.{get_or-append}
 use Rattle.std.proofs.Math.Seq.{get_or-append_seam}
 use Rattle.break_rules.specs.declared.Break.{Break}
 use Rattle.break_rules.specs.declared.Rule.{Rule}
 use Rattle.break_rules.specs.declared.Spot.{Spot}
-use Rattle.break_rules.specs.Breaks.{is_legal, is_live}
+use Rattle.break_rules.specs.Breaks.{is_legal, is_live, total_of}
 use Rattle.break_rules.specs.Ranges.{IsRule}
 use Rattle.break_rules.specs.Walk.{end_of_all, is_walk, spot_of}
 use Rattle.break_rules.proofs.LegalLists.{live_rest, no_longer_list}
@@ -21,9 +22,9 @@ use Rattle.break_layers.specs.declared.windows.TheConstants.{NOTHING}
 use Rattle.break_layers.specs.declared.layers.Layer.{Layer}
 use Rattle.break_layers.specs.Rests.{IsMost, rest_worth}
 use Rattle.break_layers.specs.Windows.{number_in}
-use Rattle.break_layers.specs.Layered.{IsValueOrNothing, AreLayersBefore, AreLayers, layer_number, layer_place, reach_worth, CompletesWith, IsReachOfAll}
+use Rattle.break_layers.specs.Layered.{IsValueOrNothing, AreLayersBefore, AreLayers, layer_number, layer_count, layer_of, layer_place, reach_worth, CompletesWith, IsReachOfAll}
 use Rattle.break_layers.proofs.Reach.{above_nothing, not_above, same_or, some_worth, worth_size}
-use Rattle.break_layers.proofs.Table.{earlier_layer, same_layer}
+use Rattle.break_layers.proofs.Table.{earlier_layer, same_layer, walk_used}
 
 module _ (rule : Rule) (len : ℕ) (sums : List ℤ) (list : List Break) (r : IsRule rule) (s : AreSums len sums) where
   abbrev from : ℕ
@@ -101,31 +102,68 @@ same_spot offset used lunches at e f g =
     ∙ ap (λ n. record { offset = at.offset; used = at.used; lunches = n }) (sym g)
 
 -- one place more
-pub layers_more : (rule : Rule) (len : ℕ) (sums table : List ℤ) (layer : Layer) (offset : ℕ) (x : ℤ) → IsRule rule → offset ≤ len → layer.used ≤ 48 → layer.lunches ≤ 3
-    → length table ≡ layer_number layer * (len + 1) + offset → AreLayersBefore rule len sums (layer_number layer * (len + 1) + offset) table
+pub layers_more : (rule : Rule) (len : ℕ) (sums table : List ℤ) (layer : Layer) (offset : ℕ) (x : ℤ) → IsRule rule → offset ≤ len → layer.used ≤ total_of rule len → layer.lunches ≤ 3
+    → length table ≡ layer_number rule len layer * (len + 1) + offset → AreLayersBefore rule len sums (layer_number rule len layer * (len + 1) + offset) table
     → ((list : List Break) → is_walk rule len list ≡ true → ◌≡◌ {A = Spot} (record { offset = offset; used = layer.used; lunches = layer.lunches }) (spot_of rule list) → IsValueOrNothing rule len sums list x)
-    → AreLayersBefore rule len sums (layer_number layer * (len + 1) + (offset + 1)) (table ++ x ∷ [])
+    → AreLayersBefore rule len sums (layer_number rule len layer * (len + 1) + (offset + 1)) (table ++ x ∷ [])
 layers_more rule len sums table layer offset x r inside used lunches many known here list walk less =
-    let place = layer_place len (spot_of rule list) in
-    elim (cases_lt place (layer_number layer * (len + 1) + offset)) [
+    let place = layer_place rule len (spot_of rule list) in
+    elim (cases_lt place (layer_number rule len layer * (len + 1) + offset)) [
       | inl l ↦ subst (IsValueOrNothing rule len sums list) (sym (get_or-append table (x ∷ []) NOTHING place (omega (arith, l, many)))) (known list walk l)
       | inr g ↦
           let small = walk_small rule len list r walk in
+          let within = walk_used rule len list walk in
           let at = spot_of rule list in
-          let same : place ≡ layer_number layer * (len + 1) + offset = omega (arith, less, g) in
-          let both = same_layer ((48 - at.used) * 4 + at.lunches) (layer_number layer) at.offset offset len small.offset inside same in
-          let one : at.used ≡ layer.used = omega (arith, both.0, small.used, small.lunches) in
-          let two : at.lunches ≡ layer.lunches = omega (arith, both.0, small.used, small.lunches) in
+          let same : place ≡ layer_number rule len layer * (len + 1) + offset = omega (arith, less, g) in
+          let both = same_layer ((total_of rule len - at.used) * 4 + at.lunches) (layer_number rule len layer) at.offset offset len small.offset inside same in
+          let one : at.used ≡ layer.used = omega (arith, both.0, within, small.lunches) in
+          let two : at.lunches ≡ layer.lunches = omega (arith, both.0, within, small.lunches) in
           let spot = same_spot offset layer.used layer.lunches at both.1 one two in
           subst (IsValueOrNothing rule len sums list) (sym (ap (λ n. number_in (table ++ x ∷ []) n) (same ∙ sym many) ∙ get_or-append_seam table x [] NOTHING)) (here list walk spot)
     ]
 
+same_as : (layer : Layer) (used lunches : ℕ) → layer.used ≡ used → layer.lunches ≡ lunches → ◌≡◌ {A = Layer} layer (record { used = used; lunches = lunches })
+same_as layer used lunches e f = ap (λ n. record { used = n; lunches = layer.lunches }) e ∙ ap (λ n. record { used = used; lunches = n }) f
+
+-- one layer more, in which no spot lies
+pub dead_layer : (rule : Rule) (len : ℕ) (sums table new : List ℤ) (layer : Layer) → IsRule rule → layer.used ≤ total_of rule len → layer.lunches ≤ 3
+    → ((k : ℕ) → k < layer_number rule len layer * (len + 1) → number_in new k ≡ number_in table k) → AreLayersBefore rule len sums (layer_number rule len layer * (len + 1)) table
+    → ((list : List Break) → is_walk rule len list ≡ true → layer ≡ layer_of rule list → ⊥)
+    → AreLayersBefore rule len sums ((layer_number rule len layer + 1) * (len + 1)) new
+dead_layer rule len sums table new layer r used lunches kept known none list walk less =
+    let place = layer_place rule len (spot_of rule list) in
+    elim (cases_lt place (layer_number rule len layer * (len + 1))) [
+      | inl l ↦ subst (IsValueOrNothing rule len sums list) (sym (kept place l)) (known list walk l)
+      | inr g ↦
+          let small = walk_small rule len list r walk in
+          let within = walk_used rule len list walk in
+          let at = spot_of rule list in
+          let own = (total_of rule len - at.used) * 4 + at.lunches in
+          let same : own ≡ layer_number rule len layer = elim (cases_lt own (layer_number rule len layer)) [
+            | inl l ↦ let before = earlier_layer own (layer_number rule len layer) at.offset len l small.offset in absurd (omega (arith, before, g))
+            | inr h ↦ elim (cases_lt (layer_number rule len layer) own) [
+              | inl l ↦ let product : (layer_number rule len layer + 1) * (len + 1) ≤ own * (len + 1) = mul-le-mul_right (len + 1) (let e : layer_number rule len layer + 1 ≤ own = omega (arith, l) in e) in absurd (omega (arith, product, less))
+              | inr k ↦ omega (arith, h, k)
+            ]
+          ] in
+          let one : layer.used ≡ at.used = omega (arith, same, within, small.lunches) in
+          let two : layer.lunches ≡ at.lunches = omega (arith, same, within, small.lunches) in
+          absurd (none list walk (same_as layer at.used at.lunches one two))
+    ]
+
 -- a table of all layers knows each walk
-pub layer_known : (rule : Rule) (len : ℕ) (sums : List ℤ) (list : List Break) → IsRule rule → AreSums len sums → (table : List ℤ) (spot : Spot) → AreLayers rule len sums table
-    → is_walk rule len list ≡ true → spot ≡ spot_of rule list → IsValueOrNothing rule len sums list (number_in table (layer_place len spot))
-layer_known rule len sums list r s table spot layers walk is =
+pub layer_known : (rule : Rule) (len : ℕ) (sums : List ℤ) (list : List Break) → IsRule rule → (table : List ℤ) (spot : Spot) → AreLayers rule len sums table
+    → is_walk rule len list ≡ true → spot ≡ spot_of rule list → IsValueOrNothing rule len sums list (number_in table (layer_place rule len spot))
+layer_known rule len sums list r table spot layers walk is =
     let small = walk_small rule len list r walk in
+    let within = walk_used rule len list walk in
     let at = spot_of rule list in
-    let inside : layer_place len at < 196 * (len + 1) =
-    earlier_layer ((48 - at.used) * 4 + at.lunches) 196 at.offset len (omega (arith, small.used, small.lunches)) small.offset in
-    subst (λ (p : Spot). IsValueOrNothing rule len sums list (number_in table (layer_place len p))) (sym is) (layers list walk inside)
+    let inside : layer_place rule len at < layer_count rule len * (len + 1) =
+    earlier_layer ((total_of rule len - at.used) * 4 + at.lunches) (layer_count rule len) at.offset len (omega (arith, within, small.lunches)) small.offset in
+    subst (λ (p : Spot). IsValueOrNothing rule len sums list (number_in table (layer_place rule len p))) (sym is) (layers list walk inside)
+
+-- a list with which some legal list begins has a value at any prices
+pub live_some : (rule : Rule) (len : ℕ) (sums : List ℤ) (list rest : List Break) (x : ℤ) → Completes rule len list rest → IsValueOrNothing rule len sums list x → x ≢ NOTHING
+live_some rule len sums list rest x h v none =
+    let g = v.greatest rest h in
+    not_above (rest_worth sums rule len list rest) g.0 (subst (λ (z : ℤ). rest_worth sums rule len list rest ≤ℤ z) none g.1)

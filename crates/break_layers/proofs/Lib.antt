@@ -5,3 +5,4 @@ pub mod Lunched
 pub mod Reach
 pub mod Sliding
 pub mod Table
+pub mod Rows

@@ -23,7 +23,7 @@ use Rattle.break_layers.specs.declared.layers.Layer.{Layer}
 use Rattle.break_layers.specs.declared.sizes.Sizes.{Sizes}
 use Rattle.break_layers.specs.Rests.{rest_worth}
 use Rattle.break_layers.specs.Windows.{number_in, IsMostIn}
-use Rattle.break_layers.specs.Layered.{IsMostOrNothing, IsValueOrNothing, layer_of, longest_work_of, size_limit_of, IsSizeIn, AreSizesIn, IsInWindow, reach_worth, CompletesWith, IsReachBy, IsReachAt, IsReachOfSizes, IsReachOfAll}
+use Rattle.break_layers.specs.Layered.{IsMostOrNothing, IsValueOrNothing, layer_of, longest_work_of, size_limit_of, IsSizeIn, AreSizesIn, IsInWindow, reach_worth, behind_worth, CompletesWith, IsBehindBy, IsBehindAt, IsReachBy, IsReachAt, IsReachOfSizes, IsReachOfAll}
 use Rattle.break_layers.proofs.Sliding.{max_above, max_cases, below_left, below_right}
 
 pub longer : (rule : Rule) (len : ℕ) (list : List Break) (b : Break) (bs : List Break) → is_legal rule len ((list ++ b ∷ []) ++ bs) ≡ is_legal rule len (list ++ b ∷ bs)
@@ -137,13 +137,58 @@ module _ (rule : Rule) (len : ℕ) (sums : List ℤ) (list : List Break) (r : Is
           let here : reach_worth sums rule len list (b ∷ rest) ≤ℤ z = omega (arith, ints) in
           subst (λ (y : Break). reach_worth sums rule len list (y ∷ rest) ≤ℤ z) (sym h.0) here
 
+  -- what is earned behind a break is what its best rest earns
+  pub behind_by : (b : Break) (x : ℤ) → IsValueOrNothing rule len sums (list ++ b ∷ []) x → IsBehindBy rule len sums list b x
+  behind_by b x v = record { reached = elim v.reached [ inl none ↦ inl none | inr f ↦ inr (b ∷ f.0, (refl, whole f.0 f.1), worth f.0 f.1 ∙ f.2) ]; greatest = greatest }
+    where
+      whole : (rest : List Break) → Completes rule len (list ++ b ∷ []) rest → Completes rule len list (b ∷ rest)
+      whole rest h = sym (longer rule len list b rest) ∙ h
+
+      worth : (rest : List Break) → Completes rule len (list ++ b ∷ []) rest → behind_worth sums rule len list b.start (b ∷ rest) ≡ rest_worth sums rule len (list ++ b ∷ []) rest
+      worth rest h =
+          let more : reach_worth sums rule len list (b ∷ rest) ≡ rest_worth sums rule len (list ++ b ∷ []) rest +ℤ sum_at sums b.start = reach_more b rest (whole rest h) in
+          omega (arith, ints)
+
+      greatest : (rest : List Break) → CompletesWith rule len list (λ c. c ≡ b) rest → (NOTHING <ℤ behind_worth sums rule len list b.start rest) × (behind_worth sums rule len list b.start rest ≤ℤ x)
+      greatest [] h = absurd h
+      greatest (c ∷ rest) h =
+          let own : Completes rule len (list ++ b ∷ []) rest = longer rule len list b rest ∙ subst (λ (y : Break). Completes rule len list (y ∷ rest)) h.0 h.1 in
+          subst (λ (y : Break). (NOTHING <ℤ behind_worth sums rule len list b.start (y ∷ rest)) × (behind_worth sums rule len list b.start (y ∷ rest) ≤ℤ x)) (sym h.0)
+          (subst (λ (z : ℤ). (NOTHING <ℤ z) × (z ≤ℤ x)) (sym (worth rest own)) (v.greatest rest own))
+
+  -- with the prices before a start it is what the breaks of that start reach
+  pub with_sum : (start from to : ℕ) (x z : ℤ) → IsBehindAt rule len sums list start from to x → (x ≡ NOTHING → z ≡ NOTHING)
+      → (x ≢ NOTHING → FitsSigned w64 (x +ℤ sum_at sums start) → z ≡ x +ℤ sum_at sums start) → IsReachAt rule len sums list start from to z
+  with_sum start from to x z p nothing total = elim (same_or x NOTHING) [
+    | inl none ↦ record {
+      reached = inl (nothing none);
+      greatest = λ rest h.
+          let g = p.greatest rest h in
+          absurd (not_above (behind_worth sums rule len list start rest) g.0 (subst (λ (v : ℤ). behind_worth sums rule len list start rest ≤ℤ v) none g.1));
+    }
+    | inr some ↦ elim p.reached [
+      | inl none ↦ absurd (some none)
+      | inr f ↦
+          let is : reach_worth sums rule len list f.0 -ℤ sum_at sums start ≡ x = f.2 in
+          let back : reach_worth sums rule len list f.0 ≡ x +ℤ sum_at sums start = omega (arith, ints) in
+          let small : unsigned_abs (x +ℤ sum_at sums start) ≤ 10000000000 * 131071 = subst (λ (v : ℤ). unsigned_abs v ≤ 10000000000 * 131071) back (reach_size f.0) in
+          let e : z ≡ x +ℤ sum_at sums start = total some (fits_signed_from_abs w64 (x +ℤ sum_at sums start) (omega arith)) in
+          record {
+            reached = inr (f.0, f.1, back ∙ sym e);
+            greatest = λ rest h.
+                let g : (reach_worth sums rule len list rest -ℤ sum_at sums start) ≤ℤ x = (p.greatest rest h).1 in
+                (some_reach rest, (let l : reach_worth sums rule len list rest ≤ℤ z = omega (arith, ints) in l));
+          }
+    ]
+  ]
+
   -- the first break of a rest may follow
   first_follows : (b : Break) (rest : List Break) → Completes rule len list (b ∷ rest) → may_follow rule len (end_of_all list) (spot_of rule list).used b ≡ true
   first_follows b rest h = from_next rule len (spot_of rule list) b (rest_first rule len list b rest h).1
 
-  -- a break that doesn't keep its distance reaches nothing
-  pub reach_none : (b : Break) → keeps_ends rule len b ≡ false → IsReachBy rule len sums list b NOTHING
-  reach_none b far = most_none (CompletesWith rule len list (λ c. c ≡ b)) (reach_worth sums rule len list) none
+  -- nothing is earned behind a break that doesn't keep its distance
+  pub behind_none : (b : Break) → keeps_ends rule len b ≡ false → IsBehindBy rule len sums list b NOTHING
+  behind_none b far = most_none (CompletesWith rule len list (λ c. c ≡ b)) (behind_worth sums rule len list b.start) none
     where
       none : (rest : List Break) → CompletesWith rule len list (λ c. c ≡ b) rest → ⊥
       none [] h = h
@@ -203,8 +248,8 @@ module _ (rule : Rule) (len : ℕ) (sums : List ℤ) (list : List Break) (r : Is
           or_left (nat_le (b.start - end_of_all list) rule.long_work) (nat_le rule.long_rest b.len) (le-leb _ _ (omega arith))
 
   -- no break has a length in an empty range
-  pub none_at : (start from : ℕ) → IsReachAt rule len sums list start from from NOTHING
-  none_at start from = most_none (CompletesWith rule len list (λ c. (c.start ≡ start) × (from ≤ c.len) × (c.len < from))) (reach_worth sums rule len list) none
+  pub none_at : (start from : ℕ) → IsBehindAt rule len sums list start from from NOTHING
+  none_at start from = most_none (CompletesWith rule len list (λ c. (c.start ≡ start) × (from ≤ c.len) × (c.len < from))) (behind_worth sums rule len list start) none
     where
       none : (rest : List Break) → CompletesWith rule len list (λ c. (c.start ≡ start) × (from ≤ c.len) × (c.len < from)) rest → ⊥
       none [] h = h
@@ -218,11 +263,11 @@ module _ (rule : Rule) (len : ℕ) (sums : List ℤ) (list : List Break) (r : Is
       none (c ∷ rest) h = omega (arith, h.0.0, h.0.1)
 
   -- one length more of a start
-  pub size_more : (start from size : ℕ) (x y : ℤ) → from ≤ size → IsReachAt rule len sums list start from size x → IsReachBy rule len sums list (record { start = start; len = size }) y
-      → IsReachAt rule len sums list start from (size + 1) (int_max x y)
+  pub size_more : (start from size : ℕ) (x y : ℤ) → from ≤ size → IsBehindAt rule len sums list start from size x → IsBehindBy rule len sums list (record { start = start; len = size }) y
+      → IsBehindAt rule len sums list start from (size + 1) (int_max x y)
   size_more start from size x y low p q =
       most_join (CompletesWith rule len list (λ c. (c.start ≡ start) × (from ≤ c.len) × (c.len < size))) (CompletesWith rule len list (λ c. c ≡ record { start = start; len = size }))
-      (CompletesWith rule len list (λ c. (c.start ≡ start) × (from ≤ c.len) × (c.len < size + 1))) (reach_worth sums rule len list) x y split one two p q
+      (CompletesWith rule len list (λ c. (c.start ≡ start) × (from ≤ c.len) × (c.len < size + 1))) (behind_worth sums rule len list start) x y split one two p q
     where
       split : (rest : List Break) → CompletesWith rule len list (λ c. (c.start ≡ start) × (from ≤ c.len) × (c.len < size + 1)) rest
           → CompletesWith rule len list (λ c. (c.start ≡ start) × (from ≤ c.len) × (c.len < size)) rest ⊎ CompletesWith rule len list (λ c. c ≡ record { start = start; len = size }) rest
@@ -244,15 +289,15 @@ module _ (rule : Rule) (len : ℕ) (sums : List ℤ) (list : List Break) (r : Is
           let length : c.len ≡ size = ap (λ (b : Break). b.len) h.0 in
           ((ap (λ (b : Break). b.start) h.0, omega arith, omega arith), h.1)
 
-  pub size_raised : (start from size : ℕ) (x y z : ℤ) → from ≤ size → (z ≡ int_max x y) ⊎ ((y ≡ NOTHING) × (z ≡ x)) → IsReachAt rule len sums list start from size x
-      → IsReachBy rule len sums list (record { start = start; len = size }) y → IsReachAt rule len sums list start from (size + 1) z
+  pub size_raised : (start from size : ℕ) (x y z : ℤ) → from ≤ size → (z ≡ int_max x y) ⊎ ((y ≡ NOTHING) × (z ≡ x)) → IsBehindAt rule len sums list start from size x
+      → IsBehindBy rule len sums list (record { start = start; len = size }) y → IsBehindAt rule len sums list start from (size + 1) z
   size_raised start from size x y z low e p q =
       let more = size_more start from size x y low p q in
       let same : z ≡ int_max x y = elim e [
         | inl m ↦ m
-        | inr k ↦ k.1 ∙ sym (max_above x NOTHING (most_above (CompletesWith rule len list (λ c. (c.start ≡ start) × (from ≤ c.len) × (c.len < size))) (reach_worth sums rule len list) x p)) ∙ ap (int_max x) (sym k.0)
+        | inr k ↦ k.1 ∙ sym (max_above x NOTHING (most_above (CompletesWith rule len list (λ c. (c.start ≡ start) × (from ≤ c.len) × (c.len < size))) (behind_worth sums rule len list start) x p)) ∙ ap (int_max x) (sym k.0)
       ] in
-      subst (IsReachAt rule len sums list start from (size + 1)) (sym same) more
+      subst (IsBehindAt rule len sums list start from (size + 1)) (sym same) more
 
   -- two ranges of lengths that meet
   pub sizes_join : (from mid to : ℕ) (x y : ℤ) → from ≤ mid → mid ≤ to → IsReachOfSizes rule len sums list from mid x → IsReachOfSizes rule len sums list mid to y → IsReachOfSizes rule len sums list from to (int_max x y)

@@ -1,17 +1,18 @@
 -- The places of spots in a table of layers.
-use Rattle.std.proofs.Common.{◌≡◌, inl, inr, ℕ, zero, suc, replicate, take, drop, ◌+◌, ◌-◌, ◌*◌, ◌<◌, ◌≤◌, ℤ, true, List, [], ◌∷◌, ◌++◌, refl, sym, ap, ◌∙◌, subst, arith, length, bit_or}
+use Rattle.std.proofs.Common.{◌≡◌, inl, inr, ℕ, take, drop, ◌+◌, ◌-◌, ◌*◌, ◌<◌, ◌≤◌, ℤ, true, List, [], ◌∷◌, ◌++◌, refl, sym, ap, ◌∙◌, subst, arith, length, bit_or, sum_by}
 use Rattle.std.proofs.Math.Nat.{mul-le-mul_right}
-use Rattle.std.proofs.lemmas.Bool.{cases_lt}
+use Rattle.std.proofs.lemmas.Bool.{and_parts, cases_lt}
+use Rattle.std.proofs.lemmas.List.Sums.{sum_by-cons}
 use Rattle.std.proofs.Math.ListN.{get_or-append}
 use Rattle.std.proofs.Math.Seq.{get_or-append_seam, take-append_seam}
 use Rattle.break_rules.specs.declared.Break.{Break}
 use Rattle.break_rules.specs.declared.Rule.{Rule}
 use Rattle.break_rules.specs.declared.Spot.{Spot}
-use Rattle.break_rules.specs.Breaks.{end_of, is_lunch}
+use Rattle.break_rules.specs.Breaks.{end_of, is_lunch, total_of}
 use Rattle.break_rules.specs.Ranges.{IsRule}
-use Rattle.break_rules.specs.Walk.{bits_of, is_walk, spot_of}
+use Rattle.break_rules.specs.Walk.{bits_of, is_walk, is_walk_from, may_follow, spot_of}
 use Rattle.break_rules.proofs.Reaching.{walk_small}
-use Rattle.break_rules.proofs.Steps.{spot_more, spot_with}
+use Rattle.break_rules.proofs.Steps.{bounds, spot_more, spot_with}
 use Rattle.break_layers.specs.declared.layers.Layer.{Layer}
 use Rattle.break_layers.specs.declared.windows.TheConstants.{NOTHING}
 use Rattle.break_layers.specs.Windows.{number_in}
@@ -38,16 +39,28 @@ same_layer one two a b len p q e =
       ]
     ]
 
+-- a walk uses no more than the total
+used_from : (rule : Rule) (len offset used : ℕ) (list : List Break) → is_walk_from rule len offset used list ≡ true → used ≤ total_of rule len → used + sum_by (λ b. b.len) list ≤ total_of rule len
+used_from rule len offset used [] h u = omega arith
+used_from rule len offset used (b ∷ bs) h u =
+    let p = and_parts (may_follow rule len offset used b) (is_walk_from rule len (end_of b) (used + b.len) bs) h in
+    let f = bounds rule len offset used b p.0 in
+    omega (arith, used_from rule len (end_of b) (used + b.len) bs p.1 (omega arith), sum_by-cons (λ (b : Break). b.len) b bs)
+
+pub walk_used : (rule : Rule) (len : ℕ) (list : List Break) → is_walk rule len list ≡ true → (spot_of rule list).used ≤ total_of rule len
+walk_used rule len list h = omega (arith, used_from rule len 0 0 list h (omega arith))
+
 module _ (rule : Rule) (len : ℕ) (list : List Break) (b : Break) (r : IsRule rule) where
   -- the spot behind a break lies in an earlier layer
   pub behind_place : (layer : Layer) → layer ≡ layer_of rule list → 1 ≤ b.len → is_walk rule len (list ++ b ∷ []) ≡ true
-      → layer_place len (spot_of rule (list ++ b ∷ [])) < layer_number layer * (len + 1)
+      → layer_place rule len (spot_of rule (list ++ b ∷ [])) < layer_number rule len layer * (len + 1)
   behind_place layer is some on =
       let small = walk_small rule len (list ++ b ∷ []) r on in
       let used : (spot_of rule (list ++ b ∷ [])).used ≡ (spot_of rule list).used + b.len = ap (λ (s : Spot). s.used) (spot_more rule list b r.few_lunches) in
       let own : layer.used ≡ (spot_of rule list).used = ap (λ (l : Layer). l.used) is in
-      earlier_layer ((48 - (spot_of rule (list ++ b ∷ [])).used) * 4 + (spot_of rule (list ++ b ∷ [])).lunches) (layer_number layer) (spot_of rule (list ++ b ∷ [])).offset len
-      (omega (arith, small.used, small.lunches)) small.offset
+      let within : (spot_of rule (list ++ b ∷ [])).used ≤ total_of rule len = walk_used rule len (list ++ b ∷ []) on in
+      earlier_layer ((total_of rule len - (spot_of rule (list ++ b ∷ [])).used) * 4 + (spot_of rule (list ++ b ∷ [])).lunches) (layer_number rule len layer) (spot_of rule (list ++ b ∷ [])).offset len
+      (omega (arith, within, small.lunches)) small.offset
 
   -- the spot with these numbers is the one behind the list with the break
   pub behind_spot : (layer : Layer) (offset used bits : ℕ) → layer ≡ layer_of rule list → offset ≡ end_of b → used ≡ layer.used + b.len → bits ≡ bits_of (λ e. is_lunch e b) rule.lunches
@@ -68,12 +81,6 @@ one_more P row n x many before here k less =
           (subst (P n) (sym (ap (λ j. number_in (row ++ x ∷ []) j) (sym many) ∙ get_or-append_seam row x [] NOTHING)) here)
     ]
 
--- a row of nothing
-pub all_nothing : (n k : ℕ) → number_in (replicate n NOTHING) k ≡ NOTHING
-all_nothing zero k = refl
-all_nothing (suc n) zero = refl
-all_nothing (suc n) (suc k) = all_nothing n k
-
 -- a vector behind whose slice other numbers were written
-pub written : (n : ℕ) (new old : List ℤ) → n ≡ length new → take n (new ++ drop (length new) old) ≡ new
+pub written : {X : Type 0} (n : ℕ) (new old : List X) → n ≡ length new → take n (new ++ drop (length new) old) ≡ new
 written n new old e = ap (λ k. take k (new ++ drop (length new) old)) e ∙ take-append_seam new (drop (length new) old)

@@ -1,5 +1,5 @@
 -- What lists of breaks earn at most, by layers of spots of one break time and the same lunches.
-use Rattle.std.specs.Prelude.{◌≡◌, ℕ, ◌+◌, ◌-◌, ◌*◌, ◌<◌, ◌≤◌, ◌⊎◌, ℤ, ◌+ℤ◌, ◌<ℤ◌, ◌≤ℤ◌, nat_le, min, IsTrue, List, [], ◌∷◌, if◌then◌else◌}
+use Rattle.std.specs.Prelude.{◌≡◌, ℕ, ◌+◌, ◌-◌, ◌*◌, ◌<◌, ◌≤◌, ◌⊎◌, ℤ, ◌+ℤ◌, ◌-ℤ◌, ◌<ℤ◌, ◌≤ℤ◌, nat_le, min, IsTrue, List, [], ◌∷◌, if◌then◌else◌}
 use Rattle.std.specs.Int.{int_max}
 use Rattle.break_rules.specs.declared.Break.{Break}
 use Rattle.break_rules.specs.declared.Rule.{Rule}
@@ -8,7 +8,6 @@ use Rattle.break_rules.specs.Breaks.{total_of}
 use Rattle.break_rules.specs.Walk.{spot_of, is_walk, end_of_all}
 use Rattle.price_sums.specs.Along.{sum_at, resumes, Completes}
 use Rattle.break_layers.specs.declared.layers.Layer.{Layer}
-use Rattle.break_layers.specs.declared.layers.TheConstants.{GREATEST_TOTAL, LAYERS}
 use Rattle.break_layers.specs.declared.sizes.Sizes.{Sizes}
 use Rattle.break_layers.specs.declared.windows.TheConstants.{NOTHING}
 use Rattle.break_layers.specs.Rests.{rest_worth}
@@ -23,13 +22,17 @@ pub record IsMostOrNothing (Allowed : List Break → Type 0) (worth : List Break
 abbrev pub layer_of : Rule → List Break → Layer
 layer_of rule list = record { used = (spot_of rule list).used; lunches = (spot_of rule list).lunches }
 
--- the number of a layer: those of more break time first
-abbrev pub layer_number : Layer → ℕ
-layer_number layer = (GREATEST_TOTAL - layer.used) * 4 + layer.lunches
+-- the number of a layer: those of more break time first, from that of the whole total on
+abbrev pub layer_number : Rule → ℕ → Layer → ℕ
+layer_number rule len layer = (total_of rule len - layer.used) * 4 + layer.lunches
+
+-- how many layers there are: four sets of lunches for each break time
+abbrev pub layer_count : Rule → ℕ → ℕ
+layer_count rule len = (total_of rule len + 1) * 4
 
 -- the place of a spot in a table: layer by layer, and in a layer by its offset
-abbrev pub layer_place : ℕ → Spot → ℕ
-layer_place len spot = ((GREATEST_TOTAL - spot.used) * 4 + spot.lunches) * (len + 1) + spot.offset
+abbrev pub layer_place : Rule → ℕ → Spot → ℕ
+layer_place rule len spot = ((total_of rule len - spot.used) * 4 + spot.lunches) * (len + 1) + spot.offset
 
 -- what a list's best rest earns, and the number that stands for nothing where the list has none
 abbrev pub IsValueOrNothing : Rule → ℕ → List ℤ → List Break → ℤ → Type 0
@@ -38,12 +41,12 @@ IsValueOrNothing rule len sums list value = IsMostOrNothing (Completes rule len 
 -- for each walk whose spot has a place before a number, what its best rest earns
 abbrev pub AreLayersBefore : Rule → ℕ → List ℤ → ℕ → List ℤ → Type 0
 AreLayersBefore rule len sums before table =
-    (list : List Break) → IsTrue (is_walk rule len list) → layer_place len (spot_of rule list) < before
-    → IsValueOrNothing rule len sums list (number_in table (layer_place len (spot_of rule list)))
+    (list : List Break) → IsTrue (is_walk rule len list) → layer_place rule len (spot_of rule list) < before
+    → IsValueOrNothing rule len sums list (number_in table (layer_place rule len (spot_of rule list)))
 
 -- for each walk, what its best rest earns
 abbrev pub AreLayers : Rule → ℕ → List ℤ → List ℤ → Type 0
-AreLayers rule len sums table = AreLayersBefore rule len sums (LAYERS * (len + 1)) table
+AreLayers rule len sums table = AreLayersBefore rule len sums (layer_count rule len * (len + 1)) table
 
 -- the longest work period that a break of some length may follow
 abbrev pub longest_work_of : Rule → ℕ → ℕ
@@ -97,8 +100,21 @@ IsReachOfSizes rule len sums list from to value = IsReach rule len sums list (λ
 abbrev pub IsReachOfAll : Rule → ℕ → List ℤ → List Break → ℤ → Type 0
 IsReachOfAll rule len sums list value = IsReach rule len sums list (λ b. Unit {0}) value
 
--- a number that was raised to what the breaks of a layer with one start and length reach, and kept where they reach nothing
+-- what a list's rest reaches, without the prices before the start of its first break
+abbrev pub behind_worth : List ℤ → Rule → ℕ → List Break → ℕ → List Break → ℤ
+behind_worth sums rule len list start rest = reach_worth sums rule len list rest -ℤ sum_at sums start
+
+-- the most that is earned behind a given first break
+abbrev pub IsBehindBy : Rule → ℕ → List ℤ → List Break → Break → ℤ → Type 0
+IsBehindBy rule len sums list stop value = IsMostOrNothing (CompletesWith rule len list (λ b. b ≡ stop)) (behind_worth sums rule len list stop.start) value
+
+-- the most that is earned behind a first break that has a start and one of some lengths
+abbrev pub IsBehindAt : Rule → ℕ → List ℤ → List Break → ℕ → ℕ → ℕ → ℤ → Type 0
+IsBehindAt rule len sums list start from to value =
+    IsMostOrNothing (CompletesWith rule len list (λ b. (b.start ≡ start) × (from ≤ b.len) × (b.len < to))) (behind_worth sums rule len list start) value
+
+-- a number that was raised to what is earned behind the breaks of a layer with one start and length, and kept where that is nothing
 pub record IsRaised (rule : Rule) (len : ℕ) (sums : List ℤ) (layer : Layer) (stop : Break) (before after : ℤ) : Type 0 where
-  pub reach : ℤ
-  pub exact : (list : List Break) → IsTrue (is_walk rule len list) → layer ≡ layer_of rule list → IsInWindow rule list stop → IsReachBy rule len sums list stop reach
-  pub raised : (after ≡ int_max before reach) ⊎ ((reach ≡ NOTHING) × (after ≡ before))
+  pub most : ℤ
+  pub exact : (list : List Break) → IsTrue (is_walk rule len list) → layer ≡ layer_of rule list → IsInWindow rule list stop → IsBehindBy rule len sums list stop most
+  pub raised : (after ≡ int_max before most) ⊎ ((most ≡ NOTHING) × (after ≡ before))

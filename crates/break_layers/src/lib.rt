@@ -3,8 +3,10 @@
 //! one window of offsets, or in two where the rule asks for longer breaks behind long work.
 #![tactic(auto)]
 
+mod days;
 mod layers;
 mod lists;
+mod numbers;
 mod reaching;
 mod sizes;
 mod values;
@@ -12,5 +14,6 @@ mod walks;
 mod ways;
 mod windows;
 
+pub use days::most_by_lane;
 pub use values::LayerValues;
 pub use ways::Way;

@@ -10,9 +10,8 @@ ghost use Rattle.price_sums.specs.Along.{AreSums, sum_at, resumes};
 ghost use Rattle.break_layers.specs.Rests.{IsMostEarned, IsBestFrom, IsBestList, LeadsOn};
 ghost use Rattle.break_layers.specs.Layered.{AreLayers, IsReachBy};
 
-use crate::layers::{place, value_in};
-use crate::reaching::plus;
-use crate::windows::number_at;
+use crate::layers::{number_of, value_in};
+use crate::numbers::plus;
 use break_rules::{Break, Breaks, NoMemory, Rule, Spot, after, nexts};
 use price_sums::{resumption, sum_before};
 use std::alloc::Global;
@@ -25,7 +24,7 @@ fn reach_at(rule: &Rule, len: u16, sums: &[i64], table: &[i64], spot: Spot, next
     ensures { (list : List Break) → IsTrue (is_walk rule.now len list) → spot ≡ spot_of rule.now list → Has (nexts_of rule.now len spot) next → IsReachBy rule.now len sums.now list next result }
 {
     plus(
-        number_at(table, place(len, after(rule, spot, next))),
+        number_of(rule, len, table, after(rule, spot, next)),
         sum_before(sums, usize::from(next.start)),
     )
 }
@@ -60,7 +59,7 @@ fn next_best(rule: &Rule, len: u16, sums: &[i64], table: &[i64], spot: Spot) -> 
     requires layers { AreLayers rule.now len sums.now table.now }
     ensures { (list : List Break) → is_live rule.now len list ≡ true → spot ≡ spot_of rule.now list → MatchOption result (is_legal rule.now len list ≡ true) (LeadsOn rule.now len sums.now list) }
 {
-    let value = number_at(table, place(len, spot));
+    let value = number_of(rule, len, table, spot);
     let before = sum_before(sums, resumption(rule, spot));
     first_reaching(rule, len, sums, table, spot, plus(value, before))
 }
@@ -104,7 +103,7 @@ pub(crate) fn best_list(
     ensures { IfOk result (λ found. MatchOption found ((list : List Break) → is_legal rule.now len list ≡ false) (IsBestList rule.now len sums.now)) }
 {
     let opening = Spot::opening();
-    match value_in(table, len, opening) {
+    match value_in(rule, len, table, opening) {
         Some(value) => {
             let list = completed(rule, len, sums, table, Vec::new(alloc), opening)?;
             Ok(Some((Breaks::new(list), value)))

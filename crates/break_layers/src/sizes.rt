@@ -23,7 +23,7 @@ pub(crate) struct Sizes {
 }
 
 /// The total that a table has for a length.
-fn total_among(totals: &[(u16, u16)], len: u16) -> u16
+pub(crate) fn total_among(totals: &[(u16, u16)], len: u16) -> u16
     ensures { result ≡ total_in totals.now len }
 {
     let mut total = 0;
@@ -36,7 +36,7 @@ fn total_among(totals: &[(u16, u16)], len: u16) -> u16
 }
 
 /// Whether a layer has no lunches but those of some entries, and break time for each of them.
-fn has_time(entries: &[Lunch], layer: Layer) -> bool
+pub(crate) fn has_time(entries: &[Lunch], layer: Layer) -> bool
     ensures { (met : Lunch → Bool) → layer.lunches ≡ bits_of met entries.now → ((e : Lunch) → Has entries.now e → met e ≡ true → e.size ≤ layer.used) → result ≡ true }
 {
     let mut rest = layer.lunches;

@@ -10,7 +10,7 @@ ghost use Rattle.break_layers.specs.Rests.{IsMostEarned, IsBestFrom, IsBestList}
 ghost use Rattle.break_layers.specs.declared.ways.Way.{Way};
 ghost use Rattle.break_layers.specs.Ways.{live_stops};
 
-use crate::layers::{layer_table, value_in};
+use crate::layers::{set_layers, value_in};
 use crate::lists::{best_list, completed};
 use crate::walks::walked;
 use crate::ways::{Way, live_ways};
@@ -54,7 +54,8 @@ impl<'a> LayerValues<'a> {
         requires sums { AreSums len sums.items }
         ensures { IfOk result (λ v. v ≡ record { rule = rule.now; len = len; sums = sums.items }) }
     {
-        let table = layer_table(alloc, rule, len, &sums)?;
+        let mut table = Vec::new(alloc);
+        set_layers(alloc, rule, len, &sums, &mut table)?;
         Ok(LayerValues {
             rule,
             len,
@@ -78,7 +79,7 @@ impl<'a> LayerValues<'a> {
     pub fn value_at(&self, spot: Spot) -> Option<i64>
         ensures { (list : List Break) → IsTrue (is_walk self.now.rule self.now.len list) → spot ≡ spot_of self.now.rule list → MatchOption result (is_live self.now.rule self.now.len list ≡ false) (IsMostEarned self.now.rule self.now.len self.now.sums list) }
     {
-        value_in(&self.table, self.len, spot)
+        value_in(self.rule, self.len, &self.table, spot)
     }
 
     /// Returns the breaks with which some legal list goes on from the spot of a walk, in rising order, each with the spot behind
@@ -96,7 +97,7 @@ impl<'a> LayerValues<'a> {
         ensures { MatchOption result (is_live self.now.rule self.now.len front.now ≡ false) (λ spot. (is_live self.now.rule self.now.len front.now ≡ true) × (spot ≡ spot_of self.now.rule front.now)) }
     {
         let spot = walked(self.rule, self.len, front)?;
-        match value_in(&self.table, self.len, spot) {
+        match value_in(self.rule, self.len, &self.table, spot) {
             Some(_) => Some(spot),
             None => None,
         }

@@ -35,7 +35,7 @@ pub(crate) fn live_ways(
     let mut ways = Vec::new(alloc);
     for stop in nexts(rule, len, spot) {
         let behind = after(rule, spot, stop);
-        if value_in(table, len, behind).is_some() {
+        if value_in(rule, len, table, behind).is_some() {
             ways.push(Way { stop, spot: behind })?;
         }
     }

@@ -1,6 +1,5 @@
-use Rattle.std.proofs.Common.{◌≡◌, ◌+◌, ◌++◌, ◌∷◌, [], ◌*◌, ◌≤◌, ℤ, length, length-append, sym, ap, subst, ◌∙◌, arith, to_z, of_z}
-use Rattle.std.specs.Int.{w64}
-use Rattle.std.proofs.lemmas.Int.{to_z-of_z}
+use Rattle.std.proofs.Common.{◌≡◌, ◌+◌, ◌++◌, ◌∷◌, [], ◌*◌, ◌≤◌, length, length-append, map, sym, ap, subst, ◌∙◌, arith}
+use Rattle.std.proofs.lemmas.List.{length-map, map_push}
 use Rattle.break_rules.specs.declared.Spot.{Spot}
 use Rattle.break_rules.specs.Walk.{end_of_all}
 use Rattle.break_layers.specs.Windows.{number_in}
@@ -9,26 +8,26 @@ use Rattle.break_layers.proofs.Ending.{layers_more}
 use Rattle.break_layers.proofs.layers.put_layer.Goals as goal
 
 pub loop-offset-preserved : goal.loop-offset-preserved
-loop-offset-preserved c =
+loop-offset-preserved g c =
     let rule = c.args.rule.now in
     let len = c.args.len in
-    let sums = c.args.sums.now in
     let table = c.loop-offset.table.items in
     let layer = c.args.layer in
     let offset = c.loop-offset.offset in
     let i = c.loop-offset.invariant in
     let x = c.value_behind.result in
-    let items : c.push.new.self.items ≡ table ++ x ∷ [] =
-    c.in_ok-push.ensures.items ∙ ap (λ (z : ℤ). table ++ z ∷ []) (to_z-of_z w64 x (record { sfits = c.value_behind.type_inv })) in
+    let items : c.push.new.self.items ≡ table ++ x ∷ [] = c.in_ok-push.ensures.items in
     let inside : offset ≤ len = omega arith in
-    let most : to_z w64 (of_z w64 c.number_at.result) ≡ number_in c.args.most.now offset = to_z-of_z w64 c.number_at.result (record { sfits = c.number_at.type_inv }) ∙ c.number_at.ensures in
     record {
       many = ap length items ∙ length-append table (x ∷ []) ∙ omega (arith, i.many);
-      known = subst (AreLayersBefore rule len sums (layer_number layer * (len + 1) + (offset + 1))) (sym items)
-          (layers_more rule len sums table layer offset x c.requires.rule inside c.requires.used c.requires.lunches i.many i.known
+      known = λ day d s known reaches.
+          let on = g.N.Number.on day in
+          let sums = map on c.args.sums.now in
+          subst (AreLayersBefore rule len sums (layer_number rule len layer * (len + 1) + (offset + 1))) (sym (ap (map on) items ∙ map_push on table x))
+          (layers_more rule len sums (map on table) layer offset (on x) c.requires.rule inside c.requires.used c.requires.lunches (length-map table on ∙ i.many) (i.known day d s known reaches)
           (λ list walk is.
           let at : offset ≡ end_of_all list = ap (λ (s : Spot). s.offset) is in
           let own : layer ≡ layer_of rule list = ap (λ (s : Spot). record { used = s.used; lunches = s.lunches }) is in
-          c.value_behind.ensures list walk is
-          (subst (IsReachOfAll rule len sums list) (sym (most ∙ ap (number_in c.args.most.now) at)) (c.requires.most list walk own))));
+          c.value_behind.ensures day d s list walk is
+          (subst (IsReachOfAll rule len sums list) (sym (c.number_at.ensures day d ∙ ap (number_in (map on c.args.most.now)) at)) (reaches list walk own))));
     }

@@ -1,6 +1,5 @@
-use Rattle.std.proofs.Common.{◌≡◌, ◌≢◌, ◌-ℤ◌, ℤ, true, false, sym, ap, subst, ◌∙◌, to_z, of_z, FitsSigned}
+use Rattle.std.proofs.Common.{◌≡◌, ◌≢◌, ◌-ℤ◌, ℤ, true, false, map, sym, ap, subst, ◌∙◌, FitsSigned}
 use Rattle.std.specs.Int.{w64}
-use Rattle.std.proofs.lemmas.Int.{to_z-of_z}
 use Rattle.break_rules.specs.declared.Spot.{Spot}
 use Rattle.break_rules.specs.Breaks.{is_legal}
 use Rattle.break_rules.specs.Walk.{end_of_all}
@@ -11,31 +10,27 @@ use Rattle.break_layers.proofs.layers.value_behind.Goals as goal
 use Rattle.break_layers.proofs.layers.value_behind.Goals.{then-ends, else-ends}
 
 pub returns : goal.returns
-returns c = λ list walk is reach.
+returns g c = λ day d s list walk is reach.
+    let on = g.N.Number.on day in
     let rule = c.args.rule.now in
     let len = c.args.len in
-    let sums = c.args.sums.now in
-    let r = c.requires.rule in
-    let s = c.requires.sums in
-    let from : c.resumption.result ≡ resumes rule (end_of_all list) = c.resumption.ensures ∙ ap (λ (p : Spot). resumes rule p.offset) is in
-    let sum : to_z w64 (of_z w64 c.sum_before.result) ≡ sum_at sums (resumes rule (end_of_all list)) =
-    to_z-of_z w64 c.sum_before.result (record { sfits = c.sum_before.type_inv }) ∙ c.sum_before.ensures ∙ ap (sum_at sums) from in
-    let z = to_z w64 (of_z w64 c.less.result) in
-    let back : z ≡ c.less.result = to_z-of_z w64 c.less.result (record { sfits = c.less.type_inv }) in
-    let w = to_z w64 c.if-ends.whole-bits in
+    let sums = map on c.args.sums.now in
+    let r = c.requires in
     let p = sum_at sums (resumes rule (end_of_all list)) in
+    let sum : on c.sums_at.result ≡ p = c.sums_at.ensures day d ∙ ap (sum_at sums) (c.resumption.ensures ∙ ap (λ (p : Spot). resumes rule p.offset) is) in
+    let z = on c.without.result in
+    let w = on c.if-ends.whole in
     let taken : (v : ℤ) → w ≡ v → v ≢ NOTHING → FitsSigned w64 (v -ℤ p) → z ≡ v -ℤ p =
     λ v e some fits.
-    let both : w -ℤ to_z w64 (of_z w64 c.sum_before.result) ≡ v -ℤ p = ap (λ (x : ℤ). x -ℤ to_z w64 (of_z w64 c.sum_before.result)) e ∙ ap (λ (x : ℤ). v -ℤ x) sum in
-    back ∙ c.less.ensures.difference (λ none. some (sym e ∙ none)) (subst (FitsSigned w64) (sym both) fits) ∙ both in
+    let both : w -ℤ on c.sums_at.result ≡ v -ℤ p = ap (λ (x : ℤ). x -ℤ on c.sums_at.result) e ∙ ap (λ (x : ℤ). v -ℤ x) sum in
+    c.without.ensures.difference day d (λ none. some (sym e ∙ none)) (subst (FitsSigned w64) (sym both) fits) ∙ both in
     elim c.if-ends.branch [
       | then-ends b ↦
           let legal : is_legal rule len list ≡ true = sym (c.ends.ensures list walk is) ∙ b.if-ends.true in
-          let value : w ≡ sum_at sums len =
-          b.whole-is ∙ to_z-of_z w64 b.sum_before-whole.result (record { sfits = b.sum_before-whole.type_inv }) ∙ b.sum_before-whole.ensures ∙ ap (sum_at sums) b.from.ensures in
+          let value : w ≡ sum_at sums len = ap on b.whole-is ∙ b.sums_at-whole.ensures day d ∙ ap (sum_at sums) b.from.ensures in
           value_legal rule len sums list r s z legal (taken (sum_at sums len) value (sum_some rule len sums list r s len))
       | else-ends b ↦
           let unfinished : is_legal rule len list ≡ false = sym (c.ends.ensures list walk is) ∙ b.if-ends.false in
-          let value : w ≡ c.args.most = b.whole-is ∙ to_z-of_z w64 c.args.most c.ranges.most in
-          value_open rule len sums list r s c.args.most z unfinished reach (λ none. back ∙ c.less.ensures.nothing (value ∙ none)) (taken c.args.most value)
+          let value : w ≡ on c.args.most = ap on b.whole-is in
+          value_open rule len sums list r s (on c.args.most) z unfinished reach (λ none. c.without.ensures.nothing day d (value ∙ none)) (taken (on c.args.most) value)
     ]

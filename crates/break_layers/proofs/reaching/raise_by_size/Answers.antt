@@ -1,66 +1,89 @@
-use Rattle.std.proofs.Common.{◌≡◌, ◌≢◌, ◌+◌, ◌<◌, ℕ, ℤ, inl, inr, false, length, nat_le, refl, slice_set, sym, ap, subst, ◌∙◌, arith, to_z, of_z}
-use Rattle.std.specs.Int.{w64, int_max}
-use Rattle.std.proofs.lemmas.Bool.{and_left, and_right, cases_lt, lt-leb}
+use Rattle.std.proofs.Common.{◌≡◌, ◌+◌, ◌*◌, ◌-◌, ◌<◌, ◌≤◌, ℕ, ℤ, inl, inr, true, false, List, [], ◌∷◌, ◌++◌, IsTrue, length, map, get_or, nat_le, bit_or, refl, sym, ap, subst, ◌∙◌, arith}
+use Rattle.std.specs.Int.{int_max}
+use Rattle.std.proofs.lemmas.Bool.{and_from, and_left, and_right, cases_lt, le-leb, lt-leb}
 use Rattle.break_rules.specs.declared.Break.{Break}
-use Rattle.break_rules.specs.Breaks.{end_of, is_lunch, keeps_ends}
-use Rattle.break_rules.specs.Walk.{bits_of}
-use Rattle.std.proofs.lemmas.Int.{to_z-of_z}
-use Rattle.std.proofs.lemmas.List.{get_or-set_same, get_or-set_other}
+use Rattle.break_rules.specs.declared.Rule.{Rule}
+use Rattle.break_rules.specs.Breaks.{end_of, is_lunch, keeps_ends, total_of}
+use Rattle.break_rules.specs.Ranges.{IsRule}
+use Rattle.break_rules.specs.Walk.{bits_of, end_of_all, is_walk, may_follow, spot_of}
+use Rattle.break_rules.proofs.Reaching.{is_walk-more}
+use Rattle.break_rules.proofs.Steps.{bounds, total_small}
+use Rattle.price_sums.specs.Along.{AreSums}
+use Rattle.break_layers.specs.declared.layers.Layer.{Layer}
 use Rattle.break_layers.specs.declared.windows.TheConstants.{NOTHING}
 use Rattle.break_layers.specs.Windows.{number_in}
-use Rattle.break_layers.specs.Layered.{IsRaised}
-use Rattle.break_layers.proofs.Reach.{reach_none}
+use Rattle.break_layers.specs.Layered.{AreLayersBefore, IsBehindBy, IsInWindow, IsRaised, IsSizeIn, layer_number, layer_of, layer_place, size_limit_of}
+use Rattle.break_layers.proofs.Reach.{behind_by, behind_none, may_follow_in}
+use Rattle.break_layers.proofs.Rows.{number_of_day, row_more, row_left, set_other}
+use Rattle.break_layers.proofs.Table.{behind_place, behind_spot}
 use Rattle.break_layers.proofs.reaching.raise_by_size.Goals as goal
 
-pub reach-reached-requires-clause-entries : goal.reach-reached-requires-clause-entries
-reach-reached-requires-clause-entries c =
-    let b : Break = record { start = c.loop-start.start; len = c.args.size } in
-    c.lunches_of-entries.ensures.bits b refl ∙ ap (bits_of (λ e. is_lunch e b)) c.as_slice.ensures
+-- the number at the place behind a break is what is earned there
+behind_is : (rule : Rule) (len : ℕ) (sums table : List ℤ) (layer : Layer) (b : Break) (left lunches : ℕ) (x : ℤ) → IsRule rule → AreSums len sums
+    → AreLayersBefore rule len sums (layer_number rule len layer * (len + 1)) table → IsSizeIn rule len layer b.len → keeps_ends rule len b ≡ true
+    → left ≡ total_of rule len - (layer.used + b.len) → lunches ≡ bit_or layer.lunches (bits_of (λ e. is_lunch e b) rule.lunches)
+    → x ≡ number_in table ((left * 4 + lunches) * (len + 1) + (b.start + b.len))
+    → (list : List Break) → IsTrue (is_walk rule len list) → layer ≡ layer_of rule list → IsInWindow rule list b → IsBehindBy rule len sums list b x
+behind_is rule len sums table layer b left lunches x r s known size ends from bits at list walk is window =
+    let follows = may_follow_in rule len sums list r s layer b is size window ends in
+    let p = bounds rule len (end_of_all list) (spot_of rule list).used b follows in
+    let on : is_walk rule len (list ++ b ∷ []) ≡ true =
+    is_walk-more rule len list b ∙ and_from (is_walk rule len list) (may_follow rule len (end_of_all list) (spot_of rule list).used b) walk follows in
+    let spot = behind_spot rule len list b r layer (b.start + b.len) (layer.used + b.len) (bits_of (λ e. is_lunch e b) rule.lunches) is refl refl refl in
+    let own : (left * 4 + lunches) * (len + 1) + (b.start + b.len) ≡ layer_place rule len (spot_of rule (list ++ b ∷ [])) =
+    ap (λ n. (n * 4 + lunches) * (len + 1) + (b.start + b.len)) from
+    ∙ ap (λ n. ((total_of rule len - (layer.used + b.len)) * 4 + n) * (len + 1) + (b.start + b.len)) bits ∙ ap (layer_place rule len) spot in
+    subst (IsBehindBy rule len sums list b) (sym (at ∙ ap (number_in table) own))
+    (behind_by rule len sums list r s b (number_in table (layer_place rule len (spot_of rule (list ++ b ∷ [])))) (known (list ++ b ∷ []) on (behind_place rule len list b r layer is p.some on)))
 
 pub loop-start-preserved : goal.loop-start-preserved
-loop-start-preserved c =
+loop-start-preserved g c =
     let rule = c.args.rule.now in
     let len = c.args.len in
-    let sums = c.args.sums.now in
     let row = c.loop-start.row in
     let start = c.loop-start.start in
     let i = c.loop-start.invariant in
-    let x = to_z w64 (of_z w64 c.max.result) in
+    let b : Break = record { start = start; len = c.args.size } in
+    let x = c.raise.new.self in
     let inside : start < length row = omega (arith, c.loop-start.auto.row) in
-    let old : to_z w64 (of_z w64 c.number_at.result) ≡ number_in c.args.row.now start =
-    to_z-of_z w64 c.number_at.result (record { sfits = c.number_at.type_inv }) ∙ c.number_at.ensures ∙ i.left start (omega arith) in
-    let own : to_z w64 (of_z w64 c.reach-reached.result) ≡ c.reach-reached.result = to_z-of_z w64 c.reach-reached.result (record { sfits = c.reach-reached.type_inv }) in
-    let most : x ≡ int_max (number_in c.args.row.now start) c.reach-reached.result =
-    to_z-of_z w64 c.max.result (record { sfits = c.max.type_inv }) ∙ c.max.ensures.value
-    ∙ ap (λ (z : ℤ). int_max z (to_z w64 (of_z w64 c.reach-reached.result))) old ∙ ap (λ (z : ℤ). int_max (number_in c.args.row.now start) z) own in
-    let here : number_in (slice_set row start x) start ≡ x = get_or-set_same row start x NOTHING inside in
-    let other : (k : ℕ) → k ≢ start → number_in (slice_set row start x) k ≡ number_in row k = λ k ne. get_or-set_other row start k x NOTHING ne in
-    let Raised : ℕ → ℤ → Type 0 = λ k z. IsRaised rule len sums c.args.layer (record { start = k; len = c.args.size }) (number_in c.args.row.now k) z in
+    let ends : keeps_ends rule len b ≡ true = and_from (nat_le rule.lead start) (nat_le (end_of b + rule.tail) len) (le-leb _ _ (omega arith)) (le-leb _ _ (omega arith)) in
+    let most : c.args.size ≤ size_limit_of rule len c.args.layer = c.requires.size.most in
+    let used : c.saturating_add.result ≡ c.args.layer.used + c.args.size = omega (arith, total_small rule len c.requires.rule, c.requires.size.least, c.requires.rule.some_size) in
+    let left : c.time_left-left.result ≡ total_of rule len - (c.args.layer.used + c.args.size) = c.time_left-left.ensures ∙ ap (λ n. total_of rule len - n) used in
+    let bits : bit_or c.args.layer.lunches c.lunches_met.result ≡ bit_or c.args.layer.lunches (bits_of (λ e. is_lunch e b) rule.lunches) =
+    ap (bit_or c.args.layer.lunches) (c.lunches_met.ensures ∙ c.lunches_of-entries.ensures.bits b refl ∙ ap (bits_of (λ e. is_lunch e b)) c.as_slice.ensures) in
+    let at : (c.time_left-left.result * 4 + bit_or c.args.layer.lunches c.lunches_met.result) * (len + 1) + (start + c.from-in-loop-start.result) ≡ (c.time_left-left.result * 4 + bit_or c.args.layer.lunches c.lunches_met.result) * (len + 1) + (start + c.args.size) =
+    ap (λ n. (c.time_left-left.result * 4 + bit_or c.args.layer.lunches c.lunches_met.result) * (len + 1) + (start + n)) c.from-in-loop-start.ensures in
     record {
-      early = λ k less. let ne : k ≢ start = omega arith in other k ne ∙ i.early k less;
-      done = λ k first less. elim (cases_lt k start) [
-        | inl l ↦ let ne : k ≢ start = omega arith in subst (Raised k) (sym (other k ne)) (i.done k first l)
-        | inr g ↦
-            let same : start ≡ k = omega arith in
-            subst (λ (j : ℕ). Raised j (number_in (slice_set row start x) j)) same (record { reach = c.reach-reached.result; exact = c.reach-reached.ensures; raised = inl (here ∙ most) })
-      ];
-      left = λ k more. let ne : k ≢ start = omega arith in other k ne ∙ i.left k (omega arith);
+      early = λ day k less. set_other (g.N.Number.on day) row start k x (λ e. omega (arith, e, less)) ∙ i.early day k less;
+      done = λ day sums d s known.
+          let on = g.N.Number.on day in
+          let old = map on c.args.row.now in
+          let one : on (get_or row start c.index-row-start.result) ≡ number_in old start = sym (number_of_day on row start c.index-row-start.result inside) ∙ i.left day start (omega arith) in
+          row_more on row start x (λ k (z : ℤ). rule.lead ≤ k → IsRaised rule len sums c.args.layer (record { start = k; len = c.args.size }) (number_in old k) z) inside (i.done day sums d s known)
+          (λ low. record {
+            most = on c.number_at-most.result;
+            exact = behind_is rule len sums (map on c.args.table.now) c.args.layer b c.time_left-left.result (bit_or c.args.layer.lunches c.lunches_met.result) (on c.number_at-most.result) c.requires.rule s known c.requires.size ends left bits (c.number_at-most.ensures day d ∙ ap (number_in (map on c.args.table.now)) (c.place_at-behind.ensures ∙ at));
+            raised = inl (c.raise.ensures day d ∙ ap (λ (z : ℤ). int_max z (on c.number_at-most.result)) one);
+          });
+      left = λ day. row_left (g.N.Number.on day) row start x (number_in (map (g.N.Number.on day) c.args.row.now)) (i.left day);
     }
 
 pub returns : goal.returns
-returns c = λ start inside.
+returns g c = λ day sums d s known start inside.
+    let on = g.N.Number.on day in
     let rule = c.args.rule.now in
     let len = c.args.len in
-    let sums = c.args.sums.now in
     let b : Break = record { start = start; len = c.args.size } in
     let i = c.loop-start.invariant in
-    let old = number_in c.args.row.now start in
-    let kept : keeps_ends rule len b ≡ false → number_in c.loop-start.row start ≡ old → IsRaised rule len sums c.args.layer b old (number_in c.loop-start.row start) =
-    λ far same. record { reach = NOTHING; exact = λ list walk is window. reach_none rule len sums list c.requires.rule c.requires.sums b far; raised = inr (refl, same) } in
+    let old = number_in (map on c.args.row.now) start in
+    let new = number_in (map on c.loop-start.row) start in
+    let kept : keeps_ends rule len b ≡ false → new ≡ old → IsRaised rule len sums c.args.layer b old new =
+    λ far same. record { most = NOTHING; exact = λ list walk is window. behind_none rule len sums list c.requires.rule s b far; raised = inr (refl, same) } in
     elim (cases_lt start rule.lead) [
-      | inl early ↦ kept (and_left (nat_le rule.lead start) (nat_le (end_of b + rule.tail) len) (lt-leb _ _ early)) (i.early start early)
+      | inl early ↦ kept (and_left (nat_le rule.lead start) (nat_le (end_of b + rule.tail) len) (lt-leb _ _ early)) (i.early day start early)
       | inr first ↦ elim (cases_lt start c.loop-start.start) [
-        | inl done ↦ i.done start first done
-        | inr late ↦ kept (and_right (nat_le rule.lead start) (nat_le (end_of b + rule.tail) len) (lt-leb _ _ (omega arith))) (i.left start late)
+        | inl done ↦ i.done day sums d s known start done first
+        | inr late ↦ kept (and_right (nat_le rule.lead start) (nat_le (end_of b + rule.tail) len) (lt-leb _ _ (omega arith))) (i.left day start late)
       ]
     ]

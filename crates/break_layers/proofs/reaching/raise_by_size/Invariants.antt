@@ -1,11 +1,13 @@
-use Rattle.std.proofs.Common.{◌≡◌, ◌<◌, ◌≤◌, ℕ}
+use Rattle.std.proofs.Common.{◌≡◌, ◌+◌, ◌*◌, ◌<◌, ◌≤◌, ℕ, ℤ, List, map}
+use Rattle.price_sums.specs.Along.{AreSums}
 use Rattle.break_layers.specs.Windows.{number_in}
-use Rattle.break_layers.specs.Layered.{IsRaised}
+use Rattle.break_layers.specs.Layered.{AreLayersBefore, IsRaised, layer_number}
 use Rattle.break_layers.proofs.reaching.raise_by_size.Given as goal
 
 abbrev pub invariant-loop-start : goal.invariant-loop-start
-invariant-loop-start l = record {
-  early : (k : ℕ) → k < l.rule.lead → number_in l.row k ≡ number_in l.initial.row k;
-  done : (k : ℕ) → l.rule.lead ≤ k → k < l.start → IsRaised l.rule l.len l.sums l.layer (record { start = k; len = l.size }) (number_in l.initial.row k) (number_in l.row k);
-  left : (k : ℕ) → l.start ≤ k → number_in l.row k ≡ number_in l.initial.row k;
+invariant-loop-start g l = record {
+  early : (day : ℕ) → (k : ℕ) → k < l.rule.lead → number_in (map (g.N.Number.on day) l.row) k ≡ number_in (map (g.N.Number.on day) l.initial.row) k;
+  done : (day : ℕ) (sums : List ℤ) → day < g.N.Number.days → AreSums l.len sums → AreLayersBefore l.rule l.len sums (layer_number l.rule l.len l.layer * (l.len + 1)) (map (g.N.Number.on day) l.table)
+      → (k : ℕ) → k < l.start → l.rule.lead ≤ k → IsRaised l.rule l.len sums l.layer (record { start = k; len = l.size }) (number_in (map (g.N.Number.on day) l.initial.row) k) (number_in (map (g.N.Number.on day) l.row) k);
+  left : (day : ℕ) → (k : ℕ) → l.start ≤ k → number_in (map (g.N.Number.on day) l.row) k ≡ number_in (map (g.N.Number.on day) l.initial.row) k;
 }

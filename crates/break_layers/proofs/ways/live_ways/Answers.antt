@@ -24,7 +24,7 @@ loop-stop-preserved-in-Continue-1 c =
           let behind : c.after-behind.result ≡ spot_of rule (list ++ b ∷ []) = c.after-behind.ensures list is (len, c.ranges.len.fits, from_next rule len c.args.spot b has) in
           let on : is_walk rule len (list ++ b ∷ []) ≡ true = walk_on rule len list b walk (subst (λ (s : Spot). Has (nexts_of rule len s) b) is has) in
           let live : is_live rule len (list ++ b ∷ []) ≡ true =
-          sym (live_by_value rule len sums (list ++ b ∷ []) c.value_in.result (c.value_in.ensures rule sums (list ++ b ∷ []) c.requires small layers on behind)) ∙ sym c.is_some.ensures ∙ c.if-is_some.true in
+          sym (live_by_value rule len sums (list ++ b ∷ []) c.value_in.result (c.value_in.ensures sums (list ++ b ∷ []) small layers on behind)) ∙ sym c.is_some.ensures ∙ c.if-is_some.true in
           c.in_ok-push.ensures.items
           ∙ ap (λ (s : Spot). c.loop-stop.ways.items ++ record { stop = b; spot = s } ∷ []) behind
           ∙ way_more rule len list c.loop-stop.ways.items c.loop-stop.yielded b (c.loop-stop.invariant.exact sums list small layers walk is) live;
@@ -46,7 +46,7 @@ loop-stop-preserved c =
           let behind : c.after-behind.result ≡ spot_of rule (list ++ b ∷ []) = c.after-behind.ensures list is (len, c.ranges.len.fits, from_next rule len c.args.spot b has) in
           let on : is_walk rule len (list ++ b ∷ []) ≡ true = walk_on rule len list b walk (subst (λ (s : Spot). Has (nexts_of rule len s) b) is has) in
           let dead : is_live rule len (list ++ b ∷ []) ≡ false =
-          sym (live_by_value rule len sums (list ++ b ∷ []) c.value_in.result (c.value_in.ensures rule sums (list ++ b ∷ []) c.requires small layers on behind)) ∙ sym c.is_some.ensures ∙ c.if-is_some.false in
+          sym (live_by_value rule len sums (list ++ b ∷ []) c.value_in.result (c.value_in.ensures sums (list ++ b ∷ []) small layers on behind)) ∙ sym c.is_some.ensures ∙ c.if-is_some.false in
           no_way_more rule len list c.loop-stop.ways.items c.loop-stop.yielded b (c.loop-stop.invariant.exact sums list small layers walk is) dead;
     }
 

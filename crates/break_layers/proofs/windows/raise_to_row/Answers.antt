@@ -1,34 +1,23 @@
-use Rattle.std.proofs.Common.{◌≡◌, ◌≢◌, ◌+◌, ◌<◌, ℕ, ℤ, inl, inr, length, slice_set, ap, subst, ◌∙◌, arith, to_z, of_z}
-use Rattle.std.specs.Int.{w64, int_max}
-use Rattle.std.proofs.lemmas.Bool.{cases_lt}
-use Rattle.std.proofs.lemmas.Int.{to_z-of_z}
-use Rattle.std.proofs.lemmas.List.{get_or-set_same, get_or-set_other}
-use Rattle.break_layers.specs.declared.windows.TheConstants.{NOTHING}
+use Rattle.std.proofs.Common.{◌≡◌, ◌+◌, ◌<◌, ℕ, ℤ, length, map, get_or, sym, ap, ◌∙◌, arith}
+use Rattle.std.specs.Int.{int_max}
 use Rattle.break_layers.specs.Windows.{number_in}
+use Rattle.break_layers.proofs.Rows.{number_of_day, row_more, row_left}
 use Rattle.break_layers.proofs.windows.raise_to_row.Goals as goal
 
 pub loop-k-preserved : goal.loop-k-preserved
-loop-k-preserved c =
-    let old = c.args.most.now in
+loop-k-preserved g c =
     let row = c.loop-k.most in
     let k = c.loop-k.k in
     let i = c.loop-k.invariant in
-    let x = to_z w64 (of_z w64 c.max-more.result) in
-    let inside : k < length row = omega (arith, c.loop-k.auto.most) in
-    let one : to_z w64 (of_z w64 c.number_at.result) ≡ number_in old k = to_z-of_z w64 c.number_at.result (record { sfits = c.number_at.type_inv }) ∙ c.number_at.ensures ∙ i.left k (omega arith) in
-    let two : to_z w64 (of_z w64 c.number_at-in-loop-k.result) ≡ number_in c.args.row.now (k + c.args.by) =
-    to_z-of_z w64 c.number_at-in-loop-k.result (record { sfits = c.number_at-in-loop-k.type_inv }) ∙ c.number_at-in-loop-k.ensures ∙ ap (λ (n : ℕ). number_in c.args.row.now (k + n)) c.from.ensures in
-    let most : x ≡ int_max (number_in old k) (number_in c.args.row.now (k + c.args.by)) =
-    to_z-of_z w64 c.max-more.result (record { sfits = c.max-more.type_inv }) ∙ c.max-more.ensures.value
-    ∙ ap (λ (z : ℤ). int_max z (to_z w64 (of_z w64 c.number_at-in-loop-k.result))) one ∙ ap (λ (z : ℤ). int_max (number_in old k) z) two in
-    let here : number_in (slice_set row k x) k ≡ x = get_or-set_same row k x NOTHING inside in
-    let other : (j : ℕ) → j ≢ k → number_in (slice_set row k x) j ≡ number_in row j = λ j ne. get_or-set_other row k j x NOTHING ne in
+    let inside : k < length row = omega (arith, c.loop-k.auto.most, c.loop-k-test.true) in
     record {
-      done = λ j less. elim (cases_lt j k) [
-        | inl l ↦ let ne : j ≢ k = omega arith in other j ne ∙ i.done j l
-        | inr g ↦
-            let same : k ≡ j = omega arith in
-            subst (λ (n : ℕ). number_in (slice_set row k x) n ≡ int_max (number_in old n) (number_in c.args.row.now (n + c.args.by))) same (here ∙ most)
-      ];
-      left = λ j more. let ne : j ≢ k = omega arith in other j ne ∙ i.left j (omega arith);
+      done = λ day d.
+          let on = g.N.Number.on day in
+          let old = map on c.args.most.now in
+          let other = map on c.args.row.now in
+          let one : on (get_or row k c.index-most-k.result) ≡ number_in old k = sym (number_of_day on row k c.index-most-k.result inside) ∙ i.left day k (omega arith) in
+          let two : on c.number_at-more.result ≡ number_in other (k + c.args.by) = c.number_at-more.ensures day d ∙ ap (λ (n : ℕ). number_in other (k + n)) c.from.ensures in
+          row_more on row k c.raise.new.self (λ j (z : ℤ). z ≡ int_max (number_in old j) (number_in other (j + c.args.by))) inside (i.done day d)
+          (c.raise.ensures day d ∙ ap (λ (z : ℤ). int_max z (on c.number_at-more.result)) one ∙ ap (int_max (number_in old k)) two);
+      left = λ day. row_left (g.N.Number.on day) row k c.raise.new.self (number_in (map (g.N.Number.on day) c.args.most.now)) (i.left day);
     }

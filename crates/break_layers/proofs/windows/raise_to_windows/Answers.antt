@@ -1,25 +1,31 @@
-use Rattle.std.proofs.Common.{◌+◌, ◌-◌, ◌*◌, sym, subst, arith}
+use Rattle.std.proofs.Common.{◌+◌, ◌-◌, ◌*◌, sym, subst, arith, map}
 use Rattle.break_layers.specs.Windows.{number_in, IsMostIn}
-use Rattle.break_layers.proofs.Sliding.{most_two}
+use Rattle.break_layers.proofs.Sliding.{most_one, most_two}
 use Rattle.break_layers.proofs.windows.raise_to_windows.Goals as goal
 
+pub loop-wide-init : goal.loop-wide-init
+loop-wide-init g c = record { some = omega arith; within = omega arith; most = λ day d k. most_one (map (g.N.Number.on day) c.args.row.now) k }
+
 pub loop-wide-preserved : goal.loop-wide-preserved
-loop-wide-preserved c =
-    let row = c.args.row.now in
+loop-wide-preserved g c =
     let wide = c.loop-wide.wide in
     record {
       some = omega arith;
       within = omega arith;
-      most = λ k. subst (IsMostIn row k (wide * 2)) (sym (c.raise_by.ensures k))
-          (most_two row k wide (k + wide) wide (wide * 2) (number_in c.loop-wide.row k) (number_in c.loop-wide.row (k + wide)) (omega arith) (omega arith) (omega arith) (omega arith)
-          (c.loop-wide.invariant.most k) (c.loop-wide.invariant.most (k + wide)));
+      most = λ day d k.
+          let row = map (g.N.Number.on day) c.args.row.now in
+          let now = map (g.N.Number.on day) c.loop-wide.row in
+          subst (IsMostIn row k (wide * 2)) (sym (c.raise_by.ensures day d k))
+          (most_two row k wide (k + wide) wide (wide * 2) (number_in now k) (number_in now (k + wide)) (omega arith) (omega arith) (omega arith) (omega arith)
+          (c.loop-wide.invariant.most day d k) (c.loop-wide.invariant.most day d (k + wide)));
     }
 
 pub returns : goal.returns
-returns c = λ k.
-    let row = c.args.row.now in
+returns g c = λ day d k.
+    let row = map (g.N.Number.on day) c.args.row.now in
+    let now = map (g.N.Number.on day) c.loop-wide.row in
     let wide = c.loop-wide.wide in
     let by = c.args.width - wide in
-    subst (IsMostIn row k c.args.width) (sym (c.raise_by-2.ensures k))
-    (most_two row k wide (k + by) wide c.args.width (number_in c.loop-wide.row k) (number_in c.loop-wide.row (k + by)) (omega arith) (omega arith) (omega arith) (omega arith)
-    (c.loop-wide.invariant.most k) (c.loop-wide.invariant.most (k + by)))
+    subst (IsMostIn row k c.args.width) (sym (c.raise_by-2.ensures day d k))
+    (most_two row k wide (k + by) wide c.args.width (number_in now k) (number_in now (k + by)) (omega arith) (omega arith) (omega arith) (omega arith)
+    (c.loop-wide.invariant.most day d k) (c.loop-wide.invariant.most day d (k + by)))

@@ -24,7 +24,7 @@ returns-in-Some c =
     let front = c.args.front.now in
     let walked = c.in_ok-spot.ensures in
     let layers : AreLayers s.rule.now s.len s.sums.items c.deref.result.now = subst (AreLayers s.rule.now s.len s.sums.items) (sym c.deref.ensures.value) i.2 in
-    let most = c.in-Some.ensures s.rule.now s.sums.items front i.0 i.1 layers walked.0 walked.1 in
+    let most = c.in-Some.ensures s.sums.items front i.1 layers walked.0 walked.1 in
     subst (λ (v : Priced). (is_live v.rule v.len front ≡ true) × (c.in_ok-spot.spot ≡ spot_of v.rule front)) c.self.view_is (most_live s.rule.now s.len s.sums.items front c.in-Some.field-0 most, walked.1)
 
 pub returns-in-None : goal.returns-in-None
@@ -34,5 +34,5 @@ returns-in-None c =
     let front = c.args.front.now in
     let walked = c.in_ok-spot.ensures in
     let layers : AreLayers s.rule.now s.len s.sums.items c.deref.result.now = subst (AreLayers s.rule.now s.len s.sums.items) (sym c.deref.ensures.value) i.2 in
-    let dead : is_live s.rule.now s.len front ≡ false = c.in-None.ensures s.rule.now s.sums.items front i.0 i.1 layers walked.0 walked.1 in
+    let dead : is_live s.rule.now s.len front ≡ false = c.in-None.ensures s.sums.items front i.1 layers walked.0 walked.1 in
     subst (λ (v : Priced). is_live v.rule v.len front ≡ false) c.self.view_is dead

@@ -1,0 +1,7 @@
+use Rattle.std.proofs.Common.{◌≡◌, ℕ, ◌<◌, map}
+use Rattle.break_layers.specs.declared.windows.TheConstants.{NOTHING}
+use Rattle.break_layers.specs.Windows.{number_in}
+use Rattle.break_layers.proofs.windows.clear.Given as goal
+
+abbrev pub invariant-loop-k : goal.invariant-loop-k
+invariant-loop-k g l = record { done : (day : ℕ) → day < g.N.Number.days → (j : ℕ) → j < l.k → number_in (map (g.N.Number.on day) l.row) j ≡ NOTHING }
