@@ -1,11 +1,9 @@
 -- The lists that are followed along a graph, day by day, are the best ones.
 use Rattle.std.proofs.Common.{◌≡◌, inl, inr, ℕ, ◌+◌, ◌<◌, ◌≤◌, ℤ, get_or, List, [], ◌∷◌, ◌++◌, length, sym, ap, ◌∙◌, subst, arith, Some}
 use Rattle.std.specs.Prelude.{slice_get, IsSomeAnd}
-use Rattle.std.proofs.Math.ListN.{get_or-append, set}
+use Rattle.std.proofs.Math.ListN.{get_or-append}
 use Rattle.std.proofs.Math.Seq.{get_or-append_seam}
 use Rattle.std.proofs.lemmas.Bool.{cases_lt}
-use Rattle.std.proofs.lemmas.List.{get_or-set_other}
-use Rattle.std.proofs.lemmas.Grind.{get_or-set_at}
 use Rattle.break_rules.specs.declared.Break.{Break}
 use Rattle.break_rules.specs.declared.Rule.{Rule}
 use Rattle.break_rules.specs.Ranges.{IsRule}
@@ -31,17 +29,6 @@ each_more P d xs x many count before here k less =
           let same : k ≡ many = omega arith in
           subst (P k) (sym (ap (λ n. get_or (xs ++ x ∷ []) n d) (same ∙ sym count) ∙ get_or-append_seam xs x [] d))
           (subst (λ n. P n x) (sym same) here)
-    ]
-
--- the same where one more of some elements is set
-pub each_set : {X : Type 0} (P : ℕ → X → Type 0) (d : X) (xs : List X) (x : X) (many : ℕ) → many < length xs → ((k : ℕ) → k < many → P k (get_or xs k d)) → P many x
-    → (k : ℕ) → k < many + 1 → P k (get_or (set xs many x) k d)
-each_set P d xs x many inside before here k less =
-    elim (cases_lt k many) [
-      | inl l ↦ subst (P k) (sym (get_or-set_other xs many k x d (λ e. absurd (omega arith)))) (before k l)
-      | inr g ↦
-          let same : k ≡ many = omega arith in
-          subst (P k) (sym (get_or-set_at xs many k x d same inside)) (subst (λ n. P n x) (sym same) here)
     ]
 
 -- the sums along a shift are small on each day

@@ -11,6 +11,7 @@ ghost use Rattle.price_sums.specs.Along.{AreSums};
 ghost use Rattle.pricing.specs.Days.{IsMostOn};
 ghost use Rattle.pricing.specs.Values.{IsValue};
 
+use crate::days::walked_graph;
 use crate::layered_days::{most_of_lists, sums_of_day};
 use crate::values::node_values;
 use break_graph::Graph;
@@ -64,7 +65,8 @@ fn most_by_sums(
 }
 
 /// What the best duty of a shift earns on a day at the prices that the sums are of: the greatest price of the slots in which a
-/// duty with a legal break list works. `None` where no list is legal. No list is made, and no other day is priced.
+/// duty with a legal break list works. `None` where no list is legal. No list is made, and no other day is priced. The value is found
+/// along the shift's graph, or by layers of spots where the instance keeps none or one of very many edges.
 pub fn most_on_day(
     alloc: Global,
     instance: &Instance,
@@ -81,7 +83,7 @@ pub fn most_on_day(
     let len = instance.shift(shift).len;
     let lanes = sums.along(instance, shift);
     let day_sums = sums_of_day(alloc, lanes, usize::from(day))?;
-    match most_by_sums(alloc, rule, len, instance.graph(shift), day_sums)? {
+    match most_by_sums(alloc, rule, len, walked_graph(instance, shift), day_sums)? {
         Some(value) => Ok(Some(value)),
         None => Ok(None),
     }

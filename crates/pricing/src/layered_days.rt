@@ -1,4 +1,4 @@
-//! The best break lists of a shift on all days, and what they earn, where no graph of it is kept.
+//! The best break lists of a shift on all days, and what they earn, by layers of spots.
 
 ghost use Rattle.std.specs.Prelude.{◌≡◌, ◌<◌, ◌≤◌, ℕ, List, [], IfOk, MatchOption, length, false};
 ghost use Rattle.break_rules.specs.declared.Break.{Break};
@@ -6,14 +6,14 @@ ghost use Rattle.break_rules.specs.Breaks.{is_legal};
 ghost use Rattle.break_rules.specs.Ranges.{IsRule};
 ghost use Rattle.shift_instance.specs.Problem.{shift_list};
 ghost use Rattle.shift_instance.specs.Rota.{is_list_of};
-ghost use Rattle.price_sums.specs.Along.{AreSums, sum_at};
+ghost use Rattle.price_sums.specs.Along.{AreSums};
 ghost use Rattle.price_sums.specs.Days.{sums_on};
 ghost use Rattle.break_layers.specs.Rests.{IsMostEarned};
 ghost use Rattle.pricing.specs.Days.{AreBestByDay, AreMostByDay, IsBestBy, best_at};
 
-use break_layers::LayerValues;
+use break_layers::{LayerValues, most_by_lane};
 use break_rules::{Breaks, NoMemory, Rule, Spot};
-use price_sums::{DaySums, LANES, Lane};
+use price_sums::{DaySums, Lane};
 use shift_instance::Instance;
 use std::alloc::Global;
 
@@ -107,37 +107,14 @@ pub fn most_of_lists(
     Ok(values.value_at(Spot::opening()))
 }
 
-/// What the best lists for a rule and a length earn on the first days, and `None` only where no list is legal.
-fn most_on_days(
-    alloc: Global,
-    rule: &Rule,
-    len: u16,
-    lanes: &[Lane],
-    days: u8,
-) -> Result<Option<Lane>, NoMemory>
-    requires days { days ≤ 8 }
-    requires rule { IsRule rule.now }
-    requires sums { (day : ℕ) → day < days → AreSums len (sums_on day lanes.now) }
-    ensures { IfOk result (λ found. MatchOption found ((list : List Break) → is_legal rule.now len list ≡ false) (λ most. (day : ℕ) → day < days → IsMostEarned rule.now len (sums_on day lanes.now) [] (sum_at most day))) }
-{
-    let mut most = [0; LANES];
-    for day in 0..days {
-        let day_sums = sums_of_day(alloc, lanes, usize::from(day))?;
-        let value = match most_of_lists(alloc, rule, len, day_sums)? {
-            Some(value) => value,
-            None => return Ok(None),
-        };
-        most[usize::from(day)] = value;
-    }
-    Ok(Some(most))
-}
-
-/// What the best list of a shift earns on each day, without the list, and `None` where no list is legal.
+/// What the best list of a shift earns on each day, without the list, and `None` where no list is legal. The values of spots are
+/// found in the memory of `lanes`, whatever stood there.
 pub fn most_by_layers(
     alloc: Global,
     instance: &Instance,
     shift: u16,
     sums: &DaySums,
+    lanes: &mut Vec<Lane>,
 ) -> Result<Option<Lane>, NoMemory>
     requires shift { shift < length (shift_list instance.now) }
     requires sums { sums.now.instance ≡ instance.now }
@@ -145,8 +122,8 @@ pub fn most_by_layers(
 {
     let rule = instance.rule_of(shift);
     let len = instance.shift(shift).len;
-    let lanes = sums.along(instance, shift);
-    match most_on_days(alloc, rule, len, lanes, instance.days())? {
+    let sums = sums.along(instance, shift);
+    match most_by_lane(alloc, rule, len, sums, lanes)? {
         Some(most) => Ok(Some(most)),
         None => Ok(None),
     }

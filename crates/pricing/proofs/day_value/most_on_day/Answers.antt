@@ -19,9 +19,9 @@ kept_graph (Some x) P Q on held = on x held
 
 pub most_by_sums-requires-clause-graph : goal.most_by_sums-requires-clause-graph
 most_by_sums-requires-clause-graph c =
-    kept_graph c.graph.result _ _
+    kept_graph c.walked_graph.result _ _
     (λ g own. own_graph (slice_get (shift_list c.args.instance.now) c.args.shift) c.shift-len.result c.rule_of-rule.result.now g.now g.now c.shift-len.ensures.shift c.rule_of-rule.ensures.rule own refl)
-    c.graph.ensures.graph
+    c.walked_graph.ensures
 
 pub most_by_sums-requires-clause-sums : goal.most_by_sums-requires-clause-sums
 most_by_sums-requires-clause-sums c =
