@@ -1,9 +1,9 @@
 //! The table of what is earned at most behind each spot, layer by layer.
 
-ghost use Rattle.std.specs.Prelude.{◌≡◌, ◌+◌, ◌-◌, ◌*◌, ◌<◌, ◌≤◌, ℕ, ℤ, false, List, IfOk, OnOk, IsTrue, MatchOption, length, map};
+ghost use Rattle.std.specs.Prelude.{◌≡◌, ◌+◌, ◌-◌, ◌*◌, ◌<◌, ◌≤◌, ◌^◌, ℕ, ℤ, false, List, IfOk, OnOk, IsTrue, MatchOption, length, map};
 ghost use Rattle.break_rules.specs.declared.Break.{Break};
 ghost use Rattle.break_rules.specs.declared.Rule.{Rule};
-ghost use Rattle.break_rules.specs.Breaks.{is_live, total_of};
+ghost use Rattle.break_rules.specs.Breaks.{is_legal, is_live, total_of};
 ghost use Rattle.break_rules.specs.Ranges.{IsRule};
 ghost use Rattle.break_rules.specs.Walk.{is_walk, spot_of, end_of_all};
 ghost use Rattle.price_sums.specs.Along.{AreSums};
@@ -51,7 +51,8 @@ pub(crate) fn time_left(rule: &Rule, len: u16, used: u16) -> u16
 /// The place of an offset in a table, in the layer with so much break time left and these lunches.
 pub(crate) fn place_at(left: u16, len: u16, lunches: u8, offset: usize) -> usize
     requires { offset ≤ 131072 }
-    ensures { result ≡ (left * 4 + lunches) * (len + 1) + offset }
+    ensures place { result ≡ (left * 4 + lunches) * (len + 1) + offset }
+    ensures small { result ≤ 2 ^ 40 }
 {
     let layer = usize::from(left) * 4 + usize::from(lunches);
     layer * (usize::from(len) + 1) + offset
@@ -65,12 +66,22 @@ pub(crate) fn place(rule: &Rule, len: u16, spot: Spot) -> usize
     place_at(left, len, spot.lunches, usize::from(spot.offset))
 }
 
+/// Whether the list of breaks behind which a spot stands is legal, for a spot that a walk reaches, by the total of the rule.
+fn ends_at(rule: &Rule, len: u16, total: u16, spot: Spot) -> bool
+    requires rule { IsRule rule.now }
+    requires total { total ≡ total_of rule.now len }
+    ensures { (list : List Break) → IsTrue (is_walk rule.now len list) → spot ≡ spot_of rule.now list → result ≡ is_legal rule.now len list }
+{
+    spot.used == total && ends(rule, len, spot)
+}
+
 /// What is earned at most behind a spot, by the most that the breaks reach that may come next.
-fn value_behind<N: Number>(rule: &Rule, len: u16, sums: &[N], spot: Spot, most: N) -> N
-    requires { IsRule rule.now }
+fn value_behind<N: Number>(rule: &Rule, len: u16, total: u16, sums: &[N], spot: Spot, most: N) -> N
+    requires rule { IsRule rule.now }
+    requires total { total ≡ total_of rule.now len }
     ensures { (day : ℕ) → day < N.days → AreSums len (map (N.on day) sums.now) → (list : List Break) → IsTrue (is_walk rule.now len list) → spot ≡ spot_of rule.now list → IsReachOfAll rule.now len (map (N.on day) sums.now) list (N.on day most) → IsValueOrNothing rule.now len (map (N.on day) sums.now) list (N.on day result) }
 {
-    let whole = if ends(rule, len, spot) {
+    let whole = if ends_at(rule, len, total, spot) {
         sums_at(sums, usize::from(len))
     } else {
         most
@@ -82,13 +93,15 @@ fn value_behind<N: Number>(rule: &Rule, len: u16, sums: &[N], spot: Spot, most: 
 fn put_layer<N: Number>(
     rule: &Rule,
     len: u16,
+    total: u16,
     sums: &[N],
     layer: Layer,
     most: &[N],
     table: &mut Vec<N>,
 ) -> Result<(), NoMemory>
     requires rule { IsRule rule.now }
-    requires used { layer.used ≤ total_of rule.now len }
+    requires total { total ≡ total_of rule.now len }
+    requires used { layer.used ≤ total }
     requires lunches { layer.lunches ≤ 3 }
     requires many { length table.old.items ≡ layer_number rule.now len layer * (len + 1) }
     ensures many { OnOk result (length table.new.items ≡ (layer_number rule.now len layer + 1) * (len + 1)) }
@@ -100,7 +113,7 @@ fn put_layer<N: Number>(
             used: layer.used,
             lunches: layer.lunches,
         };
-        table.push(value_behind(rule, len, sums, spot, number_at(most, offset)))?;
+        table.push(value_behind(rule, len, total, sums, spot, number_at(most, offset)))?;
     }
     Ok(())
 }
@@ -120,6 +133,7 @@ fn put_nothing<N: Number>(many: usize, table: &mut Vec<N>) -> Result<(), NoMemor
 fn add_layer<N: Number>(
     rule: &Rule,
     len: u16,
+    total: u16,
     sums: &[N],
     layer: Layer,
     most: &mut [N],
@@ -127,7 +141,8 @@ fn add_layer<N: Number>(
     table: &mut Vec<N>,
 ) -> Result<(), NoMemory>
     requires rule { IsRule rule.now }
-    requires used { layer.used ≤ total_of rule.now len }
+    requires total { total ≡ total_of rule.now len }
+    requires used { layer.used ≤ total }
     requires lunches { layer.lunches ≤ 3 }
     requires many { length table.old.items ≡ layer_number rule.now len layer * (len + 1) }
     requires most { length most.old ≡ len + 1 }
@@ -140,7 +155,7 @@ fn add_layer<N: Number>(
         return Ok(());
     }
     best_reaches(most, row, rule, len, sums, table, layer);
-    put_layer(rule, len, sums, layer, most, table)
+    put_layer(rule, len, total, sums, layer, most, table)
 }
 
 /// A row of nothing, with a place for each offset.
@@ -171,7 +186,7 @@ pub(crate) fn set_layers<N: Number>(
     table.reserve(layers * (usize::from(len) + 1))?;
     for number in 0..layers {
         let layer = layer_at(total, number);
-        add_layer(rule, len, sums, layer, &mut most, &mut row, table)?;
+        add_layer(rule, len, total, sums, layer, &mut most, &mut row, table)?;
     }
     Ok(())
 }

@@ -11,7 +11,7 @@ ghost use Rattle.break_layers.specs.Layered.{layer_of, AreLayersBefore, layer_nu
 use crate::layers::{Layer, place_at, time_left};
 use crate::numbers::Number;
 use crate::sizes::{Sizes, layer_sizes, longest_work, lunches_met, lunches_of};
-use crate::windows::{add_sums, clear, number_at, raise_to_row, raise_to_windows};
+use crate::windows::{add_sums, clear, number_at, raise_between, raise_to_row, raise_to_windows};
 use break_rules::{Break, Rule};
 
 /// Raises numbers by start to what is earned behind the breaks of a layer that have a length.
@@ -31,6 +31,11 @@ fn raise_by_size<N: Number>(
     let end = (usize::from(len) + 1).saturating_sub(usize::from(rule.tail) + usize::from(size));
     let entries = lunches_of(rule.lunches.as_slice(), size);
     let left = time_left(rule, len, layer.used.saturating_add(size));
+    if entries.is_empty() {
+        let behind = place_at(left, len, layer.lunches, usize::from(size));
+        raise_between(row, usize::from(rule.lead), end, table, behind);
+        return;
+    }
     for start in usize::from(rule.lead)..end {
         let stop = Break {
             start: start as u16,

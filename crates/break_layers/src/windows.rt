@@ -1,6 +1,6 @@
 //! The greatest numbers of the windows of a row.
 
-ghost use Rattle.std.specs.Prelude.{◌≡◌, ◌≢◌, ℕ, ◌+◌, ◌<◌, ◌≤◌, ◌+ℤ◌, FitsSigned, length, map};
+ghost use Rattle.std.specs.Prelude.{◌≡◌, ◌≢◌, ℕ, ◌+◌, ◌<◌, ◌≤◌, ◌+ℤ◌, ◌^◌, FitsSigned, length, map};
 ghost use Rattle.std.specs.Int.{w64, int_max};
 ghost use Rattle.price_sums.specs.Along.{sum_at};
 ghost use Rattle.break_layers.specs.Windows.{number_in, IsMostIn};
@@ -74,6 +74,27 @@ pub(crate) fn raise_to_windows<N: Number>(row: &mut [N], width: usize)
         wide *= 2;
     }
     raise_by(row, width - wide);
+}
+
+/// Raises the numbers of a row from one place on and before another to those that stand so many places behind in a table.
+pub(crate) fn raise_between<N: Number>(
+    row: &mut [N],
+    from: usize,
+    to: usize,
+    table: &[N],
+    behind: usize,
+)
+    requires to { to ≤ length row.old }
+    requires row { length row.old ≤ 65536 }
+    requires behind { behind ≤ 2 ^ 40 }
+    ensures inside { (day : ℕ) → day < N.days → (k : ℕ) → from ≤ k → k < to → number_in (map (N.on day) row.new) k ≡ int_max (number_in (map (N.on day) row.old) k) (number_in (map (N.on day) table.now) (behind + k)) }
+    ensures before { (day : ℕ) (k : ℕ) → k < from → number_in (map (N.on day) row.new) k ≡ number_in (map (N.on day) row.old) k }
+    ensures after { (day : ℕ) (k : ℕ) → to ≤ k → number_in (map (N.on day) row.new) k ≡ number_in (map (N.on day) row.old) k }
+{
+    for k in from..to {
+        let more = number_at(table, behind + k);
+        row[k].raise(&more);
+    }
 }
 
 /// Raises each number of a row to the one that stands in another row so many places behind.

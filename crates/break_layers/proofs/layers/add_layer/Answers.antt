@@ -14,7 +14,7 @@ use Rattle.break_layers.proofs.layers.add_layer.Goals as goal
 pub returns-then-not-has_time-clause-known : goal.returns-then-not-has_time-clause-known
 returns-then-not-has_time-clause-known g c = λ day d s known.
     let on = g.N.Number.on day in
-    dead_layer c.args.rule.now c.args.len (map on c.args.sums.now) (map on c.args.table.now.items) (map on c.put_nothing.new.table.items) c.args.layer c.requires.rule c.requires.used c.requires.lunches
+    dead_layer c.args.rule.now c.args.len (map on c.args.sums.now) (map on c.args.table.now.items) (map on c.put_nothing.new.table.items) c.args.layer c.requires.rule (omega (arith, c.requires.total, c.requires.used)) c.requires.lunches
     (λ k less. c.in_ok-put_nothing.ensures.kept day k (omega (arith, c.requires.many, less))) known
     (λ list walk is.
     let met : Lunch → Bool = λ e. list_any (is_lunch e) list in

@@ -24,7 +24,7 @@ loop-offset-preserved g c =
           let on = g.N.Number.on day in
           let sums = map on c.args.sums.now in
           subst (AreLayersBefore rule len sums (layer_number rule len layer * (len + 1) + (offset + 1))) (sym (ap (map on) items ∙ map_push on table x))
-          (layers_more rule len sums (map on table) layer offset (on x) c.requires.rule inside c.requires.used c.requires.lunches (length-map table on ∙ i.many) (i.known day d s known reaches)
+          (layers_more rule len sums (map on table) layer offset (on x) c.requires.rule inside (omega (arith, c.requires.total, c.requires.used)) c.requires.lunches (length-map table on ∙ i.many) (i.known day d s known reaches)
           (λ list walk is.
           let at : offset ≡ end_of_all list = ap (λ (s : Spot). s.offset) is in
           let own : layer ≡ layer_of rule list = ap (λ (s : Spot). record { used = s.used; lunches = s.lunches }) is in

@@ -1,7 +1,9 @@
-use Rattle.std.proofs.Common.{◌≡◌, ◌+◌, ◌*◌, ◌-◌, ◌<◌, ◌≤◌, ℕ, ℤ, inl, inr, true, false, List, [], ◌∷◌, ◌++◌, IsTrue, length, map, get_or, nat_le, bit_or, refl, sym, ap, subst, ◌∙◌, arith}
+use Rattle.std.proofs.Common.{◌≡◌, ◌+◌, ◌*◌, ◌-◌, ◌<◌, ◌≤◌, ◌==◌, Bool, ℕ, ℤ, inl, inr, true, false, List, [], ◌∷◌, ◌++◌, IsTrue, length, map, get_or, nat_le, bit_and, bit_or, refl, sym, ap, subst, ◌∙◌, arith}
 use Rattle.std.specs.Int.{int_max}
-use Rattle.std.proofs.lemmas.Bool.{and_from, and_left, and_right, cases_lt, le-leb, lt-leb}
+use Rattle.std.proofs.lemmas.Nat.{or_disjoint, and_le_r}
+use Rattle.std.proofs.lemmas.Bool.{and_from, and_left, and_right, cases_lt, le-leb, lt-leb, eqb-true}
 use Rattle.break_rules.specs.declared.Break.{Break}
+use Rattle.break_rules.specs.declared.Lunch.{Lunch}
 use Rattle.break_rules.specs.declared.Rule.{Rule}
 use Rattle.break_rules.specs.Breaks.{end_of, is_lunch, keeps_ends, total_of}
 use Rattle.break_rules.specs.Ranges.{IsRule}
@@ -17,6 +19,13 @@ use Rattle.break_layers.proofs.Reach.{behind_by, behind_none, may_follow_in}
 use Rattle.break_layers.proofs.Rows.{number_of_day, row_more, row_left, set_other}
 use Rattle.break_layers.proofs.Table.{behind_place, behind_spot}
 use Rattle.break_layers.proofs.reaching.raise_by_size.Goals as goal
+
+none_bits : (p : Lunch → Bool) (es : List Lunch) → (length es == 0) ≡ true → bits_of p es ≡ 0
+none_bits p [] h = refl
+none_bits p (e ∷ es) h = absurd (omega (arith, eqb-true _ _ h))
+
+or_nought : (n : ℕ) → bit_or n 0 ≡ n
+or_nought n = or_disjoint n 0 (let e : bit_and n 0 ≡ 0 = omega (arith, and_le_r n 0) in e) ∙ omega arith
 
 -- the number at the place behind a break is what is earned there
 behind_is : (rule : Rule) (len : ℕ) (sums table : List ℤ) (layer : Layer) (b : Break) (left lunches : ℕ) (x : ℤ) → IsRule rule → AreSums len sums
@@ -63,11 +72,42 @@ loop-start-preserved g c =
           row_more on row start x (λ k (z : ℤ). rule.lead ≤ k → IsRaised rule len sums c.args.layer (record { start = k; len = c.args.size }) (number_in old k) z) inside (i.done day sums d s known)
           (λ low. record {
             most = on c.number_at-most.result;
-            exact = behind_is rule len sums (map on c.args.table.now) c.args.layer b c.time_left-left.result (bit_or c.args.layer.lunches c.lunches_met.result) (on c.number_at-most.result) c.requires.rule s known c.requires.size ends left bits (c.number_at-most.ensures day d ∙ ap (number_in (map on c.args.table.now)) (c.place_at-behind.ensures ∙ at));
+            exact = behind_is rule len sums (map on c.args.table.now) c.args.layer b c.time_left-left.result (bit_or c.args.layer.lunches c.lunches_met.result) (on c.number_at-most.result) c.requires.rule s known c.requires.size ends left bits (c.number_at-most.ensures day d ∙ ap (number_in (map on c.args.table.now)) (c.place_at-behind-in-loop-start.ensures.place ∙ at));
             raised = inl (c.raise.ensures day d ∙ ap (λ (z : ℤ). int_max z (on c.number_at-most.result)) one);
           });
       left = λ day. row_left (g.N.Number.on day) row start x (number_in (map (g.N.Number.on day) c.args.row.now)) (i.left day);
     }
+
+pub returns-then-is_empty : goal.returns-then-is_empty
+returns-then-is_empty g c = λ day sums d s known start inside.
+    let on = g.N.Number.on day in
+    let rule = c.args.rule.now in
+    let len = c.args.len in
+    let b : Break = record { start = start; len = c.args.size } in
+    let old = number_in (map on c.args.row.now) start in
+    let new = number_in (map on c.raise_between.new.row) start in
+    let end : c.saturating_sub-end.result ≡ len + 1 - (rule.tail + c.args.size) = omega arith in
+    let kept : keeps_ends rule len b ≡ false → new ≡ old → IsRaised rule len sums c.args.layer b old new =
+    λ far same. record { most = NOTHING; exact = λ list walk is window. behind_none rule len sums list c.requires.rule s b far; raised = inr (refl, same) } in
+    elim (cases_lt start rule.lead) [
+      | inl early ↦ kept (and_left (nat_le rule.lead start) (nat_le (end_of b + rule.tail) len) (lt-leb _ _ early)) (c.raise_between.ensures.before day start (omega arith))
+      | inr first ↦ elim (cases_lt start c.saturating_sub-end.result) [
+        | inl done ↦
+            let ends : keeps_ends rule len b ≡ true = and_from (nat_le rule.lead start) (nat_le (end_of b + rule.tail) len) (le-leb _ _ first) (le-leb _ _ (omega arith)) in
+            let most : c.args.size ≤ size_limit_of rule len c.args.layer = c.requires.size.most in
+            let used : c.saturating_add.result ≡ c.args.layer.used + c.args.size = omega (arith, total_small rule len c.requires.rule, c.requires.size.least, c.requires.rule.some_size) in
+            let left : c.time_left-left.result ≡ total_of rule len - (c.args.layer.used + c.args.size) = c.time_left-left.ensures ∙ ap (λ n. total_of rule len - n) used in
+            let bits : c.args.layer.lunches ≡ bit_or c.args.layer.lunches (bits_of (λ e. is_lunch e b) rule.lunches) =
+            sym (ap (bit_or c.args.layer.lunches) (sym (c.lunches_of-entries.ensures.bits b refl ∙ ap (bits_of (λ e. is_lunch e b)) c.as_slice.ensures) ∙ none_bits (λ e. is_lunch e b) c.lunches_of-entries.result.now (sym c.is_empty.ensures ∙ c.if-is_empty.true)) ∙ or_nought c.args.layer.lunches) in
+            let place : c.place_at-behind.result + start ≡ (c.time_left-left.result * 4 + c.args.layer.lunches) * (len + 1) + (start + c.args.size) = omega (arith, c.place_at-behind.ensures.place, c.from-then-is_empty.ensures) in
+            record {
+              most = number_in (map on c.args.table.now) (c.place_at-behind.result + start);
+              exact = behind_is rule len sums (map on c.args.table.now) c.args.layer b c.time_left-left.result c.args.layer.lunches (number_in (map on c.args.table.now) (c.place_at-behind.result + start)) c.requires.rule s known c.requires.size ends left bits (ap (number_in (map on c.args.table.now)) place);
+              raised = inl (c.raise_between.ensures.inside day d start (omega (arith, c.from-then-is_empty-2.ensures, first)) done);
+            }
+        | inr late ↦ kept (and_right (nat_le rule.lead start) (nat_le (end_of b + rule.tail) len) (lt-leb _ _ (omega arith))) (c.raise_between.ensures.after day start late)
+      ]
+    ]
 
 pub returns : goal.returns
 returns g c = λ day sums d s known start inside.
