@@ -1,10 +1,9 @@
 -- The places of spots in a table of layers.
-use Rattle.std.proofs.Common.{◌≡◌, inl, inr, ℕ, take, drop, ◌+◌, ◌-◌, ◌*◌, ◌<◌, ◌≤◌, ℤ, true, List, [], ◌∷◌, ◌++◌, refl, sym, ap, ◌∙◌, subst, arith, length, bit_or, sum_by}
+use Rattle.std.proofs.Common.{◌≡◌, inl, inr, ℕ, take, drop, ◌+◌, ◌-◌, ◌*◌, ◌<◌, ◌≤◌, true, List, [], ◌∷◌, ◌++◌, refl, ap, ◌∙◌, arith, length, bit_or, sum_by}
 use Rattle.std.proofs.Math.Nat.{mul-le-mul_right}
 use Rattle.std.proofs.lemmas.Bool.{and_parts, cases_lt}
 use Rattle.std.proofs.lemmas.List.Sums.{sum_by-cons}
-use Rattle.std.proofs.Math.ListN.{get_or-append}
-use Rattle.std.proofs.Math.Seq.{get_or-append_seam, take-append_seam}
+use Rattle.std.proofs.Math.Seq.{take-append_seam}
 use Rattle.break_rules.specs.declared.Break.{Break}
 use Rattle.break_rules.specs.declared.Rule.{Rule}
 use Rattle.break_rules.specs.declared.Spot.{Spot}
@@ -14,8 +13,6 @@ use Rattle.break_rules.specs.Walk.{bits_of, is_walk, is_walk_from, may_follow, s
 use Rattle.break_rules.proofs.Reaching.{walk_small}
 use Rattle.break_rules.proofs.Steps.{bounds, spot_more, spot_with}
 use Rattle.break_layers.specs.declared.layers.Layer.{Layer}
-use Rattle.break_layers.specs.declared.windows.TheConstants.{NOTHING}
-use Rattle.break_layers.specs.Windows.{number_in}
 use Rattle.break_layers.specs.Layered.{layer_of, layer_number, layer_place}
 
 -- a place in an earlier layer
@@ -68,18 +65,6 @@ module _ (rule : Rule) (len : ℕ) (list : List Break) (b : Break) (r : IsRule r
   behind_spot layer offset used bits is at time met =
       ap (λ n. record { offset = offset; used = used; lunches = bit_or n bits }) (ap (λ (l : Layer). l.lunches) is)
       ∙ spot_with rule list (spot_of rule list) b offset used bits r.few_lunches refl at (time ∙ ap (λ (l : Layer). l.used + b.len) is) met
-
--- a row with one number more
-pub one_more : (P : ℕ → ℤ → Type 0) (row : List ℤ) (n : ℕ) (x : ℤ) → length row ≡ n → ((k : ℕ) → k < n → P k (number_in row k)) → P n x
-    → (k : ℕ) → k < n + 1 → P k (number_in (row ++ x ∷ []) k)
-one_more P row n x many before here k less =
-    elim (cases_lt k n) [
-      | inl l ↦ subst (P k) (sym (get_or-append row (x ∷ []) NOTHING k (omega arith))) (before k l)
-      | inr g ↦
-          let same : n ≡ k = omega arith in
-          subst (λ j. P j (number_in (row ++ x ∷ []) j)) same
-          (subst (P n) (sym (ap (λ j. number_in (row ++ x ∷ []) j) (sym many) ∙ get_or-append_seam row x [] NOTHING)) here)
-    ]
 
 -- a vector behind whose slice other numbers were written
 pub written : {X : Type 0} (n : ℕ) (new old : List X) → n ≡ length new → take n (new ++ drop (length new) old) ≡ new
