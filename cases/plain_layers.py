@@ -1,8 +1,9 @@
 #!/usr/bin/env python3
-"""A plain reading of docs/DEFINITIONS.md over an instance of five-minute slots whose break lists are too many to enumerate, and whose graph of break
-lists is larger than an instance keeps, beside what `shift_solve` and `shift_check` answer. What the rests of break lists earn is found break by
-break from the end of the shift to its start, over each break that may come next. Words: the number of random instances (1 where none is given) and a
-seed (1). Prints each difference with the instance and the report that show it, and last `N passed, M failed`. Build both programs first."""
+"""A plain reading of docs/DEFINITIONS.md over instances of five-minute slots whose break lists are too many to enumerate, beside what `shift_solve` and
+`shift_check` answer: in turn one whose graph of break lists is larger than an instance keeps, and one of several days whose graph is kept, but so large
+that the solver goes by layers. What the rests of break lists earn is found break by break from the end of the shift to its start, over each break that
+may come next. Words: the number of random instances (1 where none is given) and a seed (1). Prints each difference with the instance and the report
+that show it, and last `N passed, M failed`. Build both programs first."""
 import functools
 import itertools
 import json
@@ -15,7 +16,6 @@ import tempfile
 import plain_reading
 from plain_reading import MOST_COST, Priced, Report, Split
 
-LENGTH, TOTAL = 276, 48  # of the one shift and of its breaks, in slots
 NEVER = -(10**30)        # what is earned where no list is legal
 
 
@@ -23,11 +23,12 @@ class Rests:
     """What the ways to go on from each spot of a shift earn at most: a spot is an offset, the break time used and whether there was a lunch."""
     def __init__(self, rule, prices):
         self.rule, self.sums = rule, [0, *itertools.accumulate(prices)]
+        self.length, self.total = len(prices), rule["totals"][0][1]
         self.lunch = tuple(rule["lunches"][0][1:])
         self.rows = {}
-        for used in range(TOTAL, -1, -1):
+        for used in range(self.total, -1, -1):
             for had in (True, False):
-                self.rows[used, had] = [self.worth(offset, used, had) for offset in range(LENGTH + 1)]
+                self.rows[used, had] = [self.worth(offset, used, had) for offset in range(self.length + 1)]
 
     def resumes(self, offset):
         """The offset at which work begins again behind a break that ends there."""
@@ -37,7 +38,7 @@ class Rests:
         """The starts that a break of a size may have behind an offset."""
         rule = self.rule
         longest = rule["work_max"] if size >= rule["long_rest"] else min(rule["work_max"], rule["long_work"])
-        return range(max(rule["lead"], offset + rule["work_min"]), min(LENGTH - rule["tail"] - size, offset + longest) + 1)
+        return range(max(rule["lead"], offset + rule["work_min"]), min(self.length - rule["tail"] - size, offset + longest) + 1)
 
     def pieces(self, starts, size):
         """Those starts in pieces, each with whether a break of the size is a lunch there."""
@@ -49,14 +50,14 @@ class Rests:
 
     def ways(self, offset, used):
         """The breaks that may come next, as a size and starts of which all or none are lunches."""
-        sizes = range(self.rule["size_min"], min(self.rule["size_max"], TOTAL - used) + 1)
+        sizes = range(self.rule["size_min"], min(self.rule["size_max"], self.total - used) + 1)
         return [(size, *piece) for size in sizes for piece in self.pieces(self.starts(offset, size), size) if piece[0]]
 
     def worth(self, offset, used, had):
         """What the ways to go on from a spot earn at most."""
-        begin, rule = self.sums[min(LENGTH, self.resumes(offset))], self.rule
-        if used == TOTAL:
-            return self.sums[LENGTH] - begin if had and rule["work_min"] <= LENGTH - offset <= rule["work_max"] else NEVER
+        begin, rule = self.sums[min(self.length, self.resumes(offset))], self.rule
+        if used == self.total:
+            return self.sums[self.length] - begin if had and rule["work_min"] <= self.length - offset <= rule["work_max"] else NEVER
         most = NEVER
         for size, starts, is_lunch in self.ways(offset, used):
             behind = self.rows[used + size, had or is_lunch][starts.start + size : starts.stop + size]
@@ -71,7 +72,7 @@ class Rests:
             fits = any(size == other and start in starts for other, starts, _ in self.ways(offset, used))
             earned += self.sums[start] - self.sums[self.resumes(offset)] if fits else NEVER
             is_lunch = size == self.lunch[0] and self.lunch[1] <= start <= self.lunch[2] - size
-            spot = start + size, min(TOTAL, used + size), had or is_lunch
+            spot = start + size, min(self.total, used + size), had or is_lunch
         return spot, earned
 
     def best(self, bonuses, front=()):
@@ -84,7 +85,7 @@ class Rests:
             return NEVER
         if not longer:
             return earned + rest + here
-        others, begin = NEVER, self.sums[min(LENGTH, self.resumes(offset))]
+        others, begin = NEVER, self.sums[min(self.length, self.resumes(offset))]
         for size, starts, is_lunch in self.ways(offset, used):
             row = self.rows[used + size, had or is_lunch]
             others = max([others] + [earned - begin + self.sums[start] + row[start + size] for start in starts if (*front, (start, size)) not in longer])
@@ -92,7 +93,7 @@ class Rests:
 
 
 class LongReading(plain_reading.Reading):
-    """What the definitions say of an instance with one such shift."""
+    """What the definitions say of an instance with such shifts."""
     @functools.lru_cache(maxsize=None)
     def rests(self, shift, day, prices):
         rule, length, begin = self.shifts[shift]
@@ -109,21 +110,34 @@ class LongReading(plain_reading.Reading):
 
 
 class LongTrial(plain_reading.Trial):
-    """The programs beside the reading of one random instance with one such shift."""
-    def __init__(self, draw, folder, solve, check):
-        self.draw, self.folder, self.solve, self.check = draw, folder, solve, check
+    """The programs beside the reading of one random instance with such shifts."""
+    def __init__(self, number, draw, folder, solve, check):
+        self.number, self.draw, self.folder, self.solve, self.check = number, draw, folder, solve, check
         document = self.document()
         self.reading, self.text = LongReading(document), json.dumps(document)
         (folder / "instance").write_text(self.text)
 
     def document(self):
         draw = self.draw
-        rule = {"lead": 6, "tail": 6, "work_min": 5, "work_max": 200, "long_work": 140, "long_rest": draw.randint(3, 6)}  # some 18 million edges
-        rule.update(size_min=1, size_max=24, resettle=draw.randint(0, 1), totals=[[LENGTH, TOTAL]], lunches=[[LENGTH, draw.randint(6, 12), 60, 200]])
-        kind = {"name": "day", "start_min": 6, "start_max": 6, "len_min": LENGTH, "len_max": LENGTH, "breaks": rule}
-        need = [draw.choice((0, 1, 1, 1, 2)) for _ in range(288)]
+        rule, kind, days = self.long_shift() if self.number % 2 == 0 else self.short_shifts()
+        kind.update(name="day", breaks={"lead": 6, "tail": 6, "size_min": 1, "resettle": draw.randint(0, 1), **rule})
+        need = [draw.choice((0, 1, 1, 1, 2)) for _ in range(days * 288)]
         weights = {"excess": draw.randint(1, 3), "shortage": draw.randint(3, 9), "shift": draw.randint(0, 50)}
-        return {"slot_minutes": 5, "days": 1, "need": need, "max_heads": 1, "weights": weights, "types": [kind]}
+        return {"slot_minutes": 5, "days": days, "need": need, "max_heads": 1, "weights": weights, "types": [kind]}
+
+    def long_shift(self):
+        """A rule whose graph has some 18 million edges, the window of one shift, and one day."""
+        draw = self.draw
+        rule = {"work_min": 5, "work_max": 200, "long_work": 140, "long_rest": draw.randint(3, 6), "size_max": 24}
+        rule.update(totals=[[276, 48]], lunches=[[276, draw.randint(6, 12), 60, 200]])
+        return rule, {"start_min": 6, "start_max": 6, "len_min": 276, "len_max": 276}, 1
+
+    def short_shifts(self):
+        """A rule whose graph has some 100,000 edges, the window of two shifts, and some days."""
+        draw = self.draw
+        rule = {"work_min": 3, "work_max": 48, "long_work": 24, "long_rest": draw.randint(2, 4), "size_max": 12}
+        rule.update(totals=[[96, 18]], lunches=[[96, draw.randint(3, 12), 30, 66]])
+        return rule, {"start_min": 60, "start_max": 61, "len_min": 96, "len_max": 96}, draw.randint(2, 7)
 
     def lines(self):
         """Proof lines that split by a first break and by one behind it, and price the parts by random prices."""
@@ -156,7 +170,7 @@ def differences(number, solve, check, seed=1, steps=4):
     """The differences between the programs and the reading over that many random instances."""
     for instance in range(number):
         with tempfile.TemporaryDirectory() as folder:
-            trial = LongTrial(random.Random("%s %d" % (seed, instance)), pathlib.Path(folder), solve, check)
+            trial = LongTrial(instance, random.Random("%s %d" % (seed, instance)), pathlib.Path(folder), solve, check)
             for fault, report in trial.faults(steps):
                 yield "instance %d of seed %s: %s\n%s\n%s" % (instance, seed, fault, trial.text, report)
 

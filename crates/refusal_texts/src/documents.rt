@@ -3,59 +3,14 @@ ghost use Rattle.std.specs.Prelude.{◌≡◌, ◌++◌, ℕ, List, codes, IfOk,
 ghost use Rattle.instance_json.specs.RefusalText.{refusal_text};
 ghost use Rattle.refusal_texts.specs.Places.{refusal_place};
 
-use crate::encodings::why_no_json;
-use crate::found::value_of;
-use crate::objects::{misshapen, missing, unknown};
 use crate::places::refusal_place;
-use crate::ranges::invalid;
-use instance_json::{INSTANCE_MAX, ReadRefusal};
+use document_faults::what_is_wrong;
+use instance_json::ReadRefusal;
 use std::alloc::{AllocError, Global};
 
 /// How places are counted, said once in a sentence that names one.
 const COUNTING: &str =
     " (Lists count from 0: types[0] is the first type, need[0] is the first slot.)";
-
-/// What is said of a document that is too long.
-fn too_long(alloc: Global, document: &[u8]) -> Result<String, AllocError> {
-    let len = document.len();
-    if len <= INSTANCE_MAX {
-        return String::from_str(
-            alloc,
-            " has more than 1,048,576 bytes, which is the most that is allowed; spaces and line ends may be left out",
-        );
-    }
-    format!(in alloc;
-        " has {len} bytes, and at most 1,048,576 are allowed; spaces and line ends may be left out"
-    )
-}
-
-/// What is wrong with a document, said behind the place of its refusal.
-fn what_is_wrong(
-    alloc: Global,
-    document: &[u8],
-    refusal: &ReadRefusal,
-) -> Result<String, AllocError> {
-    match refusal {
-        ReadRefusal::TooLong => too_long(alloc, document),
-        ReadRefusal::NotJson => why_no_json(alloc, document),
-        ReadRefusal::Missing { at: _, field } => missing(alloc, field.as_str()),
-        ReadRefusal::UnknownField { at, field } => {
-            let value = value_of(alloc, document)?;
-            unknown(alloc, value.as_ref(), *at, field.as_str())
-        }
-        ReadRefusal::WrongKind { at, field } => {
-            let value = value_of(alloc, document)?;
-            misshapen(alloc, value.as_ref(), *at, field.as_str())
-        }
-        ReadRefusal::Invalid(fault) => {
-            let value = value_of(alloc, document)?;
-            invalid(alloc, value.as_ref(), fault)
-        }
-        ReadRefusal::NoMemory => {
-            String::from_str(alloc, "there was no memory to read the document")
-        }
-    }
-}
 
 /// What is wrong with a document, with how places are counted where one is named.
 fn what_stands_there(

@@ -3,14 +3,8 @@
 #![tactic(auto)]
 
 mod documents;
-mod encodings;
 mod files;
-mod found;
-mod meanings;
-mod objects;
 mod places;
-mod ranges;
-mod rules;
 
 pub use documents::document_sentence;
 pub use files::{Role, file_sentence};
