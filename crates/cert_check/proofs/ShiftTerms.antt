@@ -6,14 +6,14 @@ use Rattle.std.specs.Int.RustNames.{unsigned_abs}
 use Rattle.std.specs.List.{range_with_len}
 use Rattle.std.specs.Option.{option_map_or}
 use Rattle.std.proofs.lemmas.Int.{ints}
-use Rattle.std.proofs.lemmas.Bool.{false≢true, cases_lt}
+use Rattle.std.proofs.lemmas.Bool.{false≢true, false_from_ne_true, cases_lt}
 use Rattle.break_rules.specs.declared.Break.{Break}
 use Rattle.break_rules.specs.declared.Rule.{Rule}
 use Rattle.break_rules.specs.Breaks.{is_legal, is_live, legal_lists, works_at}
 use Rattle.break_rules.specs.Sums.{int_sum_by, greatest}
 use Rattle.break_rules.proofs.Lists.{Has, Has-map, from_map, from_below}
 use Rattle.break_rules.proofs.Sums.{int_sum_by-same, greatest_bounds, greatest_reached}
-use Rattle.break_rules.proofs.LegalLists.{from_legal_lists, live_from}
+use Rattle.break_rules.proofs.LegalLists.{from_legal_lists, live_from, live_rest}
 use Rattle.shift_instance.specs.declared.Shift.{Shift}
 use Rattle.shift_instance.specs.Problem.{Problem, slots, shift_list, below}
 use Rattle.shift_instance.specs.Rota.{lists_of, is_list_of}
@@ -95,6 +95,16 @@ module _ (i : Problem) (s : ℕ) (shift : Shift) (rule : Rule) (own_shift : IsSo
       let x = shift_some o (λ x. IsGraph x.1 x.0.len nodes) h in
       subst (λ (r : Rule). IsGraph r shift.len nodes) (sym (shift_at o x.0 (λ y. rule ≡ y.1) x.1 own_rule))
       (subst (λ (z : Shift). IsGraph x.0.1 z.len nodes) (sym (shift_at o x.0 (λ y. shift ≡ y.0) x.1 own_shift)) x.2)
+
+  -- a shift without legal lists has none in the list of all
+  pub own_nil : ((list : List Break) → is_legal rule shift.len list ≡ false) → is_nil (lists_of i s) ≡ true
+  own_nil illegal =
+      let x = shift_some (slice_get (shift_list i) s) (λ y. shift ≡ y.0) own_shift in
+      let same_rule : rule ≡ x.0.1 = shift_at (slice_get (shift_list i) s) x.0 (λ y. rule ≡ y.1) x.1 own_rule in
+      nil_without i s x.0 x.1 (dead x.0.1 x.0.0.len (λ list. subst (λ (r : Rule). is_legal r x.0.0.len list ≡ false) same_rule (subst (λ (z : Shift). is_legal rule z.len list ≡ false) x.2 (illegal list))))
+    where
+      dead : (r : Rule) (len : ℕ) → ((list : List Break) → is_legal r len list ≡ false) → is_live r len [] ≡ false
+      dead r len none = false_from_ne_true (is_live r len []) (λ live. let rest = live_rest r len [] live in false≢true (sym (none rest.0) ∙ rest.1))
 
   -- the sums along the shift on a day
   pub own_sums : (prices : List ℤ) (lanes : List (List ℤ)) (day : ℕ) → ((x : Shift × Rule) → slice_get (shift_list i) s ≡ Some x → AreSumsByDay i x.0 prices lanes) → day < i.days → AreSums shift.len (sums_on day lanes)

@@ -21,7 +21,7 @@ use crate::nodes::ByNodes;
 use crate::rests::set_rest_lanes;
 use bound_sums::{DayValues, KeptValues, has_prefix_cut, values_of_lane};
 use break_graph::Graph;
-use break_layers::LayerValues;
+use break_layers::{LayerValues, most_by_lane};
 use break_rules::{NoMemory, Spot};
 use head_splits::{Cuts, Prices};
 use price_sums::{DaySums, LANES, Lane, lane_at};
@@ -118,7 +118,9 @@ fn layered_value(
     Ok(Some(value))
 }
 
-/// The greatest reduced values of the duties of a shift, day by day, by layers, and `None` where no list is legal.
+/// The greatest reduced values of the duties of a shift, day by day, by layers, and `None` where no list is legal. Where no cut
+/// bounds duties of the shift that begin with some break, whole lists are worth what they earn, and all days go side by side, in
+/// lent lanes.
 fn values_by_layers(
     alloc: Global,
     instance: &Instance,
@@ -126,6 +128,7 @@ fn values_by_layers(
     prices: &Prices,
     sums: &DaySums,
     shift: u16,
+    lanes: &mut Vec<Lane>,
 ) -> Result<Option<[i128; LANES]>, NoMemory>
     requires shift { shift < length (shift_list instance.now) }
     requires few { length cuts.now ≤ 2 ^ 33 }
@@ -138,6 +141,12 @@ fn values_by_layers(
         len: instance.shift(shift).len,
         sums: sums.along(instance, shift),
     };
+    if !has_prefix_cut(cuts, shift) {
+        return match most_by_lane(alloc, work.rule, work.len, work.sums, lanes)? {
+            Some(most) => Ok(Some(values_of_lane(&most))),
+            None => Ok(None),
+        };
+    }
     let mut values = [0; LANES];
     for day in 0..instance.days() {
         let duties = Duties {
@@ -212,7 +221,7 @@ impl DayValues for ByWalk {
             Some(graph) => values_by_nodes(
                 alloc, instance, cuts, prices, sums, graph, shift, lanes,
             ),
-            None => values_by_layers(alloc, instance, cuts, prices, sums, shift),
+            None => values_by_layers(alloc, instance, cuts, prices, sums, shift, lanes),
         }
     }
 }
