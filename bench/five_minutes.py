@@ -36,7 +36,7 @@ def needs():
 
 
 def week(total):
-    """Four types with 256 starts each, whose shifts have so many slots of breaks: the graph of a rule has some 120,000 or 1,300,000 edges."""
+    """Four types with 256 starts each, whose shifts have so many slots of breaks: the graph of a rule has some 120,000 or 390,000 edges."""
     types = []
     least, most, longest, lunches = RULES[total]
     for number, shorter in enumerate(SHORTER):
