@@ -1,15 +1,16 @@
 //! What rests earn by layers of spots, against a table by the next breaks of each spot, and worked out by hand.
-ghost use Rattle.std.specs.Prelude.{◌≤◌, IfOk};
+ghost use Rattle.std.specs.Prelude.{◌≡◌, ◌≤◌, IfOk};
 ghost use Rattle.std.specs.Int.RustNames.{unsigned_abs};
 ghost use Rattle.break_rules.specs.Ranges.{IsRule};
 ghost use Rattle.price_sums.specs.Along.{AreSums};
+ghost use Rattle.price_sums.specs.Days.{sums_on};
 
 use crate::fixtures::{eighth, judge, short};
-use break_layers::LayerValues;
+use break_layers::{LayerValues, most_by_lane};
 use break_rules::{
     Lunch, Lunches, NoMemory, Rule, Spot, Totals, after, ends, nexts, place, spot_at,
 };
-use price_sums::{resumption, sum_before};
+use price_sums::{Lane, resumption, sum_before};
 use std::alloc::Global;
 use std::test::Fail;
 
@@ -225,5 +226,56 @@ fn beginnings_of_the_best_list_lead_to_it(rt: HostRuntime) -> Result<(), Fail> {
         let whole = values.completed(Vec::from_slice(alloc, &front)?, spot)?;
         assert!(rt; whole.as_slice() == best.as_slice());
     }
+    Ok(())
+}
+
+/// Sums of two days side by side: some sums, and the same with the other sign.
+fn two_days(alloc: Global, sums: &[i64]) -> Result<Vec<Lane>, NoMemory>
+    ensures { IfOk result (λ lanes. sums_on 0 lanes.items ≡ sums.now) }
+{
+    let mut lanes = Vec::new(alloc);
+    for sum in sums {
+        lanes.push([*sum, sum.wrapping_neg(), 0, 0, 0, 0, 0, 0])?;
+    }
+    Ok(lanes)
+}
+
+/// The prices with the other sign.
+fn negated(alloc: Global, prices: &[i32]) -> Result<Vec<i32>, NoMemory> {
+    let mut others = Vec::new(alloc);
+    for price in prices {
+        others.push(price.wrapping_neg())?;
+    }
+    Ok(others)
+}
+
+/// What a table of all days has for one of them.
+fn number_on(found: Option<Lane>, day: usize) -> Option<i64> {
+    match found {
+        Some(most) => most.get(day).copied(),
+        None => None,
+    }
+}
+
+/// The value of each day is that of the day alone, and memory that was used for it serves where no list is legal.
+#[test]
+fn days_are_valued_side_by_side(rt: HostRuntime) -> Result<(), Fail> {
+    let alloc = rt.alloc();
+    let mut rule = many_sizes(alloc, 9, 1)?;
+    rule.lunches = Lunches::new(Vec::from_slice(alloc, &[lunch(9, 20)])?);
+    judge(&rt, &rule);
+    let prices = drawn_prices(alloc, 44, 7)?;
+    let sums = sums_of(alloc, 44, &prices)?;
+    let lanes = two_days(alloc, &sums)?;
+    let mut table = Vec::new(alloc);
+    let found = most_by_lane(alloc, &rule, 44, &lanes, &mut table)?;
+    let first = LayerValues::new(alloc, &rule, 44, sums)?;
+    assert!(rt; first.value_at(Spot::opening()).is_some());
+    assert_eq!(rt; number_on(found, 0), first.value_at(Spot::opening()));
+    let others = sums_of(alloc, 44, &negated(alloc, &prices)?)?;
+    let second = LayerValues::new(alloc, &rule, 44, others)?;
+    assert_eq!(rt; number_on(found, 1), second.value_at(Spot::opening()));
+    let few = two_days(alloc, &sums_of(alloc, 11, &prices)?)?;
+    assert!(rt; most_by_lane(alloc, &rule, 11, &few, &mut table)?.is_none());
     Ok(())
 }
