@@ -1,7 +1,6 @@
 //! The adviser that advises the greedy plan.
 ghost use Rattle.std.specs.Prelude.{◌≡◌, ◌≤◌, ◌^◌, IfOk, IfSome, IsTrue, length, replicate};
 ghost use Rattle.shift_instance.specs.Rota.{are_legal_rows};
-ghost use Rattle.instance_json.specs.Canonical.{canonical_text};
 ghost use Rattle.greedy.specs.Greedy.{greedy_rows};
 ghost use Rattle.advisers.specs.Advised.{greedy_advice, greedy_plan};
 ghost use Rattle.advisers.specs.Forced.{forced_prices};
@@ -13,7 +12,6 @@ use crate::kept::KeptPlan;
 use advice::{Advice, Adviser, Ask, Told};
 use break_rules::NoMemory;
 use head_splits::{CutPrices, Prices, SlotPrices};
-use instance_json::canonical;
 use shift_instance::{Instance, Rows};
 use std::alloc::Global;
 use std::marker::Model;
@@ -49,14 +47,13 @@ impl Greedy {
         }
     }
 
-    /// The kept rows of the greedy plan of this instance, which is written as this text, if they are kept.
-    fn kept_rows(&self, instance: &Instance, text: &[u8]) -> Result<Option<Rows>, NoMemory>
-        requires { text.now ≡ canonical_text instance.now }
+    /// The kept rows of the greedy plan of this instance, if they are kept.
+    fn kept_rows(&self, instance: &Instance) -> Result<Option<Rows>, NoMemory>
         ensures rows { IfOk result (λ rows. IfSome rows (λ rows. rows ≡ greedy_rows instance.now)) }
         ensures legal { IfOk result (λ rows. IfSome rows (λ rows. IsTrue (are_legal_rows instance.now rows))) }
     {
         match &self.kept {
-            Some(kept) if kept.is_of(instance, text) => Ok(Some(kept.copy()?)),
+            Some(kept) if kept.is_of(instance) => Ok(Some(kept.copy()?)),
             _ => Ok(None),
         }
     }
@@ -67,11 +64,10 @@ impl Greedy {
         ensures legal { IfOk result (λ rows. IsTrue (are_legal_rows instance.now rows)) }
         ensures same { self.new ≡ self.old }
     {
-        let text = canonical(self.alloc, instance)?;
-        if let Some(rows) = self.kept_rows(instance, text.as_slice())? {
+        if let Some(rows) = self.kept_rows(instance)? {
             return Ok(rows);
         }
-        let kept = KeptPlan::of(self.alloc, instance, text)?;
+        let kept = KeptPlan::of(self.alloc, instance)?;
         let rows = kept.copy()?;
         self.kept = Some(kept);
         Ok(rows)

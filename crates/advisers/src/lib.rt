@@ -7,6 +7,7 @@ mod forced;
 mod greedy_adviser;
 mod heard;
 mod kept;
+mod kept_parts;
 mod rounds;
 mod stepping;
 mod subgradient;

@@ -1,0 +1,10 @@
+use Rattle.std.proofs.Common.{sym, ◌∙◌}
+use Rattle.std.proofs.lemmas.Slice.Eq.{slice_eq-Decides}
+use Rattle.shift_instance.proofs.SameRules.{same_pair_decides, same_lunch_decides}
+use Rattle.advisers.proofs.kept_parts.have_same_lists.Goals as goal
+
+pub returns-then-eq : goal.returns-then-eq
+returns-then-eq c =
+    let t = slice_eq-Decides same_pair_decides c.as_slice.result.now c.as_slice-2.result.now c.eq.result c.eq.ensures in
+    let l = slice_eq-Decides same_lunch_decides c.as_slice-then-eq.result.now c.as_slice-then-eq-2.result.now c.eq-then-eq.result c.eq-then-eq.ensures in
+    λ h. (sym c.as_slice.ensures ∙ t.0 c.if-eq.true ∙ c.as_slice-2.ensures, sym c.as_slice-then-eq.ensures ∙ l.0 h ∙ c.as_slice-then-eq-2.ensures)
