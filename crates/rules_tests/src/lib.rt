@@ -13,5 +13,3 @@ mod break_walks;
 mod fixtures;
 #[cfg(test)]
 mod instances;
-#[cfg(test)]
-mod layer_values;
