@@ -3,7 +3,7 @@
 ghost use Rattle.std.specs.Prelude.{◌<◌, length, IfOk};
 
 use break_rules::NoMemory;
-use certificate::{Line, Lines, read, write};
+use certificate::{Line, LineReader, Lines, read, write};
 use head_splits::{CutPrices, Prices, SlotPrices};
 use std::alloc::Global;
 use std::test::Fail;
@@ -31,22 +31,47 @@ fn a_report_is_read_and_written_again(rt: HostRuntime) -> Result<(), Fail> {
     Ok(())
 }
 
-#[test]
-fn proof_lines_are_read_one_after_another(rt: HostRuntime) -> Result<(), Fail> {
-    let alloc = rt.alloc();
+/// Two proof lines: a node that is settled, and prices.
+fn two_lines(alloc: Global) -> Result<Lines, NoMemory> {
     let mut list = Vec::new(alloc);
     list.push(Line::Settled { node: 7 })?;
     list.push(Line::Priced {
         node: 0,
         prices: prices(alloc)?,
     })?;
-    let lines = Lines::from_slice(alloc, &list)?;
+    Lines::from_slice(alloc, &list)
+}
+
+/// What a proof line is.
+#[derive(Clone, Copy, PartialEq, Eq)]
+enum Kind {
+    /// It settles this node.
+    Settled(u32),
+    Other,
+}
+
+/// What the next proof line is; nothing where none is left.
+fn next_kind(alloc: Global, reader: &mut LineReader<'_>) -> Result<Option<Kind>, NoMemory> {
+    let line = reader.next_line(alloc)?;
+    Ok(line.map(|line| match line {
+        Line::Settled { node } => Kind::Settled(node),
+        _ => Kind::Other,
+    }))
+}
+
+#[test]
+fn proof_lines_are_read_one_after_another(rt: HostRuntime) -> Result<(), Fail> {
+    let alloc = rt.alloc();
+    let lines = two_lines(alloc)?;
     let mut reader = lines.reader();
-    let first = reader.next_line(alloc)?;
-    assert!(rt; matches!(&first, Some(Line::Settled { node: 7 })));
-    assert_eq!(rt; (lines.len(), reader.len()), (2, 1));
-    assert!(rt; reader.next_line(alloc)?.is_some());
-    assert!(rt; reader.next_line(alloc)?.is_none());
-    assert_eq!(rt; Lines::new(alloc).len(), 0);
+    assert!(rt; next_kind(alloc, &mut reader)? == Some(Kind::Settled(7)));
+    assert!(rt; (lines.len(), reader.len()) == (2, 1));
+    assert!(rt; next_kind(alloc, &mut reader)?.is_some());
+    assert!(rt; next_kind(alloc, &mut reader)?.is_none());
     Ok(())
+}
+
+#[test]
+fn new_proof_lines_are_none(rt: HostRuntime) {
+    assert_eq!(rt; Lines::new(rt.alloc()).len(), 0);
 }
