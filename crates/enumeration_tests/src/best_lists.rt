@@ -4,8 +4,9 @@ ghost use Rattle.shift_instance.specs.Problem.{shift_list};
 
 use crate::days::day;
 use crate::draws::Draws;
-use crate::lists::{earned, every_break, every_list};
+use crate::lists::{earned, every_list};
 use break_rules::{Break, Breaks, Lunches, NoMemory, Rule, Totals, legal};
+use patterns::Pattern;
 use pricing::best_pattern;
 use shift_instance::Instance;
 use std::alloc::Global;
@@ -72,7 +73,7 @@ impl Draws {
 /// The legal lists of at most two breaks, which are all where at most two slots are breaks.
 pub fn legal_lists(alloc: Global, rule: &Rule, len: u16) -> Result<Vec<Vec<Break>>, NoMemory> {
     let mut lists = Vec::new(alloc);
-    for list in every_list(alloc, &every_break(alloc, len, 2)?)? {
+    for list in every_list(alloc, len, 2)? {
         if legal(rule, len, &list) {
             lists.push(list)?;
         }
@@ -117,17 +118,40 @@ fn is_best_among(
     is_there
 }
 
-/// Compares the best list of the shift of a day with the best of every list, and says whether there is one.
-fn try_day(
+/// Whether a list and its value are the best of the legal lists, or there are none of either.
+fn is_best(
+    found: &[Vec<Break>],
+    instance: &Instance,
+    prices: &[i64],
+    bonus: &[(Breaks, i64)],
+    best: &Option<(Pattern, i128)>,
+) -> bool
+    requires { 0 < length (shift_list instance.now) }
+{
+    match best {
+        Some((pattern, value)) => {
+            is_best_among(
+                found,
+                instance,
+                prices,
+                bonus,
+                (pattern.list.as_slice(), *value),
+            )
+        }
+        None => found.is_empty(),
+    }
+}
+
+/// The best list of the first shift on the first day.
+pub fn best_list(
     rt: &impl Abort,
     alloc: Global,
     instance: &Instance,
-    draws: &mut Draws,
-) -> Result<bool, NoMemory> {
-    assert_eq!(rt; instance.shifts().len(), 1);
-    let lists = legal_lists(alloc, instance.rule_of(0), instance.shift(0).len)?;
-    let prices = draws.prices();
-    let bonus = draws.bonus(alloc, &lists)?;
+    prices: &[i64],
+    bonus: &[(Breaks, i64)],
+) -> Result<Option<(Pattern, i128)>, NoMemory>
+    requires { 0 < length (shift_list instance.now) }
+{
     assert_eq!(rt; prices.len(), instance.slots());
     assert!(rt; prices.iter().all(|p| p.unsigned_abs() <= 10_000_000_000));
     assert!(rt; bonus.len() <= 1_000);
@@ -136,17 +160,36 @@ fn try_day(
             .iter()
             .all(|e| e.1.unsigned_abs() <= 1_000_000_000_000)
     );
-    match best_pattern(alloc, instance, 0, 0, &prices, &bonus)? {
-        Some((pattern, value)) => {
-            let best = (pattern.list.as_slice(), value);
-            assert!(rt; is_best_among(&lists, instance, &prices, &bonus, best));
-            Ok(true)
-        }
-        None => {
-            assert!(rt; lists.is_empty());
-            Ok(false)
-        }
-    }
+    best_pattern(alloc, instance, 0, 0, prices, bonus)
+}
+
+/// Compares the best list of the shift of a day with the best of its legal lists, and says whether there is one.
+fn try_lists(
+    rt: &impl Abort,
+    alloc: Global,
+    instance: &Instance,
+    lists: &[Vec<Break>],
+    draws: &mut Draws,
+) -> Result<bool, NoMemory>
+    requires { 0 < length (shift_list instance.now) }
+{
+    let prices = draws.prices();
+    let bonus = draws.bonus(alloc, lists)?;
+    let best = best_list(rt, alloc, instance, &prices, &bonus)?;
+    assert!(rt; is_best(lists, instance, &prices, &bonus, &best));
+    Ok(best.is_some())
+}
+
+/// Does so with every list that is legal.
+fn try_day(
+    rt: &impl Abort,
+    alloc: Global,
+    instance: &Instance,
+    draws: &mut Draws,
+) -> Result<bool, NoMemory> {
+    assert_eq!(rt; instance.shifts().len(), 1);
+    let lists = legal_lists(alloc, instance.rule_of(0), instance.shift(0).len)?;
+    try_lists(rt, alloc, instance, &lists, draws)
 }
 
 #[test]

@@ -3,17 +3,22 @@ use break_rules::{NoMemory, Rule};
 use shift_instance::{Parts, TypeParts};
 use std::alloc::Global;
 
-/// A day of hours with one shift of a start, a length and a rule, which at most so many employees work.
-pub fn day(alloc: Global, heads: u16, start: u16, len: u16, rule: Rule) -> Result<Parts, NoMemory> {
-    let kind = TypeParts {
+/// A type of shifts of one start and one length.
+fn kind(alloc: Global, start: u16, len: u16, rule: Rule) -> Result<TypeParts, NoMemory> {
+    Ok(TypeParts {
         name: String::from_str(alloc, "D")?,
         start_min: start,
         start_max: start,
         len_min: len,
         len_max: len,
         rule,
-    };
-    let types = vec![in alloc; kind]?;
+    })
+}
+
+/// A day of hours with one shift of a start, a length and a rule, which at most so many employees work.
+pub fn day(alloc: Global, heads: u16, start: u16, len: u16, rule: Rule) -> Result<Parts, NoMemory> {
+    let mut types = Vec::new(alloc);
+    types.push(kind(alloc, start, len, rule)?)?;
     Ok(Parts {
         slot_minutes: 60,
         days: 1,

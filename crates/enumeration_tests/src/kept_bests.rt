@@ -35,12 +35,31 @@ fn two_cuts(alloc: Global) -> Result<Cuts, NoMemory>
 }
 
 /// Prices of the hours at the scale 1,000, and of two cuts.
-fn prices_of(alloc: Global, slots: &[i64], cuts: [u64; 2]) -> Result<Prices, NoMemory> {
-    Ok(Prices {
-        q: 1000,
-        slots: SlotPrices::new(Vec::from_slice(alloc, slots)?),
-        cuts: CutPrices::new(Vec::from_slice(alloc, &cuts)?),
-    })
+#[derive(Drop)]
+struct Drawn {
+    slots: [i64; 24],
+    cuts: [u64; 2],
+}
+
+impl Drawn {
+    /// Changes the price of an hour, of the first cut, or both, which the number of the round says.
+    fn change(&mut self, draws: &mut Draws, round: u32) {
+        if round % 3 != 1 {
+            self.slots[usize::from(draws.below(24)) % 24] = i64::from(draws.below(9)) - 4;
+        }
+        if round % 3 != 0 {
+            self.cuts[0] = u64::from(draws.below(9));
+        }
+    }
+
+    /// The prices as a pricer takes them.
+    fn prices(&self, alloc: Global) -> Result<Prices, NoMemory> {
+        Ok(Prices {
+            q: 1000,
+            slots: SlotPrices::new(Vec::from_slice(alloc, &self.slots)?),
+            cuts: CutPrices::new(Vec::from_slice(alloc, &self.cuts)?),
+        })
+    }
 }
 
 /// Whether two pricers have the same bound, and the same best list and value of the first shift on the first day.
@@ -52,7 +71,66 @@ fn are_same(rt: &impl Abort, instance: &Instance, one: &Pricer, other: &Pricer) 
     one.value() == other.value() && one.best(0, 0) == other.best(0, 0)
 }
 
+/// A new pricer at these prices.
+fn pricer_at<L: Ledger>(
+    alloc: Global,
+    instance: &Instance,
+    cuts: &Cuts,
+    drawn: &Drawn,
+    steps: &mut Steps<L>,
+) -> Result<Pricer, PriceFault>
+    requires { length cuts.now ≡ 2 }
+    ensures { IfOk result (λ pricer. pricer.instance ≡ instance.now) }
+{
+    match drawn.prices(alloc) {
+        Ok(prices) => Pricer::new(alloc, instance, cuts, prices, steps),
+        Err(_) => Err(PriceFault::NoMemory),
+    }
+}
+
+/// Reprices a pricer at these prices.
+fn reprice<L: Ledger>(
+    alloc: Global,
+    instance: &Instance,
+    pricer: &mut Pricer,
+    drawn: &Drawn,
+    steps: &mut Steps<L>,
+) -> Result<(), PriceFault>
+    requires { pricer.old.instance ≡ instance.now }
+    ensures { pricer.new.instance ≡ instance.now }
+{
+    match drawn.prices(alloc) {
+        Ok(prices) => pricer.reprice(instance, prices, steps),
+        Err(_) => Err(PriceFault::NoMemory),
+    }
+}
+
 /// Compares a pricer with a new one, each time that prices of hours, of a cut, or both have changed.
+fn follow_cuts<L: Ledger>(
+    rt: &impl Abort,
+    alloc: Global,
+    instance: &Instance,
+    cuts: &Cuts,
+    draws: &mut Draws,
+    steps: &mut Steps<L>,
+) -> Result<(), PriceFault>
+    requires { length cuts.now ≡ 2 }
+{
+    let mut drawn = Drawn {
+        slots: [0; 24],
+        cuts: [3, 2],
+    };
+    let mut pricer = pricer_at(alloc, instance, cuts, &drawn, steps)?;
+    for round in 0..6u32 {
+        drawn.change(draws, round);
+        reprice(alloc, instance, &mut pricer, &drawn, steps)?;
+        let fresh = pricer_at(alloc, instance, cuts, &drawn, steps)?;
+        assert!(rt; are_same(rt, instance, &pricer, &fresh));
+    }
+    Ok(())
+}
+
+/// Does so with two cuts.
 fn follow_prices<L: Ledger>(
     rt: &impl Abort,
     alloc: Global,
@@ -60,33 +138,10 @@ fn follow_prices<L: Ledger>(
     draws: &mut Draws,
     steps: &mut Steps<L>,
 ) -> Result<(), PriceFault> {
-    let Ok(cuts) = two_cuts(alloc) else {
-        return Err(PriceFault::NoMemory);
-    };
-    let mut slots = [0i64; 24];
-    let mut cut_prices = [3u64, 2];
-    let Ok(first) = prices_of(alloc, &slots, cut_prices) else {
-        return Err(PriceFault::NoMemory);
-    };
-    let mut pricer = Pricer::new(alloc, instance, &cuts, first, steps)?;
-    for round in 0..6u32 {
-        if round % 3 != 1 {
-            slots[usize::from(draws.below(24)) % 24] = i64::from(draws.below(9)) - 4;
-        }
-        if round % 3 != 0 {
-            cut_prices[0] = u64::from(draws.below(9));
-        }
-        let (Ok(next), Ok(same)) = (
-            prices_of(alloc, &slots, cut_prices),
-            prices_of(alloc, &slots, cut_prices),
-        ) else {
-            return Err(PriceFault::NoMemory);
-        };
-        pricer.reprice(instance, next, steps)?;
-        let fresh = Pricer::new(alloc, instance, &cuts, same, steps)?;
-        assert!(rt; are_same(rt, instance, &pricer, &fresh));
+    match two_cuts(alloc) {
+        Ok(cuts) => follow_cuts(rt, alloc, instance, &cuts, draws, steps),
+        Err(_) => Err(PriceFault::NoMemory),
     }
-    Ok(())
 }
 
 /// Does so for some rules.

@@ -2,11 +2,11 @@
 ghost use Rattle.std.specs.Prelude.{◌≡◌, ◌<◌, length, IfOk};
 ghost use Rattle.shift_instance.specs.Problem.{shift_list};
 
-use crate::best_lists::legal_lists;
+use crate::best_lists::{best_list, legal_lists};
 use crate::draws::Draws;
 use break_rules::{Breaks, NoMemory};
 use patterns::Pattern;
-use pricing::{Steps, Tables, best_pattern};
+use pricing::{Steps, Tables};
 use shift_instance::Instance;
 use std::alloc::Global;
 use std::marker::Brand;
@@ -33,27 +33,6 @@ fn have_best(tables: &Tables, best: &Option<(Pattern, i128)>) -> bool {
         (None, None) => true,
         _ => false,
     }
-}
-
-/// The best list of the first shift on the first day.
-fn best_list(
-    rt: &impl Abort,
-    alloc: Global,
-    instance: &Instance,
-    prices: &[i64],
-    bonus: &[(Breaks, i64)],
-) -> Result<Option<(Pattern, i128)>, NoMemory>
-    requires { 0 < length (shift_list instance.now) }
-{
-    assert_eq!(rt; prices.len(), instance.slots());
-    assert!(rt; prices.iter().all(|p| p.unsigned_abs() <= 10_000_000_000));
-    assert!(rt; bonus.len() <= 1_000);
-    assert!(rt;
-        bonus
-            .iter()
-            .all(|e| e.1.unsigned_abs() <= 1_000_000_000_000)
-    );
-    best_pattern(alloc, instance, 0, 0, prices, bonus)
 }
 
 /// The tables of the first shift on the first day.
@@ -96,6 +75,22 @@ fn reprice<L: Ledger>(
     tables.reprice(instance, changes, steps)
 }
 
+/// Compares the best list of tables with that of the prices.
+fn compare_best(
+    rt: &impl Abort,
+    alloc: Global,
+    instance: &Instance,
+    tables: &Tables,
+    prices: &[i64],
+    bonus: &[(Breaks, i64)],
+) -> Result<(), NoMemory>
+    requires { 0 < length (shift_list instance.now) }
+{
+    let best = best_list(rt, alloc, instance, prices, bonus)?;
+    assert!(rt; have_best(tables, &best));
+    Ok(())
+}
+
 /// Compares the best list of the tables of a day with that of the prices, each time that some of these have changed.
 fn follow_prices<L: Ledger>(
     rt: &impl Abort,
@@ -115,8 +110,7 @@ fn follow_prices<L: Ledger>(
             prices[slot as usize % 24] = price;
         }
         reprice(rt, &mut tables, instance, &changes, steps)?;
-        let best = best_list(rt, alloc, instance, &prices, bonus)?;
-        assert!(rt; have_best(&tables, &best));
+        compare_best(rt, alloc, instance, &tables, &prices, bonus)?;
     }
     Ok(())
 }

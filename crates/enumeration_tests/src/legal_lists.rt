@@ -1,6 +1,6 @@
 //! The legal lists of small pseudo-random rules, by a plain reading of the rule over every list of at most two breaks.
 use crate::draws::Draws;
-use crate::lists::{every_break, every_list};
+use crate::lists::every_list;
 use break_rules::{Break, Lunch, Lunches, NoMemory, Rule, Totals, legal};
 use std::alloc::Global;
 use std::process::Abort;
@@ -160,18 +160,30 @@ fn try_rule(rt: &impl Abort, rule: &Rule, len: u16, lists: &[Vec<Break>]) -> u32
     count
 }
 
+/// Does so for some rules and every list of a length of shifts, and gives the number of rules that some list meets.
+fn try_length(
+    rt: &impl Abort,
+    alloc: Global,
+    draws: &mut Draws,
+    len: u16,
+) -> Result<u32, NoMemory> {
+    let lists = every_list(alloc, len, len)?;
+    let mut with_lists = 0u32;
+    for _ in 0..8 {
+        let rule = draws.rule(alloc)?;
+        let count = try_rule(rt, &rule, len, &lists);
+        with_lists = with_lists.saturating_add(u32::from(0 < count));
+    }
+    Ok(with_lists)
+}
+
 #[test]
 fn small_rules_have_the_lists_that_every_list_tried_shows(rt: HostRuntime) -> Result<(), Fail> {
     let alloc = rt.alloc();
     let mut draws = Draws { state: 1 };
     let mut with_lists = 0u32;
     for len in 3..9 {
-        let lists = every_list(alloc, &every_break(alloc, len, len)?)?;
-        for _ in 0..8 {
-            let rule = draws.rule(alloc)?;
-            let count = try_rule(&rt, &rule, len, &lists);
-            with_lists = with_lists.saturating_add(u32::from(0 < count));
-        }
+        with_lists = with_lists.saturating_add(try_length(&rt, alloc, &mut draws, len)?);
     }
     // Enough of the rules have a legal list.
     assert!(rt; 12 <= with_lists);

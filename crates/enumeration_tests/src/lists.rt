@@ -8,7 +8,7 @@ use shift_instance::Instance;
 use std::alloc::Global;
 
 /// Every break of at most so many slots in a shift of `len` slots, by start and then by length.
-pub fn every_break(alloc: Global, len: u16, most: u16) -> Result<Vec<Break>, NoMemory> {
+fn every_break(alloc: Global, len: u16, most: u16) -> Result<Vec<Break>, NoMemory> {
     let mut breaks = Vec::new(alloc);
     for start in 0..len {
         for size in 0..most.min(len - start) {
@@ -21,15 +21,27 @@ pub fn every_break(alloc: Global, len: u16, most: u16) -> Result<Vec<Break>, NoM
     Ok(breaks)
 }
 
-/// Every list of at most two of these breaks, in either order.
-pub fn every_list(alloc: Global, breaks: &[Break]) -> Result<Vec<Vec<Break>>, NoMemory> {
+/// Adds the list of one break alone, and those of this break and then each of these.
+fn add_lists(
+    lists: &mut Vec<Vec<Break>>,
+    alloc: Global,
+    first: Break,
+    breaks: &[Break],
+) -> Result<(), NoMemory> {
+    lists.push(Vec::from_slice(alloc, &[first])?)?;
+    for second in breaks {
+        lists.push(Vec::from_slice(alloc, &[first, *second])?)?;
+    }
+    Ok(())
+}
+
+/// Every list of at most two breaks of at most so many slots in a shift of `len` slots, in either order.
+pub fn every_list(alloc: Global, len: u16, most: u16) -> Result<Vec<Vec<Break>>, NoMemory> {
+    let breaks = every_break(alloc, len, most)?;
     let mut lists = Vec::new(alloc);
     lists.push(Vec::new(alloc))?;
-    for first in breaks {
-        lists.push(Vec::from_slice(alloc, &[*first])?)?;
-        for second in breaks {
-            lists.push(Vec::from_slice(alloc, &[*first, *second])?)?;
-        }
+    for first in &breaks {
+        add_lists(&mut lists, alloc, *first, &breaks)?;
     }
     Ok(lists)
 }

@@ -5,7 +5,7 @@ ghost use Rattle.std.specs.Prelude.{◌<◌, length};
 ghost use Rattle.shift_instance.specs.Problem.{shift_list};
 
 use crate::draws::Draws;
-use crate::lists::{earned, every_break, every_list};
+use crate::lists::{earned, every_list};
 use break_rules::{Break, Breaks, NoMemory, Rule, Totals, legal};
 use dual_bound::prove;
 use head_splits::{Class, Cut, CutPrices, Cuts, Prices, Side, SlotPrices};
@@ -22,13 +22,19 @@ struct Priced {
 }
 
 impl Draws {
-    /// A type of shifts of at most 5 slots, with two starts and at most one break of one slot.
-    fn kind(&mut self, alloc: Global) -> Result<TypeParts, NoMemory> {
+    /// A rule with at most one break of one slot.
+    fn thin_rule(&mut self, alloc: Global) -> Result<Rule, NoMemory> {
         let mut rule = Rule::plain(alloc)?;
         rule.work_max = 1 + self.below(5);
         rule.size_max = 1;
         rule.totals = Totals::new(Vec::from_slice(alloc, &[(0, self.below(2))])?);
         rule.resettle = self.below(2);
+        Ok(rule)
+    }
+
+    /// A type of shifts of at most 5 slots, with two starts and at most one break of one slot.
+    fn kind(&mut self, alloc: Global) -> Result<TypeParts, NoMemory> {
+        let rule = self.thin_rule(alloc)?;
         let len = 2 + self.below(4);
         Ok(TypeParts {
             name: String::from_str(alloc, "A")?,
@@ -40,18 +46,23 @@ impl Draws {
         })
     }
 
-    /// An instance of two days.
-    fn parts(&mut self, alloc: Global) -> Result<Parts, NoMemory> {
-        let mut types = Vec::new(alloc);
-        types.push(self.kind(alloc)?)?;
+    /// A need of at most three employees in each slot of two days.
+    fn needs(&mut self, alloc: Global) -> Result<Vec<u32>, NoMemory> {
         let mut need = Vec::new(alloc);
         for _ in 0..48 {
             need.push(u32::from(self.below(4)))?;
         }
+        Ok(need)
+    }
+
+    /// An instance of two days.
+    fn parts(&mut self, alloc: Global) -> Result<Parts, NoMemory> {
+        let mut types = Vec::new(alloc);
+        types.push(self.kind(alloc)?)?;
         Ok(Parts {
             slot_minutes: 60,
             days: 2,
-            need,
+            need: self.needs(alloc)?,
             max_heads: 1 + self.below(3),
             excess: 2,
             shortage: 3,
@@ -141,7 +152,7 @@ fn best_value(
     let rule = instance.rule_of(shift);
     let len = instance.shift(shift).len;
     let mut best = None;
-    for list in every_list(alloc, &every_break(alloc, len, 1)?)? {
+    for list in every_list(alloc, len, 1)? {
         if legal(rule, len, &list) {
             let earned = earned(instance, slots, shift, day, &list);
             let value = earned.saturating_add(bonuses(cuts, shift, day, &list));
@@ -237,33 +248,62 @@ fn bound_of(
     Ok(least_whole(total))
 }
 
-/// The cuts, and their prices.
-fn parted(alloc: Global, list: &[Priced]) -> Result<(Cuts, CutPrices), NoMemory> {
+/// The cuts without their prices.
+fn cuts_of(alloc: Global, list: &[Priced]) -> Result<Cuts, NoMemory> {
     let mut cuts = Vec::new(alloc);
-    let mut prices = Vec::new(alloc);
     for priced in list {
         cuts.push(priced.cut.clone()?)?;
-        prices.push(priced.price)?;
     }
-    Ok((Cuts::new(cuts), CutPrices::new(prices)))
+    Ok(Cuts::new(cuts))
 }
 
-/// Compares the bound of drawn prices with the one as it is defined, and gives it.
+/// The prices of the cuts.
+fn prices_of(alloc: Global, list: &[Priced]) -> Result<CutPrices, NoMemory> {
+    let mut prices = Vec::new(alloc);
+    for priced in list {
+        prices.push(priced.price)?;
+    }
+    Ok(CutPrices::new(prices))
+}
+
+/// The bound that is proved of four cuts and prices at the scale 2.
+fn proved_bound(
+    rt: &impl Abort,
+    alloc: Global,
+    instance: &Instance,
+    list: &[Priced],
+    slots: Vec<i64>,
+) -> Result<u64, Fail> {
+    let prices = Prices {
+        q: 2,
+        slots: SlotPrices::new(slots),
+        cuts: prices_of(alloc, list)?,
+    };
+    let cuts = cuts_of(alloc, list)?;
+    assert!(rt; cuts.len() == 4);
+    Ok(prove(alloc, instance, cuts, prices)?.bound())
+}
+
+/// Compares the bound of prices with the one as it is defined, and gives it.
+fn try_prices(
+    rt: &impl Abort,
+    alloc: Global,
+    instance: &Instance,
+    list: &[Priced],
+    slots: Vec<i64>,
+) -> Result<u64, Fail> {
+    let wanted = bound_of(alloc, instance, list, &slots)?;
+    let bound = proved_bound(rt, alloc, instance, list, slots)?;
+    assert_eq!(rt; bound, wanted);
+    Ok(bound)
+}
+
+/// Does so for an instance, cuts and prices that are drawn.
 fn try_instance(rt: &impl Abort, alloc: Global, draws: &mut Draws) -> Result<u64, Fail> {
     let instance = Instance::new(alloc, draws.parts(alloc)?)?;
     let list = draws.cuts(alloc)?;
     let slots = draws.slot_prices(alloc)?;
-    let wanted = bound_of(alloc, &instance, &list, &slots)?;
-    let (cuts, cut_prices) = parted(alloc, &list)?;
-    assert!(rt; cuts.len() == 4);
-    let prices = Prices {
-        q: 2,
-        slots: SlotPrices::new(slots),
-        cuts: cut_prices,
-    };
-    let bound = prove(alloc, &instance, cuts, prices)?.bound();
-    assert_eq!(rt; bound, wanted);
-    Ok(bound)
+    try_prices(rt, alloc, &instance, &list, slots)
 }
 
 #[test]

@@ -7,13 +7,18 @@ use shift_instance::{Instance, Row, Rows};
 use std::alloc::Global;
 use std::test::Fail;
 
+/// Two breaks of one hour.
+fn two_hours(alloc: Global) -> Result<Rule, NoMemory> {
+    let mut rule = Rule::plain(alloc)?;
+    rule.size_max = 1;
+    rule.totals = Totals::new(Vec::from_slice(alloc, &[(6, 2)])?);
+    Ok(rule)
+}
+
 /// One shift of six hours with two breaks of one hour: after 1 and 3 hours, after 1 and 4, or after 2 and 4. It may have at
 /// most two duties.
 fn two_breaks(alloc: Global) -> Result<Instance, Fail> {
-    let totals = Vec::from_slice(alloc, &[(6, 2)])?;
-    let mut rule = Rule::plain(alloc)?;
-    rule.size_max = 1;
-    rule.totals = Totals::new(totals);
+    let rule = two_hours(alloc)?;
     Ok(Instance::new(alloc, day(alloc, 2, 8, 6, rule)?)?)
 }
 
@@ -123,21 +128,35 @@ fn left(
     Ok((all, same))
 }
 
-/// Whether what a look at the cuts of a seed finds is so by the rotas that meet them: a plan is the one of them, an empty
-/// node has none, and a class to split has an open number. The first number tells which of the three was found.
-fn is_so(alloc: Global, instance: &Instance, seed: u32) -> Result<(usize, bool), Fail> {
-    let cuts = cuts_of(alloc, seed)?;
-    match settled(alloc, instance, &cuts)? {
-        Settle::Plan(rows) => Ok((0, left(alloc, instance, &cuts, &rows)? == (1, 1))),
-        Settle::Empty => {
-            let none = Rows::new(Vec::new(alloc));
-            Ok((1, left(alloc, instance, &cuts, &none)?.0 == 0))
-        }
+/// Whether no rota meets cuts.
+fn have_none(alloc: Global, instance: &Instance, cuts: &Cuts) -> Result<bool, NoMemory> {
+    let none = Rows::new(Vec::new(alloc));
+    Ok(left(alloc, instance, cuts, &none)?.0 == 0)
+}
+
+/// Whether what was found of cuts is so by the rotas that meet them: a plan is the one of them, an empty node has none, and
+/// a class to split has an open number. The first number tells which of the three was found.
+fn is_found_so(
+    alloc: Global,
+    instance: &Instance,
+    cuts: &Cuts,
+    found: Settle,
+) -> Result<(usize, bool), NoMemory> {
+    match found {
+        Settle::Plan(rows) => Ok((0, left(alloc, instance, cuts, &rows)? == (1, 1))),
+        Settle::Empty => Ok((1, have_none(alloc, instance, cuts)?)),
         Settle::Unsettled { class, m } => {
-            let (low, high) = range(instance, &cuts, &class);
+            let (low, high) = range(instance, cuts, &class);
             Ok((2, low <= m && m < high))
         }
     }
+}
+
+/// Whether what a look at the cuts of a seed finds is so, and which of the three it is.
+fn is_so(alloc: Global, instance: &Instance, seed: u32) -> Result<(usize, bool), NoMemory> {
+    let cuts = cuts_of(alloc, seed)?;
+    let found = settled(alloc, instance, &cuts)?;
+    is_found_so(alloc, instance, &cuts, found)
 }
 
 #[test]
