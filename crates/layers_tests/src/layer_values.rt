@@ -8,10 +8,11 @@ ghost use Rattle.price_sums.specs.Days.{sums_on};
 use crate::fixtures::{eighth, judge, short};
 use break_layers::{LayerValues, most_by_lane};
 use break_rules::{
-    Lunch, Lunches, NoMemory, Rule, Spot, Totals, after, ends, nexts, place, spot_at,
+    Break, Breaks, Lunch, Lunches, NoMemory, Rule, Spot, Totals, after, ends, nexts, place, spot_at,
 };
 use price_sums::{Lane, resumption, sum_before};
 use std::alloc::Global;
+use std::process::Abort;
 use std::test::Fail;
 
 /// What the rests earn at most from a spot, by those of later spots.
@@ -146,19 +147,37 @@ fn lunch(first: u16, last: u16) -> Lunch {
     }
 }
 
-/// Counts the spots that a walk reaches, and those of them whose values are other than by the next breaks.
-fn differences(
+/// The rule with breaks of 1 to 5 slots, and with lunches.
+fn with_lunches(
     alloc: Global,
-    rule: &Rule,
+    total: u16,
+    resettle: u16,
+    lunches: &[Lunch],
+) -> Result<Rule, NoMemory> {
+    let mut rule = many_sizes(alloc, total, resettle)?;
+    rule.lunches = Lunches::new(Vec::from_slice(alloc, lunches)?);
+    Ok(rule)
+}
+
+/// The values by layers at these prices.
+fn layer_values<'a>(
+    alloc: Global,
+    rule: &'a Rule,
     len: u16,
     prices: &[i32],
-) -> Result<(usize, usize), NoMemory>
+) -> Result<LayerValues<'a>, NoMemory>
     requires { IsRule rule.now }
 {
-    let sums = sums_of(alloc, len, prices)?;
-    let wanted = values_by_nexts(alloc, rule, len, &sums)?;
-    let walked = reached(alloc, rule, len)?;
-    let values = LayerValues::new(alloc, rule, len, sums)?;
+    LayerValues::new(alloc, rule, len, sums_of(alloc, len, prices)?)
+}
+
+/// Counts the spots that a walk reaches, and those of them whose values are other than is wanted.
+fn count_differences(
+    values: &LayerValues<'_>,
+    len: u16,
+    wanted: &[Option<i64>],
+    walked: &[bool],
+) -> (usize, usize) {
     let mut some = 0usize;
     let mut other = 0usize;
     for at in 0..256 * (usize::from(len) + 1) {
@@ -168,22 +187,68 @@ fn differences(
             other = other.wrapping_add(usize::from(wanted.get(at) != Some(&value)));
         }
     }
-    Ok((some, other))
+    (some, other)
+}
+
+/// The same at these prices, where the values by the next breaks are wanted.
+fn differences(
+    alloc: Global,
+    rule: &Rule,
+    len: u16,
+    prices: &[i32],
+) -> Result<(usize, usize), NoMemory>
+    requires { IsRule rule.now }
+{
+    let wanted = values_by_nexts(alloc, rule, len, &sums_of(alloc, len, prices)?)?;
+    let walked = reached(alloc, rule, len)?;
+    let values = layer_values(alloc, rule, len, prices)?;
+    Ok(count_differences(&values, len, &wanted, &walked))
+}
+
+/// The same by a rule with two lunches, at prices drawn by its total of breaks.
+fn differences_by(
+    rt: &impl Abort,
+    alloc: Global,
+    total: u16,
+    resettle: u16,
+    len: u16,
+) -> Result<(usize, usize), NoMemory> {
+    let rule = with_lunches(alloc, total, resettle, &[lunch(9, 20), lunch(21, 30)])?;
+    judge(rt, &rule);
+    let prices = drawn_prices(alloc, len, u64::from(total))?;
+    differences(alloc, &rule, len, &prices)
 }
 
 #[test]
 fn values_are_those_by_next_breaks(rt: HostRuntime) -> Result<(), Fail> {
     let alloc = rt.alloc();
     for (total, resettle, len) in [(0, 0, 11), (6, 0, 30), (9, 1, 44)] {
-        let mut rule = many_sizes(alloc, total, resettle)?;
-        rule.lunches = Lunches::new(Vec::from_slice(alloc, &[lunch(9, 20), lunch(21, 30)])?);
-        judge(&rt, &rule);
-        let prices = drawn_prices(alloc, len, u64::from(total))?;
-        let (some, other) = differences(alloc, &rule, len, &prices)?;
+        let (some, other) = differences_by(&rt, alloc, total, resettle, len)?;
         assert!(rt; some > 0);
         assert_eq!(rt; other, 0, "at {len} slots");
     }
     Ok(())
+}
+
+/// Whether a best list is one short break, and is worth so much.
+fn is_one_break(found: Option<(Breaks, i64)>, start: u16, worth: i64) -> bool {
+    found.is_some_and(|best| { best.0.as_slice() == [short(start)].as_slice() && best.1 == worth })
+}
+
+/// What a rule's best list in a shift of 8 slots is worth at these prices, and whether it is one short break here, worth so
+/// much.
+fn best_of_eight(
+    alloc: Global,
+    rule: &Rule,
+    prices: &[i32],
+    start: u16,
+    worth: i64,
+) -> Result<(Option<i64>, bool), NoMemory>
+    requires { IsRule rule.now }
+{
+    let values = layer_values(alloc, rule, 8, prices)?;
+    let is_best = is_one_break(values.best_list(alloc)?, start, worth);
+    Ok((values.value_at(Spot::opening()), is_best))
 }
 
 /// One break of one slot has its place at offsets 2 to 5, and costs least where the price is 1.
@@ -193,15 +258,59 @@ fn the_best_list_skips_the_lowest_price(rt: HostRuntime) -> Result<(), Fail> {
     let rule = eighth(alloc)?;
     judge(&rt, &rule);
     for (prices, start, worth) in [([3, 1, 4, 1, 5, 9, 2, 6], 3, 30), ([1; 8], 2, 7)] {
-        let values = LayerValues::new(alloc, &rule, 8, sums_of(alloc, 8, &prices)?)?;
-        assert_eq!(rt; values.value_at(Spot::opening()), Some(worth));
-        let found = values.best_list(alloc)?;
-        assert!(rt;
-            found.is_some_and(|best| best.0.as_slice() == [short(start)].as_slice()
-                && best.1 == worth)
-        );
+        let found = best_of_eight(alloc, &rule, &prices, start, worth)?;
+        assert_eq!(rt; found, (Some(worth), true));
     }
     Ok(())
+}
+
+/// Whether some legal list begins with these breaks, and the best of them is this list.
+fn leads_to(
+    alloc: Global,
+    values: &LayerValues<'_>,
+    front: &[Break],
+    best: &[Break],
+) -> Result<bool, NoMemory> {
+    match values.spot_behind(front) {
+        Some(spot) => {
+            let whole = values.completed(Vec::from_slice(alloc, front)?, spot)?;
+            Ok(whole.as_slice() == best)
+        }
+        None => Ok(false),
+    }
+}
+
+/// Stops the test where the best list has one break at most, or a beginning of it doesn't lead to it.
+fn judge_beginnings(
+    rt: &impl Abort,
+    alloc: Global,
+    values: &LayerValues<'_>,
+    best: &[Break],
+) -> Result<(), NoMemory> {
+    assert!(rt; best.len() > 1);
+    for last in 0..best.len() {
+        assert!(rt; leads_to(alloc, values, &best[..last + 1], best)?);
+    }
+    Ok(())
+}
+
+/// The same of the best list by these values, also where there is none.
+fn judge_best_list(
+    rt: &impl Abort,
+    alloc: Global,
+    values: &LayerValues<'_>,
+) -> Result<(), NoMemory> {
+    let Some((best, _)) = values.best_list(alloc)? else {
+        panic!(rt; "no list is legal");
+    };
+    judge_beginnings(rt, alloc, values, best.as_slice())
+}
+
+/// The values by layers in a shift of 44 slots at drawn prices.
+fn drawn_values(alloc: Global, rule: &Rule) -> Result<LayerValues<'_>, NoMemory>
+    requires { IsRule rule.now }
+{
+    layer_values(alloc, rule, 44, &drawn_prices(alloc, 44, 5)?)
 }
 
 /// The best list is the best one behind each of its own beginnings, and no legal list begins with a break too near to the end.
@@ -210,22 +319,9 @@ fn beginnings_of_the_best_list_lead_to_it(rt: HostRuntime) -> Result<(), Fail> {
     let alloc = rt.alloc();
     let rule = many_sizes(alloc, 9, 1)?;
     judge(&rt, &rule);
-    let prices = drawn_prices(alloc, 44, 5)?;
-    let values = LayerValues::new(alloc, &rule, 44, sums_of(alloc, 44, &prices)?)?;
+    let values = drawn_values(alloc, &rule)?;
     assert!(rt; values.spot_behind(&[short(41)]).is_none());
-    let Some((best, _)) = values.best_list(alloc)? else {
-        panic!(rt; "no list is legal");
-    };
-    assert!(rt; best.as_slice().len() > 1);
-    let mut front = Vec::new(alloc);
-    for next in best.as_slice() {
-        front.push(*next)?;
-        let Some(spot) = values.spot_behind(&front) else {
-            panic!(rt; "no legal list begins with the best list's breaks");
-        };
-        let whole = values.completed(Vec::from_slice(alloc, &front)?, spot)?;
-        assert!(rt; whole.as_slice() == best.as_slice());
-    }
+    judge_best_list(&rt, alloc, &values)?;
     Ok(())
 }
 
@@ -257,25 +353,73 @@ fn number_on(found: Option<Lane>, day: usize) -> Option<i64> {
     }
 }
 
+/// What the rests earn at most on two days side by side, at these prices and at those with the other sign.
+fn most_on_two_days(
+    alloc: Global,
+    rule: &Rule,
+    len: u16,
+    prices: &[i32],
+    table: &mut Vec<Lane>,
+) -> Result<Option<Lane>, NoMemory>
+    requires { IsRule rule.now }
+{
+    let sums = sums_of(alloc, len, prices)?;
+    let lanes = two_days(alloc, &sums)?;
+    most_by_lane(alloc, rule, len, &lanes, table)
+}
+
+/// The same in a shift of 44 slots and then, in the same memory, in one of 11 slots.
+fn most_side_by_side(
+    alloc: Global,
+    rule: &Rule,
+    prices: &[i32],
+) -> Result<(Option<Lane>, Option<Lane>), NoMemory>
+    requires { IsRule rule.now }
+{
+    let mut table = Vec::new(alloc);
+    let found = most_on_two_days(alloc, rule, 44, prices, &mut table)?;
+    let few = most_on_two_days(alloc, rule, 11, prices, &mut table)?;
+    Ok((found, few))
+}
+
+/// What the rests earn at most in a shift of 44 slots on a day alone.
+fn most_alone(alloc: Global, rule: &Rule, prices: &[i32]) -> Result<Option<i64>, NoMemory>
+    requires { IsRule rule.now }
+{
+    let values = layer_values(alloc, rule, 44, prices)?;
+    Ok(values.value_at(Spot::opening()))
+}
+
+/// The same at these prices, and at those with the other sign.
+fn most_one_by_one(
+    alloc: Global,
+    rule: &Rule,
+    prices: &[i32],
+) -> Result<(Option<i64>, Option<i64>), NoMemory>
+    requires { IsRule rule.now }
+{
+    let first = most_alone(alloc, rule, prices)?;
+    let second = most_alone(alloc, rule, &negated(alloc, prices)?)?;
+    Ok((first, second))
+}
+
+/// Stops the test where a day's value side by side isn't that of the day alone, or some list is legal in 11 slots.
+fn judge_days(rt: &impl Abort, alloc: Global, rule: &Rule, prices: &[i32]) -> Result<(), NoMemory>
+    requires { IsRule rule.now }
+{
+    let (first, second) = most_one_by_one(alloc, rule, prices)?;
+    let (found, few) = most_side_by_side(alloc, rule, prices)?;
+    assert!(rt; first.is_some() && few.is_none());
+    assert_eq!(rt; (number_on(found, 0), number_on(found, 1)), (first, second));
+    Ok(())
+}
+
 /// The value of each day is that of the day alone, and memory that was used for it serves where no list is legal.
 #[test]
 fn days_are_valued_side_by_side(rt: HostRuntime) -> Result<(), Fail> {
     let alloc = rt.alloc();
-    let mut rule = many_sizes(alloc, 9, 1)?;
-    rule.lunches = Lunches::new(Vec::from_slice(alloc, &[lunch(9, 20)])?);
+    let rule = with_lunches(alloc, 9, 1, &[lunch(9, 20)])?;
     judge(&rt, &rule);
-    let prices = drawn_prices(alloc, 44, 7)?;
-    let sums = sums_of(alloc, 44, &prices)?;
-    let lanes = two_days(alloc, &sums)?;
-    let mut table = Vec::new(alloc);
-    let found = most_by_lane(alloc, &rule, 44, &lanes, &mut table)?;
-    let first = LayerValues::new(alloc, &rule, 44, sums)?;
-    assert!(rt; first.value_at(Spot::opening()).is_some());
-    assert_eq!(rt; number_on(found, 0), first.value_at(Spot::opening()));
-    let others = sums_of(alloc, 44, &negated(alloc, &prices)?)?;
-    let second = LayerValues::new(alloc, &rule, 44, others)?;
-    assert_eq!(rt; number_on(found, 1), second.value_at(Spot::opening()));
-    let few = two_days(alloc, &sums_of(alloc, 11, &prices)?)?;
-    assert!(rt; most_by_lane(alloc, &rule, 11, &few, &mut table)?.is_none());
+    judge_days(&rt, alloc, &rule, &drawn_prices(alloc, 44, 7)?)?;
     Ok(())
 }
