@@ -1,5 +1,5 @@
 //! What is known of a node whose prices were posted above it.
-ghost use Rattle.std.specs.Prelude.{◌<◌, length};
+ghost use Rattle.std.specs.Prelude.{◌≡◌, ◌<◌, IfOk, length};
 
 use crate::fixtures::morning;
 use break_rules::Breaks;
@@ -8,6 +8,7 @@ use post_codec::Post;
 use search_core::State;
 use shift_instance::Instance;
 use std::alloc::Global;
+use std::process::Abort;
 use std::test::Fail;
 
 /// The split of the first node into no duty and at least one.
@@ -39,11 +40,21 @@ fn priced(alloc: Global) -> Result<Post, Fail> {
     })
 }
 
-/// The state that two posts make of the opening.
-fn after(alloc: Global, instance: &Instance, first: Post, second: Post) -> Result<State, Fail> {
+/// The state that the prices make of the opening.
+fn priced_state(alloc: Global, instance: &Instance) -> Result<State, Fail>
+    ensures { IfOk result (λ state. state.instance ≡ instance.now) }
+{
+    let post = priced(alloc)?;
     let mut state = State::new(alloc, instance)?;
-    state.step(instance, first).ok().ok_or("not allowed")?;
-    state.step(instance, second).ok().ok_or("not allowed")?;
+    state.step(instance, post).ok().ok_or("not priced")?;
+    Ok(state)
+}
+
+/// The state that the split makes of that.
+fn split_state(alloc: Global, instance: &Instance) -> Result<State, Fail> {
+    let mut state = priced_state(alloc, instance)?;
+    let split = state.step(instance, split(alloc));
+    split.ok().ok_or("not split")?;
     Ok(state)
 }
 
@@ -61,13 +72,23 @@ fn hinted_cuts(state: &State) -> Result<Option<(usize, bool)>, Fail>
     }
 }
 
+/// The same of a state that has to have three nodes.
+fn hinted_of_three(rt: &impl Abort, state: &State) -> Result<Option<(usize, bool)>, Fail> {
+    assert!(rt; state.nodes().len() == 3);
+    hinted_cuts(state)
+}
+
+/// The same for the morning, whose first node was priced and then split.
+fn hinted_for_morning(rt: &impl Abort, alloc: Global) -> Result<Option<(usize, bool)>, Fail> {
+    let instance = morning(alloc)?;
+    let state = split_state(alloc, &instance)?;
+    hinted_of_three(rt, &state)
+}
+
 // The prices were posted for the first node, which has no cuts; its second part has one.
 #[test]
 fn the_prices_above_a_part_are_known_of_it(rt: HostRuntime) -> Result<(), Fail> {
-    let alloc = rt.alloc();
-    let instance = morning(alloc)?;
-    let state = after(alloc, &instance, priced(alloc)?, split(alloc))?;
-    assert!(rt; state.nodes().len() == 3);
-    assert!(rt; hinted_cuts(&state)? == Some((1, true)));
+    let cuts = hinted_for_morning(&rt, rt.alloc())?;
+    assert!(rt; cuts == Some((1, true)));
     Ok(())
 }

@@ -1,6 +1,10 @@
 //! Plans that no move makes cheaper, worked out by hand.
+ghost use Rattle.std.specs.Prelude.{◌≡◌};
+
 use crate::fixtures::{DAY, early, instance_of};
+use break_rules::NoMemory;
 use descents::{descend, descended};
+use local_moves::Draft;
 use rota_cost::cost_rows;
 use shift_instance::{Instance, Rows};
 use std::alloc::Global;
@@ -11,29 +15,40 @@ fn cost_of(instance: &Instance, rows: Rows) -> Result<u64, Fail> {
     Ok(cost_rows(instance, rows).ok().ok_or("refused")?.cost())
 }
 
+/// Makes a draft its copy again after a descent.
+fn descend_and_assign(instance: &Instance, draft: &mut Draft) -> Result<(), NoMemory>
+    requires { draft.old.instance ≡ instance.now }
+{
+    let copy = draft.copied(instance)?;
+    descend(instance, draft, 5)?;
+    draft.assign_from(instance, &copy)
+}
+
 /// What the draft of two duties costs once it was made its copy again after a descent.
-fn cost_assigned(alloc: Global) -> Result<u64, Fail> {
-    let instance = instance_of(alloc, DAY)?;
-    let mut draft = early(alloc, &instance)?;
-    let copy = draft.copied(&instance)?;
-    descend(&instance, &mut draft, 5)?;
-    draft.assign_from(&instance, &copy)?;
+fn cost_assigned(alloc: Global, instance: &Instance) -> Result<u64, Fail> {
+    let mut draft = early(alloc, instance)?;
+    descend_and_assign(instance, &mut draft)?;
     Ok(draft.cost())
 }
 
 /// What the rows of that draft cost after a descent.
-fn cost_descended(alloc: Global) -> Result<u64, Fail> {
-    let instance = instance_of(alloc, DAY)?;
-    let draft = early(alloc, &instance)?;
-    let rows = descended(alloc, &instance, draft.into_rows(), 5)?;
-    cost_of(&instance, rows)
+fn cost_descended(alloc: Global, instance: &Instance) -> Result<u64, Fail> {
+    let draft = early(alloc, instance)?;
+    let rows = descended(alloc, instance, draft.into_rows(), 5)?;
+    cost_of(instance, rows)
+}
+
+/// Both of these costs.
+fn costs(alloc: Global, instance: &Instance) -> Result<(u64, u64), Fail> {
+    let assigned = cost_assigned(alloc, instance)?;
+    Ok((assigned, cost_descended(alloc, instance)?))
 }
 
 // One move leads from both breaks in the first hours to the plan in which each lies where one employee is enough.
 #[test]
 fn descent_ends_where_no_move_is_left(rt: HostRuntime) -> Result<(), Fail> {
     let alloc = rt.alloc();
-    assert_eq!(rt; cost_assigned(alloc)?, 6);
-    assert_eq!(rt; cost_descended(alloc)?, 3);
+    let instance = instance_of(alloc, DAY)?;
+    assert_eq!(rt; costs(alloc, &instance)?, (6, 3));
     Ok(())
 }

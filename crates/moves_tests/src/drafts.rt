@@ -2,7 +2,7 @@
 ghost use Rattle.std.specs.Prelude.{◌≡◌};
 
 use crate::fixtures::{DAY, LONGER, Step, early, empty, instance_of, move_of, take};
-use local_moves::{Draft, Move, MoveFault};
+use local_moves::{Draft, MoveFault};
 use shift_instance::Instance;
 use std::alloc::Global;
 use std::test::Fail;
@@ -11,13 +11,14 @@ use std::test::Fail;
 fn there_and_back(
     instance: &Instance,
     draft: &mut Draft,
-    step: &Move,
+    step: Step,
 ) -> Result<(u64, u64), MoveFault>
     requires { draft.old.instance ≡ instance.now }
     ensures { draft.new.instance ≡ draft.old.instance }
 {
+    let step = move_of(draft.allocator(), step)?;
     let _before = draft.cost();
-    let done = draft.apply(instance, step)?;
+    let done = draft.apply(instance, &step)?;
     let there = draft.cost();
     match draft.undo(instance, done) {
         Ok(()) => Ok((there, draft.cost())),
@@ -26,11 +27,9 @@ fn there_and_back(
 }
 
 /// What the plan of two duties that break in the first hours costs with a move and, once that is undone, without it.
-fn early_and_back(alloc: Global, step: Step) -> Result<(u64, u64), Fail> {
-    let instance = instance_of(alloc, DAY)?;
-    let step = move_of(alloc, step)?;
-    let mut draft = early(alloc, &instance)?;
-    Ok(there_and_back(&instance, &mut draft, &step)?)
+fn early_and_back(alloc: Global, instance: &Instance, step: Step) -> Result<(u64, u64), Fail> {
+    let mut draft = early(alloc, instance)?;
+    Ok(there_and_back(instance, &mut draft, step)?)
 }
 
 /// How many steps of a table answer as it says, one after another, before the first that doesn't.
@@ -64,10 +63,10 @@ fn good_steps_of(
 // With breaks at the third and the fourth hour one employee too few works in the third and one too many in the fifth.
 #[test]
 fn other_breaks_lower_the_cost(rt: HostRuntime) -> Result<(), Fail> {
-    assert_eq!(rt;
-        early_and_back(rt.alloc(), Step::Rebreak(0, 0, 2, 4))?,
-        (3, 6)
-    );
+    let alloc = rt.alloc();
+    let instance = instance_of(alloc, DAY)?;
+    let costs = early_and_back(alloc, &instance, Step::Rebreak(0, 0, 2, 4))?;
+    assert_eq!(rt; costs, (3, 6));
     Ok(())
 }
 

@@ -1,22 +1,25 @@
 //! Breaks of a night that are made even, worked out by hand.
 use crate::fixtures::{NIGHT, instance_of};
+use break_rules::NoMemory;
 use descents::{even_out, unevenness};
 use greedy::greedy_plan;
 use local_moves::Draft;
+use shift_instance::Instance;
 use std::alloc::Global;
 use std::test::Fail;
 
-/// How many moves make the greedy plan of the night even, how uneven it is then, and what it costs.
-fn evened(alloc: Global) -> Result<(u16, u128, u64), Fail> {
-    let instance = instance_of(alloc, NIGHT)?;
-    let mut draft = Draft::new(alloc, &instance, greedy_plan(alloc, &instance)?)?;
-    let moves = even_out(&instance, &mut draft, 9)?;
-    Ok((moves, unevenness(&instance, &draft), draft.cost()))
+/// How many moves make the greedy plan of an instance even, how uneven it is then, and what it costs.
+fn evened(alloc: Global, instance: &Instance) -> Result<(u16, u128, u64), NoMemory> {
+    let mut draft = Draft::new(alloc, instance, greedy_plan(alloc, instance)?)?;
+    let moves = even_out(instance, &mut draft, 9)?;
+    Ok((moves, unevenness(instance, &draft), draft.cost()))
 }
 
 // In the greedy plan all three employees pause at once. Each move takes one of them out of that hour, at the same cost.
 #[test]
 fn breaks_are_made_even(rt: HostRuntime) -> Result<(), Fail> {
-    assert_eq!(rt; evened(rt.alloc())?, (2, 3, 9));
+    let alloc = rt.alloc();
+    let instance = instance_of(alloc, NIGHT)?;
+    assert_eq!(rt; evened(alloc, &instance)?, (2, 3, 9));
     Ok(())
 }

@@ -52,6 +52,18 @@ pub fn empty(alloc: Global, instance: &Instance) -> Result<Draft, Fail>
     Ok(Draft::new(alloc, instance, costed.into_rows())?)
 }
 
+/// The move of a duty from some breaks to others.
+fn rebreak(alloc: Global, shift: u16, day: u8, from: u16, to: u16) -> Result<Move, NoMemory> {
+    let from = pause(alloc, from)?;
+    let to = pause(alloc, to)?;
+    Ok(Move::Rebreak {
+        shift,
+        day,
+        from,
+        to,
+    })
+}
+
 /// The move that a step spells.
 pub fn move_of(alloc: Global, step: Step) -> Result<Move, NoMemory> {
     Ok(match step {
@@ -65,12 +77,7 @@ pub fn move_of(alloc: Global, step: Step) -> Result<Move, NoMemory> {
             day,
             breaks: pause(alloc, start)?,
         },
-        Step::Rebreak(shift, day, from, to) => Move::Rebreak {
-            shift,
-            day,
-            from: pause(alloc, from)?,
-            to: pause(alloc, to)?,
-        },
+        Step::Rebreak(shift, day, from, to) => rebreak(alloc, shift, day, from, to)?,
         Step::Reshift(from, to) => Move::Reshift { from, to },
     })
 }
@@ -85,12 +92,21 @@ pub fn take(instance: &Instance, draft: &mut Draft, step: Step) -> Result<u64, M
     Ok(draft.cost())
 }
 
+/// Adds two duties that break in the first hours.
+fn add_early(instance: &Instance, draft: &mut Draft) -> Result<(), MoveFault>
+    requires { draft.old.instance ≡ instance.now }
+    ensures { draft.new.instance ≡ draft.old.instance }
+{
+    let _first = take(instance, draft, Step::Add(0, 0, 2))?;
+    let _second = take(instance, draft, Step::Add(0, 0, 3))?;
+    Ok(())
+}
+
 /// The draft of two duties that break in the first hours.
 pub fn early(alloc: Global, instance: &Instance) -> Result<Draft, Fail>
     ensures { IfOk result (λ d. d.instance ≡ instance.now) }
 {
     let mut draft = empty(alloc, instance)?;
-    let _first = take(instance, &mut draft, Step::Add(0, 0, 2))?;
-    let _second = take(instance, &mut draft, Step::Add(0, 0, 3))?;
+    add_early(instance, &mut draft)?;
     Ok(draft)
 }

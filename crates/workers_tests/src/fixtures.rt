@@ -17,14 +17,25 @@ pub const LIMIT: u32 = 1 << 26;
 const MORNING: &str =
     "{\"slot_minutes\":60,\"days\":1,\"need\":[0,0,0,0,0,0,0,0,1,1,1,1,0,0,0,0,0,0,0,0,0,0,0,0],\"max_heads\":HEADS,\"weights\":{\"excess\":1,\"shortage\":2,\"shift\":3},\"types\":[{\"name\":\"M\",\"start_min\":8,\"start_max\":8,\"len_min\":4,\"len_max\":4,\"breaks\":null}]}";
 
+/// The morning with at most `heads` duties of its shift, read.
+fn read_morning(alloc: Global, heads: &str) -> Result<Instance, Fail> {
+    let text = MORNING.replacen(alloc, "HEADS", heads, 1)?;
+    Ok(read(alloc, text.as_bytes())?)
+}
+
+/// How long the canonical text of an instance is.
+fn canonical_len(alloc: Global, instance: &Instance) -> Result<usize, Fail>
+    ensures { IfOk result (λ len. len ≡ length (canonical_text instance.now)) }
+{
+    Ok(canonical(alloc, instance)?.len())
+}
+
 /// The morning with at most `heads` duties of its shift, which is a digit. A journal of it begins with 385 bytes.
 pub fn morning(alloc: Global, heads: &str) -> Result<Instance, Fail>
     ensures { IfOk result (λ i. length (canonical_text i) ≡ 372) }
 {
-    let text = MORNING.replacen(alloc, "HEADS", heads, 1)?;
-    let instance = read(alloc, text.as_bytes())?;
-    let head = canonical(alloc, &instance)?;
-    match head.len() {
+    let instance = read_morning(alloc, heads)?;
+    match canonical_len(alloc, &instance)? {
         372 => Ok(instance),
         _ => Err("the document has another length")?,
     }

@@ -1,5 +1,5 @@
 //! Two workers that work at the same time: a gate holds each until the other has entered it.
-ghost use Rattle.std.specs.Prelude.{◌≡◌, length};
+ghost use Rattle.std.specs.Prelude.{◌≡◌, All, IfOk, length, vec_len};
 ghost use Rattle.instance_json.specs.Canonical.{canonical_text};
 
 use crate::fixtures::{LIMIT, add_seat, morning, seat_with};
@@ -8,10 +8,11 @@ use plan_base::MemDisk;
 use search_book::Book;
 use shift_instance::Instance;
 use std::alloc::Global;
+use std::sync::Wait;
 use std::sync::atomic::{AtomicU64, Ordering};
 use std::test::Fail;
-use std::thread::yield_now;
-use worker_gate::{Gate, Open, RunEnd, run_seat, run_workers};
+use std::thread::{Threads, yield_now};
+use worker_gate::{Gate, Open, RunEnd, Seat, run_seat, run_workers};
 
 /// How often a worker that is held looks whether the other has entered.
 const TURNS: u32 = 20_000_000;
@@ -54,29 +55,57 @@ fn parted(alloc: Global, instance: &Instance) -> Result<Vec<u8>, Fail>
     }
 }
 
-// A run of workers one after another uses up the turns of the first.
-#[test]
-fn two_workers_meet_at_the_gate(rt: HostRuntime) -> Result<(), Fail> {
-    let alloc = rt.alloc();
-    let instance = morning(alloc, "2")?;
-    let bytes = parted(alloc, &instance)?;
+/// Two seats with greedy advice.
+fn two_seats(alloc: Global) -> Result<Vec<Seat>, Fail>
+    ensures new { IfOk result (λ seats. All (λ s. (s.told ≡ 0) × (s.share ≡ 0)) seats.items) }
+    ensures two { IfOk result (λ seats. vec_len seats ≡ 2) }
+{
     let mut seats = Vec::new(alloc);
     add_seat(&mut seats, Box::new(alloc, Greedy::new(alloc))?)?;
     add_seat(&mut seats, Box::new(alloc, Greedy::new(alloc))?)?;
+    Ok(seats)
+}
+
+/// How a run of two workers ends who go on from these bytes of a journal.
+fn run_two<R: Threads + Wait + Sync>(
+    rt: &R,
+    alloc: Global,
+    instance: &Instance,
+    bytes: Vec<u8>,
+    gate: &Meeting,
+) -> Result<RunEnd, Fail>
+    requires { length (canonical_text instance.now) ≡ 372 }
+{
+    let seats = two_seats(alloc)?;
+    let disk = MemDisk::new(alloc, bytes, Vec::new(alloc));
+    match Book::open(alloc, instance, disk, 100, LIMIT) {
+        Ok(book) => {
+            let (_book, _seats, end) = run_workers(rt, alloc, instance, book, seats, gate);
+            Ok(end)
+        }
+        Err(_) => Err("it isn't opened")?,
+    }
+}
+
+/// How a run ends of two workers who go on from the first step, how many entered the gate, and how many missed each other there.
+fn meet<R: Threads + Wait + Sync>(rt: &R, alloc: Global) -> Result<(RunEnd, u64, u64), Fail> {
+    let instance = morning(alloc, "2")?;
+    let bytes = parted(alloc, &instance)?;
     let gate = Meeting {
         entered: AtomicU64::new(0),
         missed: AtomicU64::new(0),
     };
-    let disk = MemDisk::new(alloc, bytes, Vec::new(alloc));
-    match Book::open(alloc, &instance, disk, 100, LIMIT) {
-        Ok(book) => {
-            let (_book, _seats, end) = run_workers(&rt, alloc, &instance, book, seats, &gate);
-            assert!(rt; end == RunEnd::Finished);
-        }
-        Err(_) => Err("it isn't opened")?,
-    }
-    assert!(rt;
-        gate.entered.load(Ordering::SeqCst) == 2 && gate.missed.load(Ordering::SeqCst) == 0
-    );
+    let end = run_two(rt, alloc, &instance, bytes, &gate)?;
+    let entered = gate.entered.load(Ordering::SeqCst);
+    let missed = gate.missed.load(Ordering::SeqCst);
+    Ok((end, entered, missed))
+}
+
+// A run of workers one after another uses up the turns of the first.
+#[test]
+fn two_workers_meet_at_the_gate(rt: HostRuntime) -> Result<(), Fail> {
+    let (end, entered, missed) = meet(&rt, rt.alloc())?;
+    assert!(rt; end == RunEnd::Finished);
+    assert!(rt; entered == 2 && missed == 0);
     Ok(())
 }
