@@ -1,12 +1,16 @@
 //! What tables know at given prices, found anew as far as changed prices reach.
 
 ghost use Rattle.std.specs.Prelude.{◌≡◌, ◌+◌, ◌<◌, ◌≤◌, All, ℤ, List, IfOk, length, count_by, nat_le};
+ghost use Rattle.std.specs.Arc.{arc_value};
 ghost use Rattle.break_rules.specs.declared.Rule.{Rule};
+ghost use Rattle.break_rules.specs.Ranges.{IsRule};
 ghost use Rattle.shift_instance.specs.declared.Shift.{Shift};
 ghost use Rattle.shift_instance.specs.Problem.{shift_list, slots};
-ghost use Rattle.price_sums.specs.Along.{AreSmallPrices, ArePricesOf};
+ghost use Rattle.price_sums.specs.Along.{AreSmallPrices, ArePricesOf, AreSums};
+ghost use Rattle.pricing.specs.Values.{AreBestRests};
+ghost use Rattle.pricing.specs.Found.{IsBestFound};
 ghost use Rattle.pricing.specs.Tables.{IsShiftOf, repriced};
-ghost use Rattle.pricing.specs.Keeping.{AreBeginnings, AreKeptAbove, IsFoundAt, IsGraphKept, IsLastChange, nodes_of};
+ghost use Rattle.pricing.specs.Keeping.{AreBeginnings, AreKeptAbove, AreRestsKept, IsFoundAt, IsGraphKept, IsLastChange, nodes_of};
 
 use crate::found::Found;
 use crate::layer_rests::LayerRests;
@@ -16,7 +20,7 @@ use crate::steps::Steps;
 use crate::subject::Subject;
 use crate::values::values_anew;
 use break_graph::Graph;
-use break_rules::NoMemory;
+use break_rules::{NoMemory, Rule};
 use price_sums::price_sums;
 use shift_instance::Instance;
 use std::alloc::Global;
@@ -126,24 +130,59 @@ impl AtPrices {
         let rule = instance.rule_of(subject.shift);
         let len = instance.shift(subject.shift).len;
         let sums = price_sums(alloc, instance, subject.shift, subject.day, prices)?;
-        let (trie, beginnings) = (&subject.trie, &subject.beginnings);
         match kept {
             Kept::OverGraph { graph, values } => {
                 let graph = Arc::try_clone(graph)?;
-                let nodes: &Graph = &graph;
-                let values = values_anew(alloc, rule, len, nodes, &sums, values, last, steps)?;
-                let rests = BestRests::with_values(rule, len, nodes, sums, values);
-                let best = best_by_beginnings(alloc, &rests, trie, beginnings, steps)?;
-                let values = rests.into_values();
-                let kept = Kept::OverGraph { graph, values };
-                Ok(AtPrices { kept, best })
+                let values = values_anew(alloc, rule, len, &graph, &sums, values, last, steps)?;
+                AtPrices::over_graph(alloc, rule, len, graph, sums, values, subject, steps)
             }
-            Kept::ByLayers => {
-                let rests = LayerRests::new(alloc, rule, len, sums)?;
-                let best = best_by_beginnings(alloc, &rests, trie, beginnings, steps)?;
-                let kept = Kept::ByLayers;
-                Ok(AtPrices { kept, best })
-            }
+            Kept::ByLayers => AtPrices::by_layers(alloc, rule, len, sums, subject, steps),
         }
+    }
+
+    /// What is known by the sums of some prices where the values of the nodes of a graph are known.
+    fn over_graph<L: Ledger>(
+        alloc: Global,
+        rule: &Rule,
+        len: u16,
+        graph: Arc<Graph>,
+        sums: Vec<i64>,
+        values: Vec<i64>,
+        subject: &Subject,
+        steps: &mut Steps<L>,
+    ) -> Result<AtPrices, NoMemory>
+        requires rests { AreBestRests rule.now len (arc_value graph) sums.items values.items }
+        requires beginnings { AreBeginnings subject.now.trie.entries subject.now.beginnings }
+        ensures kept { IfOk result (λ a. AreRestsKept rule.now len sums.items a.kept) }
+        ensures best { IfOk result (λ a. IsBestFound (record { rule = rule.now; len = len; sums = sums.items }) subject.now.trie.entries a.best) }
+        ensures steps { steps.new ≤ steps.old + length subject.now.beginnings }
+    {
+        let rests = BestRests::with_values(rule, len, &graph, sums, values);
+        let best = best_by_beginnings(alloc, &rests, &subject.trie, &subject.beginnings, steps)?;
+        let values = rests.into_values();
+        let kept = Kept::OverGraph { graph, values };
+        Ok(AtPrices { kept, best })
+    }
+
+    /// What is known by the sums of some prices where the search goes by layers.
+    fn by_layers<L: Ledger>(
+        alloc: Global,
+        rule: &Rule,
+        len: u16,
+        sums: Vec<i64>,
+        subject: &Subject,
+        steps: &mut Steps<L>,
+    ) -> Result<AtPrices, NoMemory>
+        requires rule { IsRule rule.now }
+        requires sums { AreSums len sums.items }
+        requires beginnings { AreBeginnings subject.now.trie.entries subject.now.beginnings }
+        ensures kept { IfOk result (λ a. AreRestsKept rule.now len sums.items a.kept) }
+        ensures best { IfOk result (λ a. IsBestFound (record { rule = rule.now; len = len; sums = sums.items }) subject.now.trie.entries a.best) }
+        ensures steps { steps.new ≤ steps.old + length subject.now.beginnings }
+    {
+        let rests = LayerRests::new(alloc, rule, len, sums)?;
+        let best = best_by_beginnings(alloc, &rests, &subject.trie, &subject.beginnings, steps)?;
+        let kept = Kept::ByLayers;
+        Ok(AtPrices { kept, best })
     }
 }

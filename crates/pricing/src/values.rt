@@ -112,6 +112,36 @@ pub fn node_values(
     Ok(values)
 }
 
+/// The value of a node: as it was kept where the node is behind an offset, and otherwise found anew, with a step.
+fn value_anew<L: Ledger>(
+    rule: &Rule,
+    len: u16,
+    graph: &Graph,
+    k: usize,
+    sums: &[i64],
+    values: &[i64],
+    kept: &[i64],
+    last: u16,
+    steps: &mut Steps<L>,
+) -> i64
+    requires rule { IsRule rule.now }
+    requires graph { IsGraph rule.now len graph.now }
+    requires sums { AreSums len sums.now }
+    requires k { k < length graph.now }
+    requires known { AreValues rule.now len sums.now graph.now k values.now }
+    requires kept { AreValuesAbove rule.now len sums.now graph.now last kept.now }
+    ensures value { (list : List Break) → StandsAt rule.now len graph.now k list → IsValue rule.now len sums.now list result }
+    ensures step { steps.new ≤ steps.old + 1 }
+    ensures none { last < (node_at graph.now k).spot.offset → steps.new ≡ steps.old }
+{
+    if graph.spot(k).offset <= last {
+        steps.tick();
+        value_of(rule, len, graph, k, sums, values)
+    } else {
+        sum_before(kept, k)
+    }
+}
+
 /// The value of each node of a graph: those of the nodes behind an offset as they were kept, and those of the others found
 /// anew, with a step for each of these.
 pub fn values_anew<L: Ledger>(
@@ -133,12 +163,7 @@ pub fn values_anew<L: Ledger>(
 {
     let mut values = Vec::with_capacity(alloc, graph.node_count())?;
     for k in 0..graph.node_count() {
-        let value = if graph.spot(k).offset <= last {
-            steps.tick();
-            value_of(rule, len, graph, k, sums, &values)
-        } else {
-            sum_before(kept, k)
-        };
+        let value = value_anew(rule, len, graph, k, sums, &values, kept, last, steps);
         values.push(value)?;
     }
     Ok(values)
