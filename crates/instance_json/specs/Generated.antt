@@ -46,6 +46,10 @@ hour_rule = record { lead = 2; tail = 2; work_min = 2; work_max = 5; long_work =
 abbrev pub kind_from : List ℕ → ℕ → Kind
 kind_from name start = record { name = name; start_min = start; start_max = start + 1; len_min = 8; len_max = 8; rule = hour_rule }
 
+-- the types of each instance made from a number
+abbrev pub generated_kinds : List Kind
+generated_kinds = kind_from (codes "M") 6 ∷ kind_from (codes "A") 13 ∷ kind_from (codes "N") 21 ∷ []
+
 -- the instance made from a number: a week of hours
 unfoldable pub generated : ℕ → Problem
 generated number = record {
@@ -56,5 +60,5 @@ generated number = record {
   excess = 1;
   shortage = 2;
   shift = 20;
-  kinds = kind_from (codes "M") 6 ∷ kind_from (codes "A") 13 ∷ kind_from (codes "N") 21 ∷ [];
+  kinds = generated_kinds;
 }

@@ -3,7 +3,7 @@ ghost use Rattle.std.specs.Prelude.{◌≡◌, ◌≤◌, ◌+◌, ◌%◌, code
 ghost use Rattle.break_rules.specs.Breaks.{legal_lists};
 ghost use Rattle.shift_instance.specs.Problem.{shift_list};
 ghost use Rattle.shift_instance.specs.Valid.{IsValid};
-ghost use Rattle.instance_json.specs.Generated.{next_state, drawn, is_busy, needs_of, hour_rule, kind_from, generated};
+ghost use Rattle.instance_json.specs.Generated.{next_state, drawn, is_busy, needs_of, hour_rule, kind_from, generated_kinds, generated};
 
 use break_rules::{Lunches, NoMemory, Rule, Totals};
 use shift_instance::{Instance, InstanceFault, Parts, TypeParts};
@@ -87,14 +87,23 @@ fn type_from(alloc: Global, name: &str, start: u16) -> Result<TypeParts, NoMemor
     })
 }
 
+/// The types of the instance.
+fn types(alloc: Global) -> Result<Vec<TypeParts>, NoMemory>
+    ensures { IfOk result (λ t. t.items ≡ generated_kinds) }
+{
+    let mut types = Vec::new(alloc);
+    types.push(type_from(alloc, "M", 6)?)?;
+    types.push(type_from(alloc, "A", 13)?)?;
+    types.push(type_from(alloc, "N", 21)?)?;
+    Ok(types)
+}
+
 /// The numbers of the instance.
 #[tactic(auto, unfolding(crate::specs::Generated::generated))]
 fn parts(alloc: Global, number: u32) -> Result<Parts, NoMemory>
     ensures { IfOk result (λ p. p ≡ generated number) }
 {
-    let early = type_from(alloc, "M", 6)?;
-    let late = type_from(alloc, "A", 13)?;
-    let night = type_from(alloc, "N", 21)?;
+    let types = types(alloc)?;
     Ok(Parts {
         slot_minutes: 60,
         days: 7,
@@ -103,7 +112,7 @@ fn parts(alloc: Global, number: u32) -> Result<Parts, NoMemory>
         excess: 1,
         shortage: 2,
         shift: 20,
-        types: vec![in alloc; early, late, night]?,
+        types,
     })
 }
 
