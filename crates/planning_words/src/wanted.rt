@@ -77,67 +77,94 @@ fn out_word<'a>(alloc: Global) -> Arg<'a> {
     )
 }
 
-/// The words behind `plan`.
-fn plan_command<'a>(alloc: Global) -> Result<Command<'a>, AllocError> {
-    let instance = Arg::new(alloc, "INSTANCE")
+/// The word for the instance.
+fn instance_word<'a>(alloc: Global) -> Arg<'a> {
+    Arg::new(alloc, "INSTANCE")
         .required(true)
-        .help("The file of the instance document");
-    let journal = Arg::new(alloc, "journal")
+        .help("The file of the instance document")
+}
+
+/// The word for the journal.
+fn journal_word<'a>(alloc: Global) -> Arg<'a> {
+    Arg::new(alloc, "journal")
         .long("journal")
         .value_name("FILE")
         .help(
             "The file that keeps the search [default: beside the instance, with the ending .journal]",
-        );
-    let seconds = Arg::new(alloc, "seconds")
+        )
+}
+
+/// The word for the time to search.
+fn seconds_word<'a>(alloc: Global) -> Arg<'a> {
+    Arg::new(alloc, "seconds")
         .long("seconds")
         .value_name("T")
         .value_parser(value_parser!(u32).range(0..=4_000_000))
         .help(
             "How long to search, in seconds; 0 writes the plan that the journal holds [default: 60]",
-        );
-    let workers = Arg::new(alloc, "workers")
+        )
+}
+
+/// The word for the number of workers.
+fn workers_word<'a>(alloc: Global) -> Arg<'a> {
+    Arg::new(alloc, "workers")
         .long("workers")
         .value_name("W")
         .value_parser(value_parser!(u16).range(1..=16))
-        .help("How many workers search at the same time, 1 to 16 [default: 4]");
-    let anew = Arg::new(alloc, "anew")
+        .help("How many workers search at the same time, 1 to 16 [default: 4]")
+}
+
+/// The word that asks for a new beginning.
+fn anew_word<'a>(alloc: Global) -> Arg<'a> {
+    Arg::new(alloc, "anew")
         .long("anew")
         .action(ArgAction::SetTrue)
-        .help("Begin again: the journal that stands is kept under another name");
+        .help("Begin again: the journal that stands is kept under another name")
+}
+
+/// The command `plan` with the words for what is read and how long is searched.
+fn timed_command<'a>(alloc: Global) -> Result<Command<'a>, AllocError> {
     Command::new(alloc, "plan")
         .about("Searches for a cheapest plan and writes it")
-        .arg(instance)?
-        .arg(journal)?
-        .arg(seconds)?
-        .arg(workers)?
+        .arg(instance_word(alloc))?
+        .arg(journal_word(alloc))?
+        .arg(seconds_word(alloc))
+}
+
+/// The words behind `plan`.
+fn plan_command<'a>(alloc: Global) -> Result<Command<'a>, AllocError> {
+    timed_command(alloc)?
+        .arg(workers_word(alloc))?
         .arg(out_word(alloc))?
-        .arg(anew)
+        .arg(anew_word(alloc))
 }
 
 /// The words behind `show`.
 fn show_command<'a>(alloc: Global) -> Result<Command<'a>, AllocError> {
-    let instance = Arg::new(alloc, "INSTANCE")
-        .required(true)
-        .help("The file of the instance document");
     let report = Arg::new(alloc, "REPORT")
         .required(true)
         .help("The file of the report");
     Command::new(alloc, "show")
         .about("Judges a report that stands and shows its plan")
-        .arg(instance)?
+        .arg(instance_word(alloc))?
         .arg(report)?
         .arg(out_word(alloc))
 }
 
-/// The whole command line.
-fn command<'a>(alloc: Global) -> Result<Command<'a>, AllocError> {
+/// The program without its commands.
+fn program<'a>(alloc: Global) -> Command<'a> {
     Command::new(alloc, "shift_plan")
         .about(ABOUT)
         .after_help(EXAMPLES)
         .subcommand_required(true)
         .arg_required_else_help(true)
-        .subcommand(plan_command(alloc)?)?
-        .subcommand(show_command(alloc)?)
+}
+
+/// The whole command line.
+fn command<'a>(alloc: Global) -> Result<Command<'a>, AllocError> {
+    let plan = plan_command(alloc)?;
+    let planning = program(alloc).subcommand(plan)?;
+    planning.subcommand(show_command(alloc)?)
 }
 
 /// What the words behind `plan` ask for.

@@ -1,10 +1,10 @@
 //! The texts that a command line gives.
 
-ghost use Rattle.std.specs.Prelude.{◌≡◌, map, string_bytes, option_map, IfOk};
+ghost use Rattle.std.specs.Prelude.{◌≡◌, false, map, string_bytes, option_map, IfOk};
 ghost use Rattle.std.specs.List.{list_any};
-ghost use Rattle.clap.specs.Words.{app_of};
+ghost use Rattle.clap.specs.Words.{app_of, rule_of};
 ghost use Rattle.solve_words.specs.Asked.{given};
-ghost use Rattle.solve_words.specs.Options.{is_separator, options_app};
+ghost use Rattle.solve_words.specs.Options.{option_rule, flag_rule, bare_app, with_options, with_flags, is_separator, options_app};
 ghost use Rattle.solve_words.specs.Words.{IsFoundIn};
 
 use clap::error::ErrorKind;
@@ -24,33 +24,57 @@ pub(crate) struct Texts<'a> {
     pub thorough: bool,
 }
 
+/// An option with a value.
+fn option_word<'a>(alloc: Global, name: &'a str) -> Arg<'a>
+    ensures rule { rule_of result ≡ option_rule name.entry.now }
+    ensures own { result.global ≡ false }
+{
+    Arg::new(alloc, name).long(name)
+}
+
+/// An option without one.
+fn flag_word<'a>(alloc: Global, name: &'a str) -> Arg<'a>
+    ensures rule { rule_of result ≡ flag_rule name.entry.now }
+    ensures own { result.global ≡ false }
+{
+    Arg::new(alloc, name).long(name).action(ArgAction::SetTrue)
+}
+
+/// A parser of no words, which knows no program's name and offers no help.
+fn bare_command<'a>(alloc: Global) -> Command<'a>
+    ensures { app_of result ≡ bare_app }
+{
+    Command::new(alloc, "solve")
+        .no_binary_name(true)
+        .disable_help_flag(true)
+}
+
+/// The parser with the options that have a number.
+fn with_options<'a>(alloc: Global, command: Command<'a>) -> Result<Command<'a>, AllocError>
+    ensures { IfOk result (λ more. app_of more ≡ with_options (app_of command.entry)) }
+{
+    command
+        .arg(option_word(alloc, "workers"))?
+        .arg(option_word(alloc, "steps"))?
+        .arg(option_word(alloc, "demo"))
+}
+
+/// The parser with the flags.
+fn with_flags<'a>(alloc: Global, command: Command<'a>) -> Result<Command<'a>, AllocError>
+    ensures { IfOk result (λ more. app_of more ≡ with_flags (app_of command.entry)) }
+{
+    command
+        .arg(flag_word(alloc, "table"))?
+        .arg(flag_word(alloc, "local"))?
+        .arg(flag_word(alloc, "thorough"))
+}
+
 /// The options behind `solve`.
 fn options<'a>(alloc: Global) -> Result<Command<'a>, AllocError>
     ensures { IfOk result (λ command. app_of command ≡ options_app) }
 {
-    let journal = Arg::new(alloc, "JOURNAL");
-    let workers = Arg::new(alloc, "workers").long("workers");
-    let steps = Arg::new(alloc, "steps").long("steps");
-    let demo = Arg::new(alloc, "demo").long("demo");
-    let table = Arg::new(alloc, "table")
-        .long("table")
-        .action(ArgAction::SetTrue);
-    let local = Arg::new(alloc, "local")
-        .long("local")
-        .action(ArgAction::SetTrue);
-    let thorough = Arg::new(alloc, "thorough")
-        .long("thorough")
-        .action(ArgAction::SetTrue);
-    Command::new(alloc, "solve")
-        .no_binary_name(true)
-        .disable_help_flag(true)
-        .arg(journal)?
-        .arg(workers)?
-        .arg(steps)?
-        .arg(demo)?
-        .arg(table)?
-        .arg(local)?
-        .arg(thorough)
+    let command = bare_command(alloc).arg(Arg::new(alloc, "JOURNAL"))?;
+    with_flags(alloc, with_options(alloc, command)?)
 }
 
 /// Whether a word is `--`.
