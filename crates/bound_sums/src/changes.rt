@@ -43,7 +43,7 @@ fn sees_no_mark(marks: &DaySums, instance: &Instance, shift: u16) -> bool
     lane_at(lanes, 0) == lane_at(lanes, len)
 }
 
-/// Forgets what is known of each shift in whose slots on some day a price changed. Where memory is wanting, what is left is known at
+/// Forgets what is known of each shift in whose slots on some day a price changed. Where it is out of memory, what is left is known at
 /// the prices before.
 fn forget_changed(
     alloc: Global,
@@ -70,7 +70,7 @@ fn forget_changed(
     Ok(())
 }
 
-/// Takes the slot prices of a price set, and forgets what isn't known to hold at them. Where memory is wanting, what is kept holds
+/// Takes the slot prices of a price set, and forgets what isn't known to hold at them. Where it is out of memory, what is kept holds
 /// at the prices before.
 pub(crate) fn take_prices(
     alloc: Global,

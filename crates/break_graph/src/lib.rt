@@ -87,7 +87,7 @@ impl Graph {
         }
     }
 
-    /// Adds a node behind the others. Its room is made first, so that no edges stay without it where memory is wanting.
+    /// Adds a node behind the others. Its room is made first, so that no edges stay without it where it is out of memory.
     fn append(&mut self, node: Node) -> Result<(), NoMemory>
         ensures { IfOk result (λ _. self.new ≡ self.old ++ node ∷ []) }
     {

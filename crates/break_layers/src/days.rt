@@ -18,7 +18,7 @@ use std::alloc::Global;
 /// list is legal. The sums are those of the prices of the offsets below each one, all days side by side, and so are the values: the
 /// first number of a lane is that of the first day, in the unit of the prices. What a day's number says holds where its sums are
 /// those of small prices, so the days behind the last one may have any. The values of all spots are found in the memory of `table`,
-/// whatever stood there, so that calls one after another need next to no new memory. Only want of memory is a reason for refusal.
+/// whatever stood there, so that calls one after another need next to no new memory. The only refusal is running out of memory.
 pub fn most_by_lane(
     alloc: Global,
     rule: &Rule,

@@ -43,7 +43,7 @@ impl<'a> Model for LayerValues<'a> {
 
 impl<'a> LayerValues<'a> {
     /// Makes the values for this rule in shifts of `len` slots, by the sums of the prices of the offsets below each one. The time
-    /// that it takes is in the order of the spots times the lengths of breaks. Only want of memory is a reason for refusal.
+    /// that it takes is in the order of the spots times the lengths of breaks. The only refusal is running out of memory.
     pub fn new(
         alloc: Global,
         rule: &'a Rule,
@@ -65,7 +65,7 @@ impl<'a> LayerValues<'a> {
     }
 
     /// Makes the values for this rule in shifts of `len` slots where no offset has a price: they tell from which spots some legal
-    /// list goes on. Only want of memory is a reason for refusal.
+    /// list goes on. The only refusal is running out of memory.
     pub fn unpriced(alloc: Global, rule: &'a Rule, len: u16) -> Result<LayerValues<'a>, NoMemory>
         requires { IsRule rule.now }
         ensures { IfOk result (λ v. v ≡ record { rule = rule.now; len = len; sums = replicate (len + 1) (pos 0) }) }
@@ -83,8 +83,8 @@ impl<'a> LayerValues<'a> {
     }
 
     /// Returns the breaks with which some legal list goes on from the spot of a walk, in rising order, each with the spot behind
-    /// it. There are none where the walk is a legal list, or where no legal list begins with it. Only want of memory is a reason
-    /// for refusal.
+    /// it. There are none where the walk is a legal list, or where no legal list begins with it. The only refusal is running out of
+    /// memory.
     pub fn ways(&self, alloc: Global, spot: Spot) -> Result<Vec<Way>, NoMemory>
         ensures stops { IfOk result (λ ways. (list : List Break) → IsTrue (is_walk self.now.rule self.now.len list) → spot ≡ spot_of self.now.rule list → map (λ w. w.stop) ways.items ≡ live_stops self.now.rule self.now.len list) }
         ensures spots { IfOk result (λ ways. (list : List Break) → IsTrue (is_walk self.now.rule self.now.len list) → spot ≡ spot_of self.now.rule list → (i : ℕ) (w : Way) → slice_get ways.items i ≡ Some w → w.spot ≡ spot_of self.now.rule (list ++ w.stop ∷ [])) }
@@ -104,7 +104,7 @@ impl<'a> LayerValues<'a> {
     }
 
     /// Adds a best rest to breaks with which some legal list begins, and so returns the least of the legal lists that begin with
-    /// them and earn most. The spot is the one behind the breaks. Only want of memory is a reason for refusal.
+    /// them and earn most. The spot is the one behind the breaks. The only refusal is running out of memory.
     pub fn completed(&self, list: Vec<Break>, spot: Spot) -> Result<Vec<Break>, NoMemory>
         requires live { is_live self.now.rule self.now.len list.items ≡ true }
         requires spot { spot ≡ spot_of self.now.rule list.items }
@@ -114,8 +114,8 @@ impl<'a> LayerValues<'a> {
     }
 
     /// Returns the legal list that earns most, with what it earns, and `None` where no list is legal. Among the lists that earn
-    /// most it is the least, in the order of lists: break by break, a proper prefix first. Only want of memory is a reason for
-    /// refusal.
+    /// most it is the least, in the order of lists: break by break, a proper prefix first. The only refusal is running out of
+    /// memory.
     pub fn best_list(&self, alloc: Global) -> Result<Option<(Breaks, i64)>, NoMemory>
         ensures { IfOk result (λ found. MatchOption found ((list : List Break) → is_legal self.now.rule self.now.len list ≡ false) (IsBestList self.now.rule self.now.len self.now.sums)) }
     {

@@ -43,12 +43,12 @@ plan_cause i (Some p) = option_or (option_map (λ fault. BadPlan (row_of fault))
 abbrev pub cause_of : Problem → Cert → Option Refused
 cause_of i c = option_or (line_cause i (new_node [] ∷ []) 1 c.lines) (option_or (bound_cause i c.lines c.bound) (plan_cause i c.plan))
 
--- a refusal names the first cause, and the certificate isn't accepted; or memory was wanting
+-- a refusal names the first cause, and the certificate isn't accepted; or it was out of memory
 abbrev pub IsRefused : Problem → Cert → Refused → Type 0
 IsRefused i c NoMemory = ⊤
 IsRefused i c why = (cause_of i c ≡ Some why) × IsFalse (is_accepted i c)
 
--- a refusal names the first line that isn't good; or memory was wanting
+-- a refusal names the first line that isn't good; or it was out of memory
 abbrev pub IsFirstBad : Problem → List Line → Refused → Type 0
 IsFirstBad i lines NoMemory = ⊤
 IsFirstBad i lines why = line_cause i (new_node [] ∷ []) 1 lines ≡ Some why

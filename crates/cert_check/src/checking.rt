@@ -47,7 +47,7 @@ fn judge_plan(instance: &Instance, plan: &Option<(u64, Rows)>) -> Result<Option<
 ///
 /// A line may split a node that isn't open any more, and by a class that no legal duty is in: that is a proof all the same.
 ///
-/// [`Refused`] says why a certificate isn't accepted, each cause in its order. `NoMemory` comes only where memory was wanting.
+/// [`Refused`] says why a certificate isn't accepted, each cause in its order. `NoMemory` comes only where it was out of memory.
 pub fn check(alloc: Global, instance: &Instance, cert: &Cert) -> Result<Accepted, Refused>
     ensures accepted { IfOk result (λ a. IsTrue (is_accepted instance.now cert.now)) }
     ensures causes { IfOk result (λ a. cause_of instance.now cert.now ≡ None) }

@@ -1,5 +1,5 @@
-//! The separate checker of certificates: it goes through the proof lines one after another, and evaluates each by plain
-//! tables of its own.
+//! The separate checker of certificates: it goes through the proof lines one after another, and evaluates each by walks and
+//! tables of its own: along the graph of a shift, and by layers where none is kept.
 #![tactic(auto)]
 
 mod below;

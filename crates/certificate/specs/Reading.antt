@@ -133,7 +133,7 @@ pub data IsStopped (bytes : List ℕ) (left : ℕ) : Type 0 where
   InLines : cert_at bytes ≡ Err left → IsStopped bytes left
   InNotes : (c : Cert) → (rest : List ℕ) → cert_at bytes ≡ Ok (c, rest) → LeaveNotes rest left → IsStopped bytes left
 
--- the certificate of a text with its notes, or where the text stops to be one, or want of memory
+-- the certificate of a text with its notes, or where the text stops to be one, or running out of memory
 abbrev pub AnswersWhole : List ℕ → Result Cert Stop → Type 0
 AnswersWhole bytes (Ok c) = (rest : List ℕ) × (cert_at bytes ≡ Ok (c, rest)) × AreNotes rest
 AnswersWhole bytes (Err Memory) = Unit {0}

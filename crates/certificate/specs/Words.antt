@@ -213,7 +213,7 @@ rest_of (Err left) = Err left
 
 -- ---- what a function returned
 
--- a reason to stop is that the text has no value, with so many bytes left, or want of memory
+-- a reason to stop is that the text has no value, with so many bytes left, or running out of memory
 abbrev pub Misses : {Y : Type 0} → ℕ → Stop → Option Y → Type 0
 Misses left Memory read = Unit {0}
 Misses left (Left n) read = (n ≡ left) × (read ≡ None)

@@ -39,7 +39,7 @@ fn lines_of(alloc: Global, posts: &[Post]) -> Result<Lines, NoMemory>
 }
 
 /// The certificate of a search: its best plan with its cost, the bound, and a proof line for each post of its history that is no
-/// plan, in their order. The only refusal is want of memory.
+/// plan, in their order. The only refusal is running out of memory.
 pub fn of_history(
     alloc: Global,
     posts: &[Post],

@@ -57,7 +57,7 @@ impl<'a> LineReader<'a> {
         self.count
     }
 
-    /// The next proof line, and `None` where none is left. After want of memory it is still to be read.
+    /// The next proof line, and `None` where none is left. After running out of memory it is still to be read.
     pub fn next_line(&mut self, alloc: Global) -> Result<Option<Line>, NoMemory>
         ensures read { IfOk result (λ line. Reads line self.old self.new) }
         ensures kept { OnErr result (self.new ≡ self.old) }

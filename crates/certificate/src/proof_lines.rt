@@ -50,7 +50,7 @@ impl Lines {
         Lines::of_text(Vec::new(alloc), 0)
     }
 
-    /// The proof lines of a list, in its order. The only refusal is want of memory.
+    /// The proof lines of a list, in its order. The only refusal is running out of memory.
     #[tactic(auto, using(crate::proofs::Kept::list_kept, crate::proofs::Kept::list_view))]
     pub fn from_slice(alloc: Global, list: &[Line]) -> Result<Lines, NoMemory>
         ensures { IfOk result (λ lines. lines ≡ list.now) }

@@ -104,7 +104,7 @@ fn add_body(text: &mut String, plan: &Option<(u64, Rows)>, bound: u64) -> Result
 }
 
 /// The text of a certificate, up to the line `end`. Its status agrees with its plan and its bound, it has fewer than 2^32 rows
-/// and fewer than 2^32 proof lines, and each of its price sets has a price for some slot. The only refusal is want of memory. The
+/// and fewer than 2^32 proof lines, and each of its price sets has a price for some slot. The only refusal is running out of memory. The
 /// work grows with the number of bytes.
 #[tactic(auto, using(crate::proofs::Parts::cert_parts))]
 pub fn write(alloc: Global, cert: &Cert) -> Result<Vec<u8>, NoMemory>

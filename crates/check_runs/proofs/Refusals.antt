@@ -1,4 +1,4 @@
--- What a refusal shows that isn't for want of memory.
+-- What a refusal shows that isn't running out of memory.
 use Rattle.std.proofs.Common.{◌≡◌, refl}
 use Rattle.std.specs.Prelude.{IsFalse, Some}
 use Rattle.shift_instance.specs.Problem.{Problem}

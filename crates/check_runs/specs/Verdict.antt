@@ -32,7 +32,7 @@ cost_word (Some claimed) = decimal claimed
 abbrev pub accepted_text : Option ℕ → ℕ → List ℕ
 accepted_text claimed bound = codes "accepted cost " ++ (cost_word claimed ++ (codes " bound " ++ decimal bound))
 
--- what is said of the first cause why a certificate isn't accepted; want of memory is none
+-- what is said of the first cause why a certificate isn't accepted; running out of memory is none
 abbrev pub refused_text : Refused → List ℕ
 refused_text (BadSplit line) = codes "refused 1 " ++ decimal line
 refused_text (BadPrice line) = codes "refused 2 " ++ decimal line
@@ -42,7 +42,7 @@ refused_text (BadPlan row) = codes "refused 5 " ++ decimal row
 refused_text (WrongCost claimed found) = codes "refused 6 " ++ (decimal claimed ++ (codes " " ++ decimal found))
 refused_text NoMemory = []
 
--- a refusal that isn't for want of memory
+-- a refusal that isn't running out of memory
 abbrev pub IsCause : Refused → Type 0
 IsCause why = why ≡ NoMemory → ⊥
 

@@ -21,7 +21,7 @@ fn accepted_line(alloc: Global, accepted: &Accepted) -> Result<String, AllocErro
     }
 }
 
-/// What is said of a certificate that isn't accepted. Nothing is said where memory was wanting.
+/// What is said of a certificate that isn't accepted. Nothing is said where it was out of memory.
 fn refused_line(alloc: Global, why: Refused) -> Result<String, AllocError>
     ensures said { IfOk result (λ line. string_bytes line ≡ refused_text why) }
     ensures caused { IfOk result (λ _. IsCause why) }

@@ -44,7 +44,7 @@ pub(crate) fn duty_of(alloc: Global, row: &Row) -> Result<Duty, NoMemory>
     })
 }
 
-/// Passes want of memory on, and nothing else for which a move is refused.
+/// Passes running out of memory on, and nothing else for which a move is refused.
 pub(crate) fn refused(fault: MoveFault) -> Result<(), NoMemory>
     ensures { OnOk result (fault ≡ NoMemory → ⊥) }
 {

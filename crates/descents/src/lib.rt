@@ -1,4 +1,5 @@
-//! Plans that no move makes cheaper, plans made more even, and the duty that is best to add.
+//! Plans that no move makes cheaper, plans made more even, the duty that is best to add, and an adviser that makes the greedy
+//! plan cheaper by moves.
 #![tactic(auto)]
 
 mod best;

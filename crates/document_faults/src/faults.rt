@@ -22,8 +22,8 @@ fn too_long(alloc: Global, document: &[u8]) -> Result<String, AllocError> {
 }
 
 /// Says what is wrong with a document that is refused so, as a text that goes on behind the place of the refusal: what stands
-/// there, read from the document again, and what may stand there, with ranges and units. Only want of memory is a reason for
-/// an error.
+/// there, read from the document again, and what may stand there, with ranges and units. The only error is running out
+/// of memory.
 pub fn what_is_wrong(
     alloc: Global,
     document: &[u8],

@@ -40,7 +40,7 @@ price_causes i cuts prices =
     ++ (not (length prices.cuts == length cuts), CutCount) ∷ []
     ++ cut_causes cuts prices.cuts
 
--- a fault is the first cause's, or there is none and it is want of memory
+-- a fault is the first cause's, or there is none and it is running out of memory
 abbrev pub Answers : PriceFault → Option PriceFault → Type 0
 Answers fault cause = (cause ≡ Some fault) ⊎ ((fault ≡ NoMemory) × (cause ≡ None))
 

@@ -226,7 +226,7 @@ pub(crate) fn kept_tables<L: Ledger>(
     Ok(all)
 }
 
-/// Brings the tables of a shift to other prices. After want of memory some may have been brought there.
+/// Brings the tables of a shift to other prices. After running out of memory some may have been brought there.
 fn reprice_days<L: Ledger>(
     days: &mut [DayTables],
     alloc: Global,
@@ -251,7 +251,7 @@ fn reprice_days<L: Ledger>(
     Ok(())
 }
 
-/// Brings the tables of all shifts to other prices. After want of memory some may have been brought there.
+/// Brings the tables of all shifts to other prices. After running out of memory some may have been brought there.
 pub(crate) fn reprice_tables<L: Ledger>(
     all: &mut [Vec<DayTables>],
     alloc: Global,

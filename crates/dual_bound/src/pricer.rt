@@ -326,7 +326,7 @@ impl Model for Pricer {
 
 impl Pricer {
     /// Prices an instance's duties for some cuts. It answers the first fault of the prices, in the order of
-    /// [`prove`](crate::prove), and where none applies only want of memory is left as a refusal.
+    /// [`prove`](crate::prove), and where none applies the only refusal left is running out of memory.
     pub fn new<L: Ledger>(
         alloc: Global,
         instance: &Instance,

@@ -104,8 +104,8 @@ impl Buffers {
 }
 
 /// The bound of prices for cuts, or their first fault: first that of the scale, then of the slots' prices their number and
-/// the first one outside its range, and then the same of the cuts' prices. Where no fault applies, only want of memory is
-/// left as a refusal.
+/// the first one outside its range, and then the same of the cuts' prices. Where no fault applies, the only refusal left is
+/// running out of memory.
 pub fn prove(
     alloc: Global,
     instance: &Instance,

@@ -31,7 +31,7 @@ value_reading d = option_map_or Err (document_departure d) (problem_reading (pro
 unfoldable pub reading_of : List ℕ → Result Problem ReadRefusal
 reading_of bytes = if nat_lt INSTANCE_MAX (length bytes) then Err TooLong else option_map_or value_reading (value_of bytes) (Err NotJson)
 
--- whether a refusal is the one that a reading gives; want of memory may always come
+-- whether a refusal is the one that a reading gives; running out of memory may always come
 abbrev pub IsAnswer : ReadRefusal → Result Problem ReadRefusal → Type 0
 IsAnswer NoMemory reading = Unit {0}
 IsAnswer refusal reading = reading ≡ Err refusal

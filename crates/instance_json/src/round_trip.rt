@@ -6,7 +6,7 @@ use crate::{ReadRefusal, canonical, read};
 use shift_instance::Instance;
 use std::alloc::{AllocError, Global};
 
-/// Writes the canonical text of an instance and reads it: the same instance again. Want of memory is the one refusal.
+/// Writes the canonical text of an instance and reads it: the same instance again. Running out of memory is the one refusal.
 pub fn read_back(alloc: Global, instance: &Instance) -> Result<Instance, AllocError>
     ensures { IfOk result (λ i. i ≡ instance.now) }
 {

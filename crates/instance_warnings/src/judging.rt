@@ -120,7 +120,7 @@ fn push_weights(instance: &Instance, list: &mut Vec<Warning>) -> Result<(), NoMe
 
 /// What a planner should know of an instance before it is searched: the types without a legal break list, in their order;
 /// the slots with a need that no duty can reach; a greatest number of duties that is more than twice the greatest need; and
-/// weights of 0. The list is empty where there is nothing to say. Want of memory is the one refusal.
+/// weights of 0. The list is empty where there is nothing to say. Running out of memory is the one refusal.
 pub fn warnings(alloc: Global, instance: &Instance) -> Result<Vec<Warning>, NoMemory>
     ensures { IfOk result (λ list. list.items ≡ warnings_of instance.now) }
 {

@@ -68,8 +68,8 @@ fn opening_by(values: &LayerValues<'_>) -> Option<Standing>
 }
 
 impl<'a> ListWalks<'a> {
-    /// Makes the walks of a shift: along the graph that the instance keeps of it, and else by layers. Only want of memory is a
-    /// reason for refusal, and only where there is no graph.
+    /// Makes the walks of a shift: along the graph that the instance keeps of it, and else by layers. The only refusal is running out
+    /// of memory, and only where there is no graph.
     pub fn of_shift(
         alloc: Global,
         instance: &'a Instance,
@@ -108,8 +108,8 @@ impl<'a> ListWalks<'a> {
     }
 
     /// Returns the ways on from where a list stands: the breaks with which some legal list goes on, in rising order, each with
-    /// where the list with that break stands. There are none exactly where the list itself is legal. Only want of memory is a
-    /// reason for refusal.
+    /// where the list with that break stands. There are none exactly where the list itself is legal. The only refusal is running out
+    /// of memory.
     pub fn ways(&self, alloc: Global, at: Standing) -> Result<Vec<Way>, NoMemory>
         requires { (list : List Break) × Stands self.now at list }
         ensures { IfOk result (λ ways. (list : List Break) → Stands self.now at list → AreWaysOn self.now at list ways.items) }

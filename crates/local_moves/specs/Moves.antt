@@ -99,7 +99,7 @@ move_causes i rota (Reshift from to) =
 abbrev pub fee : Problem → List Duty → ℕ → ℕ
 fee i rota s = if is_used rota s then 0 else i.shift
 
--- whether a fault is the first cause's, or want of memory
+-- whether a fault is the first cause's, or running out of memory
 abbrev pub Answers : MoveFault → Option MoveFault → Type 0
 Answers NoMemory cause = Unit {0}
 Answers fault cause = cause ≡ Some fault

@@ -177,7 +177,7 @@ impl Draft {
         self.alloc
     }
 
-    /// Takes duties away that are there, and adds legal ones for which there is room then. After want of memory the
+    /// Takes duties away that are there, and adds legal ones for which there is room then. After running out of memory the
     /// draft is as before, and the duties that were to be added are given back.
     pub(crate) fn exchange(
         &mut self,

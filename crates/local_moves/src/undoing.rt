@@ -25,7 +25,7 @@ fn copies(alloc: Global, duties: &[Duty]) -> Result<Vec<Duty>, NoMemory>
 }
 
 impl Draft {
-    /// Takes duties away that are there, and adds legal ones for which there is room then. After want of memory the
+    /// Takes duties away that are there, and adds legal ones for which there is room then. After running out of memory the
     /// draft is as before.
     pub(crate) fn swap(
         &mut self,
@@ -61,7 +61,7 @@ impl Draft {
 
     /// Undoes a move: each duty that it changed stands in the plan as often as before the move, and every other one as
     /// often as now. Each of them stands in the plan as often as after the move, and the plan that comes of it is legal.
-    /// After want of memory the draft is as before, and what the move did is given back.
+    /// After running out of memory the draft is as before, and what the move did is given back.
     pub fn undo(&mut self, instance: &Instance, done: Done) -> Result<(), Done>
         requires instance { self.old.instance ≡ instance.now }
         requires back { (before : List Row) × IsTrue (are_legal_rows instance.now before) × IsDone (rota_of before) (rota_of self.old.rows) done }

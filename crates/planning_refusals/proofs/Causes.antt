@@ -4,7 +4,7 @@ use Rattle.planning_refusals.specs.declared.refusal.Cause.{Cause}
 use Rattle.planning_refusals.specs.declared.refusal.Cause.TheVariants.{NoMemory}
 use Rattle.planning_refusals.specs.Causes.{IsFor}
 
--- a refusal with a sentence, or with none for want of memory, is one for its cause
+-- a refusal with a sentence, or with none on running out of memory, is one for its cause
 pub said_for : {A B : Type 0} (sentence : Result A B) (cause found : Cause) → MatchResult sentence (λ _. found ≡ cause) (λ _. found ≡ NoMemory) → IsFor cause found
 said_for (Ok text) cause found same = inl same
 said_for (Err why) cause found same = inr same

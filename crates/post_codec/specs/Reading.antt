@@ -164,7 +164,7 @@ whole bytes = posts_at bytes >>= ended
 abbrev pub reading : List ℕ → Result (List Post) ℕ
 reading bytes = by_offset (length bytes) (whole bytes)
 
--- a reason to stop is the fault that was met, or want of memory
+-- a reason to stop is the fault that was met, or running out of memory
 abbrev pub Stops : {Y : Type 0} → Stop → Result Y ℕ → Type 0
 Stops Memory read = Unit {0}
 Stops (Left n) read = read ≡ Err n
@@ -174,7 +174,7 @@ abbrev pub Gives : {X Y : Type 0} → (X → Y) → Result X Stop → Result Y �
 Gives view (Ok x) read = read ≡ Ok (view x)
 Gives view (Err e) read = Stops e read
 
--- a fault is the one that was met, or want of memory
+-- a fault is the one that was met, or running out of memory
 abbrev pub Tells : CodecFault → Result (List Post) ℕ → Type 0
 Tells (Departs at) read = read ≡ Err at
 Tells NoMemory read = Unit {0}

@@ -232,7 +232,7 @@ fn put_post(out: &mut Vec<u8>, item: &Post) -> Result<(), NoMemory>
 }
 
 /// The one spelling of the posts, in their order. There are at most 65,535 posts, each plan has fewer than 2^32 rows, each
-/// price set has fewer than 2^32 prices of slots and as few of cuts, and each row and each class has at most 255 breaks. The only refusal is want of memory. The work grows with the number of bytes.
+/// price set has fewer than 2^32 prices of slots and as few of cuts, and each row and each class has at most 255 breaks. The only refusal is running out of memory. The work grows with the number of bytes.
 pub fn write(alloc: Global, posts: &[Post]) -> Result<Vec<u8>, NoMemory>
     requires { CountsFit posts.now }
     ensures { IfOk result (λ bytes. Spells bytes.items posts.now) }

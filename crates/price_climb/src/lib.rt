@@ -1,6 +1,6 @@
 //! Prices of slots and of cuts that give a good bound, by climbing along rays with a working set of shifts.
 //!
-//! Nothing is claimed of them but their number: whoever takes them computes the bound that they give.
+//! Nothing is claimed of them: whoever takes them computes the bound that they give.
 #![tactic(auto)]
 
 mod averages;

@@ -103,7 +103,7 @@ fn day_sums(alloc: Global, instance: &Instance, prices: &[i64]) -> Result<Vec<La
 }
 
 impl DaySums {
-    /// The sums of the prices of an instance's slots. Only want of memory is a reason for refusal.
+    /// The sums of the prices of an instance's slots. The only refusal is running out of memory.
     pub fn new(alloc: Global, instance: &Instance, prices: &[i64]) -> Result<DaySums, NoMemory>
         requires count { length prices.now ≡ slots instance.now }
         requires prices { AreSmallPrices prices.now }

@@ -86,7 +86,7 @@ impl Tables {
     /// Changes the prices of some slots, later changes over earlier ones, and finds anew what they reach. It takes no step
     /// where no changed slot lies in a duty of the shift on the day, and else at most one for each spot up to the greatest
     /// changed offset to which a walk from break to break leads, and one for each beginning of a bonus's prefix but the
-    /// empty one. After want of memory nothing has changed.
+    /// empty one. After running out of memory nothing has changed.
     pub fn reprice<L: Ledger>(
         &mut self,
         instance: &Instance,

@@ -1,4 +1,4 @@
-//! In which slots a duty works, and numbers of beginnings of lists.
+//! In which slots a duty works, and numbers of prefixes of lists.
 ghost use Rattle.std.specs.Prelude.{◌≡◌};
 
 use crate::fixtures::short;

@@ -97,7 +97,7 @@ pub faulty_refused : (i : Problem) (b : Book) (post : Post) (e : StepFault) → 
 faulty_refused i b post e fault =
     elim (none_or_some (step i b post)) [ inl none ↦ none | inr r ↦ let not_both : None ≡ Some e = sym (allowed_faultless i b r.0 post r.1) ∙ fault in absurd (cc) ]
 
--- a refusal other than want of memory is the first fault
+-- a refusal other than running out of memory is the first fault
 pub refused_by : (fault : Option StepFault) (e : StepFault) → Refuses fault e → e ≢ NoMemory → fault ≡ Some e
 refused_by fault (NotLegal why) r ne = r
 refused_by fault (WrongCost kept found) r ne = r

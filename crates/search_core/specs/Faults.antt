@@ -73,7 +73,7 @@ step_fault i b (Priced worker k prices) = priced_fault i b k prices
 step_fault i b (Split worker k class m) = split_fault i b k class m
 step_fault i b (Settled worker k) = settled_fault i b k
 
--- a refusal is the first that applies, or want of memory
+-- a refusal is the first that applies, or running out of memory
 abbrev pub Refuses : Option StepFault → StepFault → Type 0
 Refuses fault NoMemory = ⊤
 Refuses fault why = fault ≡ Some why

@@ -102,7 +102,7 @@ CrashPrevents c keep (NotOwn at) = ⊥
 CrashPrevents c keep (Refused at why) = ⊥
 CrashPrevents c keep LeftOpen = ⊥
 
--- why an event isn't allowed: the first cause in the order of its kind, or want of memory at a commit or a crash
+-- why an event isn't allowed: the first cause in the order of its kind, or running out of memory at a commit or a crash
 abbrev pub Prevents : Problem → Core → Event → EventFault → Type 0
 Prevents i c (Take w k) fault = take_fault (book_or_opening i c.history) c.hands w k ≡ Some fault
 Prevents i c (Commit w posts) fault = CommitPrevents i (book_or_opening i c.history) c.hands w posts fault

@@ -48,7 +48,7 @@ pub struct Kept {
 }
 
 /// Why a step isn't committed, the first that applies of `Shut`, `NotHeld`, `OtherCuts`, `NotClosing`, `Full` and
-/// `DiskFault`. Want of memory may stand in place of any of these. But for `Full` and `DiskFault`, which shut it, the board
+/// `DiskFault`. Running out of memory may stand in place of any of these. But for `Full` and `DiskFault`, which shut it, the board
 /// is as before.
 #[derive(Drop)]
 pub enum CommitFault {

@@ -9,7 +9,7 @@ use std::fmt;
 
 /// Why an event isn't allowed, the first cause of its kind that applies. Of a take these are `NoWorker`, `HandFull`, `NotOpen`
 /// and `InHand`; of a commit `NoWorker`, `HandEmpty`, `NotOwn`, `Refused` and `LeftOpen`; of a yield `NoWorker`; and of a crash
-/// `NotKept`. Want of memory may stand in place of any cause of a commit or a crash.
+/// `NotKept`. Running out of memory may stand in place of any cause of a commit or a crash.
 #[derive(Debug, Drop)]
 pub enum EventFault {
     /// There is no worker of this number: they have the numbers 0 to 15.

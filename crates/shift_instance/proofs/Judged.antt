@@ -241,7 +241,7 @@ pub causes_last : (i : Problem) (found : ℕ) → found ≡ length (shift_list i
 unfolding instance_causes
 causes_last i found e h = first_right (part_causes i) _ h ∙ ap (λ (n : ℕ). if nat_lt 1024 n then Some (TooManyShifts n) else None) (sym e)
 
--- no cause of the numbers is want of memory
+-- no cause of the numbers is running out of memory
 abbrev pub IsJudged : InstanceFault → Type 0
 IsJudged NoMemory = ⊥
 IsJudged e = Unit {0}

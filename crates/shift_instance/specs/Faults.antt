@@ -57,7 +57,7 @@ part_causes i = period_causes i ++ map need_cause (enumerate_from 0 i.need) ++ s
 unfoldable pub instance_causes : Problem → List (Bool × InstanceFault)
 instance_causes i = part_causes i ++ (nat_lt 1024 (length (shift_list i)), TooManyShifts (length (shift_list i))) ∷ []
 
--- whether a fault is the first cause's, or where there is none want of memory
+-- whether a fault is the first cause's, or where there is none running out of memory
 abbrev pub Answers : InstanceFault → Option InstanceFault → Type 0
 Answers NoMemory cause = cause ≡ None
 Answers fault cause = cause ≡ Some fault

@@ -220,7 +220,7 @@ impl Model for Instance {
 impl Instance {
     /// The instance of these numbers, or their first fault: first those of the slots' length, the days, the needs, the
     /// weights, the heads and the number of types, then of each type in order its name, its starts, its lengths and its
-    /// rule, and at last the number of shifts. Where no fault applies, only want of memory is left as a refusal.
+    /// rule, and at last the number of shifts. Where no fault applies, the only refusal left is running out of memory.
     pub fn new(alloc: Global, parts: Parts) -> Result<Instance, InstanceFault>
         ensures ok { IfOk result (λ i. i ≡ parts) }
         ensures fault { MatchResult result (λ _. first_cause (instance_causes parts) ≡ None) (λ e. Answers e (first_cause (instance_causes parts))) }

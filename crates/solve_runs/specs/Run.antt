@@ -99,7 +99,7 @@ pub record ReportsPart (sink : SinkMet) (table : Bool) {disk : DiskMet} {i : Pro
 abbrev pub IsLeft : DiskMet → Problem → Type 0
 IsLeft disk i = OnSome disk.file ((image : List ℕ) → disk.images_since disk.calls.0 image → IsOldOrShort disk.file disk.images (13 + length (canonical_text i)) image)
 
--- a refusal of a file: neither a fault of the disk nor want of memory
+-- a refusal of a file: neither a fault of the disk nor running out of memory
 abbrev pub IsRefusal : OpenFault → Type 0
 IsRefusal OpeningsDisk = ⊥
 IsRefusal NotAJournal = ⊤

@@ -78,7 +78,7 @@ IsReported book table held holds =
 abbrev pub IsReportedPart : {D : Type 0} → SearchView D → Bool → Option (List ℕ) → Option (List ℕ) → ℕ × ℕ → Type 0
 IsReportedPart book table held holds faults = AppendsPart held holds (output_of book.log.instance table book.log.history book.log.book) × Rose faults.0 faults.1
 
--- why the report of a book wasn't written, or not whole: a fault of the sink, or want of memory
+-- why the report of a book wasn't written, or not whole: a fault of the sink, or running out of memory
 abbrev pub Unwritten : {D : Type 0} → SearchView D → Bool → Option (List ℕ) → Option (List ℕ) → ℕ × ℕ → Status → Type 0
 Unwritten book table held holds faults WriteFault = IsReportedPart book table held holds faults
 Unwritten book table held holds faults NoMemory = ⊤

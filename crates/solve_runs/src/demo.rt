@@ -121,7 +121,7 @@ fn new_book(alloc: Global, instance: &Instance, steps: u64) -> Result<Book<MemDi
     let disk = MemDisk::new(alloc, Vec::new(alloc), Vec::new(alloc));
     match Book::open(alloc, instance, disk, steps, JOURNAL_MAX) {
         Ok(book) => Ok(book),
-        // an empty disk in memory is refused for want of memory alone
+        // an empty disk in memory is refused by running out of memory alone
         Err(_) => Err(AllocError),
     }
 }
@@ -135,7 +135,7 @@ pub(crate) struct DemoEnd {
 }
 
 impl DemoEnd {
-    /// The end for want of memory.
+    /// The end on running out of memory.
     fn no_memory(advisers: Vec<Box<dyn Adviser + Send>>) -> DemoEnd
         ensures { (result.status ≡ Status.NoMemory) × (result.advisers ≡ advisers) × (result.disk ≡ None) }
     {
@@ -201,7 +201,7 @@ fn demo_over<K: Sink, G: Gate>(
     };
     let end = search_all(alloc, instance, &mut book, &mut advisers, gate);
     if !is_reported(end) {
-        // a disk in memory fails for want of memory alone
+        // a disk in memory fails by running out of memory alone
         return DemoEnd::no_memory(advisers);
     }
     match write_line(alloc, number, &book, out) {

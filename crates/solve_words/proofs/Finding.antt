@@ -171,7 +171,7 @@ given_separate words given asked by asks = separate by.0 words (given_plain word
 
 -- ---- what the parser's answer says
 
--- a fault that isn't want of memory
+-- a fault that isn't running out of memory
 pub has_fault : (kinds : Kinds) (e : Error) → HasKind kinds e → kind_of e ≢ kind.OutOfMemory → kinds ≢ []
 has_fault kinds e (inl memory) other none = other memory
 has_fault kinds e (inr among) other none = subst (IsAmong (kind_of e)) none among

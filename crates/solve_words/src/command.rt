@@ -154,7 +154,7 @@ fn asked_in<'a>(texts: &Texts<'a>) -> Option<Command<'a>>
     }
 }
 
-/// What the words of a command line ask for, and none where they are no command. Want of memory is the one refusal.
+/// What the words of a command line ask for, and none where they are no command. Running out of memory is the one refusal.
 ///
 /// The words are `solve JOURNAL [--workers W] [--steps B] [--table] [--local | --thorough]` or `solve --demo N [--steps B]`:
 /// `solve` comes first, and the rest in any order, each at most once. The number of an option is the next word, or stands behind `=` in the

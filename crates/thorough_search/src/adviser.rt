@@ -124,7 +124,7 @@ impl Adviser for Thorough {
     /// Advises for a node: prices by a climb along rays from the hint's prices, the best plan so far where it is legal and cheaper
     /// than the best rota, and where the climb doesn't close the node the split of the duties of a shift on a day that promises
     /// most. At first, where the best rota has no duty, it tries the greedy plan too. From then on it keeps something of this instance
-    /// alone, and nothing where memory was wanting.
+    /// alone, and nothing where it was out of memory.
     fn advise(&mut self, instance: &Instance, ask: &Ask) -> Result<Advice, NoMemory>
         ensures legal { IfOk result (λ a. IfSome a.plan (λ rows. IsTrue (are_legal_rows instance.now rows))) }
         ensures cheaper { IfOk result (λ a. IfSome a.plan (λ rows. cost instance.now (rota_of rows) < ask.now.best)) }

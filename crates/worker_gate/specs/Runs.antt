@@ -54,7 +54,7 @@ pub record IsSameSearch (old new : BoardView) : Type 0 where
   pub origin : new.origin ≡ old.origin
 
 -- how a run ends, and how it leaves the board: without an open node, or without a step left; shut by the journal's limit, past
--- which the posts of a step that its book allows would have ended there; shut by the disk; or, for want of memory, halted with
+-- which the posts of a step that its book allows would have ended there; shut by the disk; or, on running out of memory, halted with
 -- empty hands
 abbrev pub RunEnds : BoardView → RunEnd → Type 0
 RunEnds v Finished = IsIdle v × IsTrue (is_finished (book_at v))
@@ -86,7 +86,7 @@ is_plan_or_prices (Settled worker k) = false
 abbrev pub plans_and_prices_since : List Post → List Post → ℕ
 plans_and_prices_since first all = count_by is_plan_or_prices (drop (length first) all)
 
--- how a run is cut off at the commit of a step: the commit is refused or, for want of memory, the worker lets go of its node
+-- how a run is cut off at the commit of a step: the commit is refused or, on running out of memory, the worker lets go of its node
 abbrev pub IsCutOff : StepPosts → BoardView → BoardView → RunEnd → Type 0
 IsCutOff step held new DiskFault = CommitRefuses 0 step held new CommitsDisk
 IsCutOff step held new (Full end limit) = CommitRefuses 0 step held new (CommitsFull end limit)
@@ -95,7 +95,7 @@ IsCutOff step held new Finished = ⊥
 IsCutOff step held new Spent = ⊥
 
 -- what the end of a run makes of the board after its rounds: nothing, where it came to its end by itself; else a last step is
--- taken, and its commit is refused; or, for want of memory, a last node is taken and let go of
+-- taken, and its commit is refused; or, on running out of memory, a last node is taken and let go of
 abbrev pub EndMakes : BoardView → BoardView → RunEnd → Type 0
 EndMakes old new Finished = new ≡ old
 EndMakes old new Spent = new ≡ old

@@ -16,7 +16,7 @@ use Rattle.worker_gate.specs.Runs.{IsIdle}
 
 -- How a run of workers ends, and how it leaves the board. Without an open node all hands are empty, also where a worker gave up.
 -- Without a step left nobody gave up. Shut by the journal's limit, the posts of a step that its book allows would have ended past it;
--- shut by the disk, a call on it failed. For want of memory a worker gave up, and all hands are empty, or the run never began.
+-- shut by the disk, a call on it failed. On running out of memory a worker gave up, and all hands are empty, or the run never began.
 abbrev pub WorkersEnd : BoardView → BoardView → RunEnd → Type 0
 WorkersEnd old new Finished = (new.shut ≡ None) × (new.hands ≡ empty_hands) × IsTrue (is_finished (book_at new))
 WorkersEnd old new Spent = IsIdle new × IsFalse (is_finished (book_at new)) × (new.taken ≡ new.budget)
@@ -32,7 +32,7 @@ pub record KnowsBoard {B : Type 0} (seen : B → BoardView) (i : Problem) (numbe
   pub worker : number < root.workers
 
 -- what becomes of a step that isn't committed: the worker doesn't hold its node, or its prices are for other cuts; by its price alone
--- it would leave its node open; or the board is shut; or, for want of memory, the worker lets go of its node
+-- it would leave its node open; or the board is shut; or, on running out of memory, the worker lets go of its node
 abbrev pub LeavesStep : ℕ → StepPosts → BoardView → BoardView → Left → Type 0
 LeavesStep w step old new LeftAgain = (HoldsStep w step old → ⊥) × (new ≡ old)
 LeavesStep w step old new (LeftNotClosing back) = HoldsStep w step old × (step.close ≡ ByPrice) × (back ≡ step) × (new ≡ old)

@@ -93,7 +93,7 @@ fn decide_taken<B: Board>(
     Ok(step)
 }
 
-/// Lets go of the worker's node for want of memory.
+/// Lets go of the worker's node on running out of memory.
 fn give_up<B: Board>(board: &mut B) -> RunEnd
     ensures board { B.seen board.new ≡ yields 0 (B.seen board.old) }
     ensures end { result ≡ RunEnd.NoMemory }

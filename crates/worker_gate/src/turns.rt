@@ -177,7 +177,7 @@ pub(crate) fn commit_turn<B: Board, L: Ledger, R: Wait>(
     kept
 }
 
-/// A turn to let go of the worker's node for want of memory.
+/// A turn to let go of the worker's node on running out of memory.
 pub(crate) fn yield_turn<B: Board, L: Ledger, R: Wait>(
     rt: &R,
     lock: &BoardLock<B, L>,
