@@ -1,10 +1,11 @@
 //! The canonical text of an instance.
-ghost use Rattle.std.specs.Prelude.{◌≡◌, map, IfOk};
-ghost use Rattle.serde_json.specs.View.{view};
+ghost use Rattle.std.specs.Prelude.{◌≡◌, map, IfOk, OnOk};
+ghost use Rattle.serde_json.specs.Data.{put as with_member};
+ghost use Rattle.serde_json.specs.View.{view, members_view};
 ghost use Rattle.instance_json.specs.Canonical.{number_data, list_data, total_data, lunch_data, rule_data, kind_data, weights_data, document_data, canonical_text};
 
 use break_rules::{Lunch, Rule};
-use serde_json::{Value, json};
+use serde_json::{Map, Value, json, put};
 use shift_instance::{Instance, Parts, TypeParts};
 use std::alloc::{AllocError, Global};
 
@@ -58,25 +59,37 @@ fn list_value(values: Vec<Value>) -> Value
     Value::Array(values)
 }
 
+/// Puts a number under a name into an object.
+fn put_number(
+    alloc: Global,
+    object: &mut Map<String, Value>,
+    name: &str,
+    number: u16,
+) -> Result<(), AllocError>
+    ensures { OnOk result (members_view object.new.entries ≡ with_member name.now (number_data number) (members_view object.old.entries)) }
+{
+    put(object, alloc, name, Value::from(number))
+}
+
 #[tactic(auto, unfolding(crate::specs::Canonical::rule_data))]
 fn rule_value(alloc: Global, rule: &Rule) -> Result<Value, AllocError>
     ensures { IfOk result (λ v. view v ≡ rule_data rule.now) }
 {
-    let totals = list_value(total_values(alloc, rule.totals.as_slice())?);
+    let mut object = Map::new(alloc);
+    put_number(alloc, &mut object, "lead", rule.lead)?;
+    put_number(alloc, &mut object, "long_rest", rule.long_rest)?;
+    put_number(alloc, &mut object, "long_work", rule.long_work)?;
     let lunches = list_value(lunch_values(alloc, rule.lunches.as_slice())?);
-    json!(in alloc; {
-        "lead": rule.lead,
-        "long_rest": rule.long_rest,
-        "long_work": rule.long_work,
-        "lunches": lunches,
-        "resettle": rule.resettle,
-        "size_max": rule.size_max,
-        "size_min": rule.size_min,
-        "tail": rule.tail,
-        "totals": totals,
-        "work_max": rule.work_max,
-        "work_min": rule.work_min
-    })
+    put(&mut object, alloc, "lunches", lunches)?;
+    put_number(alloc, &mut object, "resettle", rule.resettle)?;
+    put_number(alloc, &mut object, "size_max", rule.size_max)?;
+    put_number(alloc, &mut object, "size_min", rule.size_min)?;
+    put_number(alloc, &mut object, "tail", rule.tail)?;
+    let totals = list_value(total_values(alloc, rule.totals.as_slice())?);
+    put(&mut object, alloc, "totals", totals)?;
+    put_number(alloc, &mut object, "work_max", rule.work_max)?;
+    put_number(alloc, &mut object, "work_min", rule.work_min)?;
+    Ok(Value::Object(object))
 }
 
 #[tactic(auto, unfolding(crate::specs::Canonical::kind_data))]
@@ -84,14 +97,15 @@ fn type_value(alloc: Global, kind: &TypeParts) -> Result<Value, AllocError>
     ensures { IfOk result (λ v. view v ≡ kind_data kind.now) }
 {
     let breaks = rule_value(alloc, &kind.rule)?;
-    json!(in alloc; {
-        "breaks": breaks,
-        "len_max": kind.len_max,
-        "len_min": kind.len_min,
-        "name": kind.name.as_str(),
-        "start_max": kind.start_max,
-        "start_min": kind.start_min
-    })
+    let mut object = Map::new(alloc);
+    put(&mut object, alloc, "breaks", breaks)?;
+    put_number(alloc, &mut object, "len_max", kind.len_max)?;
+    put_number(alloc, &mut object, "len_min", kind.len_min)?;
+    let name = Value::String(kind.name.clone()?);
+    put(&mut object, alloc, "name", name)?;
+    put_number(alloc, &mut object, "start_max", kind.start_max)?;
+    put_number(alloc, &mut object, "start_min", kind.start_min)?;
+    Ok(Value::Object(object))
 }
 
 fn type_values(alloc: Global, list: &[TypeParts]) -> Result<Vec<Value>, AllocError>
@@ -119,17 +133,16 @@ fn weights_value(alloc: Global, parts: &Parts) -> Result<Value, AllocError>
 fn document_value(alloc: Global, parts: &Parts) -> Result<Value, AllocError>
     ensures { IfOk result (λ v. view v ≡ document_data parts.now) }
 {
+    let mut object = Map::new(alloc);
+    put_number(alloc, &mut object, "days", parts.days)?;
+    put_number(alloc, &mut object, "max_heads", parts.max_heads)?;
     let need = list_value(number_values(alloc, parts.need.as_slice())?);
+    put(&mut object, alloc, "need", need)?;
+    put_number(alloc, &mut object, "slot_minutes", parts.slot_minutes)?;
     let types = list_value(type_values(alloc, parts.types.as_slice())?);
-    let weights = weights_value(alloc, parts)?;
-    json!(in alloc; {
-        "days": parts.days,
-        "max_heads": parts.max_heads,
-        "need": need,
-        "slot_minutes": parts.slot_minutes,
-        "types": types,
-        "weights": weights
-    })
+    put(&mut object, alloc, "types", types)?;
+    put(&mut object, alloc, "weights", weights_value(alloc, parts)?)?;
+    Ok(Value::Object(object))
 }
 
 /// The one text that an instance is written as: its document without spaces or a line end, the names of each object in
