@@ -7,12 +7,14 @@ import os
 HERE = os.path.dirname(os.path.abspath(__file__))
 TEXTS = os.path.join(HERE, "texts")
 PROGRAMS = ("shift_solve", "shift_check", "shift_plan")
+# the scripts of the repository that cases try, each copied into the case's folder with what it needs
+SCRIPTS = ("audit", "run")
 
 # the fields of a run, those of a case beside them, and those of a variant beside the ones of a run
 RUN = {
     "program": str, "words": list, "stdin": object, "instance": dict, "files": dict, "edits": list, "output": str,
     "status": int, "stdout": object, "begins": object, "stderr": object, "sizes": dict, "left": dict, "same": list,
-    "alike": list, "keep": str,
+    "alike": list, "keep": str, "executable": list,
 }
 CASE = {**RUN, "name": str, "then": list, "variants": list, "vary": str}
 VARIANT = {**RUN, "name": str, "replace": list, "then": list}
@@ -134,7 +136,7 @@ class CaseFile:
         for later in run.get("then", ()):
             self.check_fields(later, RUN, "a run")
             self.check_run(later)
-        if run.get("program", "shift_solve") not in PROGRAMS:
+        if run.get("program", "shift_solve") not in PROGRAMS + SCRIPTS:
             raise self.fault(run.lines["program"], "no program %r" % run["program"])
         if "stdin" in run and "instance" in run:
             raise self.fault(run.lines["stdin"], "'stdin' beside 'instance'")
