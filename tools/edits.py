@@ -155,21 +155,18 @@ class Function:
         self.name, self.owner, self.start, self.end = name, owner, start, end
 
     def path(self):
-        """Returns its name as `rt check --only` takes it."""
-        return "::".join([*self.modules, *([self.owner] if self.owner else []), self.name])
+        """Returns its name as `rt check --only` takes it: of a method the end, since its type may stand in another module."""
+        return f"{self.owner}::{self.name}" if self.owner else "::".join([*self.modules, self.name])
 
     def is_named(self, name):
         """Whether a name that a check prints is that of this function, or of a closure in it."""
         parts = name.split("::")[1:]
-        lead, rest = parts[: len(self.modules)], parts[len(self.modules) :]
-        if lead != self.modules or not rest:
-            return False
-        if "fn" in rest:
-            at = rest.index("fn")
-            return self.name in rest[at + 1 : -1] and (not self.owner or not rest[:at] or rest[at - 1].startswith(self.owner.split("+")[0]))
-        if rest[-1] != self.name:
-            return False
-        return len(rest) == 1 if not self.owner else len(rest) == 2 and rest[0].startswith(self.owner)
+        if "fn" in parts:
+            at = parts.index("fn")
+            return self.name in parts[at + 1 : -1] and parts[:at][: len(self.modules)] == self.modules
+        if self.owner:
+            return len(parts) > 1 and parts[-1] == self.name and parts[-2].startswith(self.owner)
+        return parts == [*self.modules, self.name]
 
 
 OWNER = re.compile(r"^[ \t]*(?:pub(?:\([^)]*\))? )?(?:unsafe )?(impl|trait)\b([^{;]*)\{", re.M)
@@ -230,6 +227,11 @@ class Calls:
         for file, found in self.functions.items():
             for it in found:
                 self.by_name.setdefault(it.name, []).append((file, it))
+
+    def path(self, function):
+        """Returns what `rt check --only` takes for a function: its name, or its module where several have that name."""
+        alike = [it for found in self.functions.values() for it in found if it.path() == function.path()]
+        return function.path() if len(alike) == 1 or not function.modules else "::".join(function.modules)
 
     def at(self, file, place):
         return function_at(self.functions.get(file, []), place)
