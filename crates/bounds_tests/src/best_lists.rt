@@ -2,8 +2,8 @@
 ghost use Rattle.std.specs.Prelude.{◌≡◌, ◌<◌, length};
 ghost use Rattle.shift_instance.specs.Problem.{shift_list, slots};
 
-use crate::fixtures::{day, rest_at};
-use break_rules::{Break, NoMemory};
+use crate::fixtures::{day, is_rest, rest_at};
+use break_rules::NoMemory;
 use patterns::Pattern;
 use price_sums::{DaySums, lane_at};
 use pricing::{Steps, Tables, best_pattern};
@@ -22,11 +22,19 @@ fn best_of(alloc: Global, instance: &Instance) -> Result<Option<(Pattern, i128)>
     best_pattern(alloc, instance, 0, 0, &[2i64; 24], &bonus)
 }
 
+/// Whether a best list is the break at this offset, with this value.
+fn is_break(best: &Option<(Pattern, i128)>, start: u16, value: i128) -> bool {
+    match best {
+        Some((pattern, worth)) => is_rest(pattern.list.as_slice(), start) && *worth == value,
+        None => false,
+    }
+}
+
 #[test]
 fn the_best_break_is_taken(rt: HostRuntime) -> Result<(), Fail> {
     let instance = day(rt.alloc())?;
-    let (pattern, value) = best_of(rt.alloc(), &instance)?.ok_or("no list")?;
-    assert_eq!(rt; (pattern.list.as_slice()[0].start, value), (2, 3 * 2 + 3));
+    let best = best_of(rt.alloc(), &instance)?;
+    assert!(rt; is_break(&best, 2, 3 * 2 + 3));
     Ok(())
 }
 
@@ -49,8 +57,10 @@ fn prices_are_summed(rt: HostRuntime) -> Result<(), Fail> {
 
 /// Whether the best list of tables is the break at this offset, with this value.
 fn have_best(tables: &Tables, start: u16, value: i128) -> bool {
-    let list = [Break { start, len: 1 }];
-    tables.best() == Some((list.as_slice(), value))
+    match tables.best() {
+        Some((list, worth)) => is_rest(list, start) && worth == value,
+        None => false,
+    }
 }
 
 /// Whether tables have the best list where each hour is worth 2, the least of two, and then where that from 9 on is worth 5.

@@ -1,5 +1,5 @@
 //! A day with one shift, cuts on its duties, and prices below them.
-ghost use Rattle.std.specs.Prelude.{◌≡◌, _×_, length, IfOk};
+ghost use Rattle.std.specs.Prelude.{◌≡◌, length, IfOk};
 ghost use Rattle.shift_instance.specs.Problem.{shift_list, slots};
 
 use break_rules::{Break, Breaks, NoMemory};
@@ -31,6 +31,11 @@ pub fn day(alloc: Global) -> Result<Instance, Fail>
 /// The list of one break of an hour, at this offset.
 pub fn rest_at(alloc: Global, start: u16) -> Result<Breaks, NoMemory> {
     Ok(Breaks::new(vec![in alloc; Break { start, len: 1 }]?))
+}
+
+/// Whether a list is that of one break of an hour, at this offset.
+pub fn is_rest(list: &[Break], start: u16) -> bool {
+    list == [Break { start, len: 1 }].as_slice()
 }
 
 /// A cut on the duties with the break at this offset.

@@ -2,8 +2,7 @@
 ghost use Rattle.std.specs.Prelude.{◌≡◌, ◌<◌, length};
 ghost use Rattle.shift_instance.specs.Problem.{shift_list};
 
-use crate::fixtures::{day, prices, two_cuts};
-use break_rules::Break;
+use crate::fixtures::{day, is_rest, prices, two_cuts};
 use dual_bound::{PriceFault, Pricer, prove};
 use head_splits::{Cuts, Prices};
 use pricing::Steps;
@@ -37,8 +36,10 @@ fn has_best(pricer: &Pricer, bound: u64, start: u16, value: i128) -> bool
     requires shifts { length (shift_list pricer.now.instance) ≡ 1 }
     requires days { pricer.now.instance.days ≡ 1 }
 {
-    let list = [Break { start, len: 1 }];
-    pricer.value() == bound && pricer.best(0, 0) == Some((list.as_slice(), value))
+    match pricer.best(0, 0) {
+        Some((list, worth)) => { pricer.value() == bound && is_rest(list, start) && worth == value }
+        None => false,
+    }
 }
 
 /// Whether a pricer has the bound and the best list of the prices of that bound, and then of those where an hour is worth 1 and the cuts 0.
