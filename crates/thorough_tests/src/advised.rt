@@ -1,7 +1,7 @@
 //! Prices, a plan and a split that are advised where the adviser was asked for another day before.
 ghost use Rattle.std.specs.Prelude.{◌≡◌, IfOk, length};
 
-use advice::{Advice, Adviser, Ask, Told};
+use advice::{Advice, Adviser, Ask, Splitting, Told};
 use break_rules::{Breaks, NoMemory};
 use dual_bound::prove;
 use head_splits::{Class, Cut, Cuts, Hint, Prices, Side};
@@ -69,12 +69,18 @@ fn bound_of(alloc: Global, instance: &Instance, prices: Prices) -> Option<u64> {
     }
 }
 
-/// What legal rows cost.
-fn cost_of(instance: &Instance, rows: Rows) -> Option<u64> {
-    match cost_rows(instance, rows) {
+/// What a plan costs, where there is one and it is legal.
+fn cost_of(instance: &Instance, plan: Option<Rows>) -> Option<u64> {
+    match cost_rows(instance, plan?) {
         Ok(costed) => Some(costed.cost()),
         Err(_) => None,
     }
+}
+
+/// The shift, the day and the number of a split.
+fn parts_of(split: Option<Splitting>) -> Option<(u16, u8, u16)> {
+    let Splitting { class, m } = split?;
+    Some((class.shift, class.day, m))
 }
 
 /// What is seen of an advice.
@@ -86,8 +92,8 @@ fn seen_of(alloc: Global, instance: &Instance, advice: Advice) -> Seen {
     } = advice;
     Seen {
         bound: bound_of(alloc, instance, prices),
-        cost: plan.and_then(|rows| cost_of(instance, rows)),
-        split: split.map(|split| (split.class.shift, split.class.day, split.m)),
+        cost: cost_of(instance, plan),
+        split: parts_of(split),
     }
 }
 
