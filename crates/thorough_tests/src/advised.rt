@@ -100,7 +100,7 @@ fn seen_of(alloc: Global, instance: &Instance, advice: Advice) -> Seen {
 /// Asks an adviser for the first day, below a cut, and tells it something.
 fn ask_first(alloc: Global, adviser: &mut Thorough, day: &Instance) -> Result<(), NoMemory> {
     let ask = asked(alloc, used(alloc)?);
-    adviser.advise(day, &ask)?;
+    let _first = adviser.advise(day, &ask)?;
     adviser.learn(&Told {
         node: 1,
         floor: 3,
