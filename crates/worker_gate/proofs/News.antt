@@ -9,9 +9,11 @@ use Rattle.search_core.specs.declared.board.Kept.{Kept}
 use Rattle.search_core.specs.declared.step_posts.StepPosts.{StepPosts}
 use Rattle.search_core.specs.Board.{BoardView, Commits}
 use Rattle.board_lock.specs.declared.roots.BoardRoot.{BoardRoot}
+use Rattle.board_lock.specs.declared.view.View.{View}
 use Rattle.board_lock.specs.Turns.{AreTurns}
 use Rattle.worker_gate.specs.Runs.{news_of}
 use Rattle.worker_gate.specs.Workers.{IsNews, IsToldLast}
+use Rattle.worker_gate.proofs.Pointwise.{any_default, set_each}
 
 -- a commit on a board that turns have made is news
 pub news_made : (workers : ℕ) (first before after : BoardView) (commits number : ℕ) (step : StepPosts) (kept : Kept) → ∥ AreTurns workers first before commits ∥₁ → Commits number step before after kept
@@ -67,6 +69,25 @@ module _ {A : Type 0} (Q : ℕ → A → A → Type 0) where
     pub each_then_first : (xs zs : List A) (x y : A) → ((i : ℕ) (z : A) → Q i z z) → length zs ≡ length xs → Each xs zs → x ≡ get_or zs 0 x → Q 0 x y → Each xs (set zs 0 y)
     each_then_first xs zs x y same many first is one = each_on xs zs (set zs 0 y) many first (first_each zs x y same is one)
 
+  -- the place of one number alone is changed
+  module _ (on : (i : ℕ) (x y z : A) → Q i x y → Q i y z → Q i x z) where
+    pub set_more : (xs ys : List A) (at : ℕ) (here p : A) → at < length ys → ((i : ℕ) (d : A) → i < length ys → Q i (get_or xs i d) (get_or ys i d)) → Q at (get_or ys at here) p
+        → (i : ℕ) (d : A) → i < length (set ys at p) → Q i (get_or xs i d) (get_or (set ys at p) i d)
+    set_more xs ys at here p low each q =
+        set_each (λ (j : ℕ) (e z : A). Q j (get_or xs j e) z) ys at p
+        (λ e. on at (get_or xs at e) (get_or ys at e) p (each at e low) (subst (λ (z : A). Q at z p) (any_default ys at here e low) q)) each
+
+module _ {A : Type 0} (told : A → ℕ) (last : A → Option Told) (workers : ℕ) (first : BoardView) where
+  -- what the adviser at a place was told last, from one state of the place to a later one
+  abbrev pub Tells : ℕ → A → A → Type 0
+  Tells number x y = IsToldLast workers first number (told x) (told y) (last x) (last y)
+
+  pub tells_same : (number : ℕ) (x : A) → Tells number x x
+  tells_same number x = inl (refl, refl)
+
+  pub tells_on : (number : ℕ) (x y z : A) → Tells number x y → Tells number y z → Tells number x z
+  tells_on number x y z one two = told_on workers first number (told x) (told y) (told z) (last x) (last y) (last z) one two
+
 module _ {A B : Type 0} where
   -- a relation between elements at one place passes on to what f makes of them
   pub pairs_at : (xs zs : List A) (f : A → B) (Q : ℕ → B → B → Type 0) → length zs ≡ length xs → ((i : ℕ) (d : A) → i < length xs → Q i (f (get_or xs i d)) (f (get_or zs i d)))
@@ -112,5 +133,13 @@ module _ {B : Type 0} (seen : B → BoardView) where
   pub news_at : (r s : BoardRoot B) (number : ℕ) (news : Told) → s ≡ r → ∥ IsNews s.workers (seen s.opened.value) number news ∥₁ → ∥ IsNews r.workers (seen r.opened.value) number news ∥₁
   news_at r s number news same made = subst (λ (q : BoardRoot B). ∥ IsNews q.workers (seen q.opened.value) number news ∥₁) same made
 
-  pub told_at : (r s : BoardRoot B) (number a b : ℕ) (x y : Option Told) → s ≡ r → IsToldLast s.workers (seen s.opened.value) number a b x y → IsToldLast r.workers (seen r.opened.value) number a b x y
-  told_at r s number a b x y same told = subst (λ (q : BoardRoot B). IsToldLast q.workers (seen q.opened.value) number a b x y) same told
+  pub told_at : (r s : BoardRoot B) (m n a b : ℕ) (x y : Option Told) → s ≡ r → n ≡ m → IsToldLast s.workers (seen s.opened.value) n a b x y → IsToldLast r.workers (seen r.opened.value) m a b x y
+  told_at r s m n a b x y same is told =
+      subst (λ (k : ℕ). IsToldLast r.workers (seen r.opened.value) k a b x y) is (subst (λ (q : BoardRoot B). IsToldLast q.workers (seen q.opened.value) n a b x y) same told)
+
+one_head : {X : Type 0} (x y : X) → x ∷ [] ≡ y ∷ [] → x ≡ y
+one_head x y e = cc (e)
+
+-- a badge has one view, whoever looks
+pub root_known : {R : Type 0} (views : List (View R)) (u : View R) (root : R) → views ≡ u ∷ [] → ((v : View R) × (views ≡ v ∷ []) × (v.stage ≡ 0) × (v.root ≡ root)) → u.root ≡ root
+root_known views u root e r = let same : u ≡ r.0 = one_head u r.0 (sym e ∙ r.1) in ap (λ (w : View R). w.root) same ∙ r.3
