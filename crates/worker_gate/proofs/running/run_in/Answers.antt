@@ -7,7 +7,7 @@ use Rattle.worker_gate.proofs.Moved.{sum_none}
 use Rattle.worker_gate.proofs.Rooted.{all_know, knows}
 use Rattle.board_lock.specs.Roots.{root_at}
 use Rattle.worker_gate.specs.Workers.{IsToldLast}
-use Rattle.worker_gate.proofs.News.{each_on, each_through, tells_on, told_at, Tells}
+use Rattle.worker_gate.proofs.News.{each_on, each_through, tells_on, told_at, told_nothing, Tells}
 use Rattle.worker_gate.proofs.Telling.{told_through}
 use Rattle.worker_gate.proofs.running.run_in.Goals as goal
 
@@ -100,3 +100,17 @@ returns-clause-last g c =
     ((goal.Adviser-dyn g ((slice_index_or c.args.seats.items i d).adviser.vtable, (slice_index_or c.args.seats.items i d).adviser.value)).last (slice_index_or c.args.seats.items i d).adviser.value)
     ((goal.Adviser-dyn g ((slice_index_or c.unseat_all.new.seats.items i d).adviser.vtable, (slice_index_or c.unseat_all.new.seats.items i d).adviser.value)).last (slice_index_or c.unseat_all.new.seats.items i d).adviser.value))
     (c.requires.new i d there).0 of_board
+
+pub returns-in_default-clause-last : goal.returns-in_default-clause-last
+returns-in_default-clause-last g c =
+    λ i d low. told_nothing (vec_len c.args.seats) (g.B.Board.seen c.args.board) i 0 (slice_index_or c.args.seats.items i d).told
+    ((goal.Adviser-dyn g ((slice_index_or c.args.seats.items i d).adviser.vtable, (slice_index_or c.args.seats.items i d).adviser.value)).last (slice_index_or c.args.seats.items i d).adviser.value)
+    ((goal.Adviser-dyn g ((slice_index_or c.args.seats.items i d).adviser.vtable, (slice_index_or c.args.seats.items i d).adviser.value)).last (slice_index_or c.args.seats.items i d).adviser.value)
+    (c.requires.new i d (omega (arith, low, c.args.seats.ok))).0 refl
+
+pub returns-in-Err-clause-last : goal.returns-in-Err-clause-last
+returns-in-Err-clause-last g c =
+    λ i d low. told_nothing (vec_len c.args.seats) (g.B.Board.seen c.args.board) i 0 (slice_index_or c.args.seats.items i d).told
+    ((goal.Adviser-dyn g ((slice_index_or c.args.seats.items i d).adviser.vtable, (slice_index_or c.args.seats.items i d).adviser.value)).last (slice_index_or c.args.seats.items i d).adviser.value)
+    ((goal.Adviser-dyn g ((slice_index_or c.args.seats.items i d).adviser.vtable, (slice_index_or c.args.seats.items i d).adviser.value)).last (slice_index_or c.args.seats.items i d).adviser.value)
+    (c.requires.new i d (omega (arith, low, c.args.seats.ok))).0 refl
