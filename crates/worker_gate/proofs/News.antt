@@ -1,7 +1,7 @@
 -- What the advisers of workers are told last, through the stages of a run.
-use Rattle.std.proofs.Common.{◌≡◌, ◌⊎◌, inl, inr, ℕ, zero, suc, ◌+◌, ◌<◌, ◌≤◌, ◌||◌, Bool, true, List, [], ◌∷◌, length, map, get_or, set, refl, sym, ap, ◌∙◌, subst, arith, Option, Some}
+use Rattle.std.proofs.Common.{◌≡◌, ◌⊎◌, inl, inr, ℕ, zero, suc, ◌+◌, ◌<◌, ◌≤◌, ◌&&◌, not, Bool, true, List, [], ◌∷◌, length, map, get_or, set, refl, sym, ap, ◌∙◌, subst, arith, Option, Some}
 use Rattle.std.proofs.Math.Logic.{∥∥₁_map}
-use Rattle.std.specs.List.{list_any}
+use Rattle.std.specs.List.{list_all}
 use Rattle.std.proofs.lemmas.Bool.{cases_Bool}
 use Rattle.std.proofs.lemmas.List.{length-map}
 use Rattle.advice.specs.declared.adviser.Told.{Told}
@@ -109,13 +109,13 @@ module _ {A B : Type 0} where
       subst (λ (l : List B). Q i (get_or old i d) (get_or l i d)) (sym is) r
 
 -- what follows from one element that passes a test, where some element does
-pub any_gives : {A : Type 0} (f : A → Bool) (P : Type 0) (xs : List A) → list_any f xs ≡ true → ((i : ℕ) (d : A) → i < length xs → f (get_or xs i d) ≡ true → P) → P
+pub any_gives : {A : Type 0} (f : A → Bool) (P : Type 0) (xs : List A) → not (list_all (λ x. not (f x)) xs) ≡ true → ((i : ℕ) (d : A) → i < length xs → f (get_or xs i d) ≡ true → P) → P
 any_gives f P [] some gives = absurd (cc some)
 any_gives f P (x ∷ xs) some gives =
     elim (cases_Bool (f x)) [
       | inl hit ↦ gives 0 x (omega arith) hit
       | inr miss ↦
-          let rest : list_any f xs ≡ true = sym (ap (λ (t : Bool). t || list_any f xs) miss) ∙ some in
+          let rest : not (list_all (λ y. not (f y)) xs) ≡ true = sym (ap (λ (t : Bool). not (not t && list_all (λ y. not (f y)) xs)) miss) ∙ some in
           any_gives f P xs rest (λ i d low. gives (suc i) d (omega arith))
     ]
 
@@ -142,4 +142,4 @@ one_head x y e = cc (e)
 
 -- a badge has one view, whoever looks
 pub root_known : {R : Type 0} (views : List (View R)) (u : View R) (root : R) → views ≡ u ∷ [] → ((v : View R) × (views ≡ v ∷ []) × (v.stage ≡ 0) × (v.root ≡ root)) → u.root ≡ root
-root_known views u root e r = let same : u ≡ r.0 = one_head u r.0 (sym e ∙ r.1) in ap (λ (w : View R). w.root) same ∙ r.3
+root_known {R = R} views u root e r = let same : u ≡ r.0 = one_head u r.0 (sym e ∙ r.1) in ap (λ (w : View R). w.root) same ∙ r.3

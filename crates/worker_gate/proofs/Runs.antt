@@ -114,6 +114,12 @@ module _ (old held : BoardView) (k floor best : ℕ) (idle : IsIdle old) (t : Ta
     pub round_made : (new : BoardView) (kept : Kept) → IsSoundBoard new → Commits 0 step held new kept → IsRound old new
     round_made new kept sound m = record { held = held; step = step; makes = step_made; kept = kept; commits = m; book = sound.book; folds = sound.folds }
 
+    -- the round, and the news of its commit
+    pub round_tells : (new : BoardView) (kept : Kept) (after : Option Told) → IsSoundBoard new → Commits 0 step held new kept → after ≡ Some (news_of k kept)
+        → (round : IsRound old new) × (after ≡ Some (news_of round.makes.node round.kept))
+    round_tells new kept after sound m told =
+        (record { held = held; step = step; makes = record { node = k; floor = floor; best = best; takes = t; advice = advice; decides = decides }; kept = kept; commits = m; book = sound.book; folds = sound.folds }, told)
+
 -- a board after a round
 round_idle : (old new : BoardView) → IsIdle old → IsRound old new → IsIdle new
 round_idle old new idle r = record {

@@ -1,10 +1,10 @@
 //! The run of workers over a board, for a ledger of its commits.
-ghost use Rattle.std.specs.Prelude.{◌≡◌, ◌+◌, ◌<◌, ◌≤◌, ◌^◌, ℕ, All, None, false, true, length, slice_index_or, sum_by, vec_len};
+ghost use Rattle.std.specs.Prelude.{◌≡◌, ◌+◌, ◌<◌, ◌≤◌, ◌^◌, ℕ, All, None, false, true, not, length, slice_index_or, sum_by, vec_len};
 ghost use Rattle.search_core.specs.Board.{BoardView};
 ghost use Rattle.search_core.specs.Core.{empty_hands};
 ghost use Rattle.board_lock.specs.Roots.{root_at};
 ghost use Rattle.board_lock.specs.Turns.{AreTurns};
-ghost use Rattle.std.specs.List.{list_any};
+ghost use Rattle.std.specs.List.{list_all};
 ghost use Rattle.worker_gate.specs.Workers.{IsToldLast, WorkersEnd};
 
 use crate::bench::work_bench;
@@ -24,9 +24,9 @@ use std::thread::Threads;
 
 /// Whether a worker saw that the run is asked to stop.
 fn saw_stop<B: Board, L: Ledger>(bench: &[Place<B, L>]) -> bool
-    ensures { result ≡ list_any (λ p. p.asked) bench.now }
+    ensures { result ≡ not (list_all (λ p. not p.asked) bench.now) }
 {
-    bench.iter().any(|place| place.asked)
+    !bench.iter().all(|place| !place.asked)
 }
 
 /// Once all workers have ended: empties each hand, goes on with the first seat unless a worker saw that the run is asked to stop, and

@@ -64,3 +64,6 @@ returns-clause-empty g c = λ still.
     let workers = ap (λ r. r.workers) i.root in
     all_emptied held.workers (g.B.Board.seen held.opened.value) (g.B.Board.seen held.board) held.commits.total held.empty (g.met.B.Board.sound held.board) held.turns
     (λ w low. i.passed still w (omega (arith, low, workers, c.requires.all, c.loop-place.auto.bench, c.loop-place-test.false)))
+
+pub returns-clause-last : goal.returns-clause-last
+returns-clause-last g c = λ i d low. c.loop-place.invariant.last i d (omega (arith, low, c.loop-place.auto.bench))

@@ -61,8 +61,9 @@ returns-clause-told g c =
 pub finish_all-end-requires-clause-asked : goal.finish_all-end-requires-clause-asked
 finish_all-end-requires-clause-asked g c =
     λ i d low is.
-    let there = omega (arith, low, c.work_bench.new.bench.ok, c.seat_all.new.bench.ok, c.work_bench.ensures.len) in
-    c.work_bench.ensures.asked i d there is (c.seat_all.ensures.unasked i d (omega (arith, low, c.work_bench.new.bench.ok, c.work_bench.ensures.len)))
+    let there : i < vec_len c.seat_all.new.bench = omega (arith, low, c.work_bench.new.bench.ok, c.seat_all.new.bench.ok, c.work_bench.ensures.len) in
+    let here : i < length c.seat_all.new.bench.items = omega (arith, low, c.work_bench.new.bench.ok, c.work_bench.ensures.len) in
+    c.work_bench.ensures.asked i d there is (c.seat_all.ensures.unasked i d here)
 
 pub returns-clause-last : goal.returns-clause-last
 returns-clause-last g c =

@@ -12,7 +12,7 @@ returns-clause-last g c =
     let pass = c.into_seat-pass.result in
     let views = ap (λ b. b.views) c.replace-badge.ensures.value in
     let known = root_known c.args.place.now.badge.views pass.me.0 root (sym views ∙ c.into_seat-pass.ensures.2) rests.1 in
-    told_at g.B.Board.seen root (root_of pass) c.args.place.now.number c.args.place.now.number c.args.place.now.seat.told c.loop.place.seat.told
+    told_at g.B.Board.seen root (root_of pass) c.args.place.now.number c.args.place.now.number c.args.place.now.seat.told c.rounds.new.place.seat.told
     ((goal.Adviser-dyn g (c.args.place.now.seat.adviser.vtable, c.args.place.now.seat.adviser.value)).last c.args.place.now.seat.adviser.value)
-    ((goal.Adviser-dyn g (c.loop.place.seat.adviser.vtable, c.loop.place.seat.adviser.value)).last c.loop.place.seat.adviser.value)
-    known refl c.loop.invariant.last
+    ((goal.Adviser-dyn g (c.rounds.new.place.seat.adviser.vtable, c.rounds.new.place.seat.adviser.value)).last c.rounds.new.place.seat.adviser.value)
+    known refl c.rounds.ensures.last

@@ -1,7 +1,7 @@
 use Rattle.std.proofs.Common.{◌≡◌, ◌<◌, ◌+◌, ◌^◌, true, false}
 use Rattle.board_lock.specs.Passes.{root_of, IsOutside}
 use Rattle.worker_gate.specs.Workers.{IsToldLast, KnowsBoard}
-use Rattle.worker_gate.proofs.worker.work.Given as goal
+use Rattle.worker_gate.proofs.worker.rounds.Given as goal
 
 abbrev pub invariant-loop : goal.invariant-loop
 invariant-loop g l = record {
