@@ -1,4 +1,5 @@
-use Rattle.std.proofs.Common.{◌≡◌, ◌∙◌, arith, ap, length, refl, sym, true}
+use Rattle.std.proofs.Common.{◌≡◌, ◌∙◌, arith, ap, length, not, refl, sym, true}
+use Rattle.std.specs.List.{list_all}
 use Rattle.worker_gate.proofs.Moved.{written}
 use Rattle.worker_gate.proofs.Telling.{first_then}
 use Rattle.board_lock.specs.Roots.{root_at}
@@ -35,4 +36,4 @@ returns-clause-last g c =
 
 pub go_on-requires-clause-asked : goal.go_on-requires-clause-asked
 go_on-requires-clause-asked g c some =
-    any_gives (λ p. p.asked) (g.S.Stop.can_ask c.args.stop.now ≡ true) c.args.bench.now.items (sym c.saw_stop-asked.ensures ∙ some) (λ i d low is. c.requires.asked i d (omega (arith, low, c.args.bench.now.ok)) is)
+    any_gives (λ p. p.asked) (g.S.Stop.can_ask c.args.stop.now ≡ true) c.args.bench.now.items (ap (λ l. not (list_all (λ p. not p.asked) l)) (sym c.as_slice.ensures.value) ∙ sym c.saw_stop-asked.ensures ∙ some) (λ i d low is. c.requires.asked i d (omega (arith, low, c.args.bench.now.ok)) is)
