@@ -1,9 +1,8 @@
-use Rattle.std.proofs.Common.{◌≡◌, ◌∙◌, arith, ap, length, not, refl, sym, true}
-use Rattle.std.specs.List.{list_all}
+use Rattle.std.proofs.Common.{◌≡◌, ◌∙◌, arith, ap, length, refl}
 use Rattle.worker_gate.proofs.Moved.{written}
 use Rattle.worker_gate.proofs.Telling.{first_then}
 use Rattle.board_lock.specs.Roots.{root_at}
-use Rattle.worker_gate.proofs.News.{any_gives, each_then_first, tells_on, tells_same, told_at, Tells}
+use Rattle.worker_gate.proofs.News.{each_then_first, tells_on, tells_same, told_at, Tells}
 use Rattle.worker_gate.proofs.running.finish_all.Goals as goal
 
 pub returns-clause-told : goal.returns-clause-told
@@ -34,6 +33,5 @@ returns-clause-last g c =
     items zs c.index_mut.result.now c.go_on.new.place (tells_same (λ p. p.seat.told) (λ p. (goal.Adviser-dyn g (p.seat.adviser.vtable, p.seat.adviser.value)).last p.seat.adviser.value) c.args.held.now.workers (g.B.Board.seen c.args.held.now.opened.value)) many first here more in
     λ i d low. rw same (all i d (omega (arith, low, c.args.bench.now.ok)))
 
-pub go_on-requires-clause-asked : goal.go_on-requires-clause-asked
-go_on-requires-clause-asked g c some =
-    any_gives (λ p. p.asked) (g.S.Stop.can_ask c.args.stop.now ≡ true) c.args.bench.now.items (ap (λ l. not (list_all (λ p. not p.asked) l)) (sym c.as_slice.ensures.value) ∙ sym c.saw_stop-asked.ensures ∙ some) (λ i d low is. c.requires.asked i d (omega (arith, low, c.args.bench.now.ok)) is)
+pub saw_stop-asked-requires : goal.saw_stop-asked-requires
+saw_stop-asked-requires g c = rw c.as_slice.ensures.value (record { asked = λ i d low is. c.requires.asked i d (omega (arith, low, c.args.bench.now.ok)) is })
