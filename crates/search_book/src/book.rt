@@ -83,7 +83,7 @@ impl<D: Disk> Book<D> {
 
     /// How many records were made since the book was opened, with all that a crash at any moment may leave, and why the
     /// book is shut, where it is. The moment at which the last of them was acknowledged isn't after now, even where a disk
-    /// fault shut the book.
+    /// fault shut the book, and since then no more calls were made than one more record takes.
     pub fn batches(&self) -> u64
         ensures made { result ≡ length self.now.log.batches }
         ensures all { self.now.log.history ≡ self.now.log.opening ++ joined self.now.log.batches }
@@ -91,6 +91,7 @@ impl<D: Disk> Book<D> {
         ensures running { self.now.log.in_flight ≡ [] → IsRunningPosts D.reads D.images D.calls self.now.log }
         ensures single { length self.now.log.in_flight ≤ 1 }
         ensures moment { D.calls self.now.log.opened + 4 * length self.now.log.batches ≤ D.calls self.now.log.disk }
+        ensures most { D.calls self.now.log.disk ≤ D.calls self.now.log.opened + 4 * length self.now.log.batches + 4 }
         ensures telling { TellsAlike (D.reads self.now.log.opened) (D.reads self.now.log.disk) }
         ensures faults { D.faults self.now.log.opened ≤ D.faults self.now.log.disk }
         ensures fault { ShutOf self.now.log.limit (D.faults self.now.log.opened) (D.faults self.now.log.disk) self.now.log.in_flight self.now.log.shut }

@@ -2,11 +2,14 @@
 use Rattle.std.proofs.Common.{◌≡◌, ◌∙◌, inl, inr, sym, ap, subst, refl, ℕ, ◌<◌, ◌≤◌, Bool, false, List, [], take, arith, Option, None, Some}
 use Rattle.std.specs.Prelude.{option_and_then, unwrap_or}
 use Rattle.instance_input.specs.Unread.{IsReadAs as IsDocument}
+use Rattle.search_core.specs.Board.{BoardView}
 use Rattle.shift_instance.specs.Problem.{Problem}
 use Rattle.solve_words.specs.declared.command.Method.{Method}
 use Rattle.solve_words.specs.Words.{from_number, over_journal, Asked, Asks, IsReadAs}
 use Rattle.solve_runs.specs.Demo.{OverMemory}
-use Rattle.solve_runs.specs.Run.{EndsOver, Explains, IsUnopened, IsUnread, Met, OverDisk, Searched}
+use Rattle.worker_gate.specs.declared.run.RunEnd.{RunEnd}
+use Rattle.worker_gate.specs.declared.run.RunEnd.TheVariants.{Finished, Spent, Full as FullEnd, DiskFault as DiskEnd, NoMemory as MemoryEnd}
+use Rattle.solve_runs.specs.Run.{EndsOver, Explains, HasEnded, IsUnopened, IsUnread, Met, OverDisk, Searched}
 use Rattle.solve_runs.specs.Served.{AreUntold, Served}
 use Rattle.solve_runs.specs.Session.{met_of, DiskMet, IsUncalled, Session}
 use Rattle.solve_runs.specs.Status.{EndsBeforeReading}
@@ -117,26 +120,34 @@ not_unread met command status path workers budget table method reads ends (inr a
 -- ---- the advisers that serve are the first of all
 
 module _ (disk : DiskMet) (sink : SinkMet) (i : Problem) (table : Bool) (budget workers : ℕ) (before after : List ℕ) where
-  served_all : (s : Session disk i) → Served workers budget (record { before = take workers before; after = after }) s → Served workers budget (record { before = before; after = after }) s
-  served_all s served = (served.0, served.1, told_of_all workers served.0 before after served.2)
+  served_all : (end : RunEnd) (last : BoardView) (s : Session disk i) → Served workers budget (record { before = take workers before; after = after }) end last s → Served workers budget (record { before = before; after = after }) end last s
+  served_all end last s served = (served.0, served.1, told_of_all workers served.0 before after served.2)
+
+  ended_all : (end : RunEnd) (last : BoardView) (s : Session disk i) → HasEnded disk i workers budget (record { before = take workers before; after = after }) end last s → HasEnded disk i workers budget (record { before = before; after = after }) end last s
+  unfolding served_all
+  ended_all Finished last s e = (e.0, e.1, served_all Finished last s e.2)
+  ended_all Spent last s e = (e.0, e.1, told_of_all workers budget before after e.2)
+  ended_all (FullEnd end limit) last s e = (served_all (FullEnd end limit) last s e.0, e.1)
+  ended_all DiskEnd last s e = (e.0, served_all DiskEnd last s e.1)
+  ended_all MemoryEnd last s e = (e.0, served_all MemoryEnd last s e.1)
 
   over_all : (opened : Bool) (status : Status) → OverDisk disk sink i table budget workers (record { before = take workers before; after = after }) opened status
       → OverDisk disk sink i table budget workers (record { before = before; after = after }) opened status
-  over_all opened Optimal ends = (ends.0, ends.1, ends.2, (ends.3.0, ends.3.1, ends.3.2, told_of_all workers ends.3.0 before after ends.3.3), ends.4, ends.5)
-  over_all opened Budget ends = (ends.0, ends.1, ends.2, ends.3, told_of_all workers budget before after ends.4, ends.5)
-  over_all opened (Full end limit) ends = (ends.0, ends.1, ends.2, served_all ends.1 ends.3, ends.4)
-  over_all opened WriteFault ends = (ends.0, ends.1, ends.2, served_all ends.1 ends.3, ends.4)
+  over_all opened Optimal ends = (ends.0, ends.1, ends.2, ended_all Finished ends.2 ends.1 ends.3, ends.4)
+  over_all opened Budget ends = (ends.0, ends.1, ends.2, ended_all Spent ends.2 ends.1 ends.3, ends.4)
+  over_all opened (Full end limit) ends = (ends.0, ends.1, ends.2, ended_all (FullEnd end limit) ends.2 ends.1 ends.3, ends.4)
+  over_all opened WriteFault ends = (ends.0, ends.1, ends.2, ends.3, ends.4, ended_all ends.3 ends.2 ends.1 ends.5, ends.6)
   over_all opened DiskFault ends = (
     ends.0,
     elim ends.1 [
       | inl none ↦ inl (none.0, none.1, untold_of_all workers before after none.2)
-      | inr some ↦ inr (some.0, some.1, served_all some.1 some.2)
+      | inr some ↦ inr (some.0, some.1, some.2, ended_all DiskEnd some.2 some.1 some.3)
     ],
   )
   over_all opened NoMemory ends =
       elim ends [
         | inl none ↦ inl (none.0, none.1, untold_of_all workers before after none.2, none.3)
-        | inr some ↦ inr (some.0, some.1, some.2, served_all some.1 some.3)
+        | inr some ↦ inr (some.0, some.1, some.2, some.3, some.4, ended_all some.3 some.2 some.1 some.5)
       ]
   over_all opened (Journal why) ends = (ends.0, ends.1, ends.2, untold_of_all workers before after ends.3)
   over_all opened Usage ends = absurd ends

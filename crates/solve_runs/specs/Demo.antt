@@ -115,13 +115,13 @@ pub record IsCutShort (met : DemoMet) : Type 0 where
 
 -- how a demonstration ends: no node is open, so no plan of its instance is cheaper; all steps of the budget were taken, and a node is
 -- open; the journal in memory had no room for the posts of a step; its line wasn't written whole; or there was no memory, and then
--- no disk is handed back
+-- no disk is handed back. The adviser always is.
 abbrev pub OverMemory : DemoMet → Status → Type 0
 OverMemory met Optimal = (shown : IsShown met Finished) × IsUnbeaten (generated met.number) (book_at shown.demo.last).cost
 OverMemory met Budget = IsShown met Spent
 OverMemory met (Full end limit) = IsShown met (FullEnd end limit)
 OverMemory met WriteFault = IsCutShort met
-OverMemory met NoMemory = met.file ≡ None
+OverMemory met NoMemory = (met.file ≡ None) × (commits : ℕ) × AreTold 1 commits met.told
 OverMemory met Usage = ⊥
 OverMemory met (Workers asked have) = ⊥
 OverMemory met (Input why) = ⊥

@@ -12,13 +12,13 @@ use Rattle.instance_input.specs.Unread.{IsReadAs, WhyUnread}
 use Rattle.certificate.specs.Accepted.{is_accepted}
 use Rattle.certificate.specs.Departing.{Spells}
 use Rattle.search_core.specs.Book.{book_of, is_finished, IsSound}
-use Rattle.search_core.specs.Board.{bytes_of, leaves_open}
+use Rattle.search_core.specs.declared.board.Shutting.TheVariants.{Full as ShutByFull}
+use Rattle.search_core.specs.Board.{bytes_of, leaves_open, BoardView}
 use Rattle.search_core.specs.Calls.{steps_enough}
 use Rattle.search_core.specs.Kept.{cuts_in}
 use Rattle.search_core.specs.Steps.{posts_of}
 use Rattle.search_core.specs.declared.step_posts.StepPosts.{StepPosts}
 use Rattle.post_codec.specs.declared.post.Post.{Post}
-use Rattle.post_codec.specs.Batches.{joined}
 use Rattle.search_book.specs.declared.open_fault.OpenFault.{OpenFault}
 use Rattle.search_book.specs.declared.open_fault.OpenFault.TheVariants.{DiskFault as OpeningsDisk, NotAJournal, OtherInstance, Damaged, Rejected, NoMemory as OpeningsMemory}
 use Rattle.search_book.specs.Opened.{HoldsBook, OpenCause}
@@ -29,8 +29,10 @@ use Rattle.solve_runs.specs.Demo.{OverMemory}
 use Rattle.solve_runs.specs.Report.{cert_of, output_of, IsUnbeaten}
 use Rattle.solve_runs.specs.Session.{DiskMet, IsUncalled, Session, posts_in}
 use Rattle.solve_runs.specs.Status.{EndsBeforeReading}
-use Rattle.solve_runs.specs.Served.{AreTold, AreUntold, Served, ServedToEnd, ToldMet, Works}
-use Rattle.solve_runs.specs.Steps.{bytes_in}
+use Rattle.worker_gate.specs.declared.run.RunEnd.{RunEnd}
+use Rattle.worker_gate.specs.declared.run.RunEnd.TheVariants.{Finished, Spent, Full as FullEnd, DiskFault as DiskEnd, NoMemory as MemoryEnd}
+use Rattle.solve_runs.specs.Search.{is_reported, IsLanded}
+use Rattle.solve_runs.specs.Served.{AreTold, AreUntold, Served, ToldMet, Works}
 use Rattle.solve_runs.specs.Streams.{SinkMet}
 use Rattle.solve_runs.specs.Words.{workers_for, AsksWorkers, Command, IsCommand}
 use Rattle.solve_words.specs.Words.{from_number, Asked, Asks}
@@ -48,14 +50,9 @@ pub record IsSpent (budget : ℕ) {disk : DiskMet} {i : Problem} (session : Sess
   pub unfinished : IsFalse (is_finished session.last)
   pub few : budget < steps_enough i
 
--- These are the posts of a step of one of the workers, over the book that the session left: it would have closed its node, for whose
--- cuts its prices are. The posts of the session are those of the steps that were committed, each step's a record; these are fewer
--- than the budget has, and the bytes of its journal are those at the opening and those of these records.
-pub record IsUnfit (workers budget : ℕ) {disk : DiskMet} {i : Problem} (session : Session disk i) (posts : List Post) : Type 0 where
-  pub steps : List (List Post)
-  pub all : joined steps ≡ joined session.batches
-  pub left : length steps < budget
-  pub used : session.used_after ≡ session.used + bytes_in steps
+-- these are the posts of a step of one of the workers, over the book that the session left: it would have closed its node, for whose
+-- cuts its prices are
+pub record IsUnfit (workers : ℕ) {disk : DiskMet} {i : Problem} (session : Session disk i) (posts : List Post) : Type 0 where
   pub worker : ℕ
   pub below : worker < workers
   pub step : StepPosts
@@ -63,19 +60,31 @@ pub record IsUnfit (workers budget : ℕ) {disk : DiskMet} {i : Problem} (sessio
   pub closes : IsFalse (leaves_open i session.last worker step)
   pub posts_are : posts ≡ posts_of i session.last worker step
 
--- A node is open, and there was no room for the posts of a step, four at most, which the book allows: with their record the file's
--- journal would have ended there, past its limit.
-pub record IsFull (workers budget end limit : ℕ) {disk : DiskMet} {i : Problem} (session : Session disk i) : Type 0 where
+-- A node is open, and a commit of a step answered that there is no room for its posts, four at most, which the book allows: with their
+-- record the file's journal would have ended there, past its limit. Fewer steps were committed than the budget has. The posts are
+-- those that the last board of the search kept from that commit.
+pub record IsFull (workers commits budget end limit : ℕ) (last : BoardView) {disk : DiskMet} {i : Problem} (session : Session disk i) : Type 0 where
   pub landed : session.in_flight ≡ []
   pub unfinished : IsFalse (is_finished session.last)
-  pub posts : List Post
-  pub unfit : ∥ IsUnfit workers budget session posts ∥₁
-  pub some : 0 < length posts
-  pub at_most : length posts ≤ 4
-  pub allowed : IsSome (book_of i (posts_in session ++ posts))
-  pub ends : end ≡ session.used_after + bytes_of posts
+  pub left : commits < budget
+  pub refused : last.shut ≡ Some (ShutByFull end limit)
+  pub unfit : ∥ IsUnfit workers session last.unfit ∥₁
+  pub some : 0 < length last.unfit
+  pub at_most : length last.unfit ≤ 4
+  pub allowed : IsSome (book_of i (posts_in session ++ last.unfit))
+  pub ends : end ≡ session.used_after + bytes_of last.unfit
   pub most : limit ≡ JOURNAL_MAX
   pub over : limit < end
+
+-- How the search of a run ended over the book that it opened, with that last board, and how often the advisers were told something. A
+-- search that took all steps of its budget committed each. Where a call on the disk failed, its faults rose; where memory ran out, none
+-- had.
+abbrev pub HasEnded : (disk : DiskMet) (i : Problem) → ℕ → ℕ → ToldMet → RunEnd → BoardView → Session disk i → Type 0
+HasEnded disk i workers budget told Finished last s = IsFinished s × IsUnbeaten i s.last.cost × Served workers budget told Finished last s
+HasEnded disk i workers budget told Spent last s = IsSpent budget s × Works workers budget budget Spent last s × AreTold workers budget told
+HasEnded disk i workers budget told (FullEnd end limit) last s = (served : Served workers budget told (FullEnd end limit) last s) × IsFull workers served.0 budget end limit last s
+HasEnded disk i workers budget told DiskEnd last s = Rose disk.faults.0 disk.faults.1 × Served workers budget told DiskEnd last s
+HasEnded disk i workers budget told MemoryEnd last s = (s.in_flight ≡ []) × Served workers budget told MemoryEnd last s
 
 -- ---- what is written
 
@@ -120,16 +129,15 @@ pub record IsRefused (disk : DiskMet) (i : Problem) (why : OpenFault) : Type 0 w
 -- how a run ends that has read an instance, by so many workers: whether the table is asked for, the budget of steps, how often the
 -- advisers were told something, whether it opened a book, and what the book says
 abbrev pub OverDisk : DiskMet → SinkMet → Problem → Bool → ℕ → ℕ → ToldMet → Bool → Status → Type 0
-OverDisk disk sink i table budget workers told opened Optimal = (opened ≡ true) × (s : Session disk i) × IsFinished s × ServedToEnd workers budget told s × Reports sink table s × IsUnbeaten i s.last.cost
-OverDisk disk sink i table budget workers told opened Budget = (opened ≡ true) × (s : Session disk i) × IsSpent budget s × Works workers budget budget s × AreTold workers budget told × Reports sink table s
-OverDisk disk sink i table budget workers told opened (Full end limit) = (opened ≡ true) × (s : Session disk i) × IsFull workers budget end limit s × Served workers budget told s × Reports sink table s
-OverDisk disk sink i table budget workers told opened WriteFault = (opened ≡ true) × (s : Session disk i)
-    × (IsFinished s ⊎ (IsSpent budget s ⊎ ((end : ℕ) × (limit : ℕ) × IsFull workers budget end limit s))) × Served workers budget told s × ReportsPart sink table s
+OverDisk disk sink i table budget workers told opened Optimal = (opened ≡ true) × (s : Session disk i) × (last : BoardView) × HasEnded disk i workers budget told Finished last s × Reports sink table s
+OverDisk disk sink i table budget workers told opened Budget = (opened ≡ true) × (s : Session disk i) × (last : BoardView) × HasEnded disk i workers budget told Spent last s × Reports sink table s
+OverDisk disk sink i table budget workers told opened (Full end limit) = (opened ≡ true) × (s : Session disk i) × (last : BoardView) × HasEnded disk i workers budget told (FullEnd end limit) last s × Reports sink table s
+OverDisk disk sink i table budget workers told opened WriteFault = (opened ≡ true) × (s : Session disk i) × (last : BoardView) × (end : RunEnd) × IsTrue (is_reported end) × HasEnded disk i workers budget told end last s × ReportsPart sink table s
 OverDisk disk sink i table budget workers told opened DiskFault = Rose disk.faults.0 disk.faults.1
-    × (((opened ≡ false) × IsLeft disk i × AreUntold workers told) ⊎ ((opened ≡ true) × (s : Session disk i) × Served workers budget told s))
+    × (((opened ≡ false) × IsLeft disk i × AreUntold workers told) ⊎ ((opened ≡ true) × (s : Session disk i) × (last : BoardView) × HasEnded disk i workers budget told DiskEnd last s))
 OverDisk disk sink i table budget workers told opened NoMemory =
     ((opened ≡ false) × IsLeft disk i × AreUntold workers told × ((disk.file_after ≡ disk.file) ⊎ ((disk.file ≡ Some []) × (disk.file_after ≡ Some (fresh (canonical_text i))))))
-    ⊎ ((opened ≡ true) × (s : Session disk i) × (s.in_flight ≡ []) × Served workers budget told s)
+    ⊎ ((opened ≡ true) × (s : Session disk i) × (last : BoardView) × (end : RunEnd) × IsLanded end × HasEnded disk i workers budget told end last s)
 OverDisk disk sink i table budget workers told opened (Journal why) = (opened ≡ false) × IsRefused disk i why × IsLeft disk i × AreUntold workers told
 OverDisk disk sink i table budget workers told opened Usage = ⊥
 OverDisk disk sink i table budget workers told opened (Input why) = ⊥
@@ -209,7 +217,7 @@ Explains met Optimal = EndsSearch met Optimal ⊎ EndsDemo met Optimal
 Explains met Budget = EndsSearch met Budget ⊎ EndsDemo met Budget
 Explains met (Full end limit) = EndsSearch met (Full end limit) ⊎ EndsDemo met (Full end limit)
 Explains met WriteFault = EndsSearch met WriteFault ⊎ EndsDemo met WriteFault
-Explains met NoMemory = (IsUnopened met × (met.told.after ≡ []) × IsUncalled met.disk) ⊎ (EndsSearch met NoMemory ⊎ EndsDemo met NoMemory)
+Explains met NoMemory = (IsUnopened met × (met.told.after ≡ met.told.before) × IsUncalled met.disk) ⊎ (EndsSearch met NoMemory ⊎ EndsDemo met NoMemory)
 
 -- the source wasn't touched: the words are no command or ask for too many workers, or for a demonstration
 abbrev pub IsUnread : List (List ℕ) → Status → Type 0

@@ -7,8 +7,10 @@ ghost use Rattle.plan_base.specs.Streams.{AppendsPart};
 ghost use Rattle.instance_json.specs.Generated.{generated};
 ghost use Rattle.search_book.specs.Keeping.{IsRunningPosts, ShutOf};
 ghost use Rattle.search_book.specs.Search.{board_of};
-ghost use Rattle.solve_runs.specs.Demo.{demo_text, end_text, line_of, Demonstration, IsNew, IsTold, OverMemory, Searches};
+ghost use Rattle.worker_gate.specs.Runs.{committed};
+ghost use Rattle.solve_runs.specs.Demo.{demo_text, end_text, line_of, AreCommitted, Demonstration, IsNew, OverMemory, Searches};
 ghost use Rattle.solve_runs.specs.Search.{is_reported, status_at, IsBegun};
+ghost use Rattle.solve_runs.specs.Served.{AreTold};
 ghost use Rattle.solve_runs.specs.Status.{EndsUnwritten};
 ghost use Rattle.solve_runs.specs.declared.status.Status.TheVariants.{NoMemory as MemoryStatus};
 
@@ -93,7 +95,8 @@ fn search_all<D: Disk, G: Gate>(
     requires budget { book.old.budget < 2 ^ 63 }
     requires one { vec_len advisers.old ≡ 1 }
     ensures searches { Searches (board_of D.reads D.calls D.faults book.old) (board_of D.reads D.calls D.faults book.new) result }
-    ensures told { is_reported result ≡ true → IsTold (record { before = map (λ a. told a) advisers.old.items; after = map (λ a. told a) advisers.new.items }) result book.new.taken }
+    ensures told { AreTold 1 (committed result book.new.taken) (record { before = map (λ a. told a) advisers.old.items; after = map (λ a. told a) advisers.new.items }) }
+    ensures committed { is_reported result ≡ true → AreCommitted result (committed result book.new.taken) book.new.taken }
 {
     let mut seat = Seat {
         adviser: advisers.remove(0),

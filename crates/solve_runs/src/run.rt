@@ -223,8 +223,9 @@ fn run_beside<K: Sink, D: Disk, G: Gate>(
 /// handed back, with whether a book was opened on it.
 ///
 /// A search has W workers, four where the words say no number, each with an adviser of its own: the first W serve and come back in
-/// their order, the others are dropped. Whatever they advise, and in whatever order the workers get the book, all that is said here
-/// holds. A demonstration is searched by one worker with the first adviser.
+/// their order, the others are dropped; where there is no memory to read the words, all come back. Whatever they advise, and in
+/// whatever order the workers get the book, all that is said here holds. A demonstration is searched by one worker with the first
+/// adviser.
 ///
 /// The book may have `JOURNAL_MAX` bytes, and B is 1,000 where none is given. The status is `Optimal` exactly where no node is open
 /// and the report or the line was written, and `Budget` where all steps were taken and a node is open; `Full` where there was no
@@ -297,6 +298,6 @@ pub fn solve_run<S: Source, K: Sink, D: Disk + Send, G: Gate + Sync, R: Threads 
             run_beside(alloc, number, steps, out, disk, advisers, gate)
         }
         Ok(None) => Ended::early(alloc, Status::Usage, disk),
-        Err(_) => Ended::early(alloc, Status::NoMemory, disk),
+        Err(_) => Ended::unopened(Status::NoMemory, advisers, disk),
     }
 }
