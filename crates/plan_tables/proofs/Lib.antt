@@ -2,3 +2,6 @@ pub mod RowDuties
 pub mod SlotSums
 pub mod Starts
 pub mod Steps
+pub mod Numbers
+pub mod Numbered
+pub mod Appending

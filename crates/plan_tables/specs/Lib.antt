@@ -1,7 +1,10 @@
+pub mod Columns
 pub mod Times
 pub mod Attendance
 pub mod Tallies
 pub mod Costliest
 pub mod Starting
 pub mod Records
+pub mod SummaryLines
+pub mod DutyLines
 pub mod Written

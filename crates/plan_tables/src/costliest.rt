@@ -1,9 +1,11 @@
 //! The slots that cost most.
-ghost use Rattle.std.specs.Prelude.{◌≡◌, ◌<◌, IfOk};
-ghost use Rattle.shift_instance.specs.Problem.{slots};
+ghost use Rattle.std.specs.Prelude.{◌≡◌, ◌+◌, ◌*◌, ◌/◌, ◌%◌, ◌<◌, IfOk};
+ghost use Rattle.shift_instance.specs.Problem.{day_slots, slots};
 ghost use Rattle.plan_tables.specs.Costliest.{AreCostliest, costly_slot, costly_slots};
+ghost use Rattle.plan_tables.specs.Times.{day_of_slot};
 
-use crate::Attendance;
+use crate::tallies::day_slots;
+use crate::{Attendance, ClockTime};
 use break_rules::NoMemory;
 use shift_instance::Instance;
 use std::alloc::Global;
@@ -20,6 +22,25 @@ pub struct CostlySlot {
     pub working: u32,
     /// What the slot costs.
     pub cost: u64,
+}
+
+impl CostlySlot {
+    /// The day of the slot, counted from 1. It takes no memory.
+    pub fn day(&self, instance: &Instance) -> usize
+        ensures { result ≡ day_of_slot instance.now self.now.slot }
+    {
+        let _valid = instance.slots();
+        self.slot / day_slots(instance) + 1
+    }
+
+    /// When the slot begins, in minutes from the beginning of its day on. It takes no memory.
+    pub fn time(&self, instance: &Instance) -> ClockTime
+        ensures { result.minutes ≡ self.now.slot % day_slots instance.now * instance.now.slot_minutes }
+    {
+        let _valid = instance.slots();
+        let slot = self.slot % day_slots(instance);
+        ClockTime::of_slot(instance, slot as u32)
+    }
 }
 
 /// A slot with what it costs.

@@ -2,6 +2,7 @@
 #![tactic(auto)]
 
 mod attendance;
+mod columns;
 mod costliest;
 mod duty_lines;
 mod records;

@@ -1,103 +1,226 @@
 //! What a plan adds up to, as lines of text.
+ghost use Rattle.std.specs.Prelude.{◌≡◌, ◌^◌, ◌<◌, ◌++◌, IfOk, OnOk, string_bytes};
+ghost use Rattle.std.specs.List.{enumerate_from, flat_map};
+ghost use Rattle.plan_tables.specs.Columns.{at_right};
+ghost use Rattle.plan_tables.specs.SummaryLines.{cost_head, cost_line, cost_lines, costliest_head, costliest_lines, costly_line, day_line, days_head, days_lines, moment_columns, part_line, summary_lines, totals_columns};
+ghost use Rattle.plan_tables.specs.Times.{span_text};
 
-use crate::{ClockTime, CostPart, CostlySlot, Hours, Summary, Totals, day_slots};
+use crate::columns::{add_left, add_number, add_right};
+use crate::{CostPart, CostlySlot, DaySummary, Hours, Summary, Totals};
 use break_rules::NoMemory;
 use shift_instance::Instance;
 use std::alloc::Global;
 use std::fmt::Write;
 
 /// Adds the line of a part of the cost.
-fn add_part(text: &mut String, name: &str, part: &CostPart) -> Result<(), NoMemory> {
-    let (amount, weight, cost) = (part.amount, part.weight, part.cost);
-    write!(text, "{name:<12}{amount:>12}{weight:>9}{cost:>18}\n")
+#[tactic(auto, unfolding(crate::specs::SummaryLines::part_line))]
+fn add_part(text: &mut String, name: &str, part: &CostPart) -> Result<(), NoMemory>
+    ensures { OnOk result (string_bytes text.new ≡ string_bytes text.old ++ part_line name.now part.now) }
+{
+    add_left(text, name, 12)?;
+    add_number(text, part.amount, 12)?;
+    add_number(text, u64::from(part.weight), 9)?;
+    add_number(text, part.cost, 18)?;
+    text.push_str("\n")
+}
+
+/// Adds what the columns of the cost are.
+#[tactic(auto, unfolding(crate::specs::SummaryLines::cost_head))]
+fn add_cost_head(text: &mut String) -> Result<(), NoMemory>
+    ensures { OnOk result (string_bytes text.new ≡ string_bytes text.old ++ cost_head) }
+{
+    text.push_str("part              amount   weight              cost\n")
+}
+
+/// Adds the line of the whole cost.
+#[tactic(auto, unfolding(crate::specs::SummaryLines::cost_line))]
+fn add_cost_line(text: &mut String, cost: u64) -> Result<(), NoMemory>
+    ensures { OnOk result (string_bytes text.new ≡ string_bytes text.old ++ cost_line cost) }
+{
+    text.push_str("cost ")?;
+    add_number(text, cost, 46)?;
+    text.push_str("\n")
 }
 
 /// Adds the cost and its three parts.
-fn add_cost(text: &mut String, summary: &Summary) -> Result<(), NoMemory> {
-    let cost = summary.cost;
-    text.push_str("part              amount   weight              cost\n")?;
+#[tactic(auto, unfolding(crate::specs::SummaryLines::cost_lines))]
+fn add_cost(text: &mut String, summary: &Summary) -> Result<(), NoMemory>
+    ensures { OnOk result (string_bytes text.new ≡ string_bytes text.old ++ cost_lines summary.now) }
+{
+    add_cost_head(text)?;
     add_part(text, "excess", &summary.excess)?;
     add_part(text, "shortage", &summary.shortage)?;
     add_part(text, "shifts used", &summary.shifts)?;
-    write!(text, "cost {cost:>46}\n")
+    add_cost_line(text, summary.cost)
 }
 
 /// Adds a span of so many slots at the right end of a column.
-fn add_hours(
+fn add_span(
     alloc: Global,
     text: &mut String,
     instance: &Instance,
     slots: u64,
-) -> Result<(), NoMemory> {
+) -> Result<(), NoMemory>
+    ensures { OnOk result (string_bytes text.new ≡ string_bytes text.old ++ at_right 12 (span_text instance.now slots)) }
+{
     let hours = Hours::of_slots(instance, slots).to_string(alloc)?;
-    let hours = hours.as_str();
-    write!(text, "{hours:>12}")
+    add_right(text, hours.as_str(), 12)
 }
 
-/// Adds what slots add up to, and ends the line.
+/// Adds what slots add up to.
+#[tactic(auto, unfolding(crate::specs::SummaryLines::totals_columns))]
 fn add_totals(
     alloc: Global,
     text: &mut String,
     instance: &Instance,
     totals: &Totals,
-) -> Result<(), NoMemory> {
-    add_hours(alloc, text, instance, totals.wanted)?;
-    add_hours(alloc, text, instance, totals.worked)?;
-    add_hours(alloc, text, instance, totals.over)?;
-    add_hours(alloc, text, instance, totals.under)?;
+) -> Result<(), NoMemory>
+    ensures { OnOk result (string_bytes text.new ≡ string_bytes text.old ++ totals_columns instance.now totals.now) }
+{
+    add_span(alloc, text, instance, totals.wanted)?;
+    add_span(alloc, text, instance, totals.worked)?;
+    add_span(alloc, text, instance, totals.over)?;
+    add_span(alloc, text, instance, totals.under)
+}
+
+/// Adds the line of a day, counted from 0.
+#[tactic(auto, unfolding(crate::specs::SummaryLines::day_line))]
+fn add_day(
+    alloc: Global,
+    text: &mut String,
+    instance: &Instance,
+    k: usize,
+    day: &DaySummary,
+) -> Result<(), NoMemory>
+    requires { k < 2 ^ 63 }
+    ensures { OnOk result (string_bytes text.new ≡ string_bytes text.old ++ day_line instance.now (k, day.now)) }
+{
+    add_number(text, k as u64 + 1, 3)?;
+    add_number(text, day.duties, 9)?;
+    add_totals(alloc, text, instance, &day.totals)?;
     text.push_str("\n")
 }
 
+/// Adds a line for each day.
+fn add_each_day(
+    alloc: Global,
+    text: &mut String,
+    instance: &Instance,
+    days: &[DaySummary],
+) -> Result<(), NoMemory>
+    ensures { OnOk result (string_bytes text.new ≡ string_bytes text.old ++ flat_map (day_line instance.now) (enumerate_from 0 days.now)) }
+{
+    for (k, day) in days.iter().enumerate() {
+        add_day(alloc, text, instance, k, day)?;
+    }
+    Ok(())
+}
+
+/// Adds what the columns of the days are.
+#[tactic(auto, unfolding(crate::specs::SummaryLines::days_head))]
+fn add_days_head(text: &mut String) -> Result<(), NoMemory>
+    ensures { OnOk result (string_bytes text.new ≡ string_bytes text.old ++ days_head) }
+{
+    text.push_str("\nday   duties      wanted      worked        over       under\n")
+}
+
 /// Adds a line for each day, and one for all.
+#[tactic(auto, unfolding(crate::specs::SummaryLines::days_lines))]
 fn add_days(
     alloc: Global,
     text: &mut String,
     instance: &Instance,
     summary: &Summary,
-) -> Result<(), NoMemory> {
-    text.push_str("\nday   duties      wanted      worked        over       under\n")?;
-    for (k, day) in summary.days.iter().enumerate() {
-        let number = k.saturating_add(1);
-        let duties = day.duties;
-        write!(text, "{number:>3}{duties:>9}")?;
-        add_totals(alloc, text, instance, &day.totals)?;
-    }
-    let duties = summary.duties;
-    write!(text, "all{duties:>9}")?;
-    add_totals(alloc, text, instance, &summary.totals)
+) -> Result<(), NoMemory>
+    ensures { OnOk result (string_bytes text.new ≡ string_bytes text.old ++ days_lines instance.now summary.now) }
+{
+    add_days_head(text)?;
+    add_each_day(alloc, text, instance, summary.days.as_slice())?;
+    text.push_str("all")?;
+    add_number(text, summary.duties, 9)?;
+    add_totals(alloc, text, instance, &summary.totals)?;
+    text.push_str("\n")
+}
+
+/// Adds the day and the time of a slot.
+#[tactic(auto, unfolding(crate::specs::SummaryLines::moment_columns))]
+fn add_moment(text: &mut String, instance: &Instance, slot: &CostlySlot) -> Result<(), NoMemory>
+    ensures { OnOk result (string_bytes text.new ≡ string_bytes text.old ++ moment_columns instance.now slot.now.slot) }
+{
+    let time = slot.time(instance);
+    add_number(text, slot.day(instance) as u64, 3)?;
+    write!(text, "  {time}")
 }
 
 /// Adds the line of a slot that costs something.
+#[tactic(auto, unfolding(crate::specs::SummaryLines::costly_line))]
 fn add_costly_slot(
     text: &mut String,
     instance: &Instance,
     slot: &CostlySlot,
-) -> Result<(), NoMemory> {
-    let day = slot
-        .slot
-        .checked_div(day_slots(instance))
-        .unwrap_or(0)
-        .saturating_add(1);
-    let time = ClockTime::of_slot(instance, u32::try_from(slot.slot).unwrap_or(0));
-    let (wanted, working, cost) = (slot.wanted, slot.working, slot.cost);
-    write!(text, "{day:>3}  {time}{wanted:>9}{working:>9}{cost:>18}\n")
+) -> Result<(), NoMemory>
+    ensures { OnOk result (string_bytes text.new ≡ string_bytes text.old ++ costly_line instance.now slot.now) }
+{
+    add_moment(text, instance, slot)?;
+    add_number(text, u64::from(slot.wanted), 9)?;
+    add_number(text, u64::from(slot.working), 9)?;
+    add_number(text, slot.cost, 18)?;
+    text.push_str("\n")
+}
+
+/// Adds what the columns of the slots that cost most are.
+#[tactic(auto, unfolding(crate::specs::SummaryLines::costliest_head))]
+fn add_costliest_head(text: &mut String) -> Result<(), NoMemory>
+    ensures { OnOk result (string_bytes text.new ≡ string_bytes text.old ++ costliest_head) }
+{
+    text.push_str("\nday  time    wanted  working              cost\n")
+}
+
+/// Adds a line for each slot.
+fn add_costly_slots(
+    text: &mut String,
+    instance: &Instance,
+    slots: &[CostlySlot],
+) -> Result<(), NoMemory>
+    ensures { OnOk result (string_bytes text.new ≡ string_bytes text.old ++ flat_map (costly_line instance.now) slots.now) }
+{
+    for slot in slots {
+        add_costly_slot(text, instance, slot)?;
+    }
+    Ok(())
+}
+
+/// Adds the slots that cost most below a line of what the columns are, and nothing where there is no such slot.
+#[tactic(auto, unfolding(crate::specs::SummaryLines::costliest_lines))]
+fn add_costliest(
+    text: &mut String,
+    instance: &Instance,
+    slots: &[CostlySlot],
+) -> Result<(), NoMemory>
+    ensures { OnOk result (string_bytes text.new ≡ string_bytes text.old ++ costliest_lines instance.now slots.now) }
+{
+    match slots {
+        [] => Ok(()),
+        _ => {
+            add_costliest_head(text)?;
+            add_costly_slots(text, instance, slots)
+        }
+    }
 }
 
 /// What a plan adds up to, as lines of text: the three parts of its cost, the hours of each day and of all, and the slots that cost
 /// most with their day and time. Days are counted from 1, and hours are shown with their minutes, as `37:30`.
+#[tactic(auto, unfolding(crate::specs::SummaryLines::summary_lines))]
 pub fn summary_text(
     alloc: Global,
     instance: &Instance,
     summary: &Summary,
-) -> Result<String, NoMemory> {
+) -> Result<String, NoMemory>
+    ensures { IfOk result (λ text. string_bytes text ≡ summary_lines instance.now summary.now) }
+{
     let mut text = String::new(alloc);
     add_cost(&mut text, summary)?;
     add_days(alloc, &mut text, instance, summary)?;
-    if !summary.costliest.is_empty() {
-        text.push_str("\nday  time    wanted  working              cost\n")?;
-    }
-    for slot in &summary.costliest {
-        add_costly_slot(&mut text, instance, slot)?;
-    }
+    add_costliest(&mut text, instance, summary.costliest.as_slice())?;
     Ok(text)
 }

@@ -1,5 +1,6 @@
 //! Times and spans of time, as people read them.
 ghost use Rattle.std.specs.Prelude.{◌≡◌, ◌+◌, ◌*◌};
+ghost use Rattle.plan_tables.specs.Times.{span_minutes};
 
 use shift_instance::Instance;
 use std::fmt;
@@ -92,7 +93,9 @@ pub struct Hours {
 
 impl Hours {
     /// How long so many slots are together. Past 2^64 minutes it is as long as that.
-    pub fn of_slots(instance: &Instance, slots: u64) -> Hours {
+    pub fn of_slots(instance: &Instance, slots: u64) -> Hours
+        ensures { result.minutes ≡ span_minutes instance.now slots }
+    {
         let parts = instance.parts();
         Hours {
             minutes: slots.saturating_mul(u64::from(parts.slot_minutes)),

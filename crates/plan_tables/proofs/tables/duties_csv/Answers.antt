@@ -5,8 +5,8 @@ use Rattle.std.proofs.lemmas.List.Elements.{All-same}
 use Rattle.csv.specs.Writing.{default_writer, row_text}
 use Rattle.shift_instance.specs.declared.Row.{Row}
 use Rattle.plan_tables.specs.Records.{duties_text, duty_columns, duty_record}
-use Rattle.plan_tables.specs.Starting.{by_start}
-use Rattle.plan_tables.proofs.Starts.{IsKnown, known_by_start, mapped_at, text_more}
+use Rattle.plan_tables.specs.Starting.{IsKnown, by_start}
+use Rattle.plan_tables.proofs.Starts.{known_by_start, mapped_at, text_more}
 use Rattle.plan_tables.proofs.tables.duties_csv.Goals as goal
 
 pub with_row-requires : goal.with_row-requires

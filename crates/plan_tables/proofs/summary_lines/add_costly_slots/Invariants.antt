@@ -1,0 +1,7 @@
+use Rattle.std.proofs.Common.{◌≡◌, ◌++◌, take, string_bytes}
+use Rattle.std.specs.List.{flat_map}
+use Rattle.plan_tables.specs.SummaryLines.{costly_line}
+use Rattle.plan_tables.proofs.summary_lines.add_costly_slots.Given as goal
+
+abbrev pub invariant-loop-slot : goal.invariant-loop-slot
+invariant-loop-slot l = string_bytes l.text ≡ string_bytes l.fn.text ++ flat_map (costly_line l.instance) (take l.slot-index l.slots)
