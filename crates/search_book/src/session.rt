@@ -86,10 +86,16 @@ impl<D: Disk> Session<D> {
     pub(crate) fn gives(&self) -> bool
         ensures { IsTrue result ↔ Gives (board_at D.reads D.calls D.faults self.now.log self.now.hands self.now.taken self.now.budget self.now.halted) }
     {
-        self.log.shut().is_none()
-            && !is_finished(self.log.state())
-            && !self.halted
-            && self.taken < self.budget
+        if self.log.shut().is_some() {
+            return false;
+        }
+        if is_finished(self.log.state()) {
+            return false;
+        }
+        if self.halted {
+            return false;
+        }
+        self.taken < self.budget
     }
 
     /// The cuts of the node in a worker's hand.
