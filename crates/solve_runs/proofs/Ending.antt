@@ -12,7 +12,7 @@ use Rattle.search_book.specs.Head.{KeepsHead}
 use Rattle.search_book.specs.Opened.{HoldsBook, OpenCause}
 use Rattle.search_book.specs.Search.{SearchView, board_of}
 use Rattle.worker_gate.specs.declared.run.RunEnd.{RunEnd}
-use Rattle.worker_gate.specs.declared.run.RunEnd.TheVariants.{Finished, Spent, Full as FullEnd, DiskFault as DiskEnd, NoMemory as MemoryEnd}
+use Rattle.worker_gate.specs.declared.run.RunEnd.TheVariants.{Finished, Spent, Full as FullEnd, DiskFault as DiskEnd, NoMemory as MemoryEnd, Stopped}
 use Rattle.board_lock.specs.Turns.{plans_since, prices_since, AreTurns}
 use Rattle.worker_gate.specs.Runs.{IsSameSearch}
 use Rattle.worker_gate.specs.Workers.{WorkersEnd}
@@ -32,8 +32,8 @@ module _ {D : Type 0} (reads : D → Option (List ℕ)) (calls faults : D → �
   pub run_ends : (workers commits : ℕ) (old new : SearchView D) (end : RunEnd) → IsSameSearch (board_of reads calls faults old) (board_of reads calls faults new) → IsFresh (board_of reads calls faults old)
       → WorkersEnd (board_of reads calls faults old) (board_of reads calls faults new) end → ∥ AreTurns workers (board_of reads calls faults old) (board_of reads calls faults new) commits ∥₁
       → commits ≤ prices_since old.log.history new.log.history + workers * plans_since old.log.history new.log.history → (new.halted ≡ false → commits + full_hands new.hands ≡ new.taken)
-      → (steps_enough old.log.instance ≤ old.budget → end ≢ Spent) → Ends reads calls faults workers commits old new end
-  run_ends workers commits old new end same fresh ends turns shown exact enough = record {
+      → (steps_enough old.log.instance ≤ old.budget → end ≢ Spent) → end ≢ Stopped → Ends reads calls faults workers commits old new end
+  run_ends workers commits old new end same fresh ends turns shown exact enough unasked = record {
     fresh = fresh;
     ends = ends;
     turns = turns;
@@ -47,6 +47,7 @@ module _ {D : Type 0} (reads : D → Option (List ℕ)) (calls faults : D → �
         omega (arith, none, each, all, budget);
     exact = exact;
     few = λ e. few_steps old.budget (steps_enough old.log.instance) (λ le. enough le e);
+    unasked = unasked;
   }
 
 module _ {D : Type 0} (reads : D → Option (List ℕ)) (calls faults : D → ℕ) (workers : ℕ) (told : ToldMet) (old new : SearchView D) (table : Bool) (held holds : Option (List ℕ)) (writes : ℕ × ℕ) where
@@ -57,6 +58,7 @@ module _ {D : Type 0} (reads : D → Option (List ℕ)) (calls faults : D → �
   unreported (FullEnd end limit) e none = absurd (false≢true (sym none))
   unreported DiskEnd e none = e
   unreported MemoryEnd e none = (MemoryEnd, e, tt)
+  unreported Stopped e none = absurd (e.1.unasked refl)
 
   -- a search whose report was written
   pub reported : (end : RunEnd) → Told reads calls faults workers told old new end → is_reported end ≡ true → IsReported new table held holds → SearchEnds reads calls faults workers told old new table held holds writes (status_at end)
@@ -65,6 +67,7 @@ module _ {D : Type 0} (reads : D → Option (List ℕ)) (calls faults : D → �
   reported (FullEnd end limit) e some written = (e, written)
   reported DiskEnd e some written = absurd (false≢true some)
   reported MemoryEnd e some written = absurd (false≢true some)
+  reported Stopped e some written = absurd (false≢true some)
 
   landed : (end : RunEnd) → is_reported end ≡ true → IsLanded end
   landed Finished some = tt
@@ -72,6 +75,7 @@ module _ {D : Type 0} (reads : D → Option (List ℕ)) (calls faults : D → �
   landed (FullEnd end limit) some = tt
   landed DiskEnd some = absurd (false≢true some)
   landed MemoryEnd some = tt
+  landed Stopped some = absurd (false≢true some)
 
   -- a search whose report wasn't written, or not whole
   pub cut_short : (end : RunEnd) (status : Status) → Told reads calls faults workers told old new end → is_reported end ≡ true → Unwritten new table held holds writes status → SearchEnds reads calls faults workers told old new table held holds writes status

@@ -8,7 +8,7 @@ use Rattle.solve_words.specs.declared.command.Method.{Method}
 use Rattle.solve_words.specs.Words.{from_number, over_journal, Asked, Asks, IsReadAs}
 use Rattle.solve_runs.specs.Demo.{OverMemory}
 use Rattle.worker_gate.specs.declared.run.RunEnd.{RunEnd}
-use Rattle.worker_gate.specs.declared.run.RunEnd.TheVariants.{Finished, Spent, Full as FullEnd, DiskFault as DiskEnd, NoMemory as MemoryEnd}
+use Rattle.worker_gate.specs.declared.run.RunEnd.TheVariants.{Finished, Spent, Full as FullEnd, DiskFault as DiskEnd, NoMemory as MemoryEnd, Stopped}
 use Rattle.solve_runs.specs.Run.{EndsOver, Explains, HasEnded, IsUnopened, IsUnread, Met, OverDisk, Searched}
 use Rattle.solve_runs.specs.Served.{AreUntold, Served}
 use Rattle.solve_runs.specs.Session.{met_of, DiskMet, IsUncalled, Session}
@@ -130,6 +130,7 @@ module _ (disk : DiskMet) (sink : SinkMet) (i : Problem) (table : Bool) (budget 
   ended_all (FullEnd end limit) last s e = (served_all (FullEnd end limit) last s e.0, e.1)
   ended_all DiskEnd last s e = (e.0, served_all DiskEnd last s e.1)
   ended_all MemoryEnd last s e = (e.0, served_all MemoryEnd last s e.1)
+  ended_all Stopped last s e = e
 
   over_all : (opened : Bool) (status : Status) → OverDisk disk sink i table budget workers (record { before = take workers before; after = after }) opened status
       → OverDisk disk sink i table budget workers (record { before = before; after = after }) opened status

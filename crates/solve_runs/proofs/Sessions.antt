@@ -31,7 +31,7 @@ use Rattle.search_book.specs.Search.{SearchView, board_of}
 use Rattle.search_book.specs.Posts.{IsJournalOf}
 use Rattle.post_codec.specs.Batches.{joined}
 use Rattle.worker_gate.specs.declared.run.RunEnd.{RunEnd}
-use Rattle.worker_gate.specs.declared.run.RunEnd.TheVariants.{Finished, Spent, Full as FullEnd, DiskFault as DiskEnd, NoMemory as MemoryEnd}
+use Rattle.worker_gate.specs.declared.run.RunEnd.TheVariants.{Finished, Spent, Full as FullEnd, DiskFault as DiskEnd, NoMemory as MemoryEnd, Stopped}
 use Rattle.board_lock.specs.Turns.{is_plan, is_prices, AreTurns}
 use Rattle.solve_runs.specs.Report.{cert_of, output_of, IsUnbeaten}
 use Rattle.solve_runs.specs.Run.{HasEnded, OverDisk, IsFinished, IsSpent, IsFull, Reports, ReportsPart}
@@ -194,6 +194,7 @@ module _ {D : Type 0} (reads : D → Option (List ℕ)) (images : D → List ℕ
     landed_of commits k Spent e landed = subst (ShutOf new.log.limit (faults new.log.opened) (faults new.log.disk) new.log.in_flight) e.ends.0.running k.fault
     landed_of commits k (FullEnd end limit) e landed = (subst (ShutOf new.log.limit (faults new.log.opened) (faults new.log.disk) new.log.in_flight) e.ends.0 k.fault).0
     landed_of commits k DiskEnd e landed = absurd landed
+    landed_of commits k Stopped e landed = absurd landed
     landed_of commits k MemoryEnd e landed = subst (ShutOf new.log.limit (faults new.log.opened) (faults new.log.disk) new.log.in_flight) e.ends.0 k.fault
 
     finished_of : (commits : ℕ) (k : Known) → Ends reads calls faults workers commits old new Finished → IsFinished (session_of k)
@@ -290,6 +291,7 @@ module _ {D : Type 0} (reads : D → Option (List ℕ)) (images : D → List ℕ
     ended_of k (FullEnd end limit) t = (served_of k (FullEnd end limit) t, full_of t.0 k end limit t.1)
     ended_of k DiskEnd t = (rose_of t.0 k t.1, served_of k DiskEnd t)
     ended_of k MemoryEnd t = (landed_of t.0 k MemoryEnd t.1 tt, served_of k MemoryEnd t)
+    ended_of k Stopped t = absurd (t.1.unasked refl)
 
   -- ---- what is written
 

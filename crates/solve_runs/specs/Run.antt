@@ -30,7 +30,7 @@ use Rattle.solve_runs.specs.Report.{cert_of, output_of, IsUnbeaten}
 use Rattle.solve_runs.specs.Session.{DiskMet, IsUncalled, Session, posts_in}
 use Rattle.solve_runs.specs.Status.{EndsBeforeReading}
 use Rattle.worker_gate.specs.declared.run.RunEnd.{RunEnd}
-use Rattle.worker_gate.specs.declared.run.RunEnd.TheVariants.{Finished, Spent, Full as FullEnd, DiskFault as DiskEnd, NoMemory as MemoryEnd}
+use Rattle.worker_gate.specs.declared.run.RunEnd.TheVariants.{Finished, Spent, Full as FullEnd, DiskFault as DiskEnd, NoMemory as MemoryEnd, Stopped}
 use Rattle.solve_runs.specs.Search.{is_reported, IsLanded}
 use Rattle.solve_runs.specs.Served.{AreTold, AreUntold, Served, ToldMet, Works}
 use Rattle.solve_runs.specs.Streams.{SinkMet}
@@ -85,6 +85,7 @@ HasEnded disk i workers budget told Spent last s = IsSpent budget s × Works wor
 HasEnded disk i workers budget told (FullEnd end limit) last s = (served : Served workers budget told (FullEnd end limit) last s) × IsFull workers served.0 budget end limit last s
 HasEnded disk i workers budget told DiskEnd last s = Rose disk.faults.0 disk.faults.1 × Served workers budget told DiskEnd last s
 HasEnded disk i workers budget told MemoryEnd last s = (s.in_flight ≡ []) × Served workers budget told MemoryEnd last s
+HasEnded disk i workers budget told Stopped last s = ⊥
 
 -- ---- what is written
 

@@ -1,5 +1,5 @@
 -- What a run does to the book that it opened, step by step.
-use Rattle.std.specs.Prelude.{◌≡◌, ⊤, ℕ, ◌+◌, ◌*◌, ◌<◌, ◌≤◌, Bool, true, false, List, Option, None}
+use Rattle.std.specs.Prelude.{◌≡◌, ◌≢◌, ⊤, ℕ, ◌+◌, ◌*◌, ◌<◌, ◌≤◌, Bool, true, false, List, Option, None}
 use Rattle.std.specs.Io.KnownBytes.{Appends}
 use Rattle.plan_base.specs.Causes.{Rose}
 use Rattle.plan_base.specs.Streams.{AppendsPart}
@@ -8,7 +8,7 @@ use Rattle.search_core.specs.Calls.{full_hands, steps_enough, IsFresh}
 use Rattle.search_core.specs.Core.{empty_hands, IsFront}
 use Rattle.search_book.specs.Search.{SearchView, board_of}
 use Rattle.worker_gate.specs.declared.run.RunEnd.{RunEnd}
-use Rattle.worker_gate.specs.declared.run.RunEnd.TheVariants.{Finished, Spent, Full as FullEnd, DiskFault as DiskEnd, NoMemory as MemoryEnd}
+use Rattle.worker_gate.specs.declared.run.RunEnd.TheVariants.{Finished, Spent, Full as FullEnd, DiskFault as DiskEnd, NoMemory as MemoryEnd, Stopped}
 use Rattle.board_lock.specs.Turns.{plans_since, prices_since, AreTurns}
 use Rattle.worker_gate.specs.Runs.{IsSameSearch}
 use Rattle.worker_gate.specs.Workers.{WorkersEnd}
@@ -31,7 +31,8 @@ pub record GoesOn {D : Type 0} (reads : D → Option (List ℕ)) (calls faults :
 
 -- How a search by workers over a book ended that was just opened: turns of theirs made it of what it was, with so many commits that answered Ok. Each of
 -- these posted prices or a plan, or another worker's plan had closed its node. Where no worker gave up, each step was committed whose
--- node is in no hand. A search that took all its steps committed each, and had too few of them for each search of the instance.
+-- node is in no hand. A search that took all its steps committed each, and had too few of them for each search of the instance. Nothing
+-- asked it to stop.
 pub record Ends {D : Type 0} (reads : D → Option (List ℕ)) (calls faults : D → ℕ) (workers commits : ℕ) (old new : SearchView D) (end : RunEnd) : Type 0 where
   pub fresh : IsFresh (board_of reads calls faults old)
   pub ends : WorkersEnd (board_of reads calls faults old) (board_of reads calls faults new) end
@@ -40,6 +41,7 @@ pub record Ends {D : Type 0} (reads : D → Option (List ℕ)) (calls faults : D
   pub spent : end ≡ Spent → commits ≡ old.budget
   pub exact : new.halted ≡ false → commits + full_hands new.hands ≡ new.taken
   pub few : end ≡ Spent → old.budget < steps_enough old.log.instance
+  pub unasked : end ≢ Stopped
 
 -- so a search ended, and so often its advisers were told something
 abbrev pub Told : {D : Type 0} → (D → Option (List ℕ)) → (D → ℕ) → (D → ℕ) → ℕ → ToldMet → SearchView D → SearchView D → RunEnd → Type 0
@@ -52,14 +54,16 @@ is_reported Spent = true
 is_reported (FullEnd end limit) = true
 is_reported DiskEnd = false
 is_reported MemoryEnd = false
+is_reported Stopped = false
 
--- how a run ends whose search ended so, and whose report was written, where there is one
+-- how a run ends whose search ended so, and whose report was written, where there is one; no search of a run is asked to stop
 abbrev pub status_at : RunEnd → Status
 status_at Finished = Optimal
 status_at Spent = Budget
 status_at (FullEnd end limit) = Full end limit
 status_at DiskEnd = DiskFault
 status_at MemoryEnd = NoMemory
+status_at Stopped = NoMemory
 
 -- a search that the disk didn't end
 abbrev pub IsLanded : RunEnd → Type 0
@@ -68,6 +72,7 @@ IsLanded Spent = ⊤
 IsLanded (FullEnd end limit) = ⊤
 IsLanded DiskEnd = ⊥
 IsLanded MemoryEnd = ⊤
+IsLanded Stopped = ⊥
 
 -- the report of a book was written, with its table where that is asked for, and it is a text of the book's certificate
 abbrev pub IsReported : {D : Type 0} → SearchView D → Bool → Option (List ℕ) → Option (List ℕ) → Type 0

@@ -16,7 +16,7 @@ ghost use Rattle.solve_runs.specs.declared.status.Status.TheVariants.{NoMemory a
 
 use crate::search::{is_reported, status_at};
 use crate::status::Status;
-use advice::Adviser;
+use advice::{Adviser, Never};
 use gated_journal::JOURNAL_MAX;
 use instance_json::generate;
 use instance_json::laws::canonical_text_is_short;
@@ -103,7 +103,7 @@ fn search_all<D: Disk, G: Gate>(
         told: 0,
         share: 0,
     };
-    let end = run_seat(alloc, instance, book, &mut seat, gate);
+    let end = run_seat(alloc, instance, book, &mut seat, gate, &Never);
     let Seat {
         adviser,
         told: _,

@@ -6,7 +6,7 @@ ghost use Rattle.solve_runs.specs.Status.{EndsUnwritten};
 
 use crate::report::output_of;
 use crate::status::Status;
-use advice::Adviser;
+use advice::{Adviser, Never};
 use plan_base::{Disk, Failed, Sink, write_all};
 use search_book::Book;
 use search_core::keeps_sound;
@@ -37,7 +37,7 @@ fn run_search<D: Disk + Send, G: Gate + Sync, R: Threads + Wait + Sync>(
 {
     // what every board keeps, and this one as it is opened
     keeps_sound(&book);
-    run_workers(rt, alloc, instance, book, seats, gate)
+    run_workers(rt, alloc, instance, book, seats, gate, &Never)
 }
 
 /// Whether a search came to an end of which a report is written.
@@ -50,6 +50,7 @@ pub(crate) fn is_reported(end: RunEnd) -> bool
         RunEnd::Full { end: _, limit: _ } => true,
         RunEnd::DiskFault => false,
         RunEnd::NoMemory => false,
+        RunEnd::Stopped => false,
     }
 }
 
@@ -63,6 +64,8 @@ pub(crate) fn status_at(end: RunEnd) -> Status
         RunEnd::Full { end, limit } => Status::Full { end, limit },
         RunEnd::DiskFault => Status::DiskFault,
         RunEnd::NoMemory => Status::NoMemory,
+        // nothing asks the search of a run to stop
+        RunEnd::Stopped => Status::NoMemory,
     }
 }
 

@@ -1,4 +1,5 @@
 use Rattle.std.proofs.Common.{sum_by, vec_len, arith}
+use Rattle.std.proofs.lemmas.Bool.{false≢true}
 use denote.Param.Send.{param_send, arg_send}
 use Rattle.search_core.specs.Calls.{IsFresh}
 use Rattle.search_book.proofs.Crosses.{book_send}
@@ -21,7 +22,7 @@ returns-clause-ends g c =
     let commits = sum_by (λ s. s.share) seats.items in
     let fresh : IsFresh (board_of K.reads K.calls K.faults c.args.book) = record { sound = c.keeps_sound.ensures; none_taken = c.requires.begun.fresh; empty = c.requires.begun.empty } in (
       commits,
-      run_ends K.reads K.calls K.faults (vec_len c.args.seats) commits c.args.book c.run_workers.result.0 c.run_workers.result.2 r.same fresh r.end r.turns r.posts r.exact r.enough,
+      run_ends K.reads K.calls K.faults (vec_len c.args.seats) commits c.args.book c.run_workers.result.0 c.run_workers.result.2 r.same fresh r.end r.turns r.posts r.exact r.enough (λ stopped. false≢true (r.stopped stopped)),
       are_told (λ s. (goal.Adviser-dyn g (s.adviser.vtable, s.adviser.value)).told s.adviser.value) (λ s. s.told) (λ s. s.share) (vec_len c.args.seats) c.args.seats.items seats.items
           (omega (arith, c.args.seats.ok)) (omega (arith, seats.ok, r.seats)) r.each r.told,
     )
