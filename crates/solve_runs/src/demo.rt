@@ -1,6 +1,6 @@
 //! A demonstration: a search without a document and without a journal's file, for the instance made from a number.
 
-ghost use Rattle.std.specs.Prelude.{◌≡◌, ◌⊎◌, ◌<◌, ◌^◌, ℕ, true, [], map, vec_len, IfErr, IfOk, IsSome, None, OnOk, option_and_then, Some};
+ghost use Rattle.std.specs.Prelude.{◌≡◌, ◌⊎◌, ◌<◌, ◌^◌, ℕ, true, [], map, vec_len, IfOk, IsSome, None, OnErr, OnOk, option_and_then, Some};
 ghost use Rattle.std.specs.Io.KnownBytes.{Appends};
 ghost use Rattle.plan_base.specs.Causes.{Rose};
 ghost use Rattle.plan_base.specs.Streams.{AppendsPart};
@@ -61,25 +61,19 @@ fn line_of<D: Disk>(alloc: Global, number: u32, book: &Book<D>) -> Result<Vec<u8
     )
 }
 
-/// Writes the line of a demonstration's book. A refusal says how the run ends.
+/// Writes the line of a demonstration's book, unless there is no memory for it; the sink may fail.
 fn write_line<K: Sink, D: Disk>(
     alloc: Global,
     number: u32,
     book: &Book<D>,
     out: &mut K,
-) -> Result<(), Status>
-    ensures ok { OnOk result (Appends (K.held out.old) (K.held out.new) (line_of number (board_of D.reads D.calls D.faults book.now))) }
-    ensures part { IfErr result (λ status. status ≡ Status.WriteFault → AppendsPart (K.held out.old) (K.held out.new) (line_of number (board_of D.reads D.calls D.faults book.now)) × Rose (K.faults out.old) (K.faults out.new)) }
-    ensures err { IfErr result (λ status. (status ≡ Status.WriteFault) ⊎ (status ≡ Status.NoMemory)) }
-    ensures unwritten { IfErr result (λ status. status ≡ Status.NoMemory → out.new ≡ out.old) }
+) -> Result<Result<(), Failed>, AllocError>
+    ensures ok { IfOk result (λ sent. OnOk sent (Appends (K.held out.old) (K.held out.new) (line_of number (board_of D.reads D.calls D.faults book.now)))) }
+    ensures part { IfOk result (λ sent. OnErr sent (AppendsPart (K.held out.old) (K.held out.new) (line_of number (board_of D.reads D.calls D.faults book.now)) × Rose (K.faults out.old) (K.faults out.new))) }
+    ensures unwritten { OnErr result (out.new ≡ out.old) }
 {
-    let Ok(bytes) = line_of(alloc, number, book) else {
-        return Err(Status::NoMemory);
-    };
-    match write_all(out, bytes.as_slice()) {
-        Ok(()) => Ok(()),
-        Err(Failed) => Err(Status::WriteFault),
-    }
+    let bytes = line_of(alloc, number, book)?;
+    Ok(write_all(out, bytes.as_slice()))
 }
 
 /// The search of a demonstration by the one adviser over a book from which no node was taken yet. The adviser comes back.
@@ -208,8 +202,8 @@ fn demo_over<K: Sink, G: Gate>(
         return DemoEnd::no_memory(advisers);
     }
     match write_line(alloc, number, &book, out) {
-        Ok(()) => DemoEnd::with_book(status_at(end), advisers, book),
-        Err(Status::WriteFault) => DemoEnd::with_book(Status::WriteFault, advisers, book),
+        Ok(Ok(())) => DemoEnd::with_book(status_at(end), advisers, book),
+        Ok(Err(Failed)) => DemoEnd::with_book(Status::WriteFault, advisers, book),
         Err(_) => DemoEnd::no_memory(advisers),
     }
 }
