@@ -1,4 +1,4 @@
-//! Tests of runs of `solve` with sources, sinks and disks in memory of which a call fails.
+//! Tests of runs of `solve` with sources, sinks and disks in memory of which a call fails, and with advisers that no program has.
 #![tactic(auto)]
 
 #[cfg(test)]

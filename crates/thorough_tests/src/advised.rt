@@ -1,7 +1,7 @@
-//! Prices, a plan and a split that are advised where the adviser was asked for another day before.
+//! Prices, plans and splits that are advised where the adviser was asked for another day before.
 ghost use Rattle.std.specs.Prelude.{◌≡◌, IfOk, length};
 
-use advice::{Advice, Adviser, Ask, Splitting, Told};
+use advice::{Advice, Adviser, Ask, Told};
 use break_rules::{Breaks, NoMemory};
 use dual_bound::prove;
 use head_splits::{Class, Cut, Cuts, Hint, Prices, Side};
@@ -20,6 +20,11 @@ const MORNING: &str =
 /// The same with at most two duties on a day.
 const TWO: &str =
     "{\"slot_minutes\":60,\"days\":1,\"need\":[0,0,0,0,0,0,0,0,1,1,1,1,0,0,0,0,0,0,0,0,0,0,0,0],\"max_heads\":2,\"weights\":{\"excess\":1,\"shortage\":2,\"shift\":3},\"types\":[{\"name\":\"M\",\"start_min\":8,\"start_max\":8,\"len_min\":4,\"len_max\":4,\"breaks\":null}]}";
+
+/// Slots of a quarter of an hour, of one day. The one shift has 51 slots from midnight on, in which a slot of work and a slot of break take
+/// turns, and at most one duty on a day; one employee is needed where it works. Excess costs 1, shortage 2 and the shift 3.
+const MANY_BREAKS: &str =
+    "{\"slot_minutes\":15,\"days\":1,\"need\":[1,0,1,0,1,0,1,0,1,0,1,0,1,0,1,0,1,0,1,0,1,0,1,0,1,0,1,0,1,0,1,0,1,0,1,0,1,0,1,0,1,0,1,0,1,0,1,0,1,0,1,0,0,0,0,0,0,0,0,0,0,0,0,0,0,0,0,0,0,0,0,0,0,0,0,0,0,0,0,0,0,0,0,0,0,0,0,0,0,0,0,0,0,0,0,0],\"max_heads\":1,\"weights\":{\"excess\":1,\"shortage\":2,\"shift\":3},\"types\":[{\"name\":\"L\",\"start_min\":0,\"start_max\":0,\"len_min\":51,\"len_max\":51,\"breaks\":{\"lead\":1,\"tail\":1,\"work_min\":1,\"work_max\":1,\"long_work\":1,\"long_rest\":1,\"size_min\":1,\"size_max\":1,\"totals\":[[51,25]],\"lunches\":[],\"resettle\":0}}]}";
 
 /// One cut: at least one duty of the shift.
 fn used(alloc: Global) -> Result<Cuts, NoMemory>
@@ -69,18 +74,12 @@ fn bound_of(alloc: Global, instance: &Instance, prices: Prices) -> Option<u64> {
     }
 }
 
-/// What a plan costs, where there is one and it is legal.
-fn cost_of(instance: &Instance, plan: Option<Rows>) -> Option<u64> {
-    match cost_rows(instance, plan?) {
+/// What legal rows cost.
+fn cost_of(instance: &Instance, rows: Rows) -> Option<u64> {
+    match cost_rows(instance, rows) {
         Ok(costed) => Some(costed.cost()),
         Err(_) => None,
     }
-}
-
-/// The shift, the day and the number of a split.
-fn parts_of(split: Option<Splitting>) -> Option<(u16, u8, u16)> {
-    let Splitting { class, m } = split?;
-    Some((class.shift, class.day, m))
 }
 
 /// What is seen of an advice.
@@ -92,48 +91,55 @@ fn seen_of(alloc: Global, instance: &Instance, advice: Advice) -> Seen {
     } = advice;
     Seen {
         bound: bound_of(alloc, instance, prices),
-        cost: cost_of(instance, plan),
-        split: parts_of(split),
+        cost: plan.and_then(|rows| cost_of(instance, rows)),
+        split: split.map(|split| (split.class.shift, split.class.day, split.m)),
     }
 }
 
-/// Asks an adviser for the first day, below a cut, and tells it something.
-fn ask_first(alloc: Global, adviser: &mut Thorough, day: &Instance) -> Result<(), NoMemory> {
-    let ask = asked(alloc, used(alloc)?);
-    let _first = adviser.advise(day, &ask)?;
+/// What is seen of the second advice of an adviser that was asked for another day first, through a box, and was told something.
+fn second_seen(alloc: Global, first: &str, second: &str) -> Result<Seen, Fail> {
+    let mut adviser: Box<dyn Adviser + Send> = Box::new(alloc, Thorough::new(alloc, 1))?;
+    let other = read(alloc, first.as_bytes())?;
+    let _first = adviser.advise(&other, &asked(alloc, used(alloc)?))?;
     adviser.learn(&Told {
         node: 1,
         floor: 3,
         best: 8,
     });
-    Ok(())
+    let instance = read(alloc, second.as_bytes())?;
+    let advice = adviser.advise(&instance, &asked(alloc, Cuts::new(Vec::new(alloc))))?;
+    Ok(seen_of(alloc, &instance, advice))
 }
 
-/// What is seen of an adviser's advice for the node without cuts.
-fn seen(alloc: Global, adviser: &mut Thorough, day: &Instance) -> Result<Seen, NoMemory> {
-    let ask = asked(alloc, Cuts::new(Vec::new(alloc)));
-    let advice = adviser.advise(day, &ask)?;
-    Ok(seen_of(alloc, day, advice))
-}
-
-/// What is seen of the advice for a second day, after that for the first.
-fn second_seen(alloc: Global, first: &Instance, second: &Instance) -> Result<Seen, NoMemory> {
-    let mut adviser = Thorough::new(alloc, 1);
-    ask_first(alloc, &mut adviser, first)?;
-    seen(alloc, &mut adviser, second)
-}
-
-// Nothing of the first day is left. As two duties may be, half a shift would do, which costs half of it: the node is split above one duty,
-// as a second one would only cost.
+// Nothing of the first day is left. Where one duty is the most, the best prices earn what the shift costs, which its plan costs too. Where
+// two may be, half a shift would do, which costs half of it: the node is split above one duty, as a second one would only cost.
 #[test]
 fn another_instance_is_begun_anew(rt: HostRuntime) -> Result<(), Fail> {
-    let first = read(rt.alloc(), MORNING.as_bytes())?;
-    let second = read(rt.alloc(), TWO.as_bytes())?;
-    let wanted = Seen {
+    let alloc = rt.alloc();
+    let one = Seen {
+        bound: Some(3),
+        cost: Some(3),
+        split: None,
+    };
+    assert_eq!(rt; second_seen(alloc, TWO, MORNING)?, one);
+    let two = Seen {
         bound: Some(2),
         cost: Some(3),
         split: Some((0, 0, 1)),
     };
-    assert_eq!(rt; second_seen(rt.alloc(), &first, &second)?, wanted);
+    assert_eq!(rt; second_seen(alloc, MORNING, TWO)?, two);
+    Ok(())
+}
+
+// A duty has 25 breaks, more than the search for plans puts into one, so the greedy plan is advised: the duty is just what is needed and
+// costs the shift, where the 26 slots without anybody cost 52.
+#[test]
+fn the_greedy_plan_is_advised_where_the_search_has_none(rt: HostRuntime) -> Result<(), Fail> {
+    let alloc = rt.alloc();
+    let instance = read(alloc, MANY_BREAKS.as_bytes())?;
+    let mut ask = asked(alloc, Cuts::new(Vec::new(alloc)));
+    ask.best = 52;
+    let advice = Thorough::new(alloc, 1).advise(&instance, &ask)?;
+    assert_eq!(rt; seen_of(alloc, &instance, advice).cost, Some(3));
     Ok(())
 }

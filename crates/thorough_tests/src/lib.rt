@@ -1,4 +1,4 @@
-//! A test of what the thorough adviser tells of one day after another, worked out by hand.
+//! Tests of what the thorough adviser advises, worked out by hand.
 #![tactic(auto)]
 
 #[cfg(test)]
