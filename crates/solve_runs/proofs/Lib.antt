@@ -10,3 +10,4 @@ pub mod Wishes
 pub mod Telling
 pub mod Unfit
 pub mod Limits
+pub mod Written

@@ -14,7 +14,6 @@ ghost use Rattle.solve_runs.specs.Served.{AreTold};
 ghost use Rattle.solve_runs.specs.Status.{EndsUnwritten};
 ghost use Rattle.solve_runs.specs.declared.status.Status.TheVariants.{NoMemory as MemoryStatus};
 
-use crate::search::{is_reported, status_at};
 use crate::status::Status;
 use advice::Adviser;
 use gated_journal::JOURNAL_MAX;
@@ -79,6 +78,32 @@ fn write_line<K: Sink, D: Disk>(
     match write_all(out, bytes.as_slice()) {
         Ok(()) => Ok(()),
         Err(Failed) => Err(Status::WriteFault),
+    }
+}
+
+/// Whether a search came to an end of which a report is written.
+fn is_reported(end: RunEnd) -> bool
+    ensures { result ≡ is_reported end }
+{
+    match end {
+        RunEnd::Finished => true,
+        RunEnd::Spent => true,
+        RunEnd::Full { end: _, limit: _ } => true,
+        RunEnd::DiskFault => false,
+        RunEnd::NoMemory => false,
+    }
+}
+
+/// How a run ends whose search ended so, and whose report was written, where there is one.
+fn status_at(end: RunEnd) -> Status
+    ensures { result ≡ status_at end }
+{
+    match end {
+        RunEnd::Finished => Status::Optimal,
+        RunEnd::Spent => Status::Budget,
+        RunEnd::Full { end, limit } => Status::Full { end, limit },
+        RunEnd::DiskFault => Status::DiskFault,
+        RunEnd::NoMemory => Status::NoMemory,
     }
 }
 

@@ -11,7 +11,7 @@ returns-in-Thorough c =
     let words : List (List ℕ) = map (string_bytes {Z = Global}) c.args.words.now in
     let s = c.in-Some-Search in
     let found : Option Asked = Some (over_journal s.field-0-0.now s.field-0-1 s.field-0-2 s.field-0-3 s.method) in
-    let reads : IsReadAs words found = subst (λ (o : Option Command). IsReadAs words (option_map asked o)) (s.is ∙ ap (λ (x : Command). Some x) s.field-0-is) c.in_ok-method.ensures in
+    let reads : IsReadAs words found = subst (λ (o : Option Command). IsReadAs words (option_map asked o)) (s.is ∙ ap (λ (x : Command). Some x) s.field-0-is) c.in_ok-method.ensures.reads in
     method_read Thorough words found true reads (ap (is_same Thorough) c.in-Thorough.is)
 
 pub returns-in_default : goal.returns-in_default
@@ -19,7 +19,7 @@ returns-in_default c =
     let words : List (List ℕ) = map (string_bytes {Z = Global}) c.args.words.now in
     let s = c.in-Some-Search in
     let found : Option Asked = Some (over_journal s.field-0-0.now s.field-0-1 s.field-0-2 s.field-0-3 s.method) in
-    let reads : IsReadAs words found = subst (λ (o : Option Command). IsReadAs words (option_map asked o)) (s.is ∙ ap (λ (x : Command). Some x) s.field-0-is) c.in_ok-method.ensures in
+    let reads : IsReadAs words found = subst (λ (o : Option Command). IsReadAs words (option_map asked o)) (s.is ∙ ap (λ (x : Command). Some x) s.field-0-is) c.in_ok-method.ensures.reads in
     method_read Thorough words found false reads (apart Thorough s.method c.in_default.not-Thorough)
 
 pub returns-in-Some-Demo : goal.returns-in-Some-Demo
@@ -27,10 +27,10 @@ returns-in-Some-Demo c =
     let words : List (List ℕ) = map (string_bytes {Z = Global}) c.args.words.now in
     let s = c.in-Some-Demo in
     let found : Option Asked = Some (from_number s.field-0-0 s.field-0-1) in
-    let reads : IsReadAs words found = subst (λ (o : Option Command). IsReadAs words (option_map asked o)) (s.is ∙ ap (λ (x : Command). Some x) s.field-0-is) c.in_ok-method.ensures in
+    let reads : IsReadAs words found = subst (λ (o : Option Command). IsReadAs words (option_map asked o)) (s.is ∙ ap (λ (x : Command). Some x) s.field-0-is) c.in_ok-method.ensures.reads in
     method_read Thorough words found false reads refl
 
 pub returns-in-None : goal.returns-in-None
 returns-in-None c =
     let words : List (List ℕ) = map (string_bytes {Z = Global}) c.args.words.now in
-    method_read Thorough words None false (subst (λ (o : Option Command). IsReadAs words (option_map asked o)) c.in-None.is c.in_ok-method.ensures) refl
+    method_read Thorough words None false (subst (λ (o : Option Command). IsReadAs words (option_map asked o)) c.in-None.is c.in_ok-method.ensures.reads) refl
