@@ -1,7 +1,7 @@
 //! The book of a search on a disk, from which workers take nodes.
-ghost use Rattle.std.specs.Prelude.{◌≡◌, ℕ, ◌+◌, ◌*◌, ◌^◌, ◌<◌, ◌≤◌, [], ◌++◌, false, length, IfErr, IfOk, IsSome, None, Some};
+ghost use Rattle.std.specs.Prelude.{◌≡◌, ◌↔◌, ℕ, ◌+◌, ◌*◌, ◌^◌, ◌<◌, ◌≤◌, [], ◌++◌, false, length, IfErr, IfOk, IsSome, IsTrue, None, Some};
 ghost use Rattle.plan_base.specs.Disk.{TellsAlike};
-ghost use Rattle.search_core.specs.Board.{yields, CommitRefuses, Commits, TakeMakes};
+ghost use Rattle.search_core.specs.Board.{yields, CommitRefuses, Commits, Gives, TakeMakes};
 ghost use Rattle.search_core.specs.Book.{book_of, is_finished, floor_of, IsSound};
 ghost use Rattle.search_core.specs.Core.{empty_hands, hand};
 ghost use Rattle.search_core.specs.Kept.{cuts_in};
@@ -107,6 +107,13 @@ impl<D: Disk> Book<D> {
         ensures makes { TakeMakes result worker (board_of D.reads D.calls D.faults self.old) (board_of D.reads D.calls D.faults self.new) }
     {
         self.session.take(worker)
+    }
+
+    /// Whether it gives nodes: nothing shut it, a node is open, no worker gave up, and a step is left.
+    pub fn gives(&self) -> bool
+        ensures { IsTrue result ↔ Gives (board_of D.reads D.calls D.faults self.now) }
+    {
+        self.session.gives()
     }
 
     /// The cuts of the node in a worker's hand.
