@@ -21,7 +21,7 @@ use Rattle.search_book.specs.Opening.{IsBegun, IsOpenedFrom}
 use Rattle.search_book.specs.Posts.{IsJournalOf}
 use Rattle.search_book.specs.Search.{board_of, SearchView}
 use Rattle.worker_gate.specs.declared.run.RunEnd.{RunEnd}
-use Rattle.worker_gate.specs.declared.run.RunEnd.TheVariants.{Finished, Spent, Full as FullEnd, DiskFault as DiskEnd, NoMemory as MemoryEnd}
+use Rattle.worker_gate.specs.declared.run.RunEnd.TheVariants.{Finished, Spent, Full as FullEnd, DiskFault as DiskEnd, NoMemory as MemoryEnd, Stopped}
 use Rattle.worker_gate.specs.Runs.{committed, plans_and_prices_since, IsSameSearch, RunEnds, RunMakes}
 use Rattle.solve_runs.specs.Demo.{demo_text, line_of, AreCommitted, Demonstration, DemoMet, IsNew, IsShown, IsTold, OverMemory, Searches}
 use Rattle.solve_runs.specs.Report.{IsUnbeaten}
@@ -50,6 +50,7 @@ are_committed first last (FullEnd most limit) some makes =
     let all : last.taken ≡ (last.taken - 1) + 1 = omega (arith, cut, more) in all
 are_committed first last DiskEnd some makes = absurd (false≢true some)
 are_committed first last MemoryEnd some makes = absurd (false≢true some)
+are_committed first last Stopped some makes = absurd (false≢true some)
 
 -- the one adviser was told so often
 pub one_told : (before after : List ℕ) (was is grown commits : ℕ) → before ≡ was ∷ [] → after ≡ is ∷ [] → (was < 2 ^ 63 → is ≡ was + grown) → grown ≡ commits → AreTold 1 commits (record { before = before; after = after })
@@ -133,6 +134,7 @@ module _ {D : Type 0} (reads : D → Option (List ℕ)) (images : D → List ℕ
   landed (FullEnd most limit) some ends fault = (subst (ShutOf new.log.limit (faults new.log.opened) (faults new.log.disk) new.log.in_flight) ends.0 fault).0
   landed DiskEnd some ends fault = absurd (false≢true some)
   landed MemoryEnd some ends fault = absurd (false≢true some)
+  landed Stopped some ends fault = absurd (false≢true some)
 
   sound_of : Known → IsSound (generated number) (book_at (board_of reads calls faults new))
   sound_of k =
@@ -165,6 +167,7 @@ shown_ends met Spent some shown = shown
 shown_ends met (FullEnd most limit) some shown = shown
 shown_ends met DiskEnd some shown = absurd (false≢true some)
 shown_ends met MemoryEnd some shown = absurd (false≢true some)
+shown_ends met Stopped some shown = absurd (false≢true some)
 
 -- a content that is told
 some_of : (o : Option (List ℕ)) → IsSome o → (file : List ℕ) × (o ≡ Some file)

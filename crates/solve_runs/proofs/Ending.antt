@@ -13,12 +13,12 @@ use Rattle.search_book.specs.Head.{KeepsHead}
 use Rattle.search_book.specs.Opened.{HoldsBook, OpenCause}
 use Rattle.search_book.specs.Search.{SearchView, board_of}
 use Rattle.worker_gate.specs.declared.run.RunEnd.{RunEnd}
-use Rattle.worker_gate.specs.declared.run.RunEnd.TheVariants.{Finished as FinishedEnd, Spent as SpentEnd, Full as FullEnd, DiskFault as DiskEnd, NoMemory as MemoryEnd}
+use Rattle.worker_gate.specs.declared.run.RunEnd.TheVariants.{Finished as FinishedEnd, Spent as SpentEnd, Full as FullEnd, DiskFault as DiskEnd, NoMemory as MemoryEnd, Stopped as StoppedEnd}
 use Rattle.board_lock.specs.Turns.{plans_since, prices_since, AreTurns}
 use Rattle.worker_gate.specs.Runs.{IsSameSearch}
 use Rattle.worker_gate.specs.Workers.{WorkersEnd}
 use Rattle.solve_runs.specs.declared.searched.SearchEnd.{SearchEnd}
-use Rattle.solve_runs.specs.declared.searched.SearchEnd.TheVariants.{Finished, Spent, Full, DiskFault, NoMemory, TooFewAdvisers, Refused}
+use Rattle.solve_runs.specs.declared.searched.SearchEnd.TheVariants.{Finished, Spent, Full, Stopped, DiskFault, NoMemory, TooFewAdvisers, Refused}
 use Rattle.solve_runs.specs.Ended.{HasEnded, IsLeft, IsRefusal}
 use Rattle.solve_runs.specs.Search.{Ends}
 use Rattle.solve_runs.specs.Searching.{end_unopened, HasNotSearched, SearchEnds}
@@ -103,6 +103,7 @@ module _ (disk : DiskMet) (i : Problem) (budget workers : ℕ) (before after : L
   ended_all SpentEnd last s e = (e.0, e.1, told_of_all workers budget before after e.2)
   ended_all (FullEnd end limit) last s e = (served_all (FullEnd end limit) last s e.0, e.1)
   ended_all DiskEnd last s e = (e.0, served_all DiskEnd last s e.1)
+  ended_all StoppedEnd last s e = (e.0, served_all StoppedEnd last s e.1)
   ended_all MemoryEnd last s e = (e.0, served_all MemoryEnd last s e.1)
 
   -- where no book was opened, and the advisers were enough
@@ -115,6 +116,7 @@ module _ (disk : DiskMet) (i : Problem) (budget workers : ℕ) (before after : L
   unsearched_all Finished enough e = absurd e
   unsearched_all Spent enough e = absurd e
   unsearched_all (Full end limit) enough e = absurd e
+  unsearched_all Stopped enough e = absurd e
 
 module _ {D : Type 0} (reads : D → Option (List ℕ)) (images : D → List ℕ → Type 0) (images_since : D → ℕ → List ℕ → Type 0) (calls faults : D → ℕ) (disk : D) (i : Problem) (budget workers : ℕ) (before after : List ℕ) (end : SearchEnd) where
   pub search_of_all : (book : Result (SearchView D) D) → workers ≤ workers_for (take workers before)

@@ -27,10 +27,10 @@ use Rattle.search_book.specs.Search.{SearchView, board_of}
 use Rattle.search_book.specs.Posts.{IsJournalOf}
 use Rattle.post_codec.specs.Batches.{joined}
 use Rattle.worker_gate.specs.declared.run.RunEnd.{RunEnd}
-use Rattle.worker_gate.specs.declared.run.RunEnd.TheVariants.{Finished, Spent, Full as FullEnd, DiskFault as DiskEnd, NoMemory as MemoryEnd}
+use Rattle.worker_gate.specs.declared.run.RunEnd.TheVariants.{Finished, Spent, Full as FullEnd, DiskFault as DiskEnd, NoMemory as MemoryEnd, Stopped as StoppedEnd}
 use Rattle.board_lock.specs.Turns.{is_plan, is_prices, AreTurns}
 use Rattle.solve_runs.specs.Report.{IsUnbeaten}
-use Rattle.solve_runs.specs.Ended.{HasEnded, IsFinished, IsFull, IsSpent}
+use Rattle.solve_runs.specs.Ended.{HasEnded, IsFinished, IsFull, IsSpent, IsStopped}
 use Rattle.solve_runs.specs.Search.{Ends, GoesOn, IsLanded, Told}
 use Rattle.solve_runs.specs.Searching.{end_of, HasSearched}
 use Rattle.solve_runs.specs.Served.{AreTold, Served, ToldMet, Works}
@@ -185,6 +185,7 @@ module _ {D : Type 0} (reads : D → Option (List ℕ)) (images : D → List ℕ
     landed_of commits k Spent e landed = subst (ShutOf new.log.limit (faults new.log.opened) (faults new.log.disk) new.log.in_flight) e.ends.0.running k.fault
     landed_of commits k (FullEnd end limit) e landed = (subst (ShutOf new.log.limit (faults new.log.opened) (faults new.log.disk) new.log.in_flight) e.ends.0 k.fault).0
     landed_of commits k DiskEnd e landed = absurd landed
+    landed_of commits k StoppedEnd e landed = absurd landed
     landed_of commits k MemoryEnd e landed = subst (ShutOf new.log.limit (faults new.log.opened) (faults new.log.disk) new.log.in_flight) e.ends.0 k.fault
 
     finished_of : (commits : ℕ) (k : Known) → Ends reads calls faults workers commits old new Finished → IsFinished (session_of k)
@@ -202,6 +203,13 @@ module _ {D : Type 0} (reads : D → Option (List ℕ)) (images : D → List ℕ
     walked_of : (commits : ℕ) (k : Known) (end : RunEnd) → Ends reads calls faults workers commits old new end → AreTurns workers (board_of reads calls faults old) (board_of reads calls faults new) commits
         → Turned workers (board_of reads calls faults old) (board_of reads calls faults new) commits
     walked_of commits k end e turns = turned workers (board_of reads calls faults old) (board_of reads calls faults new) commits e.fresh k.begins.shut k.begins.batches turns
+
+    stopped_of : (commits : ℕ) (k : Known) → Ends reads calls faults workers commits old new StoppedEnd → IsStopped (session_of k)
+    unfolding session_of
+    stopped_of commits k e = record {
+      landed = subst (ShutOf new.log.limit (faults new.log.opened) (faults new.log.disk) new.log.in_flight) e.ends.0.running k.fault;
+      unfinished = subst (λ (b : Book). is_finished b ≡ false) (book_same k) e.ends.1;
+    }
 
     works_of : (commits : ℕ) (k : Known) (end : RunEnd) → Ends reads calls faults workers commits old new end → Works workers commits old.budget end (board_of reads calls faults new) (session_of k)
     unfolding session_of
@@ -279,6 +287,7 @@ module _ {D : Type 0} (reads : D → Option (List ℕ)) (images : D → List ℕ
     ended_of k Finished t = (finished_of t.0 k t.1, unbeaten_of t.0 k t.1, served_of k Finished t)
     ended_of k Spent t = let each = each_of k t in (spent_of t.0 k t.1, each.0, each.1)
     ended_of k (FullEnd end limit) t = (served_of k (FullEnd end limit) t, full_of t.0 k end limit t.1)
+    ended_of k StoppedEnd t = (stopped_of t.0 k t.1, served_of k StoppedEnd t)
     ended_of k DiskEnd t = (rose_of t.0 k t.1, served_of k DiskEnd t)
     ended_of k MemoryEnd t = (landed_of t.0 k MemoryEnd t.1 tt, served_of k MemoryEnd t)
 

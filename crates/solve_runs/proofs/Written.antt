@@ -1,5 +1,5 @@
 -- From what a search answers, and what is written of its book, to what a run says.
-use Rattle.std.proofs.Common.{◌≡◌, inl, inr, ◌∙◌, sym, ap, subst, refl, ℕ, ◌<◌, ◌≤◌, Bool, true, false, List, [], ◌++◌, arith}
+use Rattle.std.proofs.Common.{◌≡◌, ◌≢◌, inl, inr, ◌∙◌, sym, ap, subst, refl, ℕ, ◌<◌, ◌≤◌, Bool, true, false, List, [], ◌++◌, arith}
 use Rattle.std.specs.Prelude.{◌⊎◌, Option, IsTrue, Result, Ok, Err}
 use Rattle.std.specs.Io.KnownBytes.{Appends}
 use Rattle.std.proofs.lemmas.Bool.{false≢true}
@@ -14,9 +14,9 @@ use Rattle.search_core.specs.Book.{Book}
 use Rattle.search_core.proofs.Sound.{fold_sound}
 use Rattle.search_book.specs.Search.{SearchView, board_of}
 use Rattle.worker_gate.specs.declared.run.RunEnd.{RunEnd}
-use Rattle.worker_gate.specs.declared.run.RunEnd.TheVariants.{Finished as FinishedEnd, Spent as SpentEnd, Full as FullEnd, DiskFault as DiskEnd, NoMemory as MemoryEnd}
+use Rattle.worker_gate.specs.declared.run.RunEnd.TheVariants.{Finished as FinishedEnd, Spent as SpentEnd, Full as FullEnd, DiskFault as DiskEnd, NoMemory as MemoryEnd, Stopped as StoppedEnd}
 use Rattle.solve_runs.specs.declared.searched.SearchEnd.{SearchEnd}
-use Rattle.solve_runs.specs.declared.searched.SearchEnd.TheVariants.{Finished, Spent, Full as FullSearch, DiskFault as DiskSearch, NoMemory as MemorySearch, TooFewAdvisers, Refused}
+use Rattle.solve_runs.specs.declared.searched.SearchEnd.TheVariants.{Finished, Spent, Full as FullSearch, Stopped, DiskFault as DiskSearch, NoMemory as MemorySearch, TooFewAdvisers, Refused}
 use Rattle.solve_runs.specs.declared.status.Status.{Status}
 use Rattle.solve_runs.specs.declared.status.Status.TheVariants.{Optimal, Budget, Full, Usage, Input, Workers, ReadFault, WriteFault, DiskFault, NoMemory, Journal}
 use Rattle.solve_runs.specs.Ended.{HasEnded}
@@ -31,19 +31,21 @@ use Rattle.solve_runs.specs.Words.{workers_for}
 use Rattle.solve_runs.specs.Writing.{status_at, EndsAs, IsReported, IsReportedPart, Unwritten}
 
 -- a search whose report is written came to an end of its own
-reported_run : (how : RunEnd) → is_reported (end_of how) ≡ true → is_reported_run how ≡ true
-reported_run FinishedEnd some = refl
-reported_run SpentEnd some = refl
-reported_run (FullEnd end limit) some = refl
-reported_run DiskEnd some = absurd (false≢true some)
-reported_run MemoryEnd some = absurd (false≢true some)
+reported_run : (how : RunEnd) → end_of how ≢ Stopped → is_reported (end_of how) ≡ true → is_reported_run how ≡ true
+reported_run FinishedEnd going some = refl
+reported_run SpentEnd going some = refl
+reported_run (FullEnd end limit) going some = refl
+reported_run DiskEnd going some = absurd (false≢true some)
+reported_run MemoryEnd going some = absurd (false≢true some)
+reported_run StoppedEnd going some = absurd (going refl)
 
-landed_run : (how : RunEnd) → is_reported (end_of how) ≡ true → IsLanded how
-landed_run FinishedEnd some = tt
-landed_run SpentEnd some = tt
-landed_run (FullEnd end limit) some = tt
-landed_run DiskEnd some = absurd (false≢true some)
-landed_run MemoryEnd some = absurd (false≢true some)
+landed_run : (how : RunEnd) → end_of how ≢ Stopped → is_reported (end_of how) ≡ true → IsLanded how
+landed_run FinishedEnd going some = tt
+landed_run SpentEnd going some = tt
+landed_run (FullEnd end limit) going some = tt
+landed_run DiskEnd going some = absurd (false≢true some)
+landed_run MemoryEnd going some = absurd (false≢true some)
+landed_run StoppedEnd going some = absurd (going refl)
 
 module _ {D : Type 0} (calls : D → ℕ) (book : SearchView D) (disk : DiskMet) (i : Problem) (session : Session disk i) (own : IsSessionOf calls book session) (sink : SinkMet) (table : Bool) where
   posts_same : book.log.history ≡ posts_in session
@@ -76,34 +78,35 @@ module _ {D : Type 0} (reads : D → Option (List ℕ)) (images : D → List ℕ
     abbrev met : DiskMet
     met = met_of reads images images_since calls faults disk book.log.disk
 
-    by_end : (how : RunEnd) (s : Session met i) → IsSessionOf calls book s → HasEnded met i workers budget told how (board_of reads calls faults book) s → (is_reported (end_of how) ≡ true → IsReported i book table sink)
+    by_end : (how : RunEnd) (s : Session met i) → end_of how ≢ Stopped → IsSessionOf calls book s → HasEnded met i workers budget told how (board_of reads calls faults book) s → (is_reported (end_of how) ≡ true → IsReported i book table sink)
         → OverDisk met sink i table budget workers told true (status_at (end_of how))
-    by_end FinishedEnd s own ended written = (refl, s, board_of reads calls faults book, ended, reports_of calls book met i s own sink table (written refl))
-    by_end SpentEnd s own ended written = (refl, s, board_of reads calls faults book, ended, reports_of calls book met i s own sink table (written refl))
-    by_end (FullEnd end limit) s own ended written = (refl, s, board_of reads calls faults book, ended, reports_of calls book met i s own sink table (written refl))
-    by_end DiskEnd s own ended written = (ended.0, inr (refl, s, board_of reads calls faults book, ended))
-    by_end MemoryEnd s own ended written = inr (refl, s, board_of reads calls faults book, MemoryEnd, tt, ended)
+    by_end FinishedEnd s going own ended written = (refl, s, board_of reads calls faults book, ended, reports_of calls book met i s own sink table (written refl))
+    by_end SpentEnd s going own ended written = (refl, s, board_of reads calls faults book, ended, reports_of calls book met i s own sink table (written refl))
+    by_end (FullEnd end limit) s going own ended written = (refl, s, board_of reads calls faults book, ended, reports_of calls book met i s own sink table (written refl))
+    by_end DiskEnd s going own ended written = (ended.0, inr (refl, s, board_of reads calls faults book, ended))
+    by_end MemoryEnd s going own ended written = inr (refl, s, board_of reads calls faults book, MemoryEnd, tt, ended)
+    by_end StoppedEnd s going own ended written = absurd (going refl)
 
-    unwritten : (how : RunEnd) (s : Session met i) (status : Status) → IsSessionOf calls book s → HasEnded met i workers budget told how (board_of reads calls faults book) s → is_reported (end_of how) ≡ true → Unwritten i book table sink status
+    unwritten : (how : RunEnd) (s : Session met i) (status : Status) → end_of how ≢ Stopped → IsSessionOf calls book s → HasEnded met i workers budget told how (board_of reads calls faults book) s → is_reported (end_of how) ≡ true → Unwritten i book table sink status
         → OverDisk met sink i table budget workers told true status
-    unwritten how s WriteFault own ended some part = (refl, s, board_of reads calls faults book, how, reported_run how some, ended, part_of calls book met i s own sink table part)
-    unwritten how s NoMemory own ended some part = inr (refl, s, board_of reads calls faults book, how, landed_run how some, ended)
-    unwritten how s Optimal own ended some part = absurd part
-    unwritten how s Budget own ended some part = absurd part
-    unwritten how s (Full end limit) own ended some part = absurd part
-    unwritten how s Usage own ended some part = absurd part
-    unwritten how s (Input why) own ended some part = absurd part
-    unwritten how s (Workers asked have) own ended some part = absurd part
-    unwritten how s ReadFault own ended some part = absurd part
-    unwritten how s DiskFault own ended some part = absurd part
-    unwritten how s (Journal why) own ended some part = absurd part
+    unwritten how s WriteFault going own ended some part = (refl, s, board_of reads calls faults book, how, reported_run how going some, ended, part_of calls book met i s own sink table part)
+    unwritten how s NoMemory going own ended some part = inr (refl, s, board_of reads calls faults book, how, landed_run how going some, ended)
+    unwritten how s Optimal going own ended some part = absurd part
+    unwritten how s Budget going own ended some part = absurd part
+    unwritten how s (Full end limit) going own ended some part = absurd part
+    unwritten how s Usage going own ended some part = absurd part
+    unwritten how s (Input why) going own ended some part = absurd part
+    unwritten how s (Workers asked have) going own ended some part = absurd part
+    unwritten how s ReadFault going own ended some part = absurd part
+    unwritten how s DiskFault going own ended some part = absurd part
+    unwritten how s (Journal why) going own ended some part = absurd part
 
-    ends_as : (end : SearchEnd) (status : Status) (h : HasSearched reads images images_since calls faults disk i workers budget told book end) → EndsAs i book (end_of h.how) table sink status → OverDisk met sink i table budget workers told true status
-    ends_as end status h (inl e) = subst (OverDisk met sink i table budget workers told true) (sym e.0) (by_end h.how h.session h.own h.ended e.1)
-    ends_as end status h (inr e) = unwritten h.how h.session status h.own h.ended e.0 e.1
+    ends_as : (end : SearchEnd) (status : Status) (h : HasSearched reads images images_since calls faults disk i workers budget told book end) → end_of h.how ≢ Stopped → EndsAs i book (end_of h.how) table sink status → OverDisk met sink i table budget workers told true status
+    ends_as end status h going (inl e) = subst (OverDisk met sink i table budget workers told true) (sym e.0) (by_end h.how h.session going h.own h.ended e.1)
+    ends_as end status h going (inr e) = unwritten h.how h.session status going h.own h.ended e.0 e.1
 
-    pub over_book : (end : SearchEnd) (status : Status) → HasSearched reads images images_since calls faults disk i workers budget told book end → EndsAs i book end table sink status → OverDisk met sink i table budget workers told true status
-    over_book end status h e = ends_as end status h (subst (λ (x : SearchEnd). EndsAs i book x table sink status) h.is e)
+    pub over_book : (end : SearchEnd) (status : Status) → HasSearched reads images images_since calls faults disk i workers budget told book end → end ≢ Stopped → EndsAs i book end table sink status → OverDisk met sink i table budget workers told true status
+    over_book end status h going e = ends_as end status h (subst (λ (x : SearchEnd). x ≢ Stopped) h.is going) (subst (λ (x : SearchEnd). EndsAs i book x table sink status) h.is e)
 
   -- a run that opened no book, and had advisers enough
   pub without_book : (left : D) (end : SearchEnd) → workers ≤ workers_for told.before → HasNotSearched (met_of reads images images_since calls faults disk left) i workers told end
@@ -115,3 +118,4 @@ module _ {D : Type 0} (reads : D → Option (List ℕ)) (images : D → List ℕ
   without_book left Finished enough e = absurd e
   without_book left Spent enough e = absurd e
   without_book left (FullSearch end limit) enough e = absurd e
+  without_book left Stopped enough e = absurd e

@@ -14,7 +14,7 @@ use Rattle.search_core.specs.Book.{floor_of, is_finished, IsSound}
 use Rattle.search_core.specs.Calls.{steps_enough}
 use Rattle.search_book.specs.Posts.{IsJournalOf}
 use Rattle.worker_gate.specs.declared.run.RunEnd.{RunEnd}
-use Rattle.worker_gate.specs.declared.run.RunEnd.TheVariants.{Finished, Spent, Full as FullEnd, DiskFault as DiskEnd, NoMemory as MemoryEnd}
+use Rattle.worker_gate.specs.declared.run.RunEnd.TheVariants.{Finished, Spent, Full as FullEnd, DiskFault as DiskEnd, NoMemory as MemoryEnd, Stopped}
 use Rattle.worker_gate.specs.Runs.{committed, plans_and_prices_since, IsIdle, IsSameSearch, RunEnds, RunMakes}
 use Rattle.solve_runs.specs.declared.status.Status.{Status}
 use Rattle.solve_runs.specs.declared.status.Status.TheVariants.{Optimal, Budget, Full, Usage, Input, Workers, ReadFault, WriteFault, DiskFault, NoMemory, Journal}
@@ -89,6 +89,7 @@ AreCommitted Spent commits taken = taken ≡ commits
 AreCommitted (FullEnd end limit) commits taken = taken ≡ commits + 1
 AreCommitted DiskEnd commits taken = ⊥
 AreCommitted MemoryEnd commits taken = ⊥
+AreCommitted Stopped commits taken = ⊥
 
 -- the adviser comes back, and was told so often as steps were committed
 abbrev pub IsTold : ToldMet → RunEnd → ℕ → Type 0

@@ -17,7 +17,7 @@ use Rattle.search_book.specs.declared.open_fault.OpenFault.TheVariants.{DiskFaul
 use Rattle.search_book.specs.Opened.{HoldsBook, OpenCause}
 use Rattle.search_book.specs.Opening.{IsOldOrShort}
 use Rattle.worker_gate.specs.declared.run.RunEnd.{RunEnd}
-use Rattle.worker_gate.specs.declared.run.RunEnd.TheVariants.{Finished, Spent, Full as FullEnd, DiskFault as DiskEnd, NoMemory as MemoryEnd}
+use Rattle.worker_gate.specs.declared.run.RunEnd.TheVariants.{Finished, Spent, Full as FullEnd, DiskFault as DiskEnd, NoMemory as MemoryEnd, Stopped}
 use Rattle.solve_runs.specs.Report.{IsUnbeaten}
 use Rattle.solve_runs.specs.Served.{AreTold, Served, ToldMet, Works}
 use Rattle.solve_runs.specs.Session.{DiskMet, Session, posts_in}
@@ -34,6 +34,11 @@ pub record IsSpent (budget : ℕ) {disk : DiskMet} {i : Problem} (session : Sess
   pub landed : session.in_flight ≡ []
   pub unfinished : IsFalse (is_finished session.last)
   pub few : budget < steps_enough i
+
+-- a node is open, though not all steps of the budget were taken
+pub record IsStopped {disk : DiskMet} {i : Problem} (session : Session disk i) : Type 0 where
+  pub landed : session.in_flight ≡ []
+  pub unfinished : IsFalse (is_finished session.last)
 
 -- these are the posts of a step of one of the workers, over the book that the session left: it would have closed its node, for whose
 -- cuts its prices are
@@ -63,12 +68,13 @@ pub record IsFull (workers commits budget end limit : ℕ) (last : BoardView) {d
 
 -- How the search of a run ended over the book that it opened, with that last board, and how often the advisers were told something. A
 -- search that took all steps of its budget committed each. Where a call on the disk failed, its faults rose; where memory ran out, none
--- had.
+-- had. One that was stopped had a step left.
 abbrev pub HasEnded : (disk : DiskMet) (i : Problem) → ℕ → ℕ → ToldMet → RunEnd → BoardView → Session disk i → Type 0
 HasEnded disk i workers budget told Finished last s = IsFinished s × IsUnbeaten i s.last.cost × Served workers budget told Finished last s
 HasEnded disk i workers budget told Spent last s = IsSpent budget s × Works workers budget budget Spent last s × AreTold workers budget told
 HasEnded disk i workers budget told (FullEnd end limit) last s = (served : Served workers budget told (FullEnd end limit) last s) × IsFull workers served.0 budget end limit last s
 HasEnded disk i workers budget told DiskEnd last s = Rose disk.faults.0 disk.faults.1 × Served workers budget told DiskEnd last s
+HasEnded disk i workers budget told Stopped last s = IsStopped s × Served workers budget told Stopped last s
 HasEnded disk i workers budget told MemoryEnd last s = (s.in_flight ≡ []) × Served workers budget told MemoryEnd last s
 
 -- ---- a disk on which no book was opened

@@ -4,7 +4,7 @@ use Rattle.search_core.specs.Calls.{full_hands, steps_enough, IsFresh}
 use Rattle.search_core.specs.Core.{empty_hands, IsFront}
 use Rattle.search_book.specs.Search.{SearchView, board_of}
 use Rattle.worker_gate.specs.declared.run.RunEnd.{RunEnd}
-use Rattle.worker_gate.specs.declared.run.RunEnd.TheVariants.{Finished, Spent, Full as FullEnd, DiskFault as DiskEnd, NoMemory as MemoryEnd}
+use Rattle.worker_gate.specs.declared.run.RunEnd.TheVariants.{Finished, Spent, Full as FullEnd, DiskFault as DiskEnd, NoMemory as MemoryEnd, Stopped}
 use Rattle.board_lock.specs.Turns.{plans_since, prices_since, AreTurns}
 use Rattle.worker_gate.specs.Runs.{IsSameSearch}
 use Rattle.worker_gate.specs.Workers.{WorkersEnd}
@@ -40,13 +40,14 @@ pub record Ends {D : Type 0} (reads : D → Option (List ℕ)) (calls faults : D
 abbrev pub Told : {D : Type 0} → (D → Option (List ℕ)) → (D → ℕ) → (D → ℕ) → ℕ → ToldMet → SearchView D → SearchView D → RunEnd → Type 0
 Told reads calls faults workers told old new end = (commits : ℕ) × Ends reads calls faults workers commits old new end × AreTold workers commits told
 
--- whether a search came to an end of which a report is written
+-- whether the search of a run came to an end of which a report is written; nobody asks it to stop
 abbrev pub is_reported : RunEnd → Bool
 is_reported Finished = true
 is_reported Spent = true
 is_reported (FullEnd end limit) = true
 is_reported DiskEnd = false
 is_reported MemoryEnd = false
+is_reported Stopped = false
 
 -- how a run ends whose search ended so, and whose report was written, where there is one
 abbrev pub status_at : RunEnd → Status
@@ -55,6 +56,7 @@ status_at Spent = Budget
 status_at (FullEnd end limit) = Full end limit
 status_at DiskEnd = DiskFault
 status_at MemoryEnd = NoMemory
+status_at Stopped = Budget
 
 -- a search that the disk didn't end
 abbrev pub IsLanded : RunEnd → Type 0
@@ -63,3 +65,4 @@ IsLanded Spent = ⊤
 IsLanded (FullEnd end limit) = ⊤
 IsLanded DiskEnd = ⊥
 IsLanded MemoryEnd = ⊤
+IsLanded Stopped = ⊥

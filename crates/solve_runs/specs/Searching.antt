@@ -8,9 +8,9 @@ use Rattle.search_book.specs.declared.open_fault.OpenFault.{OpenFault}
 use Rattle.search_book.specs.declared.open_fault.OpenFault.TheVariants.{DiskFault as OpeningsDisk, NotAJournal, OtherInstance, Damaged, Rejected, NoMemory as OpeningsMemory}
 use Rattle.search_book.specs.Search.{SearchView, board_of}
 use Rattle.worker_gate.specs.declared.run.RunEnd.{RunEnd}
-use Rattle.worker_gate.specs.declared.run.RunEnd.TheVariants.{Finished as FinishedEnd, Spent as SpentEnd, Full as FullEnd, DiskFault as DiskEnd, NoMemory as MemoryEnd}
+use Rattle.worker_gate.specs.declared.run.RunEnd.TheVariants.{Finished as FinishedEnd, Spent as SpentEnd, Full as FullEnd, DiskFault as DiskEnd, NoMemory as MemoryEnd, Stopped as StoppedEnd}
 use Rattle.solve_runs.specs.declared.searched.SearchEnd.{SearchEnd}
-use Rattle.solve_runs.specs.declared.searched.SearchEnd.TheVariants.{Finished, Spent, Full, DiskFault, NoMemory, TooFewAdvisers, Refused}
+use Rattle.solve_runs.specs.declared.searched.SearchEnd.TheVariants.{Finished, Spent, Full, Stopped, DiskFault, NoMemory, TooFewAdvisers, Refused}
 use Rattle.solve_runs.specs.Ended.{HasEnded, IsLeft, IsRefused}
 use Rattle.solve_runs.specs.Served.{AreUntold, ToldMet}
 use Rattle.solve_runs.specs.Session.{met_of, DiskMet, IsUncalled, Session}
@@ -23,6 +23,7 @@ end_of SpentEnd = Spent
 end_of (FullEnd end limit) = Full end limit
 end_of DiskEnd = DiskFault
 end_of MemoryEnd = NoMemory
+end_of StoppedEnd = Stopped
 
 -- how a search ends whose book isn't opened
 abbrev pub end_unopened : OpenFault → SearchEnd
@@ -33,11 +34,12 @@ end_unopened (Damaged at) = Refused (Damaged at)
 end_unopened (Rejected at why) = Refused (Rejected at why)
 end_unopened OpeningsMemory = NoMemory
 
--- whether a search came to an end of which a report is written
+-- whether a search came to an end of which a report can be written
 abbrev pub is_reported : SearchEnd → Bool
 is_reported Finished = true
 is_reported Spent = true
 is_reported (Full end limit) = true
+is_reported Stopped = true
 is_reported DiskFault = false
 is_reported NoMemory = false
 is_reported (TooFewAdvisers asked have) = false
@@ -74,6 +76,7 @@ HasNotSearched disk i workers told NoMemory =
 HasNotSearched disk i workers told Finished = ⊥
 HasNotSearched disk i workers told Spent = ⊥
 HasNotSearched disk i workers told (Full end limit) = ⊥
+HasNotSearched disk i workers told Stopped = ⊥
 
 -- what a search answers that hands back a book or, where it opened none, the disk
 abbrev pub SearchEnds : {D : Type 0} → (D → Option (List ℕ)) → (D → List ℕ → Type 0) → (D → ℕ → List ℕ → Type 0) → (D → ℕ) → (D → ℕ) → D → Problem → ℕ → ℕ → ToldMet → Result (SearchView D) D → SearchEnd → Type 0

@@ -1,8 +1,7 @@
 -- What a run makes of its words.
-use Rattle.std.specs.Prelude.{◌≡◌, ◌⊎◌, ◌↔◌, ℕ, Bool, true, List, Option, Some, length, min, unwrap_or}
+use Rattle.std.specs.Prelude.{◌≡◌, ◌⊎◌, ◌↔◌, ℕ, Bool, List, Option, Some, length, min, unwrap_or}
 use Rattle.solve_words.specs.Words.{from_number, over_journal, Asked, Asks}
 use Rattle.solve_words.specs.declared.command.Method.{Method}
-use Rattle.solve_words.specs.declared.command.Method.TheVariants.{Local, Thorough}
 
 -- what a run is asked for: a search over the journal on that path, by so many workers, of so many steps, and whether the table of its
 -- plan is wanted
@@ -44,19 +43,3 @@ pub record NamesJournal (words : List (List ℕ)) (path : List ℕ) : Type 0 whe
 -- that, and nothing else, is the path of the journal that the words name
 abbrev pub IsPathIn : List (List ℕ) → Option (List ℕ) → Type 0
 IsPathIn words found = (path : List ℕ) → NamesJournal words path ↔ (found ≡ Some path)
-
--- the words ask for a search over a journal by that method
-pub record AsksMethod (method : Method) (words : List (List ℕ)) : Type 0 where
-  pub journal : List ℕ
-  pub workers : Option ℕ
-  pub steps : ℕ
-  pub table : Bool
-  pub asks : Asks words (over_journal journal workers steps table method)
-
--- a local search of plans is wanted where the words ask for it, and by no other words
-abbrev pub IsLocalIn : List (List ℕ) → Bool → Type 0
-IsLocalIn words wanted = AsksMethod Local words ↔ (wanted ≡ true)
-
--- and so is a thorough search
-abbrev pub IsThoroughIn : List (List ℕ) → Bool → Type 0
-IsThoroughIn words wanted = AsksMethod Thorough words ↔ (wanted ≡ true)

@@ -8,18 +8,19 @@ use Rattle.certificate.specs.Departing.{Spells}
 use Rattle.shift_instance.specs.Problem.{Problem}
 use Rattle.search_book.specs.Search.{SearchView}
 use Rattle.solve_runs.specs.declared.searched.SearchEnd.{SearchEnd}
-use Rattle.solve_runs.specs.declared.searched.SearchEnd.TheVariants.{Finished, Spent, Full as FullEnd, DiskFault as DiskEnd, NoMemory as MemoryEnd, TooFewAdvisers, Refused}
+use Rattle.solve_runs.specs.declared.searched.SearchEnd.TheVariants.{Finished, Spent, Full as FullEnd, Stopped, DiskFault as DiskEnd, NoMemory as MemoryEnd, TooFewAdvisers, Refused}
 use Rattle.solve_runs.specs.declared.status.Status.{Status}
 use Rattle.solve_runs.specs.declared.status.Status.TheVariants.{Optimal, Budget, Full, Usage, Input, Workers, ReadFault, WriteFault, DiskFault, NoMemory, Journal}
 use Rattle.solve_runs.specs.Report.{cert_of, output_of}
 use Rattle.solve_runs.specs.Searching.{is_reported}
 use Rattle.solve_runs.specs.Streams.{SinkMet}
 
--- how a run ends whose search ended so, and whose report was written, where there is one
+-- how a run ends whose search ended so, and whose report was written, where there is one; nobody asks the search of a run to stop
 abbrev pub status_at : SearchEnd → Status
 status_at Finished = Optimal
 status_at Spent = Budget
 status_at (FullEnd end limit) = Full end limit
+status_at Stopped = Budget
 status_at DiskEnd = DiskFault
 status_at MemoryEnd = NoMemory
 status_at (TooFewAdvisers asked have) = Workers asked have

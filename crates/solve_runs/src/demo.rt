@@ -1,6 +1,6 @@
 //! A demonstration: a search without a document and without a journal's file, for the instance made from a number.
 
-ghost use Rattle.std.specs.Prelude.{◌≡◌, ◌⊎◌, ◌<◌, ◌^◌, ℕ, true, [], map, vec_len, IfErr, IfOk, IsSome, None, OnOk, option_and_then, Some};
+ghost use Rattle.std.specs.Prelude.{◌≡◌, ◌≢◌, ◌⊎◌, ◌<◌, ◌^◌, ℕ, true, [], map, vec_len, IfErr, IfOk, IsSome, None, OnOk, option_and_then, Some};
 ghost use Rattle.std.specs.Io.KnownBytes.{Appends};
 ghost use Rattle.plan_base.specs.Causes.{Rose};
 ghost use Rattle.plan_base.specs.Streams.{AppendsPart};
@@ -15,7 +15,7 @@ ghost use Rattle.solve_runs.specs.Status.{EndsUnwritten};
 ghost use Rattle.solve_runs.specs.declared.status.Status.TheVariants.{NoMemory as MemoryStatus};
 
 use crate::status::Status;
-use advice::Adviser;
+use advice::{Adviser, Never};
 use gated_journal::JOURNAL_MAX;
 use instance_json::generate;
 use instance_json::laws::canonical_text_is_short;
@@ -91,11 +91,13 @@ fn is_reported(end: RunEnd) -> bool
         RunEnd::Full { end: _, limit: _ } => true,
         RunEnd::DiskFault => false,
         RunEnd::NoMemory => false,
+        RunEnd::Stopped => false,
     }
 }
 
 /// How a run ends whose search ended so, and whose report was written, where there is one.
 fn status_at(end: RunEnd) -> Status
+    requires { end ≢ RunEnd.Stopped }
     ensures { result ≡ status_at end }
 {
     match end {
@@ -104,6 +106,8 @@ fn status_at(end: RunEnd) -> Status
         RunEnd::Full { end, limit } => Status::Full { end, limit },
         RunEnd::DiskFault => Status::DiskFault,
         RunEnd::NoMemory => Status::NoMemory,
+        // the run's stop never asks
+        RunEnd::Stopped => unreachable!(),
     }
 }
 
@@ -128,7 +132,7 @@ fn search_all<D: Disk, G: Gate>(
         told: 0,
         share: 0,
     };
-    let end = run_seat(alloc, instance, book, &mut seat, gate);
+    let end = run_seat(alloc, instance, book, &mut seat, gate, &Never);
     let Seat {
         adviser,
         told: _,

@@ -17,4 +17,4 @@ pub use run::{Ended, run_command, solve_run};
 pub use search::run_search;
 pub use searched::{Request, SearchEnd, Searched};
 pub use status::{Status, status_line};
-pub use words::{journal_path, wants_local, wants_thorough};
+pub use words::journal_path;

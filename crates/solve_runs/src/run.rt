@@ -1,6 +1,6 @@
 //! The run of `solve`.
 
-ghost use Rattle.std.specs.Prelude.{◌≡◌, ◌<◌, ◌≤◌, ◌^◌, ℕ, [], false, map, None, option_and_then, string_bytes, vec_len, List, MatchResult};
+ghost use Rattle.std.specs.Prelude.{◌≡◌, ◌≢◌, ◌<◌, ◌≤◌, ◌^◌, ℕ, [], false, map, None, option_and_then, string_bytes, vec_len, List, MatchResult};
 ghost use Rattle.solve_words.specs.Asked.{asked};
 ghost use Rattle.solve_words.specs.Words.{from_number, Asked, Asks, IsWithin};
 ghost use Rattle.solve_runs.specs.Demo.{OverMemory};
@@ -16,7 +16,7 @@ use crate::report::write_report;
 use crate::search::{run_search, workers_for};
 use crate::searched::{Request, SearchEnd, Searched};
 use crate::status::Status;
-use advice::Adviser;
+use advice::{Adviser, Never};
 use instance_input::{Unread, read_instance};
 use plan_base::{Disk, MemDisk, Sink, Source};
 use search_book::Book;
@@ -43,6 +43,7 @@ fn status_unread(why: Unread) -> Status
 
 /// How a run ends whose search ended so, and whose report was written, where there is one.
 fn status_at(end: SearchEnd) -> Status
+    requires { end ≢ SearchEnd.Stopped }
     ensures { result ≡ status_at end }
 {
     match end {
@@ -51,6 +52,8 @@ fn status_at(end: SearchEnd) -> Status
         SearchEnd::Full { end, limit } => Status::Full { end, limit },
         SearchEnd::DiskFault => Status::DiskFault,
         SearchEnd::NoMemory => Status::NoMemory,
+        // the stop of a run never asks
+        SearchEnd::Stopped => unreachable!(),
         SearchEnd::TooFewAdvisers { asked, have } => Status::Workers { asked, have },
         SearchEnd::Refused(why) => Status::Journal(why),
     }
@@ -103,6 +106,7 @@ fn write_end<K: Sink, D: Disk>(
     out: &mut K,
 ) -> Status
     requires same { book.now.log.instance ≡ instance.now }
+    requires going { end ≢ SearchEnd.Stopped }
     ensures status { EndsAs instance.now book.now end table (record { held = K.held out.old; held_after = K.held out.new; faults = (K.faults out.old, K.faults out.new) }) result }
     ensures unwritten { EndsUnwritten result → out.new ≡ out.old }
 {
@@ -123,6 +127,7 @@ fn end_search<K: Sink, D: Disk>(
     table: bool,
     out: &mut K,
 ) -> Ended<D>
+    requires going { searched.end ≢ SearchEnd.Stopped }
     requires same { MatchResult searched.book (λ book. book.log.instance ≡ instance.now) (λ disk. Unit {0}) }
     ensures status { (disk : _) (workers budget : ℕ) (before : List ℕ)
         → SearchEnds D.reads D.images D.images_since D.calls D.faults disk instance.now workers budget (record { before = before; after = map (λ a. told a) searched.advisers.items }) searched.book searched.end
@@ -187,7 +192,9 @@ fn run_over<S: Source, K: Sink, D: Disk + Send, G: Gate + Sync, R: Threads + Wai
 {
     match read_instance(alloc, input) {
         Ok(instance) => {
-            let searched = run_search(rt, alloc, &instance, request, disk, advisers, gate);
+            let searched = run_search(
+                rt, alloc, &instance, request, disk, advisers, gate, &Never,
+            );
             end_search(alloc, &instance, searched, table, out)
         }
         Err(why) => {

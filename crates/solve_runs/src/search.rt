@@ -1,13 +1,13 @@
 //! The search for a cheapest plan of an instance over the journal on a disk.
 
-ghost use Rattle.std.specs.Prelude.{◌≡◌, ◌<◌, ◌≤◌, ◌^◌, All, map, vec_len};
+ghost use Rattle.std.specs.Prelude.{◌≡◌, ◌<◌, ◌≤◌, ◌^◌, true, All, map, vec_len};
 ghost use Rattle.solve_runs.specs.Search.{GoesOn, IsBegun, Told};
 ghost use Rattle.solve_runs.specs.Searching.{SearchEnds};
 ghost use Rattle.solve_runs.specs.Words.{workers_for};
 
 use crate::searched::{Request, SearchEnd, Searched, end_of, end_unopened};
 use crate::seats::{advisers_of, seats_of};
-use advice::Adviser;
+use advice::{Adviser, Stop};
 use gated_journal::JOURNAL_MAX;
 use instance_json::laws::canonical_text_is_short;
 use plan_base::Disk;
@@ -30,13 +30,14 @@ pub(crate) fn workers_for(advisers: &[Box<dyn Adviser + Send>]) -> u32
 }
 
 /// Runs a worker for each seat over a book from which no node was taken yet.
-fn search_by<D: Disk + Send, G: Gate + Sync, R: Threads + Wait + Sync>(
+fn search_by<D: Disk + Send, G: Gate + Sync, S: Stop + Sync, R: Threads + Wait + Sync>(
     rt: &R,
     alloc: Global,
     instance: &Instance,
     book: Book<D>,
     seats: Vec<Seat>,
     gate: &G,
+    stop: &S,
 ) -> (Book<D>, Vec<Seat>, RunEnd)
     requires same { book.log.instance ≡ instance.now }
     requires begun { IsBegun book }
@@ -47,14 +48,15 @@ fn search_by<D: Disk + Send, G: Gate + Sync, R: Threads + Wait + Sync>(
     ensures goes_on { GoesOn D.reads D.calls D.faults book result.0 }
     ensures ends { Told D.reads D.calls D.faults (vec_len seats) (record { before = map (λ s. told (s.adviser.vtable, s.adviser.value)) seats.items; after = map (λ s. told (s.adviser.vtable, s.adviser.value)) result.1.items }) book result.0 result.2 }
     ensures seats { vec_len result.1 ≡ vec_len seats }
+    ensures stopped { result.2 ≡ RunEnd.Stopped → S.can_ask stop.now ≡ true }
 {
     // what every board keeps, and this one as it is opened
     keeps_sound(&book);
-    run_workers(rt, alloc, instance, book, seats, gate)
+    run_workers(rt, alloc, instance, book, seats, gate, stop)
 }
 
 /// Opens the book of an instance on the disk, and searches it with a worker for each adviser.
-fn search_with<D: Disk + Send, G: Gate + Sync, R: Threads + Wait + Sync>(
+fn search_with<D: Disk + Send, G: Gate + Sync, S: Stop + Sync, R: Threads + Wait + Sync>(
     rt: &R,
     alloc: Global,
     instance: &Instance,
@@ -62,6 +64,7 @@ fn search_with<D: Disk + Send, G: Gate + Sync, R: Threads + Wait + Sync>(
     disk: D,
     mut advisers: Vec<Box<dyn Adviser + Send>>,
     gate: &G,
+    stop: &S,
 ) -> Searched<D>
     requires count { D.calls disk < 2 ^ 62 }
     requires steps { steps < 2 ^ 63 }
@@ -69,6 +72,7 @@ fn search_with<D: Disk + Send, G: Gate + Sync, R: Threads + Wait + Sync>(
     requires sixteen { vec_len advisers ≤ 16 }
     ensures ended { SearchEnds D.reads D.images D.images_since D.calls D.faults disk instance.now (vec_len advisers) steps
         (record { before = map (λ a. told a) advisers.items; after = map (λ a. told a) result.advisers.items }) result.book result.end }
+    ensures stopped { result.end ≡ SearchEnd.Stopped → S.can_ask stop.now ≡ true }
 {
     canonical_text_is_short(instance);
     // an instance is valid
@@ -80,7 +84,7 @@ fn search_with<D: Disk + Send, G: Gate + Sync, R: Threads + Wait + Sync>(
         Err(left) => Searched::unopened(end_unopened(left.fault), left.disk, advisers),
         Ok(book) => {
             seats_of(&mut advisers, &mut seats);
-            let (book, seats, end) = search_by(rt, alloc, instance, book, seats, gate);
+            let (book, seats, end) = search_by(rt, alloc, instance, book, seats, gate, stop);
             advisers_of(seats, &mut advisers);
             // what this answer says is what is known of the book
             let _made = book.batches();
@@ -102,8 +106,8 @@ fn search_with<D: Disk + Send, G: Gate + Sync, R: Threads + Wait + Sync>(
 /// advise, and in whatever order the workers get the book, all that is said here holds.
 ///
 /// The end is `Finished` where no node is open, `Spent` where all steps were taken and a node is open, `Full` where there was no room
-/// for the posts of a step. `DiskFault` comes only where a fault of the disk was counted, and `NoMemory` may come at any step.
-pub fn run_search<D: Disk + Send, G: Gate + Sync, R: Threads + Wait + Sync>(
+/// for the posts of a step, and `Stopped` only where the stop can ask, a node is open and a step left. `DiskFault` comes only where a fault of the disk was counted, and `NoMemory` may come at any step.
+pub fn run_search<D: Disk + Send, G: Gate + Sync, S: Stop + Sync, R: Threads + Wait + Sync>(
     rt: &R,
     alloc: Global,
     instance: &Instance,
@@ -111,12 +115,14 @@ pub fn run_search<D: Disk + Send, G: Gate + Sync, R: Threads + Wait + Sync>(
     disk: D,
     mut advisers: Vec<Box<dyn Adviser + Send>>,
     gate: &G,
+    stop: &S,
 ) -> Searched<D>
     requires count { D.calls disk < 2 ^ 62 }
     requires some { 0 < request.workers }
     requires steps { request.steps < 2 ^ 63 }
     ensures ended { SearchEnds D.reads D.images D.images_since D.calls D.faults disk instance.now request.workers request.steps
         (record { before = map (λ a. told a) advisers.items; after = map (λ a. told a) result.advisers.items }) result.book result.end }
+    ensures stopped { result.end ≡ SearchEnd.Stopped → S.can_ask stop.now ≡ true }
 {
     let have = workers_for(advisers.as_slice());
     let asked = request.workers as u32;
@@ -124,5 +130,14 @@ pub fn run_search<D: Disk + Send, G: Gate + Sync, R: Threads + Wait + Sync>(
         return Searched::unopened(SearchEnd::TooFewAdvisers { asked, have }, disk, advisers);
     }
     advisers.truncate(asked as usize);
-    search_with(rt, alloc, instance, request.steps, disk, advisers, gate)
+    search_with(
+        rt,
+        alloc,
+        instance,
+        request.steps,
+        disk,
+        advisers,
+        gate,
+        stop,
+    )
 }

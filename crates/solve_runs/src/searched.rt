@@ -27,6 +27,8 @@ pub enum SearchEnd {
     /// The journal had no room for the posts of a step: with them the file would have ended at `end`, which is past `limit`. Both are
     /// lengths in bytes.
     Full { end: u64, limit: u32 },
+    /// It was asked to stop, and a node is open and a step left.
+    Stopped,
     /// A call on the disk failed, before the book was opened or after.
     DiskFault,
     /// There was no memory, before the book was opened or after.
@@ -39,13 +41,16 @@ pub enum SearchEnd {
 }
 
 impl SearchEnd {
-    /// Whether the search came to an end of which a report is written: finished, spent or full.
+    /// Whether the search came to an end of which a report can be written: finished, spent, full or stopped.
     pub fn is_reported(&self) -> bool
         ensures { result ≡ is_reported self.now }
     {
         matches!(
             self,
-            SearchEnd::Finished | SearchEnd::Spent | SearchEnd::Full { .. }
+            SearchEnd::Finished
+                | SearchEnd::Spent
+                | SearchEnd::Full { .. }
+                | SearchEnd::Stopped
         )
     }
 }
@@ -88,6 +93,7 @@ pub(crate) fn end_of(end: RunEnd) -> SearchEnd
         RunEnd::Full { end, limit } => SearchEnd::Full { end, limit },
         RunEnd::DiskFault => SearchEnd::DiskFault,
         RunEnd::NoMemory => SearchEnd::NoMemory,
+        RunEnd::Stopped => SearchEnd::Stopped,
     }
 }
 
