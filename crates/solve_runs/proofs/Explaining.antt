@@ -165,7 +165,7 @@ module _ (met : Met) (asks : Asked → Type 0) (one : Asked) (is : met.asks one)
   ends_turned command (Journal why) e = over_turned command (Journal why) e
   ends_turned command (Input why) e = (unopened_turned e.0, e.1, e.2)
   ends_turned command ReadFault e = (unopened_turned e.0, e.1, e.2)
-  ends_turned command NoMemory e = elim e [ | inl none ↦ inl (unopened_turned none.0, none.1, none.2) | inr over ↦ inr (over_turned command NoMemory over) ]
+  ends_turned command NoMemory e = elim e [ inl none ↦ inl (unopened_turned none.0, none.1, none.2) | inr over ↦ inr (over_turned command NoMemory over) ]
   ends_turned command Usage e = absurd e
   ends_turned command (Workers asked have) e = absurd e
 
@@ -182,13 +182,13 @@ module _ (met : Met) (asks : Asked → Type 0) (one : Asked) (is : met.asks one)
   explains_turned ReadFault e = search_turned ReadFault e
   explains_turned DiskFault e = search_turned DiskFault e
   explains_turned (Journal why) e = search_turned (Journal why) e
-  explains_turned Optimal e = elim e [ | inl search ↦ inl (search_turned Optimal search) | inr demo ↦ inr (demo_turned Optimal demo) ]
-  explains_turned Budget e = elim e [ | inl search ↦ inl (search_turned Budget search) | inr demo ↦ inr (demo_turned Budget demo) ]
-  explains_turned (Full end limit) e = elim e [ | inl search ↦ inl (search_turned (Full end limit) search) | inr demo ↦ inr (demo_turned (Full end limit) demo) ]
-  explains_turned WriteFault e = elim e [ | inl search ↦ inl (search_turned WriteFault search) | inr demo ↦ inr (demo_turned WriteFault demo) ]
+  explains_turned Optimal e = elim e [ inl search ↦ inl (search_turned Optimal search) | inr demo ↦ inr (demo_turned Optimal demo) ]
+  explains_turned Budget e = elim e [ inl search ↦ inl (search_turned Budget search) | inr demo ↦ inr (demo_turned Budget demo) ]
+  explains_turned (Full end limit) e = elim e [ inl search ↦ inl (search_turned (Full end limit) search) | inr demo ↦ inr (demo_turned (Full end limit) demo) ]
+  explains_turned WriteFault e = elim e [ inl search ↦ inl (search_turned WriteFault search) | inr demo ↦ inr (demo_turned WriteFault demo) ]
   explains_turned NoMemory e = elim e [
     | inl none ↦ inl (unopened_turned none.0, none.1, none.2)
-    | inr some ↦ inr (elim some [ | inl search ↦ inl (search_turned NoMemory search) | inr demo ↦ inr (demo_turned NoMemory demo) ])
+    | inr some ↦ inr (elim some [ inl search ↦ inl (search_turned NoMemory search) | inr demo ↦ inr (demo_turned NoMemory demo) ])
   ]
 
 -- some worker is asked for
