@@ -106,7 +106,7 @@ unread_of words found status reads (inr asked) = inr (asked.0, asked.1, let e : 
 pub too_many : (met : Met) (asked have : ℕ) (status : Status) → status ≡ Workers asked have → met.opened ≡ false → met.demo ≡ None → met.told.after ≡ []
     → AsksWorkers met.asks asked → have ≡ workers_for met.told.before → have < asked → Explains met status
 too_many met asked have status is opened demo none asks all more =
-    subst (Explains met) (sym is) (record { opened = opened; demo = demo }, none, record { asked = asks; all = all; more = more })
+    subst (Explains met) (sym is) (record { opened = opened; demo = demo }, none, record { workers = asks; all = all; more = more })
 
 -- nothing is asked for
 pub unasked : (met : Met) (status : Status) → status ≡ Usage → met.opened ≡ false → met.demo ≡ None → met.told.after ≡ [] → ((asked : Asked) → met.asks asked → ⊥) → Explains met status
@@ -177,7 +177,7 @@ module _ (met : Met) (asks : Asked → Type 0) (one : Asked) (is : met.asks one)
 
   pub explains_turned : (status : Status) → Explains met status → Explains turned status
   explains_turned Usage e = absurd (e.2 one is)
-  explains_turned (Workers asked have) e = (unopened_turned e.0, e.1, record { asked = workers_turned asked e.2.asked; all = e.2.all; more = e.2.more })
+  explains_turned (Workers asked have) e = (unopened_turned e.0, e.1, record { workers = workers_turned asked e.2.workers; all = e.2.all; more = e.2.more })
   explains_turned (Input why) e = search_turned (Input why) e
   explains_turned ReadFault e = search_turned ReadFault e
   explains_turned DiskFault e = search_turned DiskFault e
