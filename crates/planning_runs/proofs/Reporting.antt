@@ -9,7 +9,7 @@ use Rattle.instance_input.specs.Unread.{IsReadAs}
 use Rattle.certificate.specs.declared.Cert.{Cert}
 use Rattle.certificate.specs.Departing.{Spells}
 use Rattle.solve_runs.specs.Report.{cert_of, output_of}
-use Rattle.solve_runs.specs.Run.{Explains, Met, Reports, Searched}
+use Rattle.solve_runs.specs.Run.{EndsCommand, Explains, Met, Reports}
 use Rattle.solve_runs.specs.Served.{ToldMet}
 use Rattle.solve_runs.specs.Session.{posts_in, DiskMet, Session}
 use Rattle.solve_runs.specs.Words.{Command}
@@ -38,7 +38,7 @@ session_report met document written i table session left empty held read reports
     }
 
 -- the report of a search that wasn't cut off
-search_report : (met : Met) (document written : List ℕ) (command : Command) (status : Status) → met.left ≡ Some document → met.sink.held ≡ Some [] → met.sink.held_after ≡ Some written → is_reported status ≡ true → Searched met command status
+search_report : (met : Met) (document written : List ℕ) (command : Command) (status : Status) → met.left ≡ Some document → met.sink.held ≡ Some [] → met.sink.held_after ≡ Some written → is_reported status ≡ true → EndsCommand met command status
     → IsReportOf document written
 search_report met document written command Optimal left empty held reported over = session_report met document written over.i command.table over.ends.1 left empty held over.document over.ends.4
 search_report met document written command Budget left empty held reported over = session_report met document written over.i command.table over.ends.1 left empty held over.document over.ends.4

@@ -1,5 +1,6 @@
 -- A run of `solve` with the words of a slice is a slice.
 use Rattle.std.proofs.Common.{◌≡◌, ℕ, Bool, List, [], Option, Some, subst}
+use Rattle.solve_words.specs.Words.{Asks}
 use Rattle.solve_runs.specs.Run.{Explains, Met}
 use Rattle.solve_runs.specs.Served.{ToldMet}
 use Rattle.solve_runs.specs.Session.{DiskMet}
@@ -10,7 +11,7 @@ use Rattle.planning_runs.specs.Slices.{slice_words, IsSlice}
 -- what such a run meets
 abbrev met : List (List ℕ) → List ℕ → ℕ → ℕ → ToldMet → List ℕ → List ℕ → ℕ → ℕ → DiskMet → Bool → Option (List ℕ) → Met
 met words left faults faults_after told held held_after sink_faults sink_faults_after disk opened demo = record {
-  words = words;
+  asks = Asks words;
   left = Some left;
   read_faults = (faults, faults_after);
   told = told;

@@ -1,6 +1,7 @@
 -- Runs of `solve` one after another, over one document and one journal.
 use Rattle.std.specs.Prelude.{◌≡◌, ℕ, Bool, true, false, List, [], ◌∷◌, Option, Some, codes, ◌&&◌, if◌then◌else◌}
 use Rattle.std.specs.Fmt.{decimal}
+use Rattle.solve_words.specs.Words.{Asks}
 use Rattle.solve_runs.specs.declared.status.Status.{Status}
 use Rattle.solve_runs.specs.declared.status.Status.TheVariants.{Optimal, Budget, Full, Usage, Input, Workers, ReadFault, WriteFault, DiskFault, NoMemory, Journal}
 use Rattle.solve_runs.specs.Run.{Explains}
@@ -23,7 +24,7 @@ pub record IsSlice (workers steps : ℕ) (document : List ℕ) (told : ToldMet) 
   pub demo : Option (List ℕ)
   pub explained : Explains
       (record {
-        words = slice_words workers steps;
+        asks = Asks (slice_words workers steps);
         left = Some document;
         read_faults = (0, read_faults);
         told = told;
