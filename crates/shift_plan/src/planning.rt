@@ -1,6 +1,6 @@
 //! A search for a plan.
 
-use advice::Adviser;
+use advice::{Adviser, Never};
 use instance_warnings::warnings;
 use journal_texts::full_sentence;
 use plan_base::MemSink;
@@ -230,6 +230,7 @@ fn searched<R: Threads + Wait + Sync>(
     host: HostRuntime,
     rt: &R,
     words: &PlanWords,
+    instance: &Instance,
     document: &[u8],
     journal: &mut LockedJournal<HostRuntime>,
 ) -> Result<Option<MemSink>, Refusal> {
@@ -239,7 +240,7 @@ fn searched<R: Threads + Wait + Sync>(
     let shown = shown_on(host);
     let mut advisers: Vec<Box<dyn Adviser + Send>> = Vec::new(alloc);
     for worker in 0..words.workers {
-        let thorough = Thorough::new(alloc, u64::from(worker) + 1);
+        let thorough = Thorough::of(alloc, instance, u64::from(worker) + 1, Never)?;
         let seen = Arc::try_clone(&progress)?;
         let watched = Watched::new(alloc, thorough, worker, seen, host, shown);
         advisers.push(Box::new(alloc, watched)?)?;
@@ -293,7 +294,7 @@ pub(crate) fn plan<R: Threads + Wait + Sync>(
     let mut journals = locked_journal(host, words)?;
     ready_folder(host, folder.as_str())?;
     let document = document.as_slice();
-    let report = searched(host, rt, words, document, &mut journals.now)?;
+    let report = searched(host, rt, words, &instance, document, &mut journals.now)?;
     let report = bytes_of(&report);
     show_found(host, words, folder.as_str(), instance, document, report)
 }

@@ -3,7 +3,7 @@
 //! made from a number, and prints a line.
 #![tactic(auto)]
 
-use advice::Adviser;
+use advice::{Adviser, Never};
 use advisers::{Greedy, Subgradient};
 use descents::Descent;
 use plan_base::{FileDisk, StdSink, StdSource};
@@ -56,7 +56,7 @@ fn solve<R: Threads + Wait + Sync>(
     let mut advisers: Vec<Box<dyn Adviser + Send>> = Vec::with_capacity(alloc, ADVISERS)?;
     for place in 0..ADVISERS {
         if is_thorough {
-            advisers.push(Box::new(alloc, Thorough::new(alloc, place as u64 + 1))?)?;
+            advisers.push(Box::new(alloc, Thorough::new(alloc, place as u64 + 1, Never))?)?;
         } else if 0 < place {
             advisers.push(Box::new(alloc, Subgradient::new(alloc, SCALE))?)?;
         } else if is_local {
