@@ -12,7 +12,6 @@ pub trait Stop {
 }
 
 /// The stop that never asks.
-#[derive(Clone, Copy, Drop)]
 pub struct Never;
 
 impl Stop for Never {

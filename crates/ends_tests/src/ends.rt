@@ -1,6 +1,7 @@
 //! Runs of four workers on a disk of which a call fails, and what the disk opens to after a crash at that call.
 ghost use Rattle.std.specs.Prelude.{◌≡◌, All, IfOk, vec_len};
 
+use advice::Never;
 use advisers::Greedy;
 use plan_base::{Disk, MemDisk};
 use search_book::Book;
@@ -47,7 +48,7 @@ fn run_four<R: Threads + Wait + Sync>(
     let seats = greedy_seats(alloc)?;
     match Book::open(alloc, &instance, disk, u64::from(steps), LIMIT) {
         Ok(book) => {
-            let (book, _, end) = run_workers(rt, alloc, &instance, book, seats, &Open);
+            let (book, _, end) = run_workers(rt, alloc, &instance, book, seats, &Open, &Never);
             Ok(Some(Ran {
                 end,
                 posts: book.posts(),

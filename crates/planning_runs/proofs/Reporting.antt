@@ -41,7 +41,7 @@ session_report met document written i table session left empty held read reports
 search_report : (met : Met) (document written : List ℕ) (command : Command) (status : Status) → met.left ≡ Some document → met.sink.held ≡ Some [] → met.sink.held_after ≡ Some written → is_reported status ≡ true → Searched met command status
     → IsReportOf document written
 search_report met document written command Optimal left empty held reported over = session_report met document written over.i command.table over.ends.1 left empty held over.document over.ends.4
-search_report met document written command Budget left empty held reported over = session_report met document written over.i command.table over.ends.1 left empty held over.document over.ends.5
+search_report met document written command Budget left empty held reported over = session_report met document written over.i command.table over.ends.1 left empty held over.document over.ends.4
 search_report met document written command (Full end limit) left empty held reported over = session_report met document written over.i command.table over.ends.1 left empty held over.document over.ends.4
 search_report met document written command Usage left empty held reported over = absurd over
 search_report met document written command (Input why) left empty held reported over = let bad : false ≡ true = reported in absurd (cc)

@@ -2,6 +2,7 @@
 ghost use Rattle.std.specs.Prelude.{◌≡◌, length};
 ghost use Rattle.instance_json.specs.Canonical.{canonical_text};
 
+use advice::Never;
 use advisers::Greedy;
 use plan_base::{Disk, MemDisk};
 use search_book::{Book, OpenFault};
@@ -31,7 +32,7 @@ fn stopped(alloc: Global, instance: &Instance, call: u64) -> Result<(MemDisk, Op
     let disk = MemDisk::new(alloc, Vec::new(alloc), vec![in alloc; call; 1]?);
     match Book::open(alloc, instance, disk, 2, LIMIT) {
         Ok(mut book) => {
-            run_seat(alloc, instance, &mut book, &mut seat, &Open);
+            run_seat(alloc, instance, &mut book, &mut seat, &Open, &Never);
             let posts = book.posts();
             Ok((book.into_disk(), Some(posts)))
         }

@@ -1,4 +1,5 @@
 //! A step for whose record a journal has no room.
+use advice::Never;
 use advisers::Greedy;
 use plan_base::MemDisk;
 use search_book::Book;
@@ -16,7 +17,7 @@ fn ended(rt: &impl Abort, alloc: Global, limit: u32) -> Result<(RunEnd, Option<u
     let disk = MemDisk::new(alloc, Vec::new(alloc), Vec::new(alloc));
     match Book::open(alloc, &instance, disk, 1, limit) {
         Ok(mut book) => {
-            let end = run_seat(alloc, &instance, &mut book, &mut seat, &Open);
+            let end = run_seat(alloc, &instance, &mut book, &mut seat, &Open, &Never);
             let held = book.held(0);
             Ok((end, held, book.into_disk().bytes().len()))
         }

@@ -15,7 +15,7 @@ use Rattle.search_core.specs.declared.board.Shutting.TheVariants.{Full as ByLimi
 use Rattle.search_core.specs.declared.drafting.Draft.{Draft}
 use Rattle.search_core.specs.declared.step_posts.StepPosts.{StepPosts}
 use Rattle.search_core.specs.declared.step_posts.Close.TheVariants.{ByPrice}
-use Rattle.search_core.specs.Board.{book_at, bytes_of, floor_of_node, leaves_open, posts_at, records_of, BoardView, CommitRefuses, Commits, DifferAt, HasPosts, HoldsStep}
+use Rattle.search_core.specs.Board.{batches_of, book_at, bytes_of, floor_of_node, leaves_open, posts_at, records_of, BoardView, CommitRefuses, Commits, DifferAt, HasPosts, HoldsStep}
 use Rattle.search_core.specs.Book.{Book, book_after, book_of, is_node_and, is_open}
 use Rattle.search_core.specs.Core.{HoldsApart}
 use Rattle.search_core.specs.Drafting.{Drafts, LeavesOpen, Makes}
@@ -25,7 +25,7 @@ use Rattle.search_core.proofs.Appends.{makes_fold}
 use Rattle.search_core.proofs.Boards.{others_held_after}
 use Rattle.search_core.proofs.Outlines.{book_is}
 use Rattle.search_core.proofs.Runs.{front_folds}
-use Rattle.search_book.specs.Committing.{batches_of, commit_fault_of, step_posts, MayCommit, MayNot, RecordsStep, StepFails}
+use Rattle.search_book.specs.Committing.{commit_fault_of, step_posts, MayCommit, MayNot, RecordsStep, StepFails}
 use Rattle.search_book.specs.PostLog.{PostLogView}
 use Rattle.post_codec.specs.Batches.{joined}
 use Rattle.search_book.specs.Recorded.{RecordFails, Records}
@@ -77,7 +77,7 @@ module _ {D : Type 0} (reads : D → Option (List ℕ)) (calls faults : D → �
       record {
         holds = holds_of may;
         makes = ap (λ (v : PostLogView D). seen_of v (slice_set hands w None)) r.log
-            ∙ ap (λ (l : List Post). record before { history = old.history ++ l; used = old.used + bytes_of l; hands = slice_set hands w None }) (sym posts_are);
+            ∙ ap (λ (l : List Post). record before { history = old.history ++ l; batches = old.batches ++ batches_of l; used = old.used + bytes_of l; hands = slice_set hands w None }) (sym posts_are);
         closed = ap (λ (b : Book). is_node_and b step.node (is_open b)) (after ∙ sym made) ∙ closed;
         plan = r.plan ∙ ap (is_cheaper step.plan) (sym here);
         records = r.count ∙ ap records_of (sym posts_are);

@@ -13,6 +13,7 @@ sound_of reads calls faults log hands taken budget halted k = record {
   hands = record { distinct = k.apart; unsplit = k.unsplit };
   sixteen = k.sixteen;
   within = k.within;
+  all = k.all;
   begins = (joined log.batches, sym k.all);
   fresh = k.fresh;
   past = λ end most is.

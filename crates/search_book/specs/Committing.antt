@@ -7,7 +7,7 @@ use Rattle.search_core.specs.declared.step_posts.StepPosts.{StepPosts}
 use Rattle.search_core.specs.declared.board.Kept.{Kept}
 use Rattle.search_core.specs.declared.board.CommitFault.{CommitFault}
 use Rattle.search_core.specs.declared.board.CommitFault.TheVariants.{DiskFault, Full, NotHeld, Shut, NotClosing, OtherCuts, NoMemory}
-use Rattle.search_core.specs.Board.{bytes_of, floor_of_node, records_of, DifferAt}
+use Rattle.search_core.specs.Board.{batches_of, bytes_of, floor_of_node, records_of, DifferAt}
 use Rattle.search_core.specs.Book.{book_of, is_node_and}
 use Rattle.search_core.specs.Core.{hand}
 use Rattle.search_core.specs.Kept.{cuts_in}
@@ -18,11 +18,6 @@ use Rattle.search_book.specs.Recorded.{RecordFails}
 -- the posts of a worker's step over a log of posts
 abbrev pub step_posts : {D : Type 0} → ℕ → StepPosts → PostLogView D → List Post
 step_posts w step log = posts_of log.instance log.book w step
-
--- the batches of a step's posts: one of all of them, and none where there are none
-abbrev pub batches_of : List Post → List (List Post)
-batches_of [] = []
-batches_of (post ∷ posts) = (post ∷ posts) ∷ []
 
 -- A step's posts are in the log as one record, by four calls, where the limit has room for it; where there are none, the log is
 -- as it was. What was kept says what they made.

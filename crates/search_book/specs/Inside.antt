@@ -21,4 +21,6 @@ pub record IsLogInside {D : Type 0} (reads : D → Option (List ℕ)) (images : 
   pub cause : log.in_flight ≢ [] → Rose (faults log.opened) (faults log.disk)
   -- the last of the added records was acknowledged by now
   pub moment : calls log.opened + 4 * log.added ≤ calls log.disk
+  -- and since then no more than the calls of one more were made
+  pub most : calls log.disk ≤ calls log.opened + 4 * log.added + 4
   pub lasts : RecordsLast reads images_since calls log

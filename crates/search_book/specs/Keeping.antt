@@ -61,4 +61,6 @@ pub record IsPostLog {D : Type 0} (reads : D → Option (List ℕ)) (images : D 
   pub later : faults log.opened ≤ faults log.disk
   -- the last of the records was acknowledged by now
   pub moment : calls log.opened + 4 * length log.batches ≤ calls log.disk
+  -- and since then no more than the calls of one more were made
+  pub most : calls log.disk ≤ calls log.opened + 4 * length log.batches + 4
   pub lasts : PostsLast reads images_since calls log

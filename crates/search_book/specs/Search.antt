@@ -46,6 +46,7 @@ board_at reads calls faults log hands taken budget halted = record {
   budget = budget;
   origin = origin_at log.opening (calls log.opened) (faults log.opened) log.limit (tells (reads log.opened));
   history = log.history;
+  batches = log.batches;
   used = log.used;
   hands = hands;
   taken = taken;

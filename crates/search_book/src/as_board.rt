@@ -16,6 +16,11 @@ impl<D: Disk> Board for Book<D> {
         self.take(worker)
     }
 
+    /// Whether it gives nodes: nothing shut it, a node is open, no worker gave up, and a step is left.
+    fn gives(&self) -> bool {
+        self.gives()
+    }
+
     /// The cuts of the node in a worker's hand.
     fn cuts(&self, worker: u32) -> Result<Cuts, NoMemory> {
         self.cuts(worker)

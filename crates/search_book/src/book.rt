@@ -1,7 +1,7 @@
 //! The book of a search on a disk, from which workers take nodes.
-ghost use Rattle.std.specs.Prelude.{◌≡◌, ℕ, ◌+◌, ◌*◌, ◌^◌, ◌<◌, ◌≤◌, [], ◌++◌, false, length, IfErr, IfOk, IsSome, None, Some};
+ghost use Rattle.std.specs.Prelude.{◌≡◌, ◌↔◌, ℕ, ◌+◌, ◌*◌, ◌^◌, ◌<◌, ◌≤◌, [], ◌++◌, false, length, IfErr, IfOk, IsSome, IsTrue, None, Some};
 ghost use Rattle.plan_base.specs.Disk.{TellsAlike};
-ghost use Rattle.search_core.specs.Board.{yields, CommitRefuses, Commits, TakeMakes};
+ghost use Rattle.search_core.specs.Board.{yields, CommitRefuses, Commits, Gives, TakeMakes};
 ghost use Rattle.search_core.specs.Book.{book_of, is_finished, floor_of, IsSound};
 ghost use Rattle.search_core.specs.Core.{empty_hands, hand};
 ghost use Rattle.search_core.specs.Kept.{cuts_in};
@@ -83,7 +83,7 @@ impl<D: Disk> Book<D> {
 
     /// How many records were made since the book was opened, with all that a crash at any moment may leave, and why the
     /// book is shut, where it is. The moment at which the last of them was acknowledged isn't after now, even where a disk
-    /// fault shut the book.
+    /// fault shut the book, and since then no more calls were made than one more record takes.
     pub fn batches(&self) -> u64
         ensures made { result ≡ length self.now.log.batches }
         ensures all { self.now.log.history ≡ self.now.log.opening ++ joined self.now.log.batches }
@@ -91,6 +91,7 @@ impl<D: Disk> Book<D> {
         ensures running { self.now.log.in_flight ≡ [] → IsRunningPosts D.reads D.images D.calls self.now.log }
         ensures single { length self.now.log.in_flight ≤ 1 }
         ensures moment { D.calls self.now.log.opened + 4 * length self.now.log.batches ≤ D.calls self.now.log.disk }
+        ensures most { D.calls self.now.log.disk ≤ D.calls self.now.log.opened + 4 * length self.now.log.batches + 4 }
         ensures telling { TellsAlike (D.reads self.now.log.opened) (D.reads self.now.log.disk) }
         ensures faults { D.faults self.now.log.opened ≤ D.faults self.now.log.disk }
         ensures fault { ShutOf self.now.log.limit (D.faults self.now.log.opened) (D.faults self.now.log.disk) self.now.log.in_flight self.now.log.shut }
@@ -106,6 +107,13 @@ impl<D: Disk> Book<D> {
         ensures makes { TakeMakes result worker (board_of D.reads D.calls D.faults self.old) (board_of D.reads D.calls D.faults self.new) }
     {
         self.session.take(worker)
+    }
+
+    /// Whether it gives nodes: nothing shut it, a node is open, no worker gave up, and a step is left.
+    pub fn gives(&self) -> bool
+        ensures { IsTrue result ↔ Gives (board_of D.reads D.calls D.faults self.now) }
+    {
+        self.session.gives()
     }
 
     /// The cuts of the node in a worker's hand.

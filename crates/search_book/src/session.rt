@@ -1,6 +1,6 @@
 //! The posts of a search on a disk, with the hands of its workers and its steps.
-ghost use Rattle.std.specs.Prelude.{◌≡◌, ℕ, ◌^◌, ◌<◌, ◌≤◌, ◌++◌, false, true, length, not, slice_set, IfErr, IfOk, IsSome, None, Some};
-ghost use Rattle.search_core.specs.Board.{yields, CommitRefuses, Commits, TakeMakes};
+ghost use Rattle.std.specs.Prelude.{◌≡◌, ◌↔◌, ℕ, ◌^◌, ◌<◌, ◌≤◌, ◌++◌, false, true, length, not, slice_set, IfErr, IfOk, IsSome, IsTrue, None, Some};
+ghost use Rattle.search_core.specs.Board.{yields, CommitRefuses, Commits, Gives, TakeMakes};
 ghost use Rattle.search_core.specs.Book.{book_of, is_node_and};
 ghost use Rattle.search_core.specs.Core.{empty_hands, hand, AreApart};
 ghost use Rattle.search_core.specs.Kept.{cuts_in};
@@ -80,6 +80,16 @@ impl<D: Disk> Session<D> {
         self.hands.take(worker, node);
         self.taken += 1;
         Taken::Node { node, floor, best }
+    }
+
+    /// Whether it gives nodes: nothing shut it, a node is open, no worker gave up, and a step is left.
+    pub(crate) fn gives(&self) -> bool
+        ensures { IsTrue result ↔ Gives (board_at D.reads D.calls D.faults self.now.log self.now.hands self.now.taken self.now.budget self.now.halted) }
+    {
+        self.log.shut().is_none()
+            && !is_finished(self.log.state())
+            && !self.halted
+            && self.taken < self.budget
     }
 
     /// The cuts of the node in a worker's hand.

@@ -17,7 +17,7 @@ use Rattle.search_core.specs.declared.board.Taken.{Taken}
 use Rattle.search_core.specs.declared.board.Taken.TheVariants.{Closed, Finished, Halted, Spent, Node as TakenNode, Idle}
 use Rattle.search_core.specs.declared.board.CommitFault.{CommitFault}
 use Rattle.search_core.specs.declared.board.CommitFault.TheVariants.{DiskFault, Full, NotHeld, Shut, NotClosing, OtherCuts, NoMemory}
-use Rattle.search_core.specs.Board.{BoardView, book_at, bytes_of, posts_at, yields, Commits, CommitRefuses, IsSoundBoard, TakeMakes}
+use Rattle.search_core.specs.Board.{BoardView, batches_of, book_at, bytes_of, posts_at, yields, Commits, CommitRefuses, IsSoundBoard, TakeMakes}
 use Rattle.search_core.specs.Book.{Book, book_after, book_of, is_node_and, is_open}
 use Rattle.search_core.specs.Calls.{full_hands, steps_enough, AreCalls, IsCall, IsFresh}
 use Rattle.search_core.specs.Calls.AreCalls.{none, one_more}
@@ -213,7 +213,7 @@ module _ (i : Problem) (v new : BoardView) (commits w : ℕ) (step : StepPosts) 
       let grows : passing (is_used (book_at v) v.hands) (steps_enough i) ≤ passing (is_used t.book emptied) (steps_enough i) = passing_grows (is_used (book_at v) v.hands) (is_used t.book emptied) (steps_enough i) commit_grows in
       let full : full_hands emptied + 1 ≡ full_hands v.hands = commit_fills v.hands w step.node m.holds.held in
       let all : commits + full_hands v.hands ≤ v.taken = c.within in
-      let next : BoardView = record v { history = v.history ++ posts; used = v.used + bytes_of posts; hands = emptied } in
+      let next : BoardView = record v { history = v.history ++ posts; batches = v.batches ++ batches_of posts; used = v.used + bytes_of posts; hands = emptied } in
       let next_at : book_at next ≡ t.book = book_is v.instance (v.history ++ posts) t.book folds_after in
       let counts : Counts i next (commits + 1) = record {
         root = c.root;

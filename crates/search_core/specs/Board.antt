@@ -3,6 +3,7 @@ use Rattle.std.specs.Prelude.{◌≡◌, ◌≢◌, ℕ, ◌+◌, ◌<◌, ◌�
 use Rattle.std.specs.List.{list_any}
 use Rattle.shift_instance.specs.Problem.{Problem}
 use Rattle.post_codec.specs.declared.post.Post.{Post}
+use Rattle.post_codec.specs.Batches.{joined}
 use Rattle.post_codec.specs.Spelling.{spelling}
 use Rattle.search_core.specs.declared.step_posts.StepPosts.{StepPosts}
 use Rattle.search_core.specs.declared.step_posts.Close.TheVariants.{ByPrice}
@@ -28,6 +29,8 @@ pub record BoardView : Type 0 where
   pub origin : Origin
   -- the posts, from the first one on
   pub history : List Post
+  -- the posts of each record that was made since it began, in order
+  pub batches : List (List Post)
   -- where its journal ends, in bytes
   pub used : ℕ
   -- the node in the hand of each worker
@@ -56,7 +59,12 @@ abbrev pub records_of : List Post → ℕ
 records_of [] = 0
 records_of (post ∷ posts) = 1
 
--- the bytes of that record, with its length and its gate
+-- the posts of that record
+abbrev pub batches_of : List Post → List (List Post)
+batches_of [] = []
+batches_of (post ∷ posts) = (post ∷ posts) ∷ []
+
+-- its bytes, with its length and its gate
 abbrev pub bytes_of : List Post → ℕ
 bytes_of [] = 0
 bytes_of (post ∷ posts) = 5 + length (spelling (post ∷ posts))
@@ -132,7 +140,7 @@ pub record HasPosts (w : ℕ) (step : StepPosts) (v : BoardView) : Type 0 where
 -- a commit: the step's posts are appended as one record, the hand is empty, and the node isn't open
 pub record Commits (w : ℕ) (step : StepPosts) (old new : BoardView) (kept : Kept) : Type 0 where
   pub holds : HoldsStep w step old
-  pub makes : new ≡ record old { history = old.history ++ posts_at old w step; used = old.used + bytes_of (posts_at old w step); hands = slice_set old.hands w None }
+  pub makes : new ≡ record old { history = old.history ++ posts_at old w step; batches = old.batches ++ batches_of (posts_at old w step); used = old.used + bytes_of (posts_at old w step); hands = slice_set old.hands w None }
   pub closed : IsFalse (is_node_and (book_at new) step.node (is_open (book_at new)))
   pub plan : kept.plan ≡ is_cheaper step.plan (book_at old)
   pub records : kept.records ≡ records_of (posts_at old w step)
@@ -182,7 +190,8 @@ pub record IsSoundBoard (v : BoardView) : Type 0 where
   pub sixteen : length v.hands ≡ 16
   -- no more steps are taken than there are
   pub within : v.taken ≤ v.budget
-  -- the history begins with that of the origin, and is that while no step was taken
+  -- the history is that of the origin and the posts of the records since, and that of the origin while no step was taken
+  pub all : v.history ≡ v.origin.history ++ joined v.batches
   pub begins : IsFront v.origin.history v.history
   pub fresh : v.taken ≡ 0 → v.history ≡ v.origin.history
   -- what shut it, where that was its journal's limit

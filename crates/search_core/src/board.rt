@@ -1,6 +1,6 @@
 //! The board of a search: where workers take nodes from, and commit what they find.
-ghost use Rattle.std.specs.Prelude.{◌≡◌, ℕ, ◌<◌, ◌≤◌, ◌^◌, None, Some, IsSome, IfOk, IfErr, length};
-ghost use Rattle.search_core.specs.Board.{book_at, yields, BoardView, Commits, CommitRefuses, IsSoundBoard, TakeMakes};
+ghost use Rattle.std.specs.Prelude.{◌≡◌, ◌↔◌, ℕ, ◌<◌, ◌≤◌, ◌^◌, None, Some, IsSome, IsTrue, IfOk, IfErr, length};
+ghost use Rattle.search_core.specs.Board.{book_at, yields, BoardView, Commits, CommitRefuses, Gives, IsSoundBoard, TakeMakes};
 ghost use Rattle.search_core.specs.Core.{hand};
 ghost use Rattle.search_core.specs.Kept.{cuts_in};
 ghost use Rattle.search_core.specs.Steps.{Fits};
@@ -117,6 +117,10 @@ pub trait Board {
         requires worker { worker < 16 }
         requires empty { hand (seen self.old).hands worker ≡ None }
         ensures { TakeMakes result worker (seen self.old) (seen self.new) };
+
+    /// Whether it gives nodes: nothing shut it, a node is open, no worker gave up, and a step is left.
+    fn gives(&self) -> bool
+        ensures { IsTrue result ↔ Gives (seen self.now) };
 
     /// The cuts of the node in a worker's hand.
     fn cuts(&self, worker: u32) -> Result<Cuts, NoMemory>

@@ -7,7 +7,8 @@ use advice::Adviser;
 use advisers::{Greedy, Subgradient};
 use descents::Descent;
 use plan_base::{FileDisk, StdSink, StdSource};
-use solve_runs::{Status, journal_path, solve_run, status_line, wants_local, wants_thorough};
+use solve_runs::{Status, run_command, status_line};
+use solve_words::{Command, Method, command_of};
 use std::alloc::AllocError;
 use std::process::ExitCode;
 use std::sync::Wait;
@@ -37,39 +38,49 @@ fn command_words(rt: &HostRuntime) -> Result<Vec<String>, Status> {
         .map_err(|_| Status::NoMemory)
 }
 
+/// The adviser at a place, the first of which is 0. For a thorough search each searches thoroughly, with a seed of its own from 1 on.
+/// Else the first gives greedy advice, with a plan made cheaper by moves for a local search, and each other looks for prices by the
+/// subgradient method.
+fn adviser_at(
+    alloc: Global,
+    method: Method,
+    place: usize,
+) -> Result<Box<dyn Adviser + Send>, AllocError> {
+    let adviser: Box<dyn Adviser + Send> = match method {
+        Method::Thorough => Box::new(alloc, Thorough::new(alloc, place as u64 + 1))?,
+        _ if 0 < place => Box::new(alloc, Subgradient::new(alloc, SCALE))?,
+        Method::Local => Box::new(alloc, Descent::new(alloc, MOVES))?,
+        Method::Greedy => Box::new(alloc, Greedy::new(alloc))?,
+    };
+    Ok(adviser)
+}
+
 /// The run of these words over the standard streams, and over a disk on the JOURNAL word's path, with an adviser for each worker that
-/// a run may have. Where the words ask for a thorough search, each searches thoroughly, with a seed of its own from 1 on. Else the
-/// first gives greedy advice, with a plan made cheaper by moves where the words ask for a local search, and each other looks for
-/// prices by the subgradient method.
+/// a run may have.
 fn solve<R: Threads + Wait + Sync>(
     host: HostRuntime,
     rt: &R,
     words: &[String],
 ) -> Result<Status, AllocError> {
     let alloc = host.alloc();
-    let path = match journal_path(alloc, words)? {
-        Some(path) => path,
-        None => String::new(alloc),
+    let Some(command) = command_of(alloc, words)? else {
+        return Ok(Status::Usage);
     };
-    let is_thorough = wants_thorough(alloc, words)?;
-    let is_local = wants_local(alloc, words)?;
+    let (path, method) = match command {
+        Command::Search {
+            journal, method, ..
+        } => (String::from_str(alloc, journal)?, method),
+        Command::Demo { .. } => (String::new(alloc), Method::Greedy),
+    };
     let mut advisers: Vec<Box<dyn Adviser + Send>> = Vec::with_capacity(alloc, ADVISERS)?;
     for place in 0..ADVISERS {
-        if is_thorough {
-            advisers.push(Box::new(alloc, Thorough::new(alloc, place as u64 + 1))?)?;
-        } else if 0 < place {
-            advisers.push(Box::new(alloc, Subgradient::new(alloc, SCALE))?)?;
-        } else if is_local {
-            advisers.push(Box::new(alloc, Descent::new(alloc, MOVES))?)?;
-        } else {
-            advisers.push(Box::new(alloc, Greedy::new(alloc))?)?;
-        }
+        advisers.push(adviser_at(alloc, method, place)?)?;
     }
     let mut input = StdSource::new(host);
     let mut out = StdSink::new(host);
     let disk = FileDisk::new(host, path);
-    let ended = solve_run(
-        rt, alloc, words, &mut input, &mut out, disk, advisers, &Open,
+    let ended = run_command(
+        rt, alloc, command, &mut input, &mut out, disk, advisers, &Open,
     );
     Ok(ended.status)
 }

@@ -21,7 +21,7 @@ use Rattle.search_book.specs.Opening.{IsBegun, IsOpenedFrom}
 use Rattle.search_book.specs.Posts.{IsJournalOf}
 use Rattle.search_book.specs.Search.{board_of, SearchView}
 use Rattle.worker_gate.specs.declared.run.RunEnd.{RunEnd}
-use Rattle.worker_gate.specs.declared.run.RunEnd.TheVariants.{Finished, Spent, Full as FullEnd, DiskFault as DiskEnd, NoMemory as MemoryEnd}
+use Rattle.worker_gate.specs.declared.run.RunEnd.TheVariants.{Finished, Spent, Full as FullEnd, DiskFault as DiskEnd, NoMemory as MemoryEnd, Stopped}
 use Rattle.worker_gate.specs.Runs.{committed, plans_and_prices_since, IsSameSearch, RunEnds, RunMakes}
 use Rattle.solve_runs.specs.Demo.{demo_text, line_of, AreCommitted, Demonstration, DemoMet, IsNew, IsShown, IsTold, OverMemory, Searches}
 use Rattle.solve_runs.specs.Report.{IsUnbeaten}
@@ -50,27 +50,37 @@ are_committed first last (FullEnd most limit) some makes =
     let all : last.taken ≡ (last.taken - 1) + 1 = omega (arith, cut, more) in all
 are_committed first last DiskEnd some makes = absurd (false≢true some)
 are_committed first last MemoryEnd some makes = absurd (false≢true some)
+are_committed first last Stopped some makes = absurd (false≢true some)
 
 -- the one adviser was told so often
-pub one_told : (before after : List ℕ) (was is grown : ℕ) (end : RunEnd) (taken : ℕ) → before ≡ was ∷ [] → after ≡ is ∷ [] → (was < 2 ^ 63 → is ≡ was + grown) → grown ≡ committed end taken → AreCommitted end (committed end taken) taken
-    → IsTold (record { before = before; after = after }) end taken
-one_told before after was is grown end taken before_is after_is grew all counted = (
-  committed end taken,
-  record {
-    served = ap length after_is;
-    grown = grown ∷ [];
-    all = refl;
-    each = λ k low small.
-        let here : k ≡ 0 = omega (arith, low) in
-        let first : get_or before k 0 ≡ was = ap (λ (n : ℕ). get_or before n 0) here ∙ ap (λ (l : List ℕ). get_or l 0 0) before_is in
-        let last : get_or after k 0 ≡ is = ap (λ (n : ℕ). get_or after n 0) here ∙ ap (λ (l : List ℕ). get_or l 0 0) after_is in
-        let more : get_or (grown ∷ []) k 0 ≡ grown = ap (λ (n : ℕ). get_or (grown ∷ []) n 0) here in
-        let grows : is ≡ was + grown = grew (subst (λ (n : ℕ). n < 2 ^ 63) first small) in
-        omega (arith, first, last, more, grows);
-    together = (let one : 0 + grown ≡ committed end taken = omega (arith, all) in one);
-  },
-  counted,
-)
+pub one_told : (before after : List ℕ) (was is grown commits : ℕ) → before ≡ was ∷ [] → after ≡ is ∷ [] → (was < 2 ^ 63 → is ≡ was + grown) → grown ≡ commits → AreTold 1 commits (record { before = before; after = after })
+one_told before after was is grown commits before_is after_is grew all = record {
+  served = ap length after_is;
+  grown = grown ∷ [];
+  all = refl;
+  each = λ k low small.
+      let here : k ≡ 0 = omega (arith, low) in
+      let first : get_or before k 0 ≡ was = ap (λ (n : ℕ). get_or before n 0) here ∙ ap (λ (l : List ℕ). get_or l 0 0) before_is in
+      let last : get_or after k 0 ≡ is = ap (λ (n : ℕ). get_or after n 0) here ∙ ap (λ (l : List ℕ). get_or l 0 0) after_is in
+      let more : get_or (grown ∷ []) k 0 ≡ grown = ap (λ (n : ℕ). get_or (grown ∷ []) n 0) here in
+      let grows : is ≡ was + grown = grew (subst (λ (n : ℕ). n < 2 ^ 63) first small) in
+      omega (arith, first, last, more, grows);
+  together = (let one : 0 + grown ≡ commits = omega (arith, all) in one);
+}
+
+-- an adviser that nobody asked
+pub one_untold : (told : List ℕ) → length told ≡ 1 → AreTold 1 0 (record { before = told; after = told })
+one_untold [] one = absurd (omega (arith, one))
+one_untold (was ∷ []) one = one_told (was ∷ []) (was ∷ []) was was 0 0 refl refl (λ small. omega arith) refl
+one_untold (was ∷ next ∷ more) one = absurd (omega (arith, one))
+
+-- the end without memory, by what it hands back
+pub forgotten : {D : Type 0} (reads : D → Option (List ℕ)) (number budget commits : ℕ) (before told after : List ℕ) (sink : SinkMet) (disk : Option D) (status : Status) → status ≡ NoMemory → disk ≡ None → after ≡ told
+    → AreTold 1 commits (record { before = before; after = told })
+    → OverMemory (record { number = number; budget = budget; told = record { before = before; after = after }; sink = sink; file = option_and_then reads disk }) status
+forgotten reads number budget commits before told after sink disk status is none back counted =
+    subst (λ (s : Status). OverMemory (record { number = number; budget = budget; told = record { before = before; after = after }; sink = sink; file = option_and_then reads disk }) s) (sym is)
+    (ap (option_and_then reads) none, commits, subst (λ (l : List ℕ). AreTold 1 commits (record { before = before; after = l })) (sym back) counted)
 
 module _ {D : Type 0} (reads : D → Option (List ℕ)) (calls faults : D → ℕ) where
   -- a book that was opened over an empty file
@@ -124,6 +134,7 @@ module _ {D : Type 0} (reads : D → Option (List ℕ)) (images : D → List ℕ
   landed (FullEnd most limit) some ends fault = (subst (ShutOf new.log.limit (faults new.log.opened) (faults new.log.disk) new.log.in_flight) ends.0 fault).0
   landed DiskEnd some ends fault = absurd (false≢true some)
   landed MemoryEnd some ends fault = absurd (false≢true some)
+  landed Stopped some ends fault = absurd (false≢true some)
 
   sound_of : Known → IsSound (generated number) (book_at (board_of reads calls faults new))
   sound_of k =
@@ -156,6 +167,7 @@ shown_ends met Spent some shown = shown
 shown_ends met (FullEnd most limit) some shown = shown
 shown_ends met DiskEnd some shown = absurd (false≢true some)
 shown_ends met MemoryEnd some shown = absurd (false≢true some)
+shown_ends met Stopped some shown = absurd (false≢true some)
 
 -- a content that is told
 some_of : (o : Option (List ℕ)) → IsSome o → (file : List ℕ) × (o ≡ Some file)
@@ -235,7 +247,7 @@ module _ (met : DemoMet) (before : List ℕ) (first : met.told.before ≡ take 1
     written = ends.written;
     cause = ends.cause;
   }
-  demo_of_all NoMemory ends = ends
+  demo_of_all NoMemory ends = (ends.0, ends.1.0, told_of_all 1 ends.1.0 before met.told.after (subst (λ (l : List ℕ). AreTold 1 ends.1.0 (record { before = l; after = met.told.after })) first ends.1.1))
   demo_of_all Usage ends = absurd ends
   demo_of_all (Workers asked have) ends = absurd ends
   demo_of_all (Input why) ends = absurd ends

@@ -1,22 +1,18 @@
--- From a search over a book to what a run says of it.
-use Rattle.std.proofs.Common.{◌≡◌, inl, inr, ◌∙◌, sym, ap, subst, refl, ℕ, ◌+◌, ◌*◌, ◌<◌, ◌≤◌, List, [], ◌∷◌, ◌++◌, length, drop, arith}
-use Rattle.std.specs.Prelude.{◌⊎◌, Option, Some, None, OnSome, IfSome, IsSome, IsFalse, IsTrue, Bool, true, false, count_by}
+-- From a search over a book to what is said of it.
+use Rattle.std.proofs.Common.{◌≡◌, inr, ◌∙◌, sym, ap, subst, refl, ℕ, ◌+◌, ◌*◌, ◌<◌, ◌≤◌, List, [], ◌∷◌, ◌++◌, length, drop, arith}
+use Rattle.std.specs.Prelude.{Option, Some, None, OnSome, IfSome, IsSome, IsFalse, IsTrue, Bool, true, false, count_by}
 use Rattle.std.proofs.Math.Logic.{∥∥₁_elim}
 use Rattle.std.proofs.Props.{props}
 use Rattle.std.proofs.lemmas.Bool.{false≢true}
-use Rattle.std.specs.Io.KnownBytes.{Appends}
 use Rattle.plan_base.specs.Causes.{Rose}
-use Rattle.plan_base.specs.Streams.{AppendsPart}
 use Rattle.plan_base.specs.Disk.{TellsAlike}
 use Rattle.gated_journal.specs.declared.TheConstants.{JOURNAL_MAX}
 use Rattle.post_codec.specs.declared.post.Post.{Post}
 use Rattle.shift_instance.specs.Problem.{Problem}
-use Rattle.shift_instance.specs.Valid.{IsValid}
-use Rattle.certificate.specs.Departing.{Spells}
 use Rattle.search_core.specs.declared.board.Origin.{Origin}
 use Rattle.search_core.specs.Board.{book_at, leaves_open}
 use Rattle.search_core.specs.Book.{Book, book_of, is_finished}
-use Rattle.search_core.specs.Calls.{full_hands, steps_enough}
+use Rattle.search_core.specs.Calls.{steps_enough}
 use Rattle.search_core.specs.Core.{empty_hands}
 use Rattle.search_core.specs.Kept.{cuts_in}
 use Rattle.search_core.specs.Steps.{posts_of}
@@ -31,17 +27,14 @@ use Rattle.search_book.specs.Search.{SearchView, board_of}
 use Rattle.search_book.specs.Posts.{IsJournalOf}
 use Rattle.post_codec.specs.Batches.{joined}
 use Rattle.worker_gate.specs.declared.run.RunEnd.{RunEnd}
-use Rattle.worker_gate.specs.declared.run.RunEnd.TheVariants.{Finished, Spent, Full as FullEnd, DiskFault as DiskEnd, NoMemory as MemoryEnd}
+use Rattle.worker_gate.specs.declared.run.RunEnd.TheVariants.{Finished, Spent, Full as FullEnd, DiskFault as DiskEnd, NoMemory as MemoryEnd, Stopped as StoppedEnd}
 use Rattle.board_lock.specs.Turns.{is_plan, is_prices, AreTurns}
-use Rattle.solve_runs.specs.Report.{cert_of, output_of, IsUnbeaten}
-use Rattle.solve_runs.specs.Run.{OverDisk, IsFinished, IsSpent, IsFull, Reports, ReportsPart}
-use Rattle.solve_runs.specs.Search.{is_reported, Ends, GoesOn, IsLanded, IsReported, IsReportedPart, SearchEnds, Told}
-use Rattle.solve_runs.specs.Served.{AreTold, Served, ServedToEnd, ToldMet, Works}
+use Rattle.solve_runs.specs.Report.{IsUnbeaten}
+use Rattle.solve_runs.specs.Ended.{HasEnded, IsFinished, IsFull, IsSpent, IsStopped}
+use Rattle.solve_runs.specs.Search.{Ends, GoesOn, IsLanded, Told}
+use Rattle.solve_runs.specs.Searching.{end_of, HasSearched}
+use Rattle.solve_runs.specs.Served.{AreTold, Served, ToldMet, Works}
 use Rattle.solve_runs.specs.Session.{met_of, Session, IsOnlyJournal}
-use Rattle.solve_runs.specs.Streams.{SinkMet}
-use Rattle.solve_runs.specs.declared.status.Status.{Status}
-use Rattle.solve_runs.specs.declared.status.Status.TheVariants.{Optimal, Budget, Full, Usage, Input, Workers, ReadFault, WriteFault, DiskFault, NoMemory, Journal}
-use Rattle.solve_runs.proofs.Accepting.{accepted, FewBreaks}
 use Rattle.solve_runs.proofs.Unfit.{unfit_open}
 use Rattle.solve_runs.proofs.Walked.{turned, OfStep, Turned}
 
@@ -88,8 +81,10 @@ module _ {D : Type 0} (reads : D → Option (List ℕ)) (images : D → List ℕ
     pub begins : IsBegun i JOURNAL_MAX old.log
     pub opens : book_of i old.log.history ≡ Some old.log.book
     pub empty : old.hands ≡ empty_hands
+    pub going : old.halted ≡ false
     pub found : IfSome (reads entry) (IsOpenedFrom JOURNAL_MAX i old.log.history old.log.used (reads old.log.disk))
     pub begun : calls entry ≤ calls old.log.disk
+    pub four : reads entry ≡ Some [] → calls old.log.disk ≡ calls entry + 4
     pub later : faults entry ≤ faults old.log.disk
     pub on : GoesOn reads calls faults old new
     pub lasts : PostsLast reads images_since calls new.log
@@ -97,11 +92,10 @@ module _ {D : Type 0} (reads : D → Option (List ℕ)) (images : D → List ℕ
     pub all : new.log.history ≡ new.log.opening ++ joined new.log.batches
     pub single : length new.log.in_flight ≤ 1
     pub moment : calls new.log.opened + 4 * length new.log.batches ≤ calls new.log.disk
+    pub most : calls new.log.disk ≤ calls new.log.opened + 4 * length new.log.batches + 4
     pub telling : TellsAlike (reads new.log.opened) (reads new.log.disk)
     pub fault : ShutOf new.log.limit (faults new.log.opened) (faults new.log.disk) new.log.in_flight new.log.shut
     pub now_counts : (disk : D) (moment : ℕ) (image : List ℕ) → moment ≤ calls disk → images disk image → images_since disk moment image
-    pub valid : IsValid i
-    pub few : FewBreaks i
 
   is_of : Known → new.log.instance ≡ i
   is_of k = k.on.same.instance ∙ k.begins.instance
@@ -162,7 +156,9 @@ module _ {D : Type 0} (reads : D → Option (List ℕ)) (images : D → List ℕ
         ends = ends_of k;
         since = calls new.log.opened;
         begun = omega (arith, since, k.begun);
+        anew = λ empty. since ∙ k.four empty;
         moment = k.moment;
+        most = k.most;
         tells = tells_after (reads entry) (reads new.log.opened) (reads new.log.disk)
             (map_some (reads entry) (λ file found. alike (reads new.log.opened) (reads old.log.disk) (tells_of k) (opened_tells JOURNAL_MAX i old.log.history old.log.used (reads old.log.disk) file found)) k.found)
             k.telling;
@@ -189,6 +185,7 @@ module _ {D : Type 0} (reads : D → Option (List ℕ)) (images : D → List ℕ
     landed_of commits k Spent e landed = subst (ShutOf new.log.limit (faults new.log.opened) (faults new.log.disk) new.log.in_flight) e.ends.0.running k.fault
     landed_of commits k (FullEnd end limit) e landed = (subst (ShutOf new.log.limit (faults new.log.opened) (faults new.log.disk) new.log.in_flight) e.ends.0 k.fault).0
     landed_of commits k DiskEnd e landed = absurd landed
+    landed_of commits k StoppedEnd e landed = absurd landed
     landed_of commits k MemoryEnd e landed = subst (ShutOf new.log.limit (faults new.log.opened) (faults new.log.disk) new.log.in_flight) e.ends.0 k.fault
 
     finished_of : (commits : ℕ) (k : Known) → Ends reads calls faults workers commits old new Finished → IsFinished (session_of k)
@@ -203,17 +200,32 @@ module _ {D : Type 0} (reads : D → Option (List ℕ)) (images : D → List ℕ
       few = subst (λ (j : Problem). old.budget < steps_enough j) k.begins.instance (e.few refl);
     }
 
-    works_of : (commits : ℕ) (k : Known) (end : RunEnd) → Ends reads calls faults workers commits old new end → Works workers commits old.budget (session_of k)
+    walked_of : (commits : ℕ) (k : Known) (end : RunEnd) → Ends reads calls faults workers commits old new end → AreTurns workers (board_of reads calls faults old) (board_of reads calls faults new) commits
+        → Turned workers (board_of reads calls faults old) (board_of reads calls faults new) commits
+    walked_of commits k end e turns = turned workers (board_of reads calls faults old) (board_of reads calls faults new) commits e.fresh k.begins.shut k.begins.batches turns
+
+    stopped_of : (commits : ℕ) (k : Known) → Ends reads calls faults workers commits old new StoppedEnd → IsStopped (session_of k)
+    unfolding session_of
+    stopped_of commits k e = record {
+      landed = subst (ShutOf new.log.limit (faults new.log.opened) (faults new.log.disk) new.log.in_flight) e.ends.0.running k.fault;
+      unfinished = subst (λ (b : Book). is_finished b ≡ false) (book_same k) e.ends.1;
+    }
+
+    works_of : (commits : ℕ) (k : Known) (end : RunEnd) → Ends reads calls faults workers commits old new end → Works workers commits old.budget end (board_of reads calls faults new) (session_of k)
     unfolding session_of
     works_of commits k end e = record {
       first = board_of reads calls faults old;
-      last = board_of reads calls faults new;
       instance = k.begins.instance;
       steps = refl;
       fresh = e.fresh;
+      idle = record { running = k.begins.shut; going = k.going; empty = k.empty };
       opening = opening_of k;
+      unrecorded = k.begins.batches;
       turns = e.turns;
+      ends = e.ends;
       posts = k.all;
+      records = refl;
+      used = ∥∥₁_elim e.turns (hlevel props) (λ turns. (walked_of commits k end e turns).used);
       shown = subst (λ (l : List Post). commits ≤ count_by is_prices l + workers * count_by is_plan l) (added_of k) e.shown;
     }
 
@@ -227,36 +239,24 @@ module _ {D : Type 0} (reads : D → Option (List ℕ)) (images : D → List ℕ
       s.cuts ∙ ap (λ (b : Book). cuts_in b.nodes s.step.node) (book_same k),
     )
 
-    full_of : (commits : ℕ) (k : Known) (end limit : ℕ) → Ends reads calls faults workers commits old new (FullEnd end limit) → IsFull workers old.budget end limit (session_of k)
+    full_of : (commits : ℕ) (k : Known) (end limit : ℕ) → Ends reads calls faults workers commits old new (FullEnd end limit) → IsFull workers commits old.budget end limit (board_of reads calls faults new) (session_of k)
     unfolding session_of
     full_of commits k end limit e =
         let past = e.ends.1 in
         let allowed : IsSome (book_of i ((new.log.opening ++ joined new.log.batches) ++ new.log.unfit)) =
         subst (λ (h : List Post). IsSome (book_of i (h ++ new.log.unfit))) k.all (subst (λ (j : Problem). IsSome (book_of j (new.log.history ++ new.log.unfit))) (is_of k) past.allowed) in
-        let walked : AreTurns workers (board_of reads calls faults old) (board_of reads calls faults new) commits → Turned workers (board_of reads calls faults old) (board_of reads calls faults new) commits =
-        λ turns. turned workers (board_of reads calls faults old) (board_of reads calls faults new) commits e.fresh k.begins.shut turns in
+        let refused : AreTurns workers (board_of reads calls faults old) (board_of reads calls faults new) commits → OfStep workers (board_of reads calls faults new) × (commits < old.budget) =
+        λ turns. (walked_of commits k (FullEnd end limit) e turns).full end limit e.ends.0 in
         record {
           landed = landed_of commits k (FullEnd end limit) e tt;
           unfinished = ∥∥₁_elim e.turns (hlevel props) (λ turns.
-              let s = stepped_of k ((walked turns).full end limit e.ends.0).0 in
+              let s = stepped_of k (refused turns).0 in
               unfit_open i (new.log.opening ++ joined new.log.batches) new.log.unfit new.log.book s.0.worker s.0.step (ends_of k) s.1 past.some allowed);
-          posts = new.log.unfit;
+          left = ∥∥₁_elim e.turns (hlevel props) (λ turns. (refused turns).1);
+          refused = e.ends.0;
           unfit = ∥∥₁_elim e.turns (hlevel props) (λ turns.
-              let t = walked turns in
-              let full = t.full end limit e.ends.0 in
-              let s = stepped_of k full.0 in
-              ∣ record {
-                steps = t.steps;
-                all = sym (drop-append_seam old.log.history (joined t.steps)) ∙ sym (ap (drop (length old.log.history)) t.all) ∙ added_of k;
-                left = let count = t.count in omega (arith, count, full.1);
-                used = t.used;
-                worker = s.0.worker;
-                below = s.0.below;
-                step = s.0.step;
-                cuts = s.3;
-                closes = s.2;
-                posts_are = s.1;
-              } ∣₁);
+              let s = stepped_of k (refused turns).0 in
+              ∣ record { worker = s.0.worker; below = s.0.below; step = s.0.step; cuts = s.3; closes = s.2; posts_are = s.1 } ∣₁);
           some = past.some;
           at_most = past.few;
           allowed = allowed;
@@ -268,69 +268,36 @@ module _ {D : Type 0} (reads : D → Option (List ℕ)) (images : D → List ℕ
     rose_of : (commits : ℕ) (k : Known) → Ends reads calls faults workers commits old new DiskEnd → Rose (faults entry) (faults new.log.disk)
     rose_of commits k e = rose_before (faults entry) (faults new.log.opened) (faults new.log.disk) (let same = faults_of k in omega (arith, same, k.later)) (subst (ShutOf new.log.limit (faults new.log.opened) (faults new.log.disk) new.log.in_flight) e.ends k.fault)
 
-    served_of : (k : Known) (end : RunEnd) → Told reads calls faults workers told old new end → Served workers old.budget told (session_of k)
-    unfolding session_of
+    served_of : (k : Known) (end : RunEnd) → Told reads calls faults workers told old new end → Served workers old.budget told end (board_of reads calls faults new) (session_of k)
     served_of k end t = (t.0, works_of t.0 k end t.1, t.2)
 
-    -- a search to its end has empty hands
-    to_end_of : (k : Known) → Told reads calls faults workers told old new Finished → ServedToEnd workers old.budget told (session_of k)
-    unfolding session_of works_of
-    to_end_of k t =
-        let none : full_hands new.hands ≡ 0 = ap full_hands t.1.ends.1 in
-        (t.0, works_of t.0 k Finished t.1, λ going. (let each : t.0 + full_hands new.hands ≡ new.taken = t.1.exact going in omega (arith, none, each)), t.2)
-
     -- a search that took all steps of its budget committed each
-    each_of : (k : Known) → Told reads calls faults workers told old new Spent → Works workers old.budget old.budget (session_of k) × AreTold workers old.budget told
-    unfolding session_of
+    each_of : (k : Known) → Told reads calls faults workers told old new Spent → Works workers old.budget old.budget Spent (board_of reads calls faults new) (session_of k) × AreTold workers old.budget told
     each_of k t = (
-      subst (λ (n : ℕ). Works workers n old.budget (session_of k)) (t.1.spent refl) (works_of t.0 k Spent t.1),
+      subst (λ (n : ℕ). Works workers n old.budget Spent (board_of reads calls faults new) (session_of k)) (t.1.spent refl) (works_of t.0 k Spent t.1),
       subst (λ (n : ℕ). AreTold workers n told) (t.1.spent refl) t.2,
     )
 
-  -- ---- what is written
+    unbeaten_of : (commits : ℕ) (k : Known) → Ends reads calls faults workers commits old new Finished → IsUnbeaten i new.log.book.cost
+    unbeaten_of commits k e = λ rota legal. finished_best i new.log.book rota (fold_sound i (new.log.opening ++ joined new.log.batches) new.log.book (ends_of k)) (subst (λ (b : Book). is_finished b ≡ true) (book_same k) e.ends.2) legal
 
-  module _ (sink : SinkMet) (table : Bool) where
-    output_same : Known → output_of new.log.instance table new.log.history new.log.book ≡ output_of i table (new.log.opening ++ joined new.log.batches) new.log.book
-    output_same k = ap (λ (j : Problem). output_of j table new.log.history new.log.book) (is_of k) ∙ ap (λ (h : List Post). output_of i table h new.log.book) k.all
+    -- how the search ended
+    ended_of : (k : Known) (end : RunEnd) → Told reads calls faults workers told old new end → HasEnded (met_of reads images images_since calls faults entry new.log.disk) i workers old.budget told end (board_of reads calls faults new) (session_of k)
+    unfolding session_of served_of works_of
+    ended_of k Finished t = (finished_of t.0 k t.1, unbeaten_of t.0 k t.1, served_of k Finished t)
+    ended_of k Spent t = let each = each_of k t in (spent_of t.0 k t.1, each.0, each.1)
+    ended_of k (FullEnd end limit) t = (served_of k (FullEnd end limit) t, full_of t.0 k end limit t.1)
+    ended_of k StoppedEnd t = (stopped_of t.0 k t.1, served_of k StoppedEnd t)
+    ended_of k DiskEnd t = (rose_of t.0 k t.1, served_of k DiskEnd t)
+    ended_of k MemoryEnd t = (landed_of t.0 k MemoryEnd t.1 tt, served_of k MemoryEnd t)
 
-    reports_of : (k : Known) → IsReported new table sink.held sink.held_after → Reports sink table (session_of k)
+    -- what a search over a book answers
+    pub has_searched : (k : Known) (end : RunEnd) → Told reads calls faults workers told old new end → HasSearched reads images images_since calls faults entry i workers old.budget told new (end_of end)
     unfolding session_of
-    reports_of k written = record {
-      written = subst (λ (bytes : List ℕ). Appends sink.held sink.held_after bytes) (output_same k) written.0;
-      sound = fold_sound i (new.log.opening ++ joined new.log.batches) new.log.book (ends_of k);
-      accepted = accepted i (new.log.opening ++ joined new.log.batches) new.log.book k.valid k.few (ends_of k);
-      reads =
-          subst (λ (bytes : List ℕ). Spells bytes (cert_of (new.log.opening ++ joined new.log.batches) new.log.book)) (output_same k)
-          (subst (λ (h : List Post). Spells (output_of new.log.instance table new.log.history new.log.book) (cert_of h new.log.book)) k.all written.1);
+    has_searched k end t = record {
+      how = end;
+      is = refl;
+      session = session_of k;
+      own = record { instance = is_of k; opening = refl; batches = refl; in_flight = refl; last = refl; since = refl; used = refl };
+      ended = ended_of k end t;
     }
-
-    part_of : (k : Known) → IsReportedPart new table sink.held sink.held_after sink.faults → ReportsPart sink table (session_of k)
-    unfolding session_of
-    part_of k part = record { written = subst (λ (bytes : List ℕ). AppendsPart sink.held sink.held_after bytes) (output_same k) part.0; cause = part.1 }
-
-    unbeaten_of : (workers commits : ℕ) (k : Known) → Ends reads calls faults workers commits old new Finished → IsUnbeaten i new.log.book.cost
-    unbeaten_of workers commits k e = λ rota legal. finished_best i new.log.book rota (fold_sound i (new.log.opening ++ joined new.log.batches) new.log.book (ends_of k)) (subst (λ (b : Book). is_finished b ≡ true) (book_same k) e.ends.2) legal
-
-    module _ (workers : ℕ) (told : ToldMet) where
-      ended_of : (commits : ℕ) (k : Known) (end : RunEnd) → Ends reads calls faults workers commits old new end → is_reported end ≡ true → IsFinished (session_of k) ⊎ (IsSpent old.budget (session_of k) ⊎ ((n : ℕ) × (limit : ℕ) × IsFull workers old.budget n limit (session_of k)))
-      ended_of commits k Finished e reported = inl (finished_of workers told commits k e)
-      ended_of commits k Spent e reported = inr (inl (spent_of workers told commits k e))
-      ended_of commits k (FullEnd n limit) e reported = inr (inr (n, limit, full_of workers told commits k n limit e))
-      ended_of commits k DiskEnd e reported = absurd (false≢true reported)
-      ended_of commits k MemoryEnd e reported = absurd (false≢true reported)
-
-      -- what a search over a book says of the run
-      pub over_disk : (k : Known) (status : Status) → SearchEnds reads calls faults workers told old new table sink.held sink.held_after sink.faults status
-          → OverDisk (met_of reads images images_since calls faults entry new.log.disk) sink i table old.budget workers told true status
-      unfolding session_of
-      over_disk k Optimal e = (refl, session_of k, finished_of workers told e.0.0 k e.0.1, to_end_of workers told k e.0, reports_of k e.1, unbeaten_of workers e.0.0 k e.0.1)
-      over_disk k Budget e = let each = each_of workers told k e.0 in (refl, session_of k, spent_of workers told e.0.0 k e.0.1, each.0, each.1, reports_of k e.1)
-      over_disk k (Full end limit) e = (refl, session_of k, full_of workers told e.0.0 k end limit e.0.1, served_of workers told k (FullEnd end limit) e.0, reports_of k e.1)
-      over_disk k WriteFault e = (refl, session_of k, ended_of e.1.0 k e.0 e.1.1 e.2, served_of workers told k e.0 e.1, part_of k e.3)
-      over_disk k DiskFault e = (rose_of workers told e.0 k e.1, inr (refl, session_of k, served_of workers told k DiskEnd e))
-      over_disk k NoMemory e = inr (refl, session_of k, landed_of workers told e.1.0 k e.0 e.1.1 e.2, served_of workers told k e.0 e.1)
-      over_disk k Usage e = absurd e
-      over_disk k (Input why) e = absurd e
-      over_disk k (Workers asked have) e = absurd e
-      over_disk k ReadFault e = absurd e
-      over_disk k (Journal why) e = absurd e

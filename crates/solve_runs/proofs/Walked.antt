@@ -1,12 +1,10 @@
 -- The steps of a run, from the turns of its workers.
-use Rattle.std.proofs.Common.{◌≡◌, inl, inr, ℕ, zero, suc, ◌+◌, ◌<◌, ◌≤◌, Bool, cond, List, [], ◌∷◌, ◌++◌, length, length-append, refl, sym, ap, ◌∙◌, subst, arith, Option, Some, None}
+use Rattle.std.proofs.Common.{◌≡◌, inl, inr, ℕ, zero, suc, ◌+◌, ◌<◌, ◌≤◌, Bool, cond, List, [], ◌∷◌, ◌++◌, refl, sym, ap, ◌∙◌, subst, arith, Option, Some, None}
 use Rattle.std.specs.Prelude.{IsFalse}
 use Rattle.std.specs.Option.{is_some}
 use Rattle.std.proofs.lemmas.Bool.{cases_lt}
-use Rattle.std.proofs.lemmas.List.{append-nil, append_assoc}
 use Rattle.std.proofs.lemmas.List.Sums.{sum_by-cons}
 use Rattle.post_codec.specs.declared.post.Post.{Post}
-use Rattle.post_codec.specs.Batches.{joined}
 use Rattle.search_core.specs.declared.step_posts.StepPosts.{StepPosts}
 use Rattle.search_core.specs.declared.board.Kept.{Kept}
 use Rattle.search_core.specs.declared.board.Shutting.TheVariants.{DiskFault as ShutByDiskFault, Full as ShutByFull}
@@ -14,22 +12,22 @@ use Rattle.search_core.specs.declared.board.Taken.{Taken}
 use Rattle.search_core.specs.declared.board.Taken.TheVariants.{Closed, Finished, Halted, Spent, Node as TakenNode, Idle}
 use Rattle.search_core.specs.declared.board.CommitFault.{CommitFault}
 use Rattle.search_core.specs.declared.board.CommitFault.TheVariants.{DiskFault, Full, NotHeld, Shut, NotClosing, OtherCuts, NoMemory}
-use Rattle.search_core.specs.Board.{book_at, bytes_of, leaves_open, posts_at, BoardView, Commits, CommitRefuses, HoldsStep, TakeMakes}
+use Rattle.search_core.specs.Board.{batches_of, book_at, bytes_of, leaves_open, posts_at, BoardView, Commits, CommitRefuses, HoldsStep, TakeMakes}
 use Rattle.search_core.specs.Calls.{full_hands, IsCall, IsFresh}
 use Rattle.search_core.specs.Calls.IsCall.{a_commit, a_refusal, a_take, a_yield}
 use Rattle.search_core.specs.Core.{hand}
 use Rattle.search_core.specs.Kept.{cuts_in}
 use Rattle.search_core.proofs.Counted.{calls_count}
-use Rattle.search_book.proofs.Recording.{joined_more}
 use Rattle.board_lock.specs.Turns.{AreEmptyFrom, AreTurns}
 use Rattle.board_lock.specs.Turns.AreTurns.{none, one_more}
 use Rattle.board_lock.proofs.Turned.{clear_of, turns_are_calls, turns_keep}
 use Rattle.solve_runs.specs.Steps.{bytes_in}
 
--- ---- one step more
-bytes_more : (steps : List (List Post)) (posts : List Post) → bytes_in (steps ++ posts ∷ []) ≡ bytes_in steps + bytes_of posts
-bytes_more [] posts = omega arith
-bytes_more (first ∷ steps) posts = omega (arith, bytes_more steps posts)
+-- ---- one commit more
+bytes_more : (batches : List (List Post)) (posts : List Post) → bytes_in (batches ++ batches_of posts) ≡ bytes_in batches + bytes_of posts
+bytes_more [] [] = omega arith
+bytes_more [] (post ∷ posts) = omega arith
+bytes_more (first ∷ batches) posts = omega (arith, bytes_more batches posts)
 
 -- ---- hands
 
@@ -54,13 +52,10 @@ pub record OfStep (workers : ℕ) (v : BoardView) : Type 0 where
   pub closes : IsFalse (leaves_open v.instance (book_at v) worker step)
   pub posts_are : v.unfit ≡ posts_at v worker step
 
--- what turns have made: the posts of the steps that they committed, their records, and, where they shut the board by its journal's
--- limit, a step without room, behind fewer than the budget has
+-- what turns have made of a board without records: the bytes of the records that they made, and, where they shut the board by its
+-- journal's limit, a step without room, behind fewer than the budget has
 pub record Turned (workers : ℕ) (old new : BoardView) (commits : ℕ) : Type 0 where
-  pub steps : List (List Post)
-  pub all : new.history ≡ old.history ++ joined steps
-  pub used : new.used ≡ old.used + bytes_in steps
-  pub count : length steps ≡ commits
+  pub used : new.used ≡ old.used + bytes_in new.batches
   pub full : (end most : ℕ) → new.shut ≡ Some (ShutByFull end most) → OfStep workers new × (commits < old.budget)
 
 module _ (workers : ℕ) (old mid new : BoardView) (commits : ℕ) (t : Turned workers old mid commits) where
@@ -71,10 +66,7 @@ module _ (workers : ℕ) (old mid new : BoardView) (commits : ℕ) (t : Turned w
   -- a turn that changes hands, the count of steps, or whether a worker gave up
   turn_hands : (hands : List (Option ℕ)) (taken : ℕ) (halted : Bool) → new ≡ record mid { hands = hands; taken = taken; halted = halted } → Turned workers old new commits
   turn_hands hands taken halted makes = subst (λ (v : BoardView). Turned workers old v commits) (sym makes) (record {
-    steps = t.steps;
-    all = t.all;
     used = t.used;
-    count = t.count;
     full = λ end most shut.
         let f = t.full end most shut in (record { worker = f.0.worker; below = f.0.below; step = f.0.step; cuts = f.0.cuts; closes = f.0.closes; posts_are = f.0.posts_are }, f.1);
   })
@@ -90,16 +82,12 @@ module _ (workers : ℕ) (old mid new : BoardView) (commits : ℕ) (t : Turned w
   turn_commit : (w : ℕ) (step : StepPosts) (kept : Kept) → Commits w step mid new kept → Turned workers old new (commits + 1)
   turn_commit w step kept m =
       let posts : List Post = posts_at mid w step in
-      let history : new.history ≡ mid.history ++ posts = ap (λ (v : BoardView). v.history) m.makes in
+      let batches : new.batches ≡ mid.batches ++ batches_of posts = ap (λ (v : BoardView). v.batches) m.makes in
+      let bytes : bytes_in new.batches ≡ bytes_in mid.batches + bytes_of posts = ap bytes_in batches ∙ bytes_more mid.batches posts in
       let used : new.used ≡ mid.used + bytes_of posts = ap (λ (v : BoardView). v.used) m.makes in
       let shut : new.shut ≡ None = ap (λ (v : BoardView). v.shut) m.makes ∙ m.holds.running in
       record {
-        steps = t.steps ++ posts ∷ [];
-        all =
-            history ∙ ap (λ (l : List Post). l ++ posts) t.all ∙ append_assoc old.history (joined t.steps) posts
-            ∙ ap (λ (l : List Post). old.history ++ l) (sym (joined_more t.steps posts));
-        used = let before = t.used in omega (arith, used, before, bytes_more t.steps posts);
-        count = let before = t.count in omega (arith, before, length-append t.steps (posts ∷ []));
+        used = let before = t.used in omega (arith, used, before, bytes);
         full = λ end most full. let e : None ≡ Some (ShutByFull end most) = sym shut ∙ full in absurd (cc (e));
       }
 
@@ -111,17 +99,11 @@ module _ (workers : ℕ) (old mid new : BoardView) (commits : ℕ) (t : Turned w
   module _ (clear : AreEmptyFrom workers mid.hands) (room : (w k : ℕ) → hand mid.hands w ≡ Some k → commits < old.budget) where
     turn_refusal : (w : ℕ) (step : StepPosts) (fault : CommitFault) → CommitRefuses w step mid new fault → Turned workers old new commits
     turn_refusal w step DiskFault m = subst (λ (v : BoardView). Turned workers old v commits) (sym m.1) (record {
-      steps = t.steps;
-      all = t.all;
       used = t.used;
-      count = t.count;
       full = λ end most full. let e : Some ShutByDiskFault ≡ Some (ShutByFull end most) = full in absurd (cc (e));
     })
     turn_refusal w step (Full end most) m = subst (λ (v : BoardView). Turned workers old v commits) (sym m.4) (record {
-      steps = t.steps;
-      all = t.all;
       used = t.used;
-      count = t.count;
       full = λ e l full. (record { worker = w; below = holder clear w step m.0.holds; step = step; cuts = m.0.holds.cuts; closes = m.0.closes; posts_are = refl }, room w step.node m.0.holds.held);
     })
     turn_refusal w step (NotHeld held) m = turn_same m.3
@@ -150,13 +132,10 @@ room_left workers old mid commits fresh turns w k held =
     let same : mid.budget ≡ old.budget = (turns_keep workers old mid commits turns).budget in
     omega (arith, within, most, some, same)
 
-pub turned : (workers : ℕ) (old new : BoardView) (commits : ℕ) → IsFresh old → old.shut ≡ None → AreTurns workers old new commits → Turned workers old new commits
-turned workers old new commits fresh running none = record {
-  steps = [];
-  all = sym (append-nil old.history);
-  used = omega arith;
-  count = refl;
+pub turned : (workers : ℕ) (old new : BoardView) (commits : ℕ) → IsFresh old → old.shut ≡ None → old.batches ≡ [] → AreTurns workers old new commits → Turned workers old new commits
+turned workers old new commits fresh running unrecorded none = record {
+  used = let nothing : bytes_in old.batches ≡ 0 = ap bytes_in unrecorded in omega (arith, nothing);
   full = λ end most full. let e : None ≡ Some (ShutByFull end most) = sym running ∙ full in absurd (cc (e));
 }
-turned workers old new commits fresh running (one_more mid next before more turns call sound clear) =
-    turn_call workers old mid next before (turned workers old mid before fresh running turns) (clear_of workers old mid before fresh.empty turns) (room_left workers old mid before fresh turns) more call
+turned workers old new commits fresh running unrecorded (one_more mid next before more turns call sound clear) =
+    turn_call workers old mid next before (turned workers old mid before fresh running unrecorded turns) (clear_of workers old mid before fresh.empty turns) (room_left workers old mid before fresh turns) more call

@@ -14,7 +14,7 @@ use Rattle.search_core.specs.Book.{floor_of, is_finished, IsSound}
 use Rattle.search_core.specs.Calls.{steps_enough}
 use Rattle.search_book.specs.Posts.{IsJournalOf}
 use Rattle.worker_gate.specs.declared.run.RunEnd.{RunEnd}
-use Rattle.worker_gate.specs.declared.run.RunEnd.TheVariants.{Finished, Spent, Full as FullEnd, DiskFault as DiskEnd, NoMemory as MemoryEnd}
+use Rattle.worker_gate.specs.declared.run.RunEnd.TheVariants.{Finished, Spent, Full as FullEnd, DiskFault as DiskEnd, NoMemory as MemoryEnd, Stopped}
 use Rattle.worker_gate.specs.Runs.{committed, plans_and_prices_since, IsIdle, IsSameSearch, RunEnds, RunMakes}
 use Rattle.solve_runs.specs.declared.status.Status.{Status}
 use Rattle.solve_runs.specs.declared.status.Status.TheVariants.{Optimal, Budget, Full, Usage, Input, Workers, ReadFault, WriteFault, DiskFault, NoMemory, Journal}
@@ -89,6 +89,7 @@ AreCommitted Spent commits taken = taken ≡ commits
 AreCommitted (FullEnd end limit) commits taken = taken ≡ commits + 1
 AreCommitted DiskEnd commits taken = ⊥
 AreCommitted MemoryEnd commits taken = ⊥
+AreCommitted Stopped commits taken = ⊥
 
 -- the adviser comes back, and was told so often as steps were committed
 abbrev pub IsTold : ToldMet → RunEnd → ℕ → Type 0
@@ -115,13 +116,13 @@ pub record IsCutShort (met : DemoMet) : Type 0 where
 
 -- how a demonstration ends: no node is open, so no plan of its instance is cheaper; all steps of the budget were taken, and a node is
 -- open; the journal in memory had no room for the posts of a step; its line wasn't written whole; or there was no memory, and then
--- no disk is handed back
+-- no disk is handed back. The adviser always is.
 abbrev pub OverMemory : DemoMet → Status → Type 0
 OverMemory met Optimal = (shown : IsShown met Finished) × IsUnbeaten (generated met.number) (book_at shown.demo.last).cost
 OverMemory met Budget = IsShown met Spent
 OverMemory met (Full end limit) = IsShown met (FullEnd end limit)
 OverMemory met WriteFault = IsCutShort met
-OverMemory met NoMemory = met.file ≡ None
+OverMemory met NoMemory = (met.file ≡ None) × ((commits : ℕ) × AreTold 1 commits met.told)
 OverMemory met Usage = ⊥
 OverMemory met (Workers asked have) = ⊥
 OverMemory met (Input why) = ⊥

@@ -46,7 +46,7 @@ pub record IsOnlyJournal (met : DiskMet) (i : Problem) (posts : List Post) (used
   pub journal : IsJournalOf JOURNAL_MAX i posts used file
 
 -- A run over a book that it opened. The posts of its session are those of the steps that were committed, each step's a record, and
--- those of a step during which the disk failed.
+-- those of a step during which the disk failed. Which steps these are is said of its workers (`Works`).
 pub record Session (met : DiskMet) (i : Problem) : Type 0 where
   -- the posts of the file before it, the book that they make, and the bytes of its journal; an empty file becomes the new one
   pub opening : List Post
@@ -62,11 +62,14 @@ pub record Session (met : DiskMet) (i : Problem) : Type 0 where
   pub single : length in_flight ≤ 1
   pub last : Book
   pub ends : book_of i (opening ++ joined batches) ≡ Some last
-  -- the moment of the opening, in the run
+  -- the moment of the opening, in the run: an empty file is opened by four calls
   pub since : ℕ
   pub begun : met.calls.0 ≤ since
-  -- each record is acknowledged with the fourth call after the one before it, the last of them in the run
+  pub anew : met.file ≡ Some [] → since ≡ met.calls.0 + 4
+  -- each record is acknowledged with the fourth call after the one before it, the last of them in the run, and no call comes after the
+  -- search: after the last of these there are at most those of the step during which the disk failed
   pub moment : since + 4 * length batches ≤ met.calls.1
+  pub most : met.calls.1 ≤ since + 4 * length batches + 4
   -- a disk that told its content before the run tells it after
   pub tells : OnSome met.file (IsSome met.file_after)
   -- each image since the b-th record was acknowledged holds the opening posts and those of whole steps, from the first on, the

@@ -1,20 +1,21 @@
 //! A demonstration: a search without a document and without a journal's file, for the instance made from a number.
 
-ghost use Rattle.std.specs.Prelude.{◌≡◌, ◌⊎◌, ◌<◌, ◌^◌, ℕ, true, [], map, vec_len, IfErr, IfOk, IsSome, None, OnOk, option_and_then, Some};
+ghost use Rattle.std.specs.Prelude.{◌≡◌, ◌≢◌, ◌⊎◌, ◌<◌, ◌^◌, ℕ, true, [], map, vec_len, IfErr, IfOk, IsSome, None, OnOk, option_and_then, Some};
 ghost use Rattle.std.specs.Io.KnownBytes.{Appends};
 ghost use Rattle.plan_base.specs.Causes.{Rose};
 ghost use Rattle.plan_base.specs.Streams.{AppendsPart};
 ghost use Rattle.instance_json.specs.Generated.{generated};
 ghost use Rattle.search_book.specs.Keeping.{IsRunningPosts, ShutOf};
 ghost use Rattle.search_book.specs.Search.{board_of};
-ghost use Rattle.solve_runs.specs.Demo.{demo_text, end_text, line_of, Demonstration, IsNew, IsTold, OverMemory, Searches};
+ghost use Rattle.worker_gate.specs.Runs.{committed};
+ghost use Rattle.solve_runs.specs.Demo.{demo_text, end_text, line_of, AreCommitted, Demonstration, IsNew, OverMemory, Searches};
 ghost use Rattle.solve_runs.specs.Search.{is_reported, status_at, IsBegun};
+ghost use Rattle.solve_runs.specs.Served.{AreTold};
 ghost use Rattle.solve_runs.specs.Status.{EndsUnwritten};
 ghost use Rattle.solve_runs.specs.declared.status.Status.TheVariants.{NoMemory as MemoryStatus};
 
-use crate::search::{is_reported, status_at};
 use crate::status::Status;
-use advice::Adviser;
+use advice::{Adviser, Never};
 use gated_journal::JOURNAL_MAX;
 use instance_json::generate;
 use instance_json::laws::canonical_text_is_short;
@@ -80,6 +81,36 @@ fn write_line<K: Sink, D: Disk>(
     }
 }
 
+/// Whether a search came to an end of which a report is written.
+fn is_reported(end: RunEnd) -> bool
+    ensures { result ≡ is_reported end }
+{
+    match end {
+        RunEnd::Finished => true,
+        RunEnd::Spent => true,
+        RunEnd::Full { end: _, limit: _ } => true,
+        RunEnd::DiskFault => false,
+        RunEnd::NoMemory => false,
+        RunEnd::Stopped => false,
+    }
+}
+
+/// How a run ends whose search ended so, and whose report was written, where there is one.
+fn status_at(end: RunEnd) -> Status
+    requires { end ≢ RunEnd.Stopped }
+    ensures { result ≡ status_at end }
+{
+    match end {
+        RunEnd::Finished => Status::Optimal,
+        RunEnd::Spent => Status::Budget,
+        RunEnd::Full { end, limit } => Status::Full { end, limit },
+        RunEnd::DiskFault => Status::DiskFault,
+        RunEnd::NoMemory => Status::NoMemory,
+        // the run's stop never asks
+        RunEnd::Stopped => unreachable!(),
+    }
+}
+
 /// The search of a demonstration by the one adviser over a book from which no node was taken yet. The adviser comes back.
 fn search_all<D: Disk, G: Gate>(
     alloc: Global,
@@ -93,14 +124,15 @@ fn search_all<D: Disk, G: Gate>(
     requires budget { book.old.budget < 2 ^ 63 }
     requires one { vec_len advisers.old ≡ 1 }
     ensures searches { Searches (board_of D.reads D.calls D.faults book.old) (board_of D.reads D.calls D.faults book.new) result }
-    ensures told { is_reported result ≡ true → IsTold (record { before = map (λ a. told a) advisers.old.items; after = map (λ a. told a) advisers.new.items }) result book.new.taken }
+    ensures told { AreTold 1 (committed result book.new.taken) (record { before = map (λ a. told a) advisers.old.items; after = map (λ a. told a) advisers.new.items }) }
+    ensures committed { is_reported result ≡ true → AreCommitted result (committed result book.new.taken) book.new.taken }
 {
     let mut seat = Seat {
         adviser: advisers.remove(0),
         told: 0,
         share: 0,
     };
-    let end = run_seat(alloc, instance, book, &mut seat, gate);
+    let end = run_seat(alloc, instance, book, &mut seat, gate, &Never);
     let Seat {
         adviser,
         told: _,

@@ -1,8 +1,9 @@
 -- The run of one worker over a board. Source: this project's profile.
-use Rattle.std.specs.Prelude.{◌≡◌, ℕ, ◌+◌, ◌-◌, Bool, true, false, IsTrue, IsFalse, List, Option, Some, None, length, drop, count_by, MatchOption, if◌then◌else◌}
+use Rattle.std.specs.Prelude.{◌≡◌, ℕ, ◌+◌, ◌-◌, ◌<◌, Bool, true, false, IsTrue, IsFalse, List, Option, Some, None, length, drop, count_by, MatchOption, if◌then◌else◌}
 use Rattle.post_codec.specs.declared.post.Post.{Post}
 use Rattle.post_codec.specs.declared.post.Post.TheVariants.{Plan, Priced, Split, Settled}
 use Rattle.advice.specs.declared.advice.Advice.{Advice}
+use Rattle.advice.specs.declared.adviser.Told.{Told}
 use Rattle.search_core.specs.declared.board.CommitFault.TheVariants.{DiskFault as CommitsDisk, Full as CommitsFull}
 use Rattle.search_core.specs.declared.board.Kept.{Kept}
 use Rattle.search_core.specs.declared.board.Shutting.TheVariants.{DiskFault as ShutByDiskFault, Full as ShutByFull}
@@ -13,7 +14,7 @@ use Rattle.search_core.specs.Book.{Book, book_of, is_finished}
 use Rattle.search_core.specs.Core.{empty_hands}
 use Rattle.search_core.specs.Kept.{cuts_in}
 use Rattle.worker_gate.specs.declared.run.RunEnd.{RunEnd}
-use Rattle.worker_gate.specs.declared.run.RunEnd.TheVariants.{Finished, Spent, Full, DiskFault, NoMemory}
+use Rattle.worker_gate.specs.declared.run.RunEnd.TheVariants.{Finished, Spent, Full, DiskFault, NoMemory, Stopped}
 use Rattle.worker_gate.specs.Decision.{IsDecision}
 
 -- what worker 0 does in a round up to its commit: it takes a node, and makes the step of some advice for it
@@ -47,6 +48,15 @@ pub record IsIdle (v : BoardView) : Type 0 where
   pub going : v.halted ≡ false
   pub empty : v.hands ≡ empty_hands
 
+-- what a worker tells its adviser of a commit that answered Ok: the node of the step, with that node's floor and the best cost after it
+abbrev pub news_of : ℕ → Kept → Told
+news_of node kept = record { node = node; floor = kept.floor; best = kept.best }
+
+-- what an adviser was told last once rounds were made: the news of the last round, and where there was none what it was told before
+abbrev pub told_last : (old new : BoardView) (rounds : ℕ) → Option Told → AreRounds old new rounds → Option Told
+told_last old new rounds before none = before
+told_last old new rounds before (one_more mid next n made round) = Some (news_of round.makes.node round.kept)
+
 -- a board of the same search
 pub record IsSameSearch (old new : BoardView) : Type 0 where
   pub instance : new.instance ≡ old.instance
@@ -54,22 +64,24 @@ pub record IsSameSearch (old new : BoardView) : Type 0 where
   pub origin : new.origin ≡ old.origin
 
 -- how a run ends, and how it leaves the board: without an open node, or without a step left; shut by the journal's limit, past
--- which the posts of a step that its book allows would have ended there; shut by the disk; or, on running out of memory, halted with
--- empty hands
+-- which the posts of a step that its book allows would have ended there; shut by the disk; on running out of memory, halted with
+-- empty hands; or, where it was asked to stop, with an open node and a step left
 abbrev pub RunEnds : BoardView → RunEnd → Type 0
 RunEnds v Finished = IsIdle v × IsTrue (is_finished (book_at v))
 RunEnds v Spent = IsIdle v × IsFalse (is_finished (book_at v)) × (v.taken ≡ v.budget)
 RunEnds v (Full end limit) = (v.shut ≡ Some (ShutByFull end limit)) × IsPast v end limit
 RunEnds v DiskFault = v.shut ≡ Some ShutByDiskFault
 RunEnds v NoMemory = (v.shut ≡ None) × (v.halted ≡ true) × (v.hands ≡ empty_hands)
+RunEnds v Stopped = IsIdle v × IsFalse (is_finished (book_at v)) × (v.taken < v.budget)
 
--- whether a run came to its end by itself
+-- whether a run came to its end between two rounds
 abbrev pub is_whole : RunEnd → Bool
 is_whole Finished = true
 is_whole Spent = true
 is_whole (Full end limit) = false
 is_whole DiskFault = false
 is_whole NoMemory = false
+is_whole Stopped = true
 
 -- how many of the steps that a run took were committed: all, and all but the last where it was cut off
 abbrev pub committed : RunEnd → ℕ → ℕ
@@ -93,14 +105,16 @@ IsCutOff step held new (Full end limit) = CommitRefuses 0 step held new (Commits
 IsCutOff step held new NoMemory = new ≡ yields 0 held
 IsCutOff step held new Finished = ⊥
 IsCutOff step held new Spent = ⊥
+IsCutOff step held new Stopped = ⊥
 
--- what the end of a run makes of the board after its rounds: nothing, where it came to its end by itself; else a last step is
+-- what the end of a run makes of the board after its rounds: nothing, where it came to its end between two rounds; else a last step is
 -- taken, and its commit is refused; or, on running out of memory, a last node is taken and let go of
 abbrev pub EndMakes : BoardView → BoardView → RunEnd → Type 0
 EndMakes old new Finished = new ≡ old
 EndMakes old new Spent = new ≡ old
 EndMakes old new (Full end limit) = (held : BoardView) × (step : StepPosts) × MakesStep old held step × IsCutOff step held new (Full end limit)
 EndMakes old new DiskFault = (held : BoardView) × (step : StepPosts) × MakesStep old held step × IsCutOff step held new DiskFault
+EndMakes old new Stopped = new ≡ old
 EndMakes old new NoMemory = (held : BoardView) × (node : ℕ) × (floor : ℕ) × (best : ℕ) × TakeMakes (TakenNode node floor best) 0 old held × (new ≡ yields 0 held)
 
 -- what a run makes of a board from which no node was taken: a round for each step, up to the last board, and its end
@@ -108,6 +122,11 @@ pub record RunMakes (old new : BoardView) (how : RunEnd) : Type 0 where
   pub last : BoardView
   pub rounds : AreRounds old last last.taken
   pub end : EndMakes last new how
+
+-- a run, and what its adviser was told last before it and after it
+pub record RunTells (old new : BoardView) (how : RunEnd) (before after : Option Told) : Type 0 where
+  pub makes : RunMakes old new how
+  pub last : after ≡ told_last old makes.last makes.last.taken before makes.rounds
 
 -- a board on which a run ended
 pub record IsEnded (old new : BoardView) (how : RunEnd) : Type 0 where

@@ -1,17 +1,18 @@
 //! What the caller does with the board alone, once all workers have ended.
-ghost use Rattle.std.specs.Prelude.{◌≡◌, ◌+◌, ◌<◌, ◌≤◌, ◌^◌, ℕ, None, Some, OnErr, OnOk, length, slice_index_or, slice_set};
+ghost use Rattle.std.specs.Prelude.{◌≡◌, ◌≢◌, ◌+◌, ◌<◌, ◌≤◌, ◌^◌, ℕ, true, None, Some, IfOk, OnErr, OnOk, length, slice_index_or, slice_set};
 ghost use Rattle.search_core.specs.Board.{book_at, BoardView, HoldsStep};
 ghost use Rattle.search_core.specs.Core.{empty_hands, hand};
 ghost use Rattle.search_core.specs.Kept.{cuts_in};
 ghost use Rattle.search_core.specs.Steps.{Fits};
 ghost use Rattle.board_lock.specs.Roots.{root_at};
-ghost use Rattle.worker_gate.specs.Workers.{KnowsBoard, WorkersEnd};
+ghost use Rattle.worker_gate.specs.Runs.{news_of};
+ghost use Rattle.worker_gate.specs.Workers.{IsNews, IsToldLast, KnowsBoard, WorkersEnd};
 
 use crate::seat::Place;
 use crate::turns::{Left, Rest, Work, commit_in, work_of};
 use crate::worker::{closed_again, decide};
 use crate::{Gate, RunEnd};
-use advice::Adviser;
+use advice::{Adviser, Stop};
 use board_lock::Held;
 use dual_bound::Buffers;
 use search_core::{Board, Kept, Shutting, StepPosts, Taken};
@@ -23,6 +24,7 @@ use std::sync::ledger::{Ledger, Share};
 fn end_of(shut: Shutting) -> RunEnd
     ensures disk { shut ≡ Shutting.DiskFault → result ≡ RunEnd.DiskFault }
     ensures full { (end limit : ℕ) → shut ≡ Shutting.Full end limit → result ≡ RunEnd.Full end limit }
+    ensures unasked { result ≢ RunEnd.Stopped }
 {
     match shut {
         Shutting::DiskFault => RunEnd::DiskFault,
@@ -52,6 +54,7 @@ fn commit_alone<B: Board, L: Ledger>(
     ensures uncounted { OnErr result (share.new.amount ≡ share.old.amount) }
     ensures within { share.new.amount ≤ (B.seen held.old.opened.value).budget }
     ensures parts { share.new.parts ≡ share.old.parts }
+    ensures news { IfOk result (λ kept. ∥ IsNews held.old.workers (B.seen held.old.opened.value) worker (news_of step.node kept) ∥₁) }
 {
     let step = match commit_in(held, worker, step, share) {
         Ok(kept) => return Ok(kept),
@@ -95,6 +98,7 @@ fn finish<B: Board, L: Ledger>(
     ensures number { place.new.number ≡ place.old.number }
     ensures told { told place.old.seat.adviser < 2 ^ 63 + place.old.seat.told
         → told place.new.seat.adviser + place.old.seat.told ≡ told place.old.seat.adviser + place.new.seat.told }
+    ensures last { IsToldLast held.old.workers (B.seen held.old.opened.value) place.old.number place.old.seat.told place.new.seat.told (last place.old.seat.adviser) (last place.new.seat.adviser) }
 {
     let Place {
         badge: _,
@@ -102,6 +106,7 @@ fn finish<B: Board, L: Ledger>(
         share,
         number,
         steps: _,
+        asked: _,
     } = place;
     let Work {
         node,
@@ -141,6 +146,7 @@ fn finish_node<B: Board, L: Ledger>(
     ensures number { place.new.number ≡ place.old.number }
     ensures told { told place.old.seat.adviser < 2 ^ 63 + place.old.seat.told
         → told place.new.seat.adviser + place.old.seat.told ≡ told place.old.seat.adviser + place.new.seat.told }
+    ensures last { IsToldLast held.old.workers (B.seen held.old.opened.value) place.old.number place.old.seat.told place.new.seat.told (last place.old.seat.adviser) (last place.new.seat.adviser) }
 {
     if let Ok(work) = work_of(held, place.number, node, floor, best, false) {
         finish(alloc, instance, buffers, held, place, work);
@@ -164,6 +170,7 @@ fn empty_hand<B: Board, L: Ledger>(
     ensures number { place.new.number ≡ place.old.number }
     ensures told { told place.old.seat.adviser < 2 ^ 63 + place.old.seat.told
         → told place.new.seat.adviser + place.old.seat.told ≡ told place.old.seat.adviser + place.new.seat.told }
+    ensures last { IsToldLast held.old.workers (B.seen held.old.opened.value) place.old.number place.old.seat.told place.new.seat.told (last place.old.seat.adviser) (last place.new.seat.adviser) }
 {
     let number = place.number;
     if held.shut.is_some() {
@@ -199,35 +206,45 @@ pub(crate) fn empty_all<B: Board, L: Ledger>(
     ensures numbers { (i : ℕ) (d : _) → i < length bench.old → (slice_index_or bench.new i d).number ≡ i }
     ensures told { (i : ℕ) (d : _) → i < length bench.old → told (slice_index_or bench.old i d).seat.adviser < 2 ^ 63 + (slice_index_or bench.old i d).seat.told
         → told (slice_index_or bench.new i d).seat.adviser + (slice_index_or bench.old i d).seat.told ≡ told (slice_index_or bench.old i d).seat.adviser + (slice_index_or bench.new i d).seat.told }
+    ensures last { (i : ℕ) (d : _) → i < length bench.old
+        → IsToldLast held.old.workers (B.seen held.old.opened.value) i (slice_index_or bench.old i d).seat.told (slice_index_or bench.new i d).seat.told (last (slice_index_or bench.old i d).seat.adviser) (last (slice_index_or bench.new i d).seat.adviser) }
 {
     for place in bench.iter_mut() {
         empty_hand(alloc, instance, buffers, held, place);
     }
 }
 
-/// Goes on with the first seat, as its worker did, until nothing is taken any more, and tells how the run ends. Unless the board is
-/// shut, all hands are empty before and afterwards.
-pub(crate) fn go_on<B: Board, L: Ledger, G: Gate>(
+/// Goes on with the first seat, as its worker did, until nothing is taken any more, and tells how the run ends. Where a worker saw
+/// that the run is asked to stop, nothing is taken. Unless the board is shut, all hands are empty before and afterwards.
+pub(crate) fn go_on<B: Board, L: Ledger, G: Gate, S: Stop>(
     alloc: Global,
     instance: &Instance,
     buffers: &mut Buffers,
     held: &mut Held<B, L>,
     gate: &G,
+    stop: &S,
+    asked: bool,
     place: &mut Place<B, L>,
 ) -> RunEnd
     requires knows { KnowsBoard B.seen instance.now place.old.number (root_at held.old.opened held.old.workers) }
     requires buffers { buffers.old ≡ instance.now }
     requires first { place.old.number ≡ 0 }
     requires empty { (B.seen held.old.board).shut ≡ None → (B.seen held.old.board).hands ≡ empty_hands }
+    requires asked { asked ≡ true → S.can_ask stop.now ≡ true }
     ensures root { root_at held.new.opened held.new.workers ≡ root_at held.old.opened held.old.workers }
     ensures buffers { buffers.new ≡ buffers.old }
     ensures end { (before : BoardView) → WorkersEnd before (B.seen held.new.board) result }
+    ensures stopped { result ≡ RunEnd.Stopped → S.can_ask stop.now ≡ true }
     ensures told { told place.old.seat.adviser < 2 ^ 63 + place.old.seat.told
         → told place.new.seat.adviser + place.old.seat.told ≡ told place.old.seat.adviser + place.new.seat.told }
+    ensures last { IsToldLast held.old.workers (B.seen held.old.opened.value) place.old.number place.old.seat.told place.new.seat.told (last place.old.seat.adviser) (last place.new.seat.adviser) }
 {
     loop {
         if let Some(shut) = held.shut {
             return end_of(shut);
+        }
+        if (asked || stop.is_asked()) && held.board.gives() {
+            return RunEnd::Stopped;
         }
         match held.take(0) {
             Taken::Node { node, floor, best } => {

@@ -1,5 +1,5 @@
 //! The run of one worker alone over a board.
-ghost use Rattle.std.specs.Prelude.{◌≡◌, ◌≢◌, ◌+◌, ◌<◌, ◌≤◌, ◌^◌, false, IfErr, IfOk, IsFalse, IsTrue, MatchOption, None, OnErr, OnOk, Some};
+ghost use Rattle.std.specs.Prelude.{◌≡◌, ◌≢◌, ◌+◌, ◌<◌, ◌≤◌, ◌^◌, false, true, IfErr, IfOk, IfSome, IsFalse, IsTrue, MatchOption, None, OnErr, OnOk, Some};
 ghost use Rattle.advice.specs.declared.advice.Advice.{Advice};
 ghost use Rattle.search_core.specs.Board.{book_at, leaves_open, yields, Commits, HoldsStep, TakeMakes};
 ghost use Rattle.search_core.specs.Calls.{steps_enough};
@@ -8,12 +8,12 @@ ghost use Rattle.search_core.specs.Kept.{cuts_in};
 ghost use Rattle.search_core.specs.Steps.{Fits};
 ghost use Rattle.search_core.specs.declared.board.Taken.TheVariants.{Node as TakenAnswer};
 ghost use Rattle.worker_gate.specs.Decision.{IsDecision};
-ghost use Rattle.worker_gate.specs.Runs.{committed, is_whole, plans_and_prices_since, IsCutOff, IsEnded, IsIdle, IsRound, IsSameSearch, RunEnds, RunMakes};
+ghost use Rattle.worker_gate.specs.Runs.{committed, is_whole, news_of, plans_and_prices_since, IsCutOff, IsEnded, IsIdle, IsRound, IsSameSearch, RunEnds, RunMakes, RunTells};
 
 use crate::asking::ask_of;
 use crate::worker::decide;
 use crate::{Gate, Seat};
-use advice::Adviser;
+use advice::{Adviser, Stop};
 use break_rules::NoMemory;
 use dual_bound::Buffers;
 use search_core::{Board, Close, CommitFault, Kept, StepPosts, Taken, keeps_sound};
@@ -33,6 +33,8 @@ pub enum RunEnd {
     DiskFault,
     /// No memory was left. The worker let go of its node.
     NoMemory,
+    /// The run was asked to stop. A node is open, and a step of the budget is left.
+    Stopped,
 }
 
 /// The number of the only worker.
@@ -46,8 +48,8 @@ struct TakenNode {
     best: u64,
 }
 
-/// Takes a node, or says how the run ends.
-fn take_node<B: Board>(board: &mut B) -> Result<TakenNode, RunEnd>
+/// Takes a node, or says how the run ends. Where the run is asked to stop, it takes none.
+fn take_node<B: Board, S: Stop>(board: &mut B, stop: &S) -> Result<TakenNode, RunEnd>
     requires idle { IsIdle (B.seen board.old) }
     ensures takes { IfOk result (λ t. TakeMakes (TakenAnswer t.node t.floor t.best) 0 (B.seen board.old) (B.seen board.new)) }
     ensures left { OnOk result ((B.seen board.old).taken < (B.seen board.old).budget) }
@@ -55,7 +57,11 @@ fn take_node<B: Board>(board: &mut B) -> Result<TakenNode, RunEnd>
     ensures ends { IfErr result (IsEnded (B.seen board.old) (B.seen board.new)) }
     ensures whole { IfErr result (λ end. IsTrue (is_whole end)) }
     ensures same { OnErr result ((B.seen board.new).taken ≡ (B.seen board.old).taken) }
+    ensures stopped { IfErr result (λ end. end ≡ RunEnd.Stopped → S.can_ask stop.now ≡ true) }
 {
+    if stop.is_asked() && board.gives() {
+        return Err(RunEnd::Stopped);
+    }
     match board.take(WORKER) {
         Taken::Node { node, floor, best } => Ok(TakenNode { node, floor, best }),
         Taken::Finished => Err(RunEnd::Finished),
@@ -83,6 +89,7 @@ fn decide_taken<B: Board>(
     ensures decision { IfOk result (λ step. (advice : Advice) × IsDecision instance.now taken.node (cuts_in (book_at (B.seen board.now)).nodes taken.node) taken.floor taken.best advice step) }
     ensures fits { IfOk result (λ step. Fits instance.now step) }
     ensures adviser { told seat.new.adviser ≡ told seat.old.adviser }
+    ensures last { last seat.new.adviser ≡ last seat.old.adviser }
     ensures told { seat.new.told ≡ seat.old.told }
     ensures share { seat.new.share ≡ seat.old.share }
     ensures buffers { buffers.new ≡ buffers.old }
@@ -110,6 +117,7 @@ fn commit_step<B: Board>(board: &mut B, step: StepPosts) -> Result<Kept, RunEnd>
     ensures commits { IfOk result (Commits 0 step (B.seen board.old) (B.seen board.new)) }
     ensures cut_off { IfErr result (IsCutOff step (B.seen board.old) (B.seen board.new)) }
     ensures cut { IfErr result (λ end. IsFalse (is_whole end)) }
+    ensures unasked { IfErr result (λ end. end ≢ RunEnd.Stopped) }
     ensures taken { (B.seen board.new).taken ≡ (B.seen board.old).taken }
 {
     match board.commit(WORKER, step) {
@@ -129,13 +137,14 @@ fn commit_step<B: Board>(board: &mut B, step: StepPosts) -> Result<Kept, RunEnd>
 }
 
 /// One round, or how the run ends in it. The seat counts the steps that were committed.
-fn round<B: Board, G: Gate>(
+fn round<B: Board, G: Gate, S: Stop>(
     alloc: Global,
     instance: &Instance,
     buffers: &mut Buffers,
     board: &mut B,
     seat: &mut Seat,
     gate: &G,
+    stop: &S,
 ) -> Option<RunEnd>
     requires instance { (B.seen board.old).instance ≡ instance.now }
     requires idle { IsIdle (B.seen board.old) }
@@ -143,14 +152,15 @@ fn round<B: Board, G: Gate>(
     requires share { seat.old.share ≡ (B.seen board.old).taken }
     requires each { seat.old.told ≡ seat.old.share }
     requires buffers { buffers.old ≡ instance.now }
-    ensures round { MatchOption result (IsRound (B.seen board.old) (B.seen board.new)) (IsEnded (B.seen board.old) (B.seen board.new)) }
+    ensures round { MatchOption result ((r : IsRound (B.seen board.old) (B.seen board.new)) × (last seat.new.adviser ≡ Some (news_of r.makes.node r.kept))) (λ end. IsEnded (B.seen board.old) (B.seen board.new) end × (last seat.new.adviser ≡ last seat.old.adviser)) }
+    ensures stopped { IfSome result (λ end. end ≡ RunEnd.Stopped → S.can_ask stop.now ≡ true) }
     ensures share { MatchOption result (seat.new.share ≡ (B.seen board.new).taken) (λ end. seat.new.share ≡ committed end (B.seen board.new).taken) }
     ensures each { seat.new.told ≡ seat.new.share }
     ensures told { told seat.old.adviser < 2 ^ 63 + seat.old.told
         → told seat.new.adviser + seat.old.told ≡ told seat.old.adviser + seat.new.told }
     ensures buffers { buffers.new ≡ buffers.old }
 {
-    let taken = match take_node(board) {
+    let taken = match take_node(board, stop) {
         Ok(taken) => taken,
         Err(end) => return Some(end),
     };
@@ -171,16 +181,17 @@ fn round<B: Board, G: Gate>(
 
 /// Runs worker 0 alone over a board. Round by round it takes a node, passes the gate, and commits the step that it makes of what
 /// its seat's adviser advises for it; once a commit answered `Ok`, it tells the adviser. The run ends where no node is open, no
-/// step of the budget is left, a commit fails, or no memory is left.
+/// step of the budget is left, a commit fails, no memory is left, or the worker sees before a take that it is asked to stop.
 ///
 /// The seat counts the steps that were committed: all that the board says were taken, and all but the last where the run was cut
 /// off.
-pub fn run_seat<B: Board, G: Gate>(
+pub fn run_seat<B: Board, G: Gate, S: Stop>(
     alloc: Global,
     instance: &Instance,
     board: &mut B,
     seat: &mut Seat,
     gate: &G,
+    stop: &S,
 ) -> RunEnd
     requires instance { (B.seen board.old).instance ≡ instance.now }
     requires fresh { (B.seen board.old).taken ≡ 0 }
@@ -194,18 +205,20 @@ pub fn run_seat<B: Board, G: Gate>(
     ensures begins { IsFront (B.seen board.old).history (B.seen board.new).history }
     ensures end { RunEnds (B.seen board.new) result }
     ensures makes { RunMakes (B.seen board.old) (B.seen board.new) result }
+    ensures stopped { result ≡ RunEnd.Stopped → S.can_ask stop.now ≡ true }
     ensures posts { committed result (B.seen board.new).taken ≤ plans_and_prices_since (B.seen board.old).history (B.seen board.new).history }
     ensures few { (B.seen board.new).taken ≤ steps_enough (B.seen board.old).instance }
     ensures enough { steps_enough (B.seen board.old).instance ≤ (B.seen board.old).budget → result ≢ RunEnd.Spent }
     ensures share { seat.new.share ≡ committed result (B.seen board.new).taken }
     ensures each { seat.new.told ≡ seat.new.share }
     ensures told { told seat.old.adviser < 2 ^ 63 → told seat.new.adviser ≡ told seat.old.adviser + seat.new.told }
+    ensures last { RunTells (B.seen board.old) (B.seen board.new) result (last seat.old.adviser) (last seat.new.adviser) }
 {
     keeps_sound(&*board);
     let mut buffers = Buffers::new(alloc, instance);
     let mut end = None;
     while end.is_none() {
-        end = round(alloc, instance, &mut buffers, board, seat, gate);
+        end = round(alloc, instance, &mut buffers, board, seat, gate, stop);
     }
     match end {
         Some(end) => end,

@@ -1,17 +1,18 @@
 //! The run of workers over a board, for a ledger of its commits.
-ghost use Rattle.std.specs.Prelude.{◌≡◌, ◌+◌, ◌<◌, ◌≤◌, ◌^◌, ℕ, All, None, false, length, slice_index_or, sum_by, vec_len};
+ghost use Rattle.std.specs.Prelude.{◌≡◌, ◌+◌, ◌<◌, ◌≤◌, ◌^◌, ℕ, All, None, false, true, length, slice_index_or, sum_by, vec_len};
 ghost use Rattle.search_core.specs.Board.{BoardView};
 ghost use Rattle.search_core.specs.Core.{empty_hands};
 ghost use Rattle.board_lock.specs.Roots.{root_at};
 ghost use Rattle.board_lock.specs.Turns.{AreTurns};
-ghost use Rattle.worker_gate.specs.Workers.{WorkersEnd};
+ghost use Rattle.std.specs.List.{list_any};
+ghost use Rattle.worker_gate.specs.Workers.{IsToldLast, WorkersEnd};
 
 use crate::bench::work_bench;
 use crate::last::{empty_all, go_on};
 use crate::seat::Place;
 use crate::seating::{seat_all, unseat_all};
 use crate::{Gate, RunEnd, Seat};
-use advice::Adviser;
+use advice::{Adviser, Stop};
 use board_lock::{Held, Lock};
 use dual_bound::Buffers;
 use search_core::Board;
@@ -21,12 +22,21 @@ use std::sync::Wait;
 use std::sync::ledger::{Blank, Ledger};
 use std::thread::Threads;
 
-/// Once all workers have ended: empties each hand, goes on with the first seat, and tells how the run ends.
-fn finish_all<B: Board, L: Ledger, G: Gate>(
+/// Whether a worker saw that the run is asked to stop.
+fn saw_stop<B: Board, L: Ledger>(bench: &[Place<B, L>]) -> bool
+    ensures { result ≡ list_any (λ p. p.asked) bench.now }
+{
+    bench.iter().any(|place| place.asked)
+}
+
+/// Once all workers have ended: empties each hand, goes on with the first seat unless a worker saw that the run is asked to stop, and
+/// tells how the run ends.
+fn finish_all<B: Board, L: Ledger, G: Gate, S: Stop>(
     alloc: Global,
     instance: &Instance,
     held: &mut Held<B, L>,
     gate: &G,
+    stop: &S,
     bench: &mut Vec<Place<B, L>>,
 ) -> RunEnd
     requires some { 0 < vec_len bench.old }
@@ -34,15 +44,29 @@ fn finish_all<B: Board, L: Ledger, G: Gate>(
     requires all { vec_len bench.old ≡ held.old.workers }
     requires instance { (B.seen held.old.opened.value).instance ≡ instance.now }
     requires budget { (B.seen held.old.opened.value).budget < 2 ^ 63 }
+    requires asked { (i : ℕ) (d : _) → i < vec_len bench.old → (slice_index_or bench.old.items i d).asked ≡ true → S.can_ask stop.now ≡ true }
     ensures root { root_at held.new.opened held.new.workers ≡ root_at held.old.opened held.old.workers }
     ensures end { (before : BoardView) → WorkersEnd before (B.seen held.new.board) result }
+    ensures stopped { result ≡ RunEnd.Stopped → S.can_ask stop.now ≡ true }
     ensures len { length bench.new.items ≡ length bench.old.items }
     ensures told { (i : ℕ) (d : _) → i < vec_len bench.old → told (slice_index_or bench.old.items i d).seat.adviser < 2 ^ 63 + (slice_index_or bench.old.items i d).seat.told
         → told (slice_index_or bench.new.items i d).seat.adviser + (slice_index_or bench.old.items i d).seat.told ≡ told (slice_index_or bench.old.items i d).seat.adviser + (slice_index_or bench.new.items i d).seat.told }
+    ensures last { (i : ℕ) (d : _) → i < vec_len bench.old
+        → IsToldLast held.old.workers (B.seen held.old.opened.value) i (slice_index_or bench.old.items i d).seat.told (slice_index_or bench.new.items i d).seat.told (last (slice_index_or bench.old.items i d).seat.adviser) (last (slice_index_or bench.new.items i d).seat.adviser) }
 {
+    let asked = saw_stop(bench.as_slice());
     let mut buffers = Buffers::new(alloc, instance);
     empty_all(alloc, instance, &mut buffers, held, bench.as_mut_slice());
-    go_on(alloc, instance, &mut buffers, held, gate, &mut bench[0])
+    go_on(
+        alloc,
+        instance,
+        &mut buffers,
+        held,
+        gate,
+        stop,
+        asked,
+        &mut bench[0],
+    )
 }
 
 /// What `run_workers` does, for the ledger that the blank stands for.
@@ -50,6 +74,7 @@ pub(crate) fn run_in<
     B: Board + Send,
     L: Ledger + Send + Sync,
     G: Gate + Sync,
+    S: Stop + Sync,
     R: Threads + Wait + Sync,
 >(
     rt: &R,
@@ -58,6 +83,7 @@ pub(crate) fn run_in<
     board: B,
     mut seats: Vec<Seat>,
     gate: &G,
+    stop: &S,
     blank: Blank,
 ) -> (B, Vec<Seat>, RunEnd)
     requires ledger { (blank.name ≡ L.name) × (blank.parts ≡ L.parts) × (blank.parts ≡ vec_len seats + 1) }
@@ -72,10 +98,13 @@ pub(crate) fn run_in<
     requires new { All (λ s. (s.told ≡ 0) × (s.share ≡ 0)) seats.items }
     ensures turns { ∥ AreTurns (vec_len seats) (B.seen board) (B.seen result.0) (sum_by (λ s. s.share) result.1.items) ∥₁ }
     ensures end { WorkersEnd (B.seen board) (B.seen result.0) result.2 }
+    ensures stopped { result.2 ≡ RunEnd.Stopped → S.can_ask stop.now ≡ true }
     ensures seats { vec_len result.1 ≡ vec_len seats }
     ensures each { All (λ s. s.told ≡ s.share) result.1.items }
     ensures told { (i : ℕ) (d : _) → i < vec_len seats → told (slice_index_or seats.items i d).adviser < 2 ^ 63
         → told (slice_index_or result.1.items i d).adviser ≡ told (slice_index_or seats.items i d).adviser + (slice_index_or result.1.items i d).told }
+    ensures last { (i : ℕ) (d : _) → i < vec_len seats
+        → IsToldLast (vec_len seats) (B.seen board) i 0 (slice_index_or result.1.items i d).told (last (slice_index_or seats.items i d).adviser) (last (slice_index_or result.1.items i d).adviser) }
 {
     let Ok(mut bench) = Vec::<Place<B, L>>::with_capacity(alloc, seats.len()) else {
         return (board, seats, RunEnd::NoMemory);
@@ -90,10 +119,10 @@ pub(crate) fn run_in<
         }
     };
     seat_all(&lock, &mut first, &mut all, &mut seats, &mut bench);
-    work_bench(rt, alloc, instance, &lock, gate, &mut bench);
+    work_bench(rt, alloc, instance, &lock, gate, stop, &mut bench);
     let mut held = lock.enter(rt, &mut first);
     lock.retire(first);
-    let end = finish_all(alloc, instance, &mut held, gate, &mut bench);
+    let end = finish_all(alloc, instance, &mut held, gate, stop, &mut bench);
     unseat_all(&mut bench, &mut seats, &mut all);
     let board = held.into_board(&mut all);
     (board, seats, end)

@@ -1,5 +1,6 @@
 //! A seat of a worker, and the place from which it works.
-ghost use Rattle.std.specs.Prelude.{◌≡◌, ◌+◌, ◌-◌, ◌<◌, ◌^◌, min};
+ghost use Rattle.std.specs.Prelude.{◌≡◌, ◌+◌, ◌-◌, ◌<◌, ◌^◌, Some, min};
+ghost use Rattle.worker_gate.specs.Runs.{news_of};
 
 use advice::{Adviser, Told};
 use atomic_table::Badge;
@@ -26,6 +27,7 @@ impl Seat {
         ensures counted { self.new.told ≡ self.old.told + 1 }
         ensures share { self.new.share ≡ self.old.share + 1 }
         ensures told { told self.new.adviser ≡ min (told self.old.adviser + 1) (2 ^ 64 - 1) }
+        ensures last { last self.new.adviser ≡ Some (news_of node kept) }
     {
         self.adviser.learn(&Told {
             node,
@@ -46,6 +48,8 @@ pub(crate) struct Place<B, L: Ledger> {
     pub(crate) number: u32,
     /// How many nodes the worker has taken in the run, which is what the gate is told.
     pub(crate) steps: u64,
+    /// Whether the worker saw that the run is asked to stop.
+    pub(crate) asked: bool,
     ghost told: { seat.told ≡ share.amount },
     ghost shared: { seat.share ≡ share.amount },
     ghost one_part: { share.parts ≡ 1 },

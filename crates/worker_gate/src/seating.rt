@@ -1,5 +1,5 @@
 //! Seats are put onto a bench before a run, and taken from it afterwards.
-ghost use Rattle.std.specs.Prelude.{◌≡◌, ◌≤◌, ◌<◌, ◌+◌, [], ℕ, All, map, slice_index_or, sum_by, vec_len};
+ghost use Rattle.std.specs.Prelude.{◌≡◌, ◌≤◌, ◌<◌, ◌+◌, [], ℕ, All, false, map, slice_index_or, sum_by, vec_len};
 ghost use Rattle.std.specs.Vec.{vec_capacity};
 ghost use Rattle.board_lock.specs.Passes.{root_of, IsOutside, RestsAt};
 
@@ -27,6 +27,7 @@ fn seat_one<B: Board, L: Ledger>(
     ensures none { all.new.amount ≡ 0 }
     ensures seat { result.seat ≡ seat }
     ensures number { result.number ≡ number }
+    ensures unasked { result.asked ≡ false }
     ensures rests { RestsAt (λ r. r ≡ root_of first.old) lock.now result.badge }
 {
     let pass = lock.another(first);
@@ -37,6 +38,7 @@ fn seat_one<B: Board, L: Ledger>(
         share,
         number,
         steps: 0,
+        asked: false,
     }
 }
 
@@ -61,6 +63,7 @@ pub(crate) fn seat_all<B: Board, L: Ledger>(
     ensures none { all.new.amount ≡ 0 }
     ensures bench { map (λ p. p.seat) bench.new.items ≡ seats.old.items }
     ensures numbers { (i : ℕ) (d : _) → i < vec_len seats.old → (slice_index_or bench.new.items i d).number ≡ i }
+    ensures unasked { All (λ p. p.asked ≡ false) bench.new.items }
     ensures rest { All (λ p. RestsAt (λ r. r ≡ root_of first.old) lock.now p.badge) bench.new.items }
     ensures seats { seats.new.items ≡ [] }
     ensures kept { vec_capacity seats.new ≡ vec_capacity seats.old }
@@ -93,6 +96,7 @@ pub(crate) fn unseat_all<B: Board, L: Ledger>(
             share,
             number: _,
             steps: _,
+            asked: _,
         } = bench.remove(0);
         all.merge(share);
         seats.push_reserved(seat);

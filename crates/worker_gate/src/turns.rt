@@ -1,12 +1,13 @@
 //! A worker's turns at the lock of a board.
-ghost use Rattle.std.specs.Prelude.{◌≡◌, ◌+◌, ◌<◌, ◌≤◌, ◌^◌, Some, IfErr, IfOk, OnErr, OnOk, length};
+ghost use Rattle.std.specs.Prelude.{◌≡◌, ◌+◌, ◌<◌, ◌≤◌, ◌^◌, true, Some, IfErr, IfOk, OnErr, OnOk, length};
 ghost use Rattle.search_core.specs.Board.{book_at, yields, Commits};
 ghost use Rattle.search_core.specs.Core.{hand};
 ghost use Rattle.search_core.specs.Kept.{cuts_in};
 ghost use Rattle.search_core.specs.Steps.{Fits};
 ghost use Rattle.board_lock.specs.Passes.{root_of, IsOutside};
 ghost use Rattle.board_lock.specs.Roots.{root_at};
-ghost use Rattle.worker_gate.specs.Workers.{IsLeft, LeavesStep};
+ghost use Rattle.worker_gate.specs.Runs.{news_of};
+ghost use Rattle.worker_gate.specs.Workers.{IsLeft, IsNews, LeavesStep};
 
 use crate::asking::ask_of;
 use advice::Ask;
@@ -36,6 +37,8 @@ pub(crate) enum Rest {
     Again,
     /// Its run is over.
     End,
+    /// It is asked to stop, and its hand is empty.
+    Asked,
 }
 
 /// What became of a step that wasn't committed.
@@ -66,6 +69,7 @@ pub(crate) fn work_of<B: Board, L: Ledger>(
     ensures few { IfOk result (λ work. length work.ask.cuts ≤ 2 ^ 24) }
     ensures same { OnOk result (B.seen held.new.board ≡ B.seen held.old.board) }
     ensures let_go { OnErr result (B.seen held.new.board ≡ yields worker (B.seen held.old.board)) }
+    ensures end { IfErr result (λ rest. rest ≡ Rest.End) }
 {
     match ask_of(&held.board, worker, floor, best) {
         Ok(ask) => Ok(Work { node, ask, taken }),
@@ -76,17 +80,23 @@ pub(crate) fn work_of<B: Board, L: Ledger>(
     }
 }
 
-/// The node that the worker's hand holds, or else one that it takes.
-fn next_work<B: Board, L: Ledger>(held: &mut Held<B, L>, worker: u32) -> Result<Work, Rest>
+/// The node that the worker's hand holds, or else one that it takes, unless it is asked to stop.
+fn next_work<B: Board, L: Ledger>(
+    held: &mut Held<B, L>,
+    worker: u32,
+    asked: bool,
+) -> Result<Work, Rest>
     requires worker { worker < held.old.workers }
     ensures root { root_at held.new.opened held.new.workers ≡ root_at held.old.opened held.old.workers }
     ensures few { IfOk result (λ work. length work.ask.cuts ≤ 2 ^ 24) }
+    ensures asked { IfErr result (λ rest. rest ≡ Rest.Asked → asked ≡ true) }
 {
     match held.board.held(worker) {
         Some(node) => {
             let best = held.board.best_cost();
             work_of(held, worker, node, 0, best, false)
         }
+        None if asked => Err(Rest::Asked),
         None => match held.take(worker) {
             Taken::Node { node, floor, best } => work_of(held, worker, node, floor, best, true),
             Taken::Idle => Err(Rest::Again),
@@ -98,21 +108,23 @@ fn next_work<B: Board, L: Ledger>(held: &mut Held<B, L>, worker: u32) -> Result<
     }
 }
 
-/// A turn for a node to work on.
+/// A turn for a node to work on. A worker that is asked to stop takes none.
 pub(crate) fn take_turn<B: Board, L: Ledger, R: Wait>(
     rt: &R,
     lock: &BoardLock<B, L>,
     pass: &mut BoardPass<B, L>,
     worker: u32,
+    asked: bool,
 ) -> Result<Work, Rest>
     requires pass { IsOutside lock.now pass.old }
     requires worker { worker < (root_of pass.old).workers }
     ensures pass { IsOutside lock.now pass.new }
     ensures root { root_of pass.new ≡ root_of pass.old }
     ensures few { IfOk result (λ work. length work.ask.cuts ≤ 2 ^ 24) }
+    ensures asked { IfErr result (λ rest. rest ≡ Rest.Asked → asked ≡ true) }
 {
     let mut held = lock.enter(rt, pass);
-    let work = next_work(&mut held, worker);
+    let work = next_work(&mut held, worker, asked);
     lock.leave(held, pass);
     work
 }
@@ -134,6 +146,7 @@ pub(crate) fn commit_in<B: Board, L: Ledger>(
     ensures parts { share.new.parts ≡ share.old.parts }
     ensures kept { IfOk result (Commits worker step (B.seen held.old.board) (B.seen held.new.board)) }
     ensures left { IfErr result (LeavesStep worker step (B.seen held.old.board) (B.seen held.new.board)) }
+    ensures news { IfOk result (λ kept. ∥ IsNews held.old.workers (B.seen held.old.opened.value) worker (news_of step.node kept) ∥₁) }
 {
     match held.commit(worker, step, share) {
         Ok(kept) => Ok(kept),
@@ -170,6 +183,7 @@ pub(crate) fn commit_turn<B: Board, L: Ledger, R: Wait>(
     ensures within { share.new.amount ≤ (B.seen (root_of pass.old).opened.value).budget }
     ensures parts { share.new.parts ≡ share.old.parts }
     ensures left { IfErr result (IsLeft step) }
+    ensures news { IfOk result (λ kept. ∥ IsNews (root_of pass.old).workers (B.seen (root_of pass.old).opened.value) worker (news_of step.node kept) ∥₁) }
 {
     let mut held = lock.enter(rt, pass);
     let kept = commit_in(&mut held, worker, step, share);

@@ -1,17 +1,19 @@
 //! A worker's rounds.
-ghost use Rattle.std.specs.Prelude.{◌≡◌, ◌≢◌, ◌+◌, ◌<◌, ◌≤◌, ◌^◌, IfOk, OnErr, OnOk, length};
+ghost use Rattle.std.specs.Prelude.{◌≡◌, ◌≢◌, ◌+◌, ◌<◌, ◌≤◌, ◌^◌, false, true, IfErr, IfOk, OnErr, OnOk, length};
 ghost use Rattle.advice.specs.declared.advice.Advice.{Advice};
 ghost use Rattle.search_core.specs.Steps.{Fits};
 ghost use Rattle.search_core.specs.declared.step_posts.Close.TheVariants.{ByPrice};
 ghost use Rattle.board_lock.specs.Passes.{root_of, IsOutside, RestsAt};
+ghost use Rattle.board_lock.specs.declared.roots.BoardRoot.{BoardRoot};
 ghost use Rattle.worker_gate.specs.Decision.{IsDecision};
-ghost use Rattle.worker_gate.specs.Workers.{KnowsBoard};
+ghost use Rattle.worker_gate.specs.Runs.{news_of};
+ghost use Rattle.worker_gate.specs.Workers.{IsNews, IsToldLast, KnowsBoard};
 
 use crate::decision::{close_of, copy_of, step_in};
 use crate::gate::Gate;
 use crate::seat::{Place, Seat};
 use crate::turns::{BoardLock, BoardPass, Left, Rest, Work, commit_turn, take_turn, yield_turn};
-use advice::{Adviser, Ask};
+use advice::{Adviser, Ask, Stop};
 use atomic_table::Badge;
 use break_rules::NoMemory;
 use dual_bound::Buffers;
@@ -38,6 +40,7 @@ pub(crate) fn decide(
     ensures cuts { IfOk result (λ step. step.proved.cuts ≡ ask.cuts) }
     ensures fits { IfOk result (λ step. Fits instance.now step) }
     ensures adviser { told seat.new.adviser ≡ told seat.old.adviser }
+    ensures last { last seat.new.adviser ≡ last seat.old.adviser }
     ensures told { seat.new.told ≡ seat.old.told }
     ensures share { seat.new.share ≡ seat.old.share }
     ensures buffers { buffers.new ≡ buffers.old }
@@ -97,6 +100,8 @@ fn commit_again<B: Board, L: Ledger, R: Wait>(
     ensures uncounted { OnErr result (share.new.amount ≡ share.old.amount) }
     ensures within { OnOk result (share.new.amount < 2 ^ 63) }
     ensures parts { share.new.parts ≡ share.old.parts }
+    ensures news { IfOk result (λ kept. ∥ IsNews (root_of pass.old).workers (B.seen (root_of pass.old).opened.value) worker (news_of step.node kept) ∥₁) }
+    ensures rest { IfErr result (λ rest. rest ≢ Rest.Asked) }
 {
     let Ok(step) = closed_again(alloc, instance, step) else {
         yield_turn(rt, lock, pass, worker);
@@ -134,6 +139,8 @@ fn commit_closing<B: Board, L: Ledger, R: Wait>(
     ensures uncounted { OnErr result (share.new.amount ≡ share.old.amount) }
     ensures within { OnOk result (share.new.amount < 2 ^ 63) }
     ensures parts { share.new.parts ≡ share.old.parts }
+    ensures news { IfOk result (λ kept. ∥ IsNews (root_of pass.old).workers (B.seen (root_of pass.old).opened.value) worker (news_of step.node kept) ∥₁) }
+    ensures rest { IfErr result (λ rest. rest ≢ Rest.Asked) }
 {
     match commit_turn(rt, lock, pass, worker, step, share) {
         Ok(kept) => Ok(kept),
@@ -146,13 +153,14 @@ fn commit_closing<B: Board, L: Ledger, R: Wait>(
 }
 
 /// One round of a worker, and whether it goes on.
-fn round<B: Board, L: Ledger, G: Gate, R: Wait>(
+fn round<B: Board, L: Ledger, G: Gate, S: Stop, R: Wait>(
     rt: &R,
     alloc: Global,
     instance: &Instance,
     buffers: &mut Buffers,
     lock: &BoardLock<B, L>,
     gate: &G,
+    stop: &S,
     pass: &mut BoardPass<B, L>,
     place: &mut Place<B, L>,
 ) -> bool
@@ -165,6 +173,8 @@ fn round<B: Board, L: Ledger, G: Gate, R: Wait>(
     ensures number { place.new.number ≡ place.old.number }
     ensures told { told place.old.seat.adviser < 2 ^ 63 + place.old.seat.told
         → told place.new.seat.adviser + place.old.seat.told ≡ told place.old.seat.adviser + place.new.seat.told }
+    ensures last { IsToldLast (root_of pass.old).workers (B.seen (root_of pass.old).opened.value) place.old.number place.old.seat.told place.new.seat.told (last place.old.seat.adviser) (last place.new.seat.adviser) }
+    ensures asked { place.new.asked ≡ true → place.old.asked ≡ false → S.can_ask stop.now ≡ true }
 {
     let Place {
         badge: _,
@@ -172,11 +182,16 @@ fn round<B: Board, L: Ledger, G: Gate, R: Wait>(
         share,
         number,
         steps,
+        asked,
     } = place;
-    let Work { node, ask, taken } = match take_turn(rt, lock, pass, *number) {
+    let Work { node, ask, taken } = match take_turn(rt, lock, pass, *number, stop.is_asked()) {
         Ok(work) => work,
         Err(Rest::Again) => return true,
         Err(Rest::End) => return false,
+        Err(Rest::Asked) => {
+            *asked = true;
+            return false;
+        }
     };
     if taken {
         *steps = steps.saturating_add(1);
@@ -193,22 +208,28 @@ fn round<B: Board, L: Ledger, G: Gate, R: Wait>(
         }
         Err(Rest::Again) => true,
         Err(Rest::End) => false,
+        // a commit takes nothing
+        Err(Rest::Asked) => unreachable!(),
     }
 }
 
-/// Works until there is nothing more to do.
-pub(crate) fn work<B: Board, L: Ledger, G: Gate, R: Wait>(
+/// Works until there is nothing more to do, or the worker sees that it is asked to stop.
+pub(crate) fn work<B: Board, L: Ledger, G: Gate, S: Stop, R: Wait>(
     rt: &R,
     alloc: Global,
     instance: &Instance,
     lock: &BoardLock<B, L>,
     gate: &G,
+    stop: &S,
     place: &mut Place<B, L>,
 )
     requires { RestsAt (KnowsBoard B.seen instance.now place.old.number) lock.now place.old.badge }
     ensures number { place.new.number ≡ place.old.number }
     ensures told { told place.old.seat.adviser < 2 ^ 63 + place.old.seat.told
         → told place.new.seat.adviser + place.old.seat.told ≡ told place.old.seat.adviser + place.new.seat.told }
+    ensures last { (root : BoardRoot B) → RestsAt (λ r. r ≡ root) lock.now place.old.badge
+        → IsToldLast root.workers (B.seen root.opened.value) place.old.number place.old.seat.told place.new.seat.told (last place.old.seat.adviser) (last place.new.seat.adviser) }
+    ensures asked { place.new.asked ≡ true → place.old.asked ≡ false → S.can_ask stop.now ≡ true }
 {
     let badge = mem::replace(&mut place.badge, Badge::blank());
     let mut pass = badge.into_seat();
@@ -221,6 +242,7 @@ pub(crate) fn work<B: Board, L: Ledger, G: Gate, R: Wait>(
             &mut buffers,
             lock,
             gate,
+            stop,
             &mut pass,
             place,
         ) {

@@ -1,15 +1,15 @@
 //! The run of workers over a board.
-ghost use Rattle.std.specs.Prelude.{◌≡◌, ◌≢◌, ◌+◌, ◌*◌, ◌<◌, ◌≤◌, ◌^◌, ℕ, All, None, false, slice_index_or, sum_by, vec_len};
+ghost use Rattle.std.specs.Prelude.{◌≡◌, ◌≢◌, ◌+◌, ◌*◌, ◌<◌, ◌≤◌, ◌^◌, ℕ, All, None, false, true, slice_index_or, sum_by, vec_len};
 ghost use Rattle.search_core.specs.Board.{BoardView};
 ghost use Rattle.search_core.specs.Calls.{full_hands, steps_enough};
 ghost use Rattle.search_core.specs.Core.{empty_hands, IsFront};
 ghost use Rattle.board_lock.specs.Turns.{plans_since, prices_since, AreTurns};
 ghost use Rattle.worker_gate.specs.Runs.{IsSameSearch};
-ghost use Rattle.worker_gate.specs.Workers.{WorkersEnd};
+ghost use Rattle.worker_gate.specs.Workers.{IsToldLast, WorkersEnd};
 
 use crate::running::run_in;
 use crate::{Gate, RunEnd, Seat};
-use advice::Adviser;
+use advice::{Adviser, Stop};
 use search_core::{Board, keeps_sound};
 use shift_instance::Instance;
 use std::alloc::Global;
@@ -20,18 +20,22 @@ use std::thread::Threads;
 
 /// Runs a worker for each seat over a board. Whichever of them gets the board, and whatever its adviser advises, it takes a node,
 /// passes the gate, and commits the step that it makes of the advice for it; once a commit answered `Ok`, it tells its adviser. A run
-/// ends where no node is open, no step of the budget is left, a commit fails, or a worker finds no memory. Board and seats come
-/// back, the seats in their order.
+/// ends where no node is open, no step of the budget is left, a commit fails, a worker finds no memory, or one sees that the run is
+/// asked to stop. Board and seats come back, the seats in their order.
+///
+/// Each worker looks at the stop before each take. One that sees that it is asked takes nothing more, and neither does the run once all
+/// have ended; each node that was taken before is finished.
 ///
 /// Whatever order the workers got the board in, turns of theirs have made the board that comes back of the one that went in: each
 /// turn was one call, no node was ever in two hands, and the seats have together as many commits as answered `Ok`.
-pub fn run_workers<B: Board + Send, G: Gate + Sync, R: Threads + Wait + Sync>(
+pub fn run_workers<B: Board + Send, G: Gate + Sync, S: Stop + Sync, R: Threads + Wait + Sync>(
     rt: &R,
     alloc: Global,
     instance: &Instance,
     board: B,
     seats: Vec<Seat>,
     gate: &G,
+    stop: &S,
 ) -> (B, Vec<Seat>, RunEnd)
     requires instance { (B.seen board).instance ≡ instance.now }
     requires fresh { (B.seen board).taken ≡ 0 }
@@ -46,6 +50,7 @@ pub fn run_workers<B: Board + Send, G: Gate + Sync, R: Threads + Wait + Sync>(
     ensures begins { IsFront (B.seen board).history (B.seen result.0).history }
     ensures turns { ∥ AreTurns (vec_len seats) (B.seen board) (B.seen result.0) (sum_by (λ s. s.share) result.1.items) ∥₁ }
     ensures end { WorkersEnd (B.seen board) (B.seen result.0) result.2 }
+    ensures stopped { result.2 ≡ RunEnd.Stopped → S.can_ask stop.now ≡ true }
     ensures within { sum_by (λ s. s.share) result.1.items + full_hands (B.seen result.0).hands ≤ (B.seen result.0).taken }
     ensures exact { (B.seen result.0).halted ≡ false → sum_by (λ s. s.share) result.1.items + full_hands (B.seen result.0).hands ≡ (B.seen result.0).taken }
     ensures posts { sum_by (λ s. s.share) result.1.items ≤ prices_since (B.seen board).history (B.seen result.0).history + vec_len seats * plans_since (B.seen board).history (B.seen result.0).history }
@@ -55,11 +60,13 @@ pub fn run_workers<B: Board + Send, G: Gate + Sync, R: Threads + Wait + Sync>(
     ensures each { All (λ s. s.told ≡ s.share) result.1.items }
     ensures told { (i : ℕ) (d : _) → i < vec_len seats → told (slice_index_or seats.items i d).adviser < 2 ^ 63
         → told (slice_index_or result.1.items i d).adviser ≡ told (slice_index_or seats.items i d).adviser + (slice_index_or result.1.items i d).told }
+    ensures last { (i : ℕ) (d : _) → i < vec_len seats
+        → IsToldLast (vec_len seats) (B.seen board) i 0 (slice_index_or result.1.items i d).told (last (slice_index_or seats.items i d).adviser) (last (slice_index_or result.1.items i d).adviser) }
 {
     keeps_sound(&board);
     let blank = Blank::new(seats.len() as u64 + 1);
-    let (board, seats, end) = run_in::<B, Brand, G, R>(
-        rt, alloc, instance, board, seats, gate, blank,
+    let (board, seats, end) = run_in::<B, Brand, G, S, R>(
+        rt, alloc, instance, board, seats, gate, stop, blank,
     );
     keeps_sound(&board);
     (board, seats, end)

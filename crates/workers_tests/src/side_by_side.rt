@@ -3,6 +3,7 @@ ghost use Rattle.std.specs.Prelude.{◌≡◌, All, IfOk, length, vec_len};
 ghost use Rattle.instance_json.specs.Canonical.{canonical_text};
 
 use crate::fixtures::{LIMIT, add_seat, morning, seat_with};
+use advice::Never;
 use advisers::Greedy;
 use plan_base::MemDisk;
 use search_book::Book;
@@ -48,7 +49,7 @@ fn parted(alloc: Global, instance: &Instance) -> Result<Vec<u8>, Fail>
     let disk = MemDisk::new(alloc, Vec::new(alloc), Vec::new(alloc));
     match Book::open(alloc, instance, disk, 1, LIMIT) {
         Ok(mut book) => {
-            run_seat(alloc, instance, &mut book, &mut seat, &Open);
+            run_seat(alloc, instance, &mut book, &mut seat, &Open, &Never);
             Ok(Vec::from_slice(alloc, book.into_disk().bytes())?)
         }
         Err(_) => Err("it isn't opened")?,
@@ -80,7 +81,7 @@ fn run_two<R: Threads + Wait + Sync>(
     let disk = MemDisk::new(alloc, bytes, Vec::new(alloc));
     match Book::open(alloc, instance, disk, 100, LIMIT) {
         Ok(book) => {
-            let (_book, _seats, end) = run_workers(rt, alloc, instance, book, seats, gate);
+            let (_book, _seats, end) = run_workers(rt, alloc, instance, book, seats, gate, &Never);
             Ok(end)
         }
         Err(_) => Err("it isn't opened")?,

@@ -14,7 +14,7 @@ returns-in-Ok-write_line-clause-status g c =
     let e = c.with_book.ensures in
     let some = sym c.is_reported.ensures ∙ c.if-not-is_reported.false in
     demonstrated _ _ _ ghosts.faults c.args.number c.args.steps c.args.instance.now c.in-Ok.book c.search_all-end.new.book c.search_all-end.result c.requires.generated some
-    c.in-Ok.ensures.new c.search_all-end.ensures.searches e.running e.fault e.told sink advisers (c.search_all-end.ensures.told some) (map heard c.with_book.result.advisers.items) (ap (λ v. map heard v.items) e.advisers)
+    c.in-Ok.ensures.new c.search_all-end.ensures.searches e.running e.fault e.told sink advisers (_, c.search_all-end.ensures.told, c.search_all-end.ensures.committed some) (map heard c.with_book.result.advisers.items) (ap (λ v. map heard v.items) e.advisers)
     _ _ (e.status ∙ c.status_at.ensures) e.disk c.in-Ok-write_line.ensures.ok
 
 pub returns-in-Err-WriteFault-clause-status : goal.returns-in-Err-WriteFault-clause-status
@@ -26,5 +26,5 @@ returns-in-Err-WriteFault-clause-status g c =
     let some = sym c.is_reported.ensures ∙ c.if-not-is_reported.false in
     let part = c.in-Err-WriteFault.ensures.part c.in-Err-WriteFault.field-0-is in
     demonstrated_in_part _ _ _ ghosts.faults c.args.number c.args.steps c.args.instance.now c.in-Ok.book c.search_all-end.new.book c.search_all-end.result c.requires.generated some
-    c.in-Ok.ensures.new c.search_all-end.ensures.searches e.running e.fault e.told sink advisers (c.search_all-end.ensures.told some) (map heard c.with_book-in-Err-WriteFault.result.advisers.items) (ap (λ v. map heard v.items) e.advisers)
+    c.in-Ok.ensures.new c.search_all-end.ensures.searches e.running e.fault e.told sink advisers (_, c.search_all-end.ensures.told, c.search_all-end.ensures.committed some) (map heard c.with_book-in-Err-WriteFault.result.advisers.items) (ap (λ v. map heard v.items) e.advisers)
     _ _ e.status e.disk part.0 part.1

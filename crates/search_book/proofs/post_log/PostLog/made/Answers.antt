@@ -52,5 +52,6 @@ returns-clause-log g c =
       telling = l.telling;
       later = l.later;
       moment = omega (arith, l.moment, same);
+      most = omega (arith, l.most, same);
       lasts = posts_last (K.reads b.log.disk) (K.images_since b.log.disk) (K.calls b.log.opened) b.log.limit b.state.instance b.log.head b.log.records b.log.in_flight first batches flight b.log.opening b.log.added i.head i.recorded i.flight (subst (λ (h : List Post). IsSome (book_of b.state.instance h)) run i.next) same l.lasts;
     })

@@ -29,6 +29,7 @@ invariant_of-self g c =
       later = omega (arith, c.in-Ok.ensures.faults, c.self.invariant.later);
       cause = λ shut. absurd (shut none);
       moment = omega (arith, c.in-Ok.ensures.four, running.time);
+      most = omega (arith, c.in-Ok.ensures.four, running.time);
       small = omega (arith, c.self.invariant.small, ap (λ (v : JournalView). v.limit) c.in-Ok.ensures.ok);
       lasts =
           subst (λ (v : JournalView). OnSome (K.reads c.put.new.disk) (Each K.calls K.images_since K.images g.met.D.Disk.only_now v.limit v.head (v.records ++ flight_of b.in_flight) c.put.new.disk b.opened.value b.opening (b.added + 1))) (sym c.in-Ok.ensures.ok)
@@ -55,6 +56,7 @@ invariant_of-self-in-Err-DiskFault g c =
       later = omega (arith, c.in-Err-DiskFault.ensures.faults, c.self.invariant.later);
       cause = λ _. let rose : Rose (K.faults b.disk) (K.faults c.put.new.disk) = search rules in omega (arith, rose, c.self.invariant.later);
       moment = omega (arith, c.in-Err-DiskFault.ensures.least, running.time);
+      most = omega (arith, c.in-Err-DiskFault.ensures.most, running.time);
       small = omega (arith, c.self.invariant.small, ap (λ (v : JournalView). v.limit) c.in-Err-DiskFault.ensures.err);
       lasts =
           subst (λ (v : JournalView). OnSome (K.reads c.put.new.disk) (Each K.calls K.images_since K.images g.met.D.Disk.only_now v.limit v.head (v.records ++ c.of.result.value.items ∷ []) c.put.new.disk b.opened.value b.opening b.added)) (sym c.in-Err-DiskFault.ensures.err)

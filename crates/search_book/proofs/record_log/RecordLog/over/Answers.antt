@@ -14,6 +14,7 @@ invariant_of-result g c = record {
   later = omega (arith, ap g.D.Disk.faults c.of-opened.ensures);
   cause = λ shut. absurd (shut refl);
   moment = omega (arith, ap g.D.Disk.calls c.of-opened.ensures);
+  most = omega (arith, ap g.D.Disk.calls c.of-opened.ensures);
   small = c.requires.small;
   lasts = started g.D.Disk.calls g.D.Disk.images_since g.D.Disk.images g.met.D.Disk.only_now c.args.journal c.args.disk c.of-opened.result.value c.args.opening (g.D.Disk.reads c.args.disk) c.of-opened.ensures c.requires.opening c.requires.settled;
 }
