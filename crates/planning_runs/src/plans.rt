@@ -1,77 +1,110 @@
-//! Plans that reports show.
+//! Plans that were judged.
 
-ghost use Rattle.std.specs.Prelude.{◌≡◌, IfOk, IsTrue, Ok};
+ghost use Rattle.std.specs.Prelude.{◌≡◌, ℕ, List, IfErr, IfOk, IsTrue, Ok, Some};
+ghost use Rattle.shift_instance.specs.declared.Row.{Row};
+ghost use Rattle.shift_instance.specs.Rota.{are_legal_rows};
 ghost use Rattle.instance_json.specs.Reading.{reading_of};
 ghost use Rattle.certificate.specs.Accepted.{is_accepted};
 ghost use Rattle.certificate.specs.Departing.{Spells};
+ghost use Rattle.cert_check.specs.Judged.{IsRefused};
+ghost use Rattle.planning_runs.specs.Reports.{IsOfBook, IsUnshown};
 
+use break_rules::NoMemory;
 use cert_check::{Refused, check};
 use certificate::{Cert, CertText};
 use instance_json::ReadRefusal;
+use plan_base::Disk;
+use rota_writer::report;
+use search_book::Book;
 use shift_instance::Instance;
-use std::alloc::Global;
+use solve_runs::cert_of;
+use std::alloc::{AllocError, Global};
 
-/// The instance of a document, and what a report says of it.
+/// A report that was judged and accepted, with what it says: what is shown of a plan is what was checked.
 #[derive(Drop)]
 pub struct Plan {
     /// The instance.
     pub instance: Instance,
     /// What the report says.
     pub cert: Cert,
+    /// The text of the report.
+    pub report: Vec<u8>,
+    ghost spelled: { ∥ Spells report.items cert ∥₁ },
+    ghost accepted: { IsTrue (is_accepted instance cert) },
+    ghost legal: { (cost : ℕ) (rows : List Row) → cert.plan ≡ Some (cost, rows) → IsTrue (are_legal_rows instance rows) },
 }
 
-/// Why a report shows no plan.
+/// Why a report shows no plan. Each cause may also be running out of memory.
 #[derive(Drop)]
 pub enum Unshown {
-    /// The document is refused. Never holds `NoMemory`.
+    /// The document is refused.
     Document(ReadRefusal),
-    /// The report departs at the line of that number, from 1 on, from all reports.
-    Report { line: u64 },
-    /// The report isn't accepted. Never holds `NoMemory`.
+    /// The text is no report.
+    Report(CertText),
+    /// The report isn't accepted.
     Refused(Refused),
-    /// There was no memory.
-    NoMemory,
 }
 
-/// The instance of a document.
-pub fn instance_of(alloc: Global, document: &[u8]) -> Result<Instance, Unshown>
-    ensures { IfOk result (λ instance. reading_of document.now ≡ Ok instance) }
+/// The plan of an instance that a certificate shows, if it is accepted.
+fn judged(
+    alloc: Global,
+    instance: Instance,
+    cert: Cert,
+    report: Vec<u8>,
+) -> Result<Plan, Refused>
+    requires spelled { Spells report.items cert }
+    ensures instance { IfOk result (λ plan. plan.instance ≡ instance) }
+    ensures cert { IfOk result (λ plan. plan.cert ≡ cert) }
+    ensures report { IfOk result (λ plan. plan.report ≡ report) }
+    ensures refused { IfErr result (IsRefused instance cert) }
 {
-    match instance_json::read(alloc, document) {
-        Ok(instance) => Ok(instance),
-        Err(ReadRefusal::NoMemory) => Err(Unshown::NoMemory),
-        Err(why) => Err(Unshown::Document(why)),
-    }
+    check(alloc, &instance, &cert)?;
+    Ok(Plan {
+        instance,
+        cert,
+        report,
+    })
 }
 
-/// What a text says as a report. Whether it is accepted isn't judged.
-pub fn cert_of(alloc: Global, report: &[u8]) -> Result<Cert, Unshown>
-    ensures { IfOk result (Spells report.now) }
-{
-    match certificate::read(alloc, report) {
-        Ok(cert) => Ok(cert),
-        Err(CertText::Departs { line }) => Err(Unshown::Report { line }),
-        Err(CertText::NoMemory) => Err(Unshown::NoMemory),
-    }
-}
-
-/// Judges a report for the instance of a document as `shift_check check` does: what is shown is what was checked.
-pub fn judged_plan(alloc: Global, document: &[u8], report: &[u8]) -> Result<Plan, Unshown>
+/// Judges a report for the instance of a document as `shift_check check` does. [`Unshown`] says why it shows no plan.
+pub fn judged_plan(alloc: Global, document: &[u8], report: Vec<u8>) -> Result<Plan, Unshown>
     ensures instance { IfOk result (λ plan. reading_of document.now ≡ Ok plan.instance) }
-    ensures cert { IfOk result (λ plan. Spells report.now plan.cert) }
+    ensures cert { IfOk result (λ plan. Spells report.items plan.cert) }
+    ensures report { IfOk result (λ plan. plan.report ≡ report) }
     ensures accepted { IfOk result (λ plan. IsTrue (is_accepted plan.instance plan.cert)) }
+    ensures unshown { IfErr result (IsUnshown document.now report.items) }
 {
-    let instance = instance_of(alloc, document)?;
-    let cert = cert_of(alloc, report)?;
-    match check(alloc, &instance, &cert) {
-        Ok(_) => Ok(Plan { instance, cert }),
-        Err(Refused::NoMemory) => Err(Unshown::NoMemory),
+    let instance = match instance_json::read(alloc, document) {
+        Ok(instance) => instance,
+        Err(why) => return Err(Unshown::Document(why)),
+    };
+    let cert = match certificate::read(alloc, report.as_slice()) {
+        Ok(cert) => cert,
+        Err(why) => return Err(Unshown::Report(why)),
+    };
+    match judged(alloc, instance, cert, report) {
+        Ok(plan) => Ok(plan),
         Err(why) => Err(Unshown::Refused(why)),
     }
 }
 
-/// How many steps the proof of a report took: each step that is kept has prices.
-pub fn steps_in(report: &[u8]) -> u64 {
-    let lines = report.split(|byte| *byte == b'\n');
-    lines.filter(|line| line.starts_with(b"priced ")).count() as u64
+/// The plan of a book of the instance, judged as any report is. The certificate of a book is accepted, so `NoMemory` is the only refusal.
+pub(crate) fn plan_of<D: Disk>(
+    alloc: Global,
+    instance: Instance,
+    book: &Book<D>,
+) -> Result<Plan, NoMemory>
+    requires same { book.now.log.instance ≡ instance }
+    ensures { IfOk result (IsOfBook instance book.now) }
+{
+    // an instance is valid
+    let _heads = instance.heads();
+    let cert = cert_of(alloc, book)?;
+    let text = report(alloc, &cert)?;
+    match judged(alloc, instance, cert, text) {
+        Ok(plan) => Ok(plan),
+        Err(Refused::NoMemory) => Err(AllocError),
+        // a book's certificate is accepted
+        Err(_) => unreachable!(),
+    }
 }

@@ -12,7 +12,7 @@ mod status;
 mod words;
 
 pub use demo::demo_line;
-pub use report::report_of;
+pub use report::{cert_of, report_of};
 pub use run::{Ended, run_command, solve_run};
 pub use search::run_search;
 pub use searched::{Request, SearchEnd, Searched};

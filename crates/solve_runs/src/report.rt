@@ -29,8 +29,9 @@ fn status_of<D: Disk>(book: &Book<D>) -> CertStatus
     }
 }
 
-/// The certificate of a book.
-fn cert_of<D: Disk>(alloc: Global, book: &Book<D>) -> Result<Cert, NoMemory>
+/// The certificate of a book, which is accepted: its best plan, its bound, and a proof line for each post that is no plan. `NoMemory` is
+/// the only refusal.
+pub fn cert_of<D: Disk>(alloc: Global, book: &Book<D>) -> Result<Cert, NoMemory>
     ensures is { IfOk result (λ cert. cert ≡ cert_of book.now.log.history book.now.log.book) }
     ensures agrees { IfOk result (λ cert. IsValid book.now.log.instance → Agrees cert) }
     ensures accepted { IsValid book.now.log.instance → IsTrue (is_accepted book.now.log.instance (cert_of book.now.log.history book.now.log.book)) }

@@ -11,6 +11,7 @@ use advice::{Adviser, Stop};
 use gated_journal::JOURNAL_MAX;
 use instance_json::laws::canonical_text_is_short;
 use plan_base::Disk;
+use post_codec::Post;
 use search_book::Book;
 use search_core::keeps_sound;
 use shift_instance::Instance;
@@ -29,7 +30,13 @@ pub(crate) fn workers_for(advisers: &[Box<dyn Adviser + Send>]) -> u32
     WORKERS_MOST.min(advisers.len()) as u32
 }
 
-/// Runs a worker for each seat over a book from which no node was taken yet.
+/// How many steps posted these: each has prices. Nothing is claimed of it.
+fn steps_in(posts: &[Post]) -> u64 {
+    let priced = posts.iter().filter(|post| matches!(post, Post::Priced { .. }));
+    priced.count() as u64
+}
+
+/// Runs a worker for each seat over a book from which no node was taken yet. The gate is told of the book first.
 fn search_by<D: Disk + Send, G: Gate + Sync, S: Stop + Sync, R: Threads + Wait + Sync>(
     rt: &R,
     alloc: Global,
@@ -50,6 +57,7 @@ fn search_by<D: Disk + Send, G: Gate + Sync, S: Stop + Sync, R: Threads + Wait +
     ensures seats { vec_len result.1 ≡ vec_len seats }
     ensures stopped { result.2 ≡ RunEnd.Stopped → S.can_ask stop.now ≡ true }
 {
+    gate.begin(steps_in(book.history()), book.best_cost(), book.floor());
     // what every board keeps, and this one as it is opened
     keeps_sound(&book);
     run_workers(rt, alloc, instance, book, seats, gate, stop)
