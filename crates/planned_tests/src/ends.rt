@@ -39,9 +39,7 @@ fn morning(rt: HostRuntime, progress: Arc<Progress>) -> Result<Planned<MemDisk>,
     };
     let disk = MemDisk::new(alloc, Vec::new(alloc), Vec::new(alloc));
     let until = Until::new(progress, rt);
-    Ok(search_plan(
-        &rt, alloc, instance, request, disk, advisers, &Open, &until,
-    ))
+    Ok(search_plan(&rt, alloc, instance, request, disk, advisers, &Open, &until))
 }
 
 #[test]
@@ -67,6 +65,9 @@ fn a_search_within_its_time_is_finished(rt: HostRuntime) -> Result<(), Fail> {
     let planned = morning(rt, begun(rt, u64::MAX)?)?;
     assert!(rt; matches!(planned.searched.end, SearchEnd::Finished));
     let plan = planned.plan.ok_or("no plan")?;
-    assert!(rt; plan.report.starts_with(b"shift-report 1\nstatus optimal\ncost 3\nbound 3\n"));
+    assert!(rt;
+        plan.report
+            .starts_with(b"shift-report 1\nstatus optimal\ncost 3\nbound 3\n")
+    );
     Ok(())
 }

@@ -48,9 +48,9 @@ fn plan_at(alloc: Global, line: &str) -> Result<Option<String>, AllocError> {
                 Some(StopOn::Enter) => "enter",
                 None => "-",
             };
-            Ok(Some(
-                format!(in alloc; "{instance} {journal} {seconds} {workers} {out} {anew} {end}")?,
-            ))
+            Ok(Some(format!(in alloc;
+                "{instance} {journal} {seconds} {workers} {out} {anew} {end}"
+            )?))
         }
         _ => Ok(None),
     }
@@ -61,7 +61,8 @@ fn a_plan_has_its_words(rt: HostRuntime) -> Result<(), Fail> {
     let alloc = rt.alloc();
     let short = plan_at(alloc, "shift_plan plan w.json")?.ok_or("no plan")?;
     assert_eq!(rt; short.as_str(), "w.json - 60 4 - false -");
-    let long = "shift_plan plan w.json --journal j --seconds 0 --workers=16 --out o --stop-on line --anew";
+    let long =
+        "shift_plan plan w.json --journal j --seconds 0 --workers=16 --out o --stop-on line --anew";
     let long = plan_at(alloc, long)?.ok_or("no plan")?;
     assert_eq!(rt; long.as_str(), "w.json j 0 16 o true line");
     let told = plan_at(alloc, "shift_plan plan --stop-on=enter w.json")?.ok_or("no plan")?;

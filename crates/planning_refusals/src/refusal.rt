@@ -211,10 +211,8 @@ impl Refusal {
         ensures { MatchOption result (end_cause end.now ≡ None) (λ refusal. (cause : Cause) × (end_cause end.now ≡ Some cause) × IsFor cause refusal) }
     {
         match end {
-            SearchEnd::Finished
-            | SearchEnd::Spent
-            | SearchEnd::Full { .. }
-            | SearchEnd::Stopped => None,
+            SearchEnd::Finished | SearchEnd::Spent | SearchEnd::Full { .. } | SearchEnd::Stopped =>
+                None,
             SearchEnd::Refused(why) => {
                 Some(Refusal::said(Cause::Journal, unopened_sentence(alloc, why)))
             }

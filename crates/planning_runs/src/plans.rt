@@ -46,12 +46,7 @@ pub enum Unshown {
 }
 
 /// The plan of an instance that a certificate shows, if it is accepted.
-fn judged(
-    alloc: Global,
-    instance: Instance,
-    cert: Cert,
-    report: Vec<u8>,
-) -> Result<Plan, Refused>
+fn judged(alloc: Global, instance: Instance, cert: Cert, report: Vec<u8>) -> Result<Plan, Refused>
     requires spelled { Spells report.items cert }
     ensures instance { IfOk result (λ plan. plan.instance ≡ instance) }
     ensures cert { IfOk result (λ plan. plan.cert ≡ cert) }

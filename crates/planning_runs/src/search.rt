@@ -44,9 +44,7 @@ pub fn search_plan<D: Disk + Send, G: Gate + Sync, S: Stop + Sync, R: Threads + 
     ensures stopped { result.searched.end ≡ SearchEnd.Stopped → S.can_ask stop.now ≡ true }
     ensures plan { MatchResult result.searched.book (λ book. IfSome result.plan (IsOfBook instance book)) (λ disk. result.plan ≡ None) }
 {
-    let searched = run_search(
-        rt, alloc, &instance, request, disk, advisers, gate, stop,
-    );
+    let searched = run_search(rt, alloc, &instance, request, disk, advisers, gate, stop);
     let plan = match &searched.book {
         Ok(book) => plan_of(alloc, instance, book).ok(),
         Err(_) => None,

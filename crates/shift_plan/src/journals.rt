@@ -51,10 +51,7 @@ fn no_search(alloc: Global, path: &str) -> Refusal {
 }
 
 /// The journal that the words name, locked for this run. Where they ask to begin again, the old one gets another name first.
-pub(crate) fn locked_journal(
-    rt: HostRuntime,
-    words: &PlanWords,
-) -> Result<Journals, Refusal> {
+pub(crate) fn locked_journal(rt: HostRuntime, words: &PlanWords) -> Result<Journals, Refusal> {
     let alloc = rt.alloc();
     let path = journal_of(alloc, words)?;
     if is_same_file(path.as_str(), words.instance) {

@@ -2,11 +2,10 @@
 
 use planning_progress::Progress;
 use planning_words::StopOn;
-use std::fs;
 use std::io::{IsTerminal, Read};
 use std::sync::Arc;
-use std::thread;
 use std::thread::Threads;
+use std::{fs, thread};
 
 /// Whether this program is in the foreground of its terminal, as Linux tells it. The system would stop a program in the background that reads
 /// from its terminal.

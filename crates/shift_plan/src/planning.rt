@@ -102,9 +102,7 @@ fn searched<R: Threads + Wait + Sync>(
         steps: if words.seconds == 0 { 0 } else { STEPS_MOST },
     };
     let disk = journal.disk()?;
-    let planned = search_plan(
-        rt, alloc, instance, request, disk, advisers, &gate, &until,
-    );
+    let planned = search_plan(rt, alloc, instance, request, disk, advisers, &gate, &until);
     let end = planned.searched.end;
     match planned.plan {
         Some(plan) => {

@@ -37,7 +37,9 @@ impl Gate for Beginning {
     fn begin(&self, steps: u64, cost: u64, bound: u64) {
         self.progress.count_before(steps);
         if steps != 0 {
-            let _ = eprintln!(self.rt; "shift_plan: goes on from {steps} steps: cost {cost}, bound {bound}");
+            let _ = eprintln!(self.rt;
+                "shift_plan: goes on from {steps} steps: cost {cost}, bound {bound}"
+            );
         }
     }
 
@@ -57,7 +59,9 @@ pub(crate) fn tell_end(rt: HostRuntime, progress: &Progress, end: &SearchEnd) {
             }
         }
         SearchEnd::Stopped if progress.is_end_asked() => {
-            let _ = eprintln!(rt; "shift_plan: the search ends early, as it was asked to: its plan is written, and the same line goes on from there");
+            let _ = eprintln!(rt;
+                "shift_plan: the search ends early, as it was asked to: its plan is written, and the same line goes on from there"
+            );
         }
         _ => {}
     }

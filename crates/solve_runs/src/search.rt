@@ -32,7 +32,9 @@ pub(crate) fn workers_for(advisers: &[Box<dyn Adviser + Send>]) -> u32
 
 /// How many steps posted these: each has prices. Nothing is claimed of it.
 fn steps_in(posts: &[Post]) -> u64 {
-    let priced = posts.iter().filter(|post| matches!(post, Post::Priced { .. }));
+    let priced = posts
+        .iter()
+        .filter(|post| matches!(post, Post::Priced { .. }));
     priced.count() as u64
 }
 
