@@ -247,7 +247,7 @@ module _ (met : DemoMet) (before : List ℕ) (first : met.told.before ≡ take 1
     written = ends.written;
     cause = ends.cause;
   }
-  demo_of_all NoMemory ends = (ends.0, ends.1.0, told_of_all 1 ends.1.0 before met.told.after (subst (λ (l : List ℕ). AreTold 1 ends.1.0 (record { before = l; after = met.told.after })) first ends.1.1))
+  demo_of_all NoMemory ends = (ends.0, ends.1, told_of_all 1 ends.1 before met.told.after (subst (λ (l : List ℕ). AreTold 1 ends.1 (record { before = l; after = met.told.after })) first ends.2))
   demo_of_all Usage ends = absurd ends
   demo_of_all (Workers asked have) ends = absurd ends
   demo_of_all (Input why) ends = absurd ends

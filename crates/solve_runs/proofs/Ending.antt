@@ -21,7 +21,7 @@ use Rattle.solve_runs.specs.declared.searched.SearchEnd.{SearchEnd}
 use Rattle.solve_runs.specs.declared.searched.SearchEnd.TheVariants.{Finished, Spent, Full, Stopped, DiskFault, NoMemory, TooFewAdvisers, Refused}
 use Rattle.solve_runs.specs.Ended.{HasEnded, IsLeft, IsRefusal}
 use Rattle.solve_runs.specs.Search.{Ends}
-use Rattle.solve_runs.specs.Searching.{end_unopened, HasNotSearched, SearchEnds}
+use Rattle.solve_runs.specs.Searching.{end_of, end_unopened, HasNotSearched, SearchEnds}
 use Rattle.solve_runs.specs.Served.{AreUntold, Served, ToldMet}
 use Rattle.solve_runs.specs.Session.{met_of, DiskMet, IsUncalled, Session}
 use Rattle.solve_runs.specs.Words.{workers_for}
@@ -119,14 +119,42 @@ module _ (disk : DiskMet) (i : Problem) (budget workers : ℕ) (before after : L
   unsearched_all Stopped enough e = absurd e
 
 module _ {D : Type 0} (reads : D → Option (List ℕ)) (images : D → List ℕ → Type 0) (images_since : D → ℕ → List ℕ → Type 0) (calls faults : D → ℕ) (disk : D) (i : Problem) (budget workers : ℕ) (before after : List ℕ) (end : SearchEnd) where
-  pub search_of_all : (book : Result (SearchView D) D) → workers ≤ workers_for (take workers before)
+  of_all : (book : Result (SearchView D) D) → workers ≤ workers_for (take workers before)
       → SearchEnds reads images images_since calls faults disk i workers budget (record { before = take workers before; after = after }) book end
       → SearchEnds reads images images_since calls faults disk i workers budget (record { before = before; after = after }) book end
-  search_of_all (Ok book) enough s = record {
+  of_all (Ok book) enough s = record {
     how = s.how;
     is = s.is;
     session = s.session;
     own = s.own;
     ended = ended_all (met_of reads images images_since calls faults disk book.log.disk) i budget workers before after s.how (board_of reads calls faults book) s.session s.ended;
   }
-  search_of_all (Err left) enough s = unsearched_all (met_of reads images images_since calls faults disk left) i budget workers before after end enough s
+  of_all (Err left) enough s = unsearched_all (met_of reads images images_since calls faults disk left) i budget workers before after end enough s
+
+-- the answer of a search by the advisers that serve, as one by all
+pub search_of_all : {D : Type 0} (reads : D → Option (List ℕ)) (images : D → List ℕ → Type 0) (images_since : D → ℕ → List ℕ → Type 0) (calls faults : D → ℕ) (disk : D) (i : Problem) (budget served workers : ℕ) (before first after : List ℕ) (book : Result (SearchView D) D) (end : SearchEnd)
+    → served ≡ workers → first ≡ take workers before → workers ≤ workers_for (take workers before)
+    → SearchEnds reads images images_since calls faults disk i served budget (record { before = first; after = after }) book end
+    → SearchEnds reads images images_since calls faults disk i workers budget (record { before = before; after = after }) book end
+search_of_all reads images images_since calls faults disk i budget served workers before first after book end as_many first_is enough ends =
+    of_all reads images images_since calls faults disk i budget workers before after end book enough
+    (subst (λ (l : List ℕ). SearchEnds reads images images_since calls faults disk i workers budget (record { before = l; after = after }) book end) first_is
+    (subst (λ (n : ℕ). SearchEnds reads images images_since calls faults disk i n budget (record { before = first; after = after }) book end) as_many ends))
+
+-- ---- a search that was stopped
+
+pub never_stopped : (fault : OpenFault) → end_unopened fault ≢ Stopped
+never_stopped OpeningsDisk e = absurd (cc (e))
+never_stopped NotAJournal e = absurd (cc (e))
+never_stopped (OtherInstance at) e = absurd (cc (e))
+never_stopped (Damaged at) e = absurd (cc (e))
+never_stopped (Rejected at why) e = absurd (cc (e))
+never_stopped OpeningsMemory e = absurd (cc (e))
+
+pub stopped_run : (how : RunEnd) → end_of how ≡ Stopped → how ≡ StoppedEnd
+stopped_run FinishedEnd e = absurd (cc (e))
+stopped_run SpentEnd e = absurd (cc (e))
+stopped_run (FullEnd end limit) e = absurd (cc (e))
+stopped_run DiskEnd e = absurd (cc (e))
+stopped_run MemoryEnd e = absurd (cc (e))
+stopped_run StoppedEnd e = refl

@@ -88,6 +88,20 @@ reads_when met command DiskFault ends before = before
 reads_when met command NoMemory ends before = before
 reads_when met command (Journal why) ends before = before
 
+-- a search that was asked for, and no demonstration, isn't unread
+pub not_unread : (met : Met) (command : Command) (status : Status) → EndsCommand met command status → ((number steps : ℕ) → met.asks (from_number number steps) → ⊥) → IsUnread met.asks status → ⊥
+not_unread met command status ends never (inl before) = reads_when met command status ends before
+not_unread met command status ends never (inr asked) = never asked.0 asked.1 asked.2
+
+-- a search is no demonstration
+pub no_demonstration : (asked : Asked) (path : List ℕ) (workers : Option ℕ) (budget : ℕ) (table : Bool) (method : Method) (number steps : ℕ) → over_journal path workers budget table method ≡ asked → from_number number steps ≡ asked → ⊥
+no_demonstration asked path workers budget table method number steps one other = absurd (cc (one, other))
+
+-- what words leave unread is unread of what they are read as
+pub unread_of : (words : List (List ℕ)) (found : Asked) (status : Status) → IsReadAs words (Some found) → IsUnread (Asks words) status → IsUnread (λ asked. asked ≡ found) status
+unread_of words found status reads (inl before) = inl before
+unread_of words found status reads (inr asked) = inr (asked.0, asked.1, let e : Some found ≡ Some (from_number asked.0 asked.1) = (reads (from_number asked.0 asked.1)).0 asked.2 in sym (cc (e)))
+
 -- more workers are asked for than there are advisers for
 pub too_many : (met : Met) (asked have : ℕ) (status : Status) → status ≡ Workers asked have → met.opened ≡ false → met.demo ≡ None → met.told.after ≡ []
     → AsksWorkers met.asks asked → have ≡ workers_for met.told.before → have < asked → Explains met status

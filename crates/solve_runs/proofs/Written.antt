@@ -61,16 +61,16 @@ module _ {D : Type 0} (calls : D → ℕ) (book : SearchView D) (disk : DiskMet)
 
   reports_of : IsReported i book table sink → Reports sink table session
   reports_of r = record {
-    written = subst (λ (bytes : List ℕ). Appends sink.held sink.held_after bytes) output_same r.written;
+    written = subst (λ (bytes : List ℕ). Appends sink.held sink.held_after bytes) output_same r.0;
     sound = fold_sound i (posts_in session) session.last session.ends;
-    accepted = subst (λ (c : Cert). IsTrue (is_accepted i c)) cert_same r.accepted;
+    accepted = subst (λ (c : Cert). IsTrue (is_accepted i c)) cert_same r.2;
     reads =
         subst (λ (bytes : List ℕ). Spells bytes (cert_of (posts_in session) session.last)) output_same
-        (subst (λ (c : Cert). Spells (output_of i table book.log.history book.log.book) c) cert_same r.reads);
+        (subst (λ (c : Cert). Spells (output_of i table book.log.history book.log.book) c) cert_same r.1);
   }
 
   part_of : IsReportedPart i book table sink → ReportsPart sink table session
-  part_of r = record { written = subst (λ (bytes : List ℕ). AppendsPart sink.held sink.held_after bytes) output_same r.written; cause = r.cause }
+  part_of r = record { written = subst (λ (bytes : List ℕ). AppendsPart sink.held sink.held_after bytes) output_same r.0; cause = r.1 }
 
 module _ {D : Type 0} (reads : D → Option (List ℕ)) (images : D → List ℕ → Type 0) (images_since : D → ℕ → List ℕ → Type 0) (calls faults : D → ℕ) (disk : D) (i : Problem) (workers budget : ℕ) (told : ToldMet) (sink : SinkMet) (table : Bool) where
   -- a run over a book
@@ -119,3 +119,14 @@ module _ {D : Type 0} (reads : D → Option (List ℕ)) (images : D → List ℕ
   without_book left Spent enough e = absurd e
   without_book left (FullSearch end limit) enough e = absurd e
   without_book left Stopped enough e = absurd e
+
+-- the end of a run, by what it hands back
+pub same_end : {D : Type 0} (reads : D → Option (List ℕ)) (images : D → List ℕ → Type 0) (images_since : D → ℕ → List ℕ → Type 0) (calls faults : D → ℕ) (old : D) (sink : SinkMet) (i : Problem) (table : Bool) (budget workers : ℕ) (before : List ℕ)
+    (disk kept : D) (after told : List ℕ) (opened opens : Bool) (status ends : Status) → disk ≡ kept → after ≡ told → opened ≡ opens → status ≡ ends
+    → OverDisk (met_of reads images images_since calls faults old kept) sink i table budget workers (record { before = before; after = told }) opens ends
+    → OverDisk (met_of reads images images_since calls faults old disk) sink i table budget workers (record { before = before; after = after }) opened status
+same_end reads images images_since calls faults old sink i table budget workers before disk kept after told opened opens status ends same_disk same_told same_opened same_status holds =
+    subst (λ (s : Status). OverDisk (met_of reads images images_since calls faults old disk) sink i table budget workers (record { before = before; after = after }) opened s) (sym same_status)
+    (subst (λ (o : Bool). OverDisk (met_of reads images images_since calls faults old disk) sink i table budget workers (record { before = before; after = after }) o ends) (sym same_opened)
+    (subst (λ (l : List ℕ). OverDisk (met_of reads images images_since calls faults old disk) sink i table budget workers (record { before = before; after = l }) opens ends) (sym same_told)
+    (subst (λ d. OverDisk (met_of reads images images_since calls faults old d) sink i table budget workers (record { before = before; after = told }) opens ends) (sym same_disk) holds)))

@@ -27,15 +27,15 @@ status_at (TooFewAdvisers asked have) = Workers asked have
 status_at (Refused why) = Journal why
 
 -- the report of a book was written, with its table where that is asked for; it is a text of the book's certificate, which is accepted
-pub record IsReported {D : Type 0} (i : Problem) (book : SearchView D) (table : Bool) (sink : SinkMet) : Type 0 where
-  pub written : Appends sink.held sink.held_after (output_of i table book.log.history book.log.book)
-  pub reads : Spells (output_of i table book.log.history book.log.book) (cert_of book.log.history book.log.book)
-  pub accepted : IsTrue (is_accepted i (cert_of book.log.history book.log.book))
+abbrev pub IsReported : {D : Type 0} → Problem → SearchView D → Bool → SinkMet → Type 0
+IsReported i book table sink =
+    Appends sink.held sink.held_after (output_of i table book.log.history book.log.book)
+    × Spells (output_of i table book.log.history book.log.book) (cert_of book.log.history book.log.book)
+    × IsTrue (is_accepted i (cert_of book.log.history book.log.book))
 
 -- a beginning of that was written, and the sink had a fault
-pub record IsReportedPart {D : Type 0} (i : Problem) (book : SearchView D) (table : Bool) (sink : SinkMet) : Type 0 where
-  pub written : AppendsPart sink.held sink.held_after (output_of i table book.log.history book.log.book)
-  pub cause : Rose sink.faults.0 sink.faults.1
+abbrev pub IsReportedPart : {D : Type 0} → Problem → SearchView D → Bool → SinkMet → Type 0
+IsReportedPart i book table sink = AppendsPart sink.held sink.held_after (output_of i table book.log.history book.log.book) × Rose sink.faults.0 sink.faults.1
 
 -- why the report of a book wasn't written, or not whole: a fault of the sink, or running out of memory
 abbrev pub Unwritten : {D : Type 0} → Problem → SearchView D → Bool → SinkMet → Status → Type 0

@@ -34,7 +34,7 @@ fn status_of<D: Disk>(book: &Book<D>) -> CertStatus
 pub fn cert_of<D: Disk>(alloc: Global, book: &Book<D>) -> Result<Cert, NoMemory>
     ensures is { IfOk result (λ cert. cert ≡ cert_of book.now.log.history book.now.log.book) }
     ensures agrees { IfOk result (λ cert. IsValid book.now.log.instance → Agrees cert) }
-    ensures accepted { IsValid book.now.log.instance → IsTrue (is_accepted book.now.log.instance (cert_of book.now.log.history book.now.log.book)) }
+    ensures accepted { IfOk result (λ cert. IsValid book.now.log.instance → IsTrue (is_accepted book.now.log.instance cert)) }
 {
     let posts = book.history();
     let cert = of_history(
@@ -59,7 +59,7 @@ pub fn report_of<D: Disk>(
     requires same { book.now.log.instance ≡ instance.now }
     ensures text { IfOk result (λ bytes. bytes.items ≡ output_of instance.now with_table book.now.log.history book.now.log.book) }
     ensures reads { IfOk result (λ bytes. Spells bytes.items (cert_of book.now.log.history book.now.log.book)) }
-    ensures accepted { IsTrue (is_accepted instance.now (cert_of book.now.log.history book.now.log.book)) }
+    ensures accepted { IfOk result (λ bytes. IsTrue (is_accepted instance.now (cert_of book.now.log.history book.now.log.book))) }
 {
     // a legal plan of a valid instance has few rows
     let _heads = instance.heads();

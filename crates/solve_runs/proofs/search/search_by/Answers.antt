@@ -5,7 +5,7 @@ use Rattle.search_book.proofs.Crosses.{book_send}
 use Rattle.search_book.specs.Search.{board_of}
 use Rattle.solve_runs.proofs.Ending.{run_ends}
 use Rattle.solve_runs.proofs.Telling.{are_told}
-use Rattle.solve_runs.proofs.search.run_search.Goals as goal
+use Rattle.solve_runs.proofs.search.search_by.Goals as goal
 
 pub run_workers-requires-send-B : goal.run_workers-requires-send-B
 run_workers-requires-send-B g c κs within = let s = c.type_bounds.send-D in search (book_send, param_send, arg_send)
