@@ -60,8 +60,11 @@ class Folder:
         return subprocess.Popen([*(starter or [program("shift_plan")]), "plan", "week.json", *words], cwd=self.path, **how)
 
     def wait_for(self, name):
-        while not (self.path / name).exists():
-            time.sleep(0.01)
+        """Waits until there is a file of that name, half a minute at most."""
+        for _ in range(15000):
+            if (self.path / name).exists():
+                return
+            time.sleep(0.002)
 
     def table(self, name, columns):
         with open(self.path / "week.plan" / name, newline="") as source:
@@ -370,7 +373,7 @@ def terminated_in_mid_search(folder):
 
 
 def interrupted_while_it_writes(folder):
-    return ended(folder, interrupts(folder, "week.plan/report.part", signal.SIGINT, seconds="2"), 0)
+    return ended(folder, interrupts(folder, "week.plan/report", signal.SIGINT, seconds="2"), 0)
 
 
 def interrupted_twice(folder):

@@ -1,5 +1,7 @@
 //! A search for a plan.
 
+ghost use Rattle.std.specs.Prelude.{◌<◌};
+
 use crate::journals::locked_journal;
 use crate::listening::{listen, stop_of};
 use crate::telling::{Beginning, shown_on, tell_end, warn};
@@ -85,7 +87,9 @@ fn searched<R: Threads + Wait + Sync>(
     words: &PlanWords,
     instance: Instance,
     journal: &LockedJournal<HostRuntime>,
-) -> Result<Plan, Refusal> {
+) -> Result<Plan, Refusal>
+    requires some { 0 < words.now.workers }
+{
     let alloc = host.alloc();
     let progress = progress_of(host, words)?;
     let stop_on = stop_of(host, words.stop_on);
@@ -118,7 +122,9 @@ pub(crate) fn plan<R: Threads + Wait + Sync>(
     host: HostRuntime,
     rt: &R,
     words: &PlanWords,
-) -> Result<(), Refusal> {
+) -> Result<(), Refusal>
+    requires some { 0 < words.now.workers }
+{
     let alloc = host.alloc();
     let folder = folder_of(alloc, words.out, words.instance)?;
     let document = read_document(host, words.instance)?;
