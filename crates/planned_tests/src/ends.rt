@@ -6,6 +6,7 @@ use plan_base::MemDisk;
 use planning_progress::{Progress, Until};
 use planning_runs::{Planned, search_plan};
 use solve_runs::{Request, SearchEnd};
+use std::alloc::{AllocError, Global};
 use std::sync::Arc;
 use std::test::Fail;
 use std::time::Instant;
@@ -25,14 +26,20 @@ fn begun(rt: HostRuntime, limit: u64) -> Result<Arc<Progress>, Fail> {
     }
 }
 
+/// One adviser, of the greedy plan.
+fn advisers(alloc: Global) -> Result<Vec<Box<dyn Adviser + Send>>, AllocError> {
+    let mut advisers: Vec<Box<dyn Adviser + Send>> = Vec::new(alloc);
+    advisers.push(Box::new(alloc, Greedy::new(alloc))?)?;
+    Ok(advisers)
+}
+
 /// The morning's search by one worker over a new journal, until it is finished or its progress says that it is over.
 fn morning(rt: HostRuntime, progress: Arc<Progress>) -> Result<Planned<MemDisk>, Fail> {
     let alloc = rt.alloc();
     let Ok(instance) = instance_json::read(alloc, MORNING.as_bytes()) else {
         return Err(Fail::from("no instance"));
     };
-    let mut advisers: Vec<Box<dyn Adviser + Send>> = Vec::new(alloc);
-    advisers.push(Box::new(alloc, Greedy::new(alloc))?)?;
+    let advisers = advisers(alloc)?;
     let request = Request {
         workers: 1,
         steps: 100,

@@ -1,7 +1,7 @@
 -- What stands against a plan, and the numbers with which the program ends.
 use Rattle.std.specs.Prelude.{◌≡◌, ◌⊎◌, ℕ, Option, None, Some}
-use Rattle.planning_runs.specs.declared.plans.Unshown.{Unshown}
-use Rattle.planning_runs.specs.declared.plans.Unshown.TheVariants as shown
+use Rattle.planning_runs.specs.declared.judging.Unshown.{Unshown}
+use Rattle.planning_runs.specs.declared.judging.Unshown.TheVariants as shown
 use Rattle.solve_runs.specs.declared.searched.SearchEnd.{SearchEnd}
 use Rattle.solve_runs.specs.declared.searched.SearchEnd.TheVariants as ended
 use Rattle.planning_refusals.specs.declared.refusal.Cause.{Cause}

@@ -7,9 +7,9 @@ use Rattle.certificate.specs.Departing.{IsFaultOf, Spells}
 use Rattle.cert_check.specs.Judged.{IsRefused}
 use Rattle.search_book.specs.Search.{SearchView}
 use Rattle.solve_runs.specs.Report.{cert_of}
-use Rattle.planning_runs.specs.declared.plans.Plan.{Plan}
-use Rattle.planning_runs.specs.declared.plans.Unshown.{Unshown}
-use Rattle.planning_runs.specs.declared.plans.Unshown.TheVariants.{Document, Report, Refused}
+use Rattle.planning_runs.specs.declared.plan.Plan.{Plan}
+use Rattle.planning_runs.specs.declared.judging.Unshown.{Unshown}
+use Rattle.planning_runs.specs.declared.judging.Unshown.TheVariants.{Document, Report, Refused}
 
 -- Why a report shows no plan of the instance of a document: the document is refused so, or the report departs there from every report, or
 -- it spells a certificate that is refused so. Each may also be running out of memory.

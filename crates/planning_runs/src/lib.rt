@@ -1,8 +1,10 @@
 //! Plans for people: the search for one over a journal, and the judgement on what it found, or on a report that stands.
 #![tactic(auto)]
 
-mod plans;
+mod judging;
+mod plan;
 mod search;
 
-pub use plans::{Plan, Unshown, judged_plan};
+pub use judging::{Unshown, judged_plan};
+pub use plan::Plan;
 pub use search::{Planned, search_plan};

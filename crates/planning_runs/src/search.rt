@@ -4,7 +4,8 @@ ghost use Rattle.std.specs.Prelude.{◌≡◌, ◌<◌, ◌^◌, IfSome, MatchRe
 ghost use Rattle.solve_runs.specs.Searching.{SearchEnds};
 ghost use Rattle.planning_runs.specs.Reports.{IsOfBook};
 
-use crate::plans::{Plan, plan_of};
+use crate::judging::plan_of;
+use crate::plan::Plan;
 use advice::{Adviser, Stop};
 use plan_base::Disk;
 use shift_instance::Instance;

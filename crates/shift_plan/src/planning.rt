@@ -9,7 +9,7 @@ use advice::Adviser;
 use planning_files::LockedJournal;
 use planning_progress::{Progress, Until, Watched};
 use planning_refusals::{Cause, Refusal, read_document};
-use planning_runs::{Plan, search_plan};
+use planning_runs::{Plan, Planned, search_plan};
 use planning_sheets::{ready_folder, show_plan};
 use planning_words::{PlanWords, StopOn, folder_beside};
 use shift_instance::Instance;
@@ -106,14 +106,15 @@ fn searched<R: Threads + Wait + Sync>(
         steps: if words.seconds == 0 { 0 } else { STEPS_MOST },
     };
     let disk = journal.disk()?;
-    let planned = search_plan(rt, alloc, instance, request, disk, advisers, &gate, &until);
-    let end = planned.searched.end;
-    match planned.plan {
+    let Planned { searched, plan } = search_plan(
+        rt, alloc, instance, request, disk, advisers, &gate, &until,
+    );
+    match plan {
         Some(plan) => {
-            tell_end(host, &progress, &end);
+            tell_end(host, &progress, &searched.end);
             Ok(plan)
         }
-        None => Err(Refusal::of_end(alloc, &end).unwrap_or(Refusal::from(AllocError))),
+        None => Err(Refusal::of_end(alloc, &searched.end).unwrap_or(Refusal::from(AllocError))),
     }
 }
 

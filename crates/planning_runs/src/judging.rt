@@ -1,14 +1,13 @@
-//! Plans that were judged.
+//! The judgement on reports.
 
-ghost use Rattle.std.specs.Prelude.{◌≡◌, ℕ, List, IfErr, IfOk, IsTrue, Ok, Some};
-ghost use Rattle.shift_instance.specs.declared.Row.{Row};
-ghost use Rattle.shift_instance.specs.Rota.{are_legal_rows};
+ghost use Rattle.std.specs.Prelude.{◌≡◌, IfErr, IfOk, IsTrue, Ok};
 ghost use Rattle.instance_json.specs.Reading.{reading_of};
 ghost use Rattle.certificate.specs.Accepted.{is_accepted};
 ghost use Rattle.certificate.specs.Departing.{Spells};
 ghost use Rattle.cert_check.specs.Judged.{IsRefused};
 ghost use Rattle.planning_runs.specs.Reports.{IsOfBook, IsUnshown};
 
+use crate::plan::Plan;
 use break_rules::NoMemory;
 use cert_check::{Refused, check};
 use certificate::{Cert, CertText};
@@ -19,20 +18,6 @@ use search_book::Book;
 use shift_instance::Instance;
 use solve_runs::cert_of;
 use std::alloc::{AllocError, Global};
-
-/// A report that was judged and accepted, with what it says: what is shown of a plan is what was checked.
-#[derive(Drop)]
-pub struct Plan {
-    /// The instance.
-    pub instance: Instance,
-    /// What the report says.
-    pub cert: Cert,
-    /// The text of the report.
-    pub report: Vec<u8>,
-    ghost spelled: { ∥ Spells report.items cert ∥₁ },
-    ghost accepted: { IsTrue (is_accepted instance cert) },
-    ghost legal: { (cost : ℕ) (rows : List Row) → cert.plan ≡ Some (cost, rows) → IsTrue (are_legal_rows instance rows) },
-}
 
 /// Why a report shows no plan. Each cause may also be running out of memory.
 #[derive(Drop)]
