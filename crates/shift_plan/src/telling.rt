@@ -28,6 +28,7 @@ pub(crate) fn warn(rt: HostRuntime, instance: &Instance) -> Result<(), Refusal> 
 }
 
 /// The gate that says from how many steps a search goes on, if from any, and counts them.
+#[derive(Drop)]
 pub(crate) struct Beginning {
     pub(crate) rt: HostRuntime,
     pub(crate) progress: Arc<Progress>,
