@@ -10,4 +10,5 @@ pub mod Runs
 pub mod Used
 pub mod Ran
 pub mod Telling
+pub mod News
 pub mod Rooted

@@ -17,9 +17,12 @@ use Rattle.search_core.specs.Core.{empty_hands, hand, IsFront}
 use Rattle.search_core.specs.Kept.{cuts_in}
 use Rattle.search_core.specs.Steps.{Fits}
 use Rattle.worker_gate.specs.declared.run.RunEnd.{RunEnd}
-use Rattle.worker_gate.specs.declared.run.RunEnd.TheVariants.{Finished, Spent, Full, DiskFault, NoMemory}
+use Rattle.worker_gate.specs.declared.run.RunEnd.TheVariants.{Finished, Spent, Full, DiskFault, NoMemory, Stopped}
 use Rattle.worker_gate.specs.Decision.{cost_to_reach, IsDecision}
-use Rattle.worker_gate.specs.Runs.{committed, is_whole, plans_and_prices_since, AreRounds, EndMakes, IsCutOff, IsEnded, IsIdle, IsRound, IsRun, IsSameSearch, MakesStep, RunEnds, RunMakes}
+use Rattle.worker_gate.specs.Runs.{committed, is_whole, plans_and_prices_since, AreRounds, EndMakes, IsCutOff, IsEnded, IsIdle, IsRound, IsRun, IsSameSearch, MakesStep, RunEnds, RunMakes, RunTells}
+use Rattle.worker_gate.specs.Runs.{news_of, AreToldRounds, RoundTells}
+use Rattle.worker_gate.specs.Runs.AreToldRounds.{untold, told_more}
+use Rattle.advice.specs.declared.adviser.Told.{Told}
 use Rattle.worker_gate.specs.Runs.AreRounds.{none, one_more}
 use Rattle.worker_gate.proofs.Closing.{closes}
 use Rattle.worker_gate.proofs.Rounds.{begins, counts, few_rounds, fewer_rounds, not_spent, rounds_made, Made}
@@ -93,6 +96,7 @@ module _ (old held : BoardView) (k floor best : ℕ) (idle : IsIdle old) (t : Ta
     pub cut_off : (new : BoardView) (how : RunEnd) → IsSoundBoard new → IsCutOff step held new how → IsEnded old new how
     cut_off new Finished sound c = absurd c
     cut_off new Spent sound c = absurd c
+    cut_off new Stopped sound c = absurd c
     cut_off new (Full end limit) sound c =
         let shut : new.shut ≡ Some (ShutByFull end limit) = ap (λ (v : BoardView). v.shut) c.4 in
         record {
@@ -109,6 +113,12 @@ module _ (old held : BoardView) (k floor best : ℕ) (idle : IsIdle old) (t : Ta
 
     pub round_made : (new : BoardView) (kept : Kept) → IsSoundBoard new → Commits 0 step held new kept → IsRound old new
     round_made new kept sound m = record { held = held; step = step; makes = step_made; kept = kept; commits = m; book = sound.book; folds = sound.folds }
+
+    -- the round, and the news of its commit
+    pub round_tells : (new : BoardView) (kept : Kept) (after : Option Told) → IsSoundBoard new → Commits 0 step held new kept → after ≡ Some (news_of k kept)
+        → (round : IsRound old new) × (after ≡ Some (news_of round.makes.node round.kept))
+    round_tells new kept after sound m told =
+        (record { held = held; step = step; makes = record { node = k; floor = floor; best = best; takes = t; advice = advice; decides = decides }; kept = kept; commits = m; book = sound.book; folds = sound.folds }, told)
 
 -- a board after a round
 round_idle : (old new : BoardView) → IsIdle old → IsRound old new → IsIdle new
@@ -145,6 +155,34 @@ next_run old mid new None run r =
     }
 next_run old mid new (Some how) run e =
     record { same = same_on old mid new run.same e.same; last = mid; rounds = subst (λ (v : BoardView). AreRounds old v v.taken) (sym run.end.0) run.rounds; end = e }
+
+-- ---- what the adviser was told last
+
+-- a run so far, with what its adviser was told last, before it and by now
+pub record IsToldRun (old new : BoardView) (how : Option RunEnd) (before after : Option Told) : Type 0 where
+  pub last : BoardView
+  pub rounds : AreToldRounds old before last last.taken after
+  pub end : MatchOption how (new ≡ last) (EndMakes last new)
+
+pub start_told : (v : BoardView) (before : Option Told) → v.taken ≡ 0 → IsToldRun v v None before before
+start_told v before fresh = record { last = v; rounds = subst (λ (n : ℕ). AreToldRounds v before v n before) (sym fresh) untold; end = refl }
+
+pub next_told : (old mid new : BoardView) (how : Option RunEnd) (before earlier after : Option Told) → IsToldRun old mid None before earlier → RoundTells mid new earlier after how → IsToldRun old new how before after
+next_told old mid new None before earlier after run r =
+    let rounds : AreToldRounds old before mid mid.taken earlier = subst (λ (v : BoardView). AreToldRounds old before v v.taken earlier) (sym run.end) run.rounds in
+    let more : AreToldRounds old before new (mid.taken + 1) (Some (news_of r.0.makes.node r.0.kept)) = told_more mid new mid.taken earlier rounds r.0 in
+    let counted : AreToldRounds old before new new.taken (Some (news_of r.0.makes.node r.0.kept)) =
+    subst (λ (n : ℕ). AreToldRounds old before new n (Some (news_of r.0.makes.node r.0.kept))) (sym (round_taken mid new r.0)) more in
+    record { last = new; rounds = subst (AreToldRounds old before new new.taken) (sym r.1) counted; end = refl }
+next_told old mid new (Some how) before earlier after run e =
+    record {
+      last = mid;
+      rounds = subst (AreToldRounds old before mid mid.taken) (sym e.1) (subst (λ (v : BoardView). AreToldRounds old before v v.taken earlier) (sym run.end) run.rounds);
+      end = e.0.makes;
+    }
+
+pub run_tells : (old new : BoardView) (how : RunEnd) (before after : Option Told) → IsToldRun old new (Some how) before after → RunTells old new how before after
+run_tells old new how before after run = record { last = run.last; rounds = run.rounds; end = run.end }
 
 -- ---- the measure
 
@@ -190,6 +228,7 @@ cut_commits how before taken cut more =
 end_history : (old new : BoardView) (how : RunEnd) → EndMakes old new how → new.history ≡ old.history
 end_history old new Finished e = ap (λ (v : BoardView). v.history) e
 end_history old new Spent e = ap (λ (v : BoardView). v.history) e
+end_history old new Stopped e = ap (λ (v : BoardView). v.history) e
 end_history old new (Full end limit) e = let c = e.3 in ap (λ (v : BoardView). v.history) c.4 ∙ ap (λ (v : BoardView). v.history) e.2.takes.4
 end_history old new DiskFault e = let c = e.3 in ap (λ (v : BoardView). v.history) c.1 ∙ ap (λ (v : BoardView). v.history) e.2.takes.4
 end_history old new NoMemory e = let t = e.4 in ap (λ (v : BoardView). v.history) e.5 ∙ ap (λ (v : BoardView). v.history) t.4
@@ -206,6 +245,7 @@ cut_of old held new k floor best t same = record { more = same ∙ ap (λ (v : B
 end_cut : (old new : BoardView) (how : RunEnd) → EndMakes old new how → (new ≡ old) × (is_whole how ≡ true) ⊎ IsCut old new × (is_whole how ≡ false)
 end_cut old new Finished e = inl (e, refl)
 end_cut old new Spent e = inl (e, refl)
+end_cut old new Stopped e = inl (e, refl)
 end_cut old new (Full end limit) e = let m = e.2 in let c = e.3 in inr (cut_of old e.0 new m.node m.floor m.best m.takes (ap (λ (v : BoardView). v.taken) c.4), refl)
 end_cut old new DiskFault e = let m = e.2 in let c = e.3 in inr (cut_of old e.0 new m.node m.floor m.best m.takes (ap (λ (v : BoardView). v.taken) c.1), refl)
 end_cut old new NoMemory e = inr (cut_of old e.0 new e.1 e.2 e.3 e.4 (ap (λ (v : BoardView). v.taken) e.5), refl)

@@ -52,10 +52,12 @@ pub record IsIdle (v : BoardView) : Type 0 where
 abbrev pub news_of : ℕ → Kept → Told
 news_of node kept = record { node = node; floor = kept.floor; best = kept.best }
 
--- what an adviser was told last once rounds were made: the news of the last round, and where there was none what it was told before
-abbrev pub told_last : (old new : BoardView) (rounds : ℕ) → Option Told → AreRounds old new rounds → Option Told
-told_last old new rounds before none = before
-told_last old new rounds before (one_more mid next n made round) = Some (news_of round.makes.node round.kept)
+-- that many rounds, one after another, and what an adviser was told last by their end: the news of the last one, and after none what
+-- it was told before
+pub data AreToldRounds (old : BoardView) (before : Option Told) : BoardView → ℕ → Option Told → Type 0 where
+  untold : AreToldRounds old before old 0 before
+  told_more : (mid new : BoardView) (rounds : ℕ) (earlier : Option Told) → AreToldRounds old before mid rounds earlier → (round : IsRound mid new)
+      → AreToldRounds old before new (rounds + 1) (Some (news_of round.makes.node round.kept))
 
 -- a board of the same search
 pub record IsSameSearch (old new : BoardView) : Type 0 where
@@ -123,16 +125,22 @@ pub record RunMakes (old new : BoardView) (how : RunEnd) : Type 0 where
   pub rounds : AreRounds old last last.taken
   pub end : EndMakes last new how
 
--- a run, and what its adviser was told last before it and after it
+-- the same run, and what its adviser was told last, before it and after it
 pub record RunTells (old new : BoardView) (how : RunEnd) (before after : Option Told) : Type 0 where
-  pub makes : RunMakes old new how
-  pub last : after ≡ told_last old makes.last makes.last.taken before makes.rounds
+  pub last : BoardView
+  pub rounds : AreToldRounds old before last last.taken after
+  pub end : EndMakes last new how
 
 -- a board on which a run ended
 pub record IsEnded (old new : BoardView) (how : RunEnd) : Type 0 where
   pub same : IsSameSearch old new
   pub ends : RunEnds new how
   pub makes : EndMakes old new how
+
+-- one round or how the run ends in it, and what the adviser was told last, before it and after it
+abbrev pub RoundTells : BoardView → BoardView → Option Told → Option Told → Option RunEnd → Type 0
+RoundTells old new before after None = (round : IsRound old new) × (after ≡ Some (news_of round.makes.node round.kept))
+RoundTells old new before after (Some how) = IsEnded old new how × (after ≡ before)
 
 -- a run so far: rounds, and, if it has come to its end, how
 pub record IsRun (old new : BoardView) (how : Option RunEnd) : Type 0 where

@@ -52,9 +52,9 @@ fn work_all<
             ensures number { place.exit.now.number ≡ place.entry.now.number }
             ensures told { told place.entry.now.seat.adviser < 2 ^ 63 + place.entry.now.seat.told
                 → told place.exit.now.seat.adviser + place.entry.now.seat.told ≡ told place.entry.now.seat.adviser + place.exit.now.seat.told }
-            ensures last { (root : BoardRoot B) → RestsAt (λ r. r ≡ root) lock.now place.entry.now.badge
+            ensures last { (root : BoardRoot B) → RestsAt (λ r. r ≡ root) lock.entry.now place.entry.now.badge
                 → IsToldLast root.workers (B.seen root.opened.value) place.entry.now.number place.entry.now.seat.told place.exit.now.seat.told (last place.entry.now.seat.adviser) (last place.exit.now.seat.adviser) }
-            ensures asked { place.exit.now.asked ≡ true → place.entry.now.asked ≡ false → S.can_ask stop.now ≡ true }
+            ensures asked { place.exit.now.asked ≡ true → place.entry.now.asked ≡ false → S.can_ask stop.entry.now ≡ true }
         { work(rt, alloc, instance, lock, gate, stop, place) },
     );
 }

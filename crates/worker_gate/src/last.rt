@@ -237,7 +237,7 @@ pub(crate) fn go_on<B: Board, L: Ledger, G: Gate, S: Stop>(
     ensures stopped { result ≡ RunEnd.Stopped → S.can_ask stop.now ≡ true }
     ensures told { told place.old.seat.adviser < 2 ^ 63 + place.old.seat.told
         → told place.new.seat.adviser + place.old.seat.told ≡ told place.old.seat.adviser + place.new.seat.told }
-    ensures last { IsToldLast held.old.workers (B.seen held.old.opened.value) place.old.number place.old.seat.told place.new.seat.told (last place.old.seat.adviser) (last place.new.seat.adviser) }
+    ensures last { IsToldLast held.old.workers (B.seen held.old.opened.value) 0 place.old.seat.told place.new.seat.told (last place.old.seat.adviser) (last place.new.seat.adviser) }
 {
     loop {
         if let Some(shut) = held.shut {

@@ -8,7 +8,7 @@ ghost use Rattle.search_core.specs.Kept.{cuts_in};
 ghost use Rattle.search_core.specs.Steps.{Fits};
 ghost use Rattle.search_core.specs.declared.board.Taken.TheVariants.{Node as TakenAnswer};
 ghost use Rattle.worker_gate.specs.Decision.{IsDecision};
-ghost use Rattle.worker_gate.specs.Runs.{committed, is_whole, news_of, plans_and_prices_since, IsCutOff, IsEnded, IsIdle, IsRound, IsSameSearch, RunEnds, RunMakes, RunTells};
+ghost use Rattle.worker_gate.specs.Runs.{committed, is_whole, plans_and_prices_since, IsCutOff, IsEnded, IsIdle, IsRound, IsSameSearch, RunEnds, RoundTells, RunMakes, RunTells};
 
 use crate::asking::ask_of;
 use crate::worker::decide;
@@ -152,7 +152,8 @@ fn round<B: Board, G: Gate, S: Stop>(
     requires share { seat.old.share ≡ (B.seen board.old).taken }
     requires each { seat.old.told ≡ seat.old.share }
     requires buffers { buffers.old ≡ instance.now }
-    ensures round { MatchOption result ((r : IsRound (B.seen board.old) (B.seen board.new)) × (last seat.new.adviser ≡ Some (news_of r.makes.node r.kept))) (λ end. IsEnded (B.seen board.old) (B.seen board.new) end × (last seat.new.adviser ≡ last seat.old.adviser)) }
+    ensures round { MatchOption result (IsRound (B.seen board.old) (B.seen board.new)) (IsEnded (B.seen board.old) (B.seen board.new)) }
+    ensures tells { RoundTells (B.seen board.old) (B.seen board.new) (last seat.old.adviser) (last seat.new.adviser) result }
     ensures stopped { IfSome result (λ end. end ≡ RunEnd.Stopped → S.can_ask stop.now ≡ true) }
     ensures share { MatchOption result (seat.new.share ≡ (B.seen board.new).taken) (λ end. seat.new.share ≡ committed end (B.seen board.new).taken) }
     ensures each { seat.new.told ≡ seat.new.share }

@@ -4,7 +4,6 @@ ghost use Rattle.search_core.specs.Board.{BoardView};
 ghost use Rattle.search_core.specs.Core.{empty_hands};
 ghost use Rattle.board_lock.specs.Roots.{root_at};
 ghost use Rattle.board_lock.specs.Turns.{AreTurns};
-ghost use Rattle.std.specs.List.{list_any};
 ghost use Rattle.worker_gate.specs.Workers.{IsToldLast, WorkersEnd};
 
 use crate::bench::work_bench;
@@ -23,10 +22,16 @@ use std::sync::ledger::{Blank, Ledger};
 use std::thread::Threads;
 
 /// Whether a worker saw that the run is asked to stop.
-fn saw_stop<B: Board, L: Ledger>(bench: &[Place<B, L>]) -> bool
-    ensures { result ≡ list_any (λ p. p.asked) bench.now }
+fn saw_stop<B: Board, L: Ledger, S: Stop>(bench: &[Place<B, L>], _stop: &S) -> bool
+    requires asked { (i : ℕ) (d : _) → i < length bench.now → (slice_index_or bench.now i d).asked ≡ true → S.can_ask _stop.now ≡ true }
+    ensures { result ≡ true → S.can_ask _stop.now ≡ true }
 {
-    bench.iter().any(|place| place.asked)
+    for place in bench {
+        if place.asked {
+            return true;
+        }
+    }
+    false
 }
 
 /// Once all workers have ended: empties each hand, goes on with the first seat unless a worker saw that the run is asked to stop, and
@@ -54,7 +59,7 @@ fn finish_all<B: Board, L: Ledger, G: Gate, S: Stop>(
     ensures last { (i : ℕ) (d : _) → i < vec_len bench.old
         → IsToldLast held.old.workers (B.seen held.old.opened.value) i (slice_index_or bench.old.items i d).seat.told (slice_index_or bench.new.items i d).seat.told (last (slice_index_or bench.old.items i d).seat.adviser) (last (slice_index_or bench.new.items i d).seat.adviser) }
 {
-    let asked = saw_stop(bench.as_slice());
+    let asked = saw_stop(bench.as_slice(), stop);
     let mut buffers = Buffers::new(alloc, instance);
     empty_all(alloc, instance, &mut buffers, held, bench.as_mut_slice());
     go_on(

@@ -213,6 +213,43 @@ fn round<B: Board, L: Ledger, G: Gate, S: Stop, R: Wait>(
     }
 }
 
+/// Round after round, until there is nothing more to do or the worker sees that it is asked to stop.
+fn rounds<B: Board, L: Ledger, G: Gate, S: Stop, R: Wait>(
+    rt: &R,
+    alloc: Global,
+    instance: &Instance,
+    lock: &BoardLock<B, L>,
+    gate: &G,
+    stop: &S,
+    pass: &mut BoardPass<B, L>,
+    place: &mut Place<B, L>,
+)
+    requires pass { IsOutside lock.now pass.old }
+    requires knows { KnowsBoard B.seen instance.now place.old.number (root_of pass.old) }
+    ensures number { place.new.number ≡ place.old.number }
+    ensures told { told place.old.seat.adviser < 2 ^ 63 + place.old.seat.told
+        → told place.new.seat.adviser + place.old.seat.told ≡ told place.old.seat.adviser + place.new.seat.told }
+    ensures last { IsToldLast (root_of pass.old).workers (B.seen (root_of pass.old).opened.value) place.old.number place.old.seat.told place.new.seat.told (last place.old.seat.adviser) (last place.new.seat.adviser) }
+    ensures asked { place.new.asked ≡ true → place.old.asked ≡ false → S.can_ask stop.now ≡ true }
+{
+    let mut buffers = Buffers::new(alloc, instance);
+    for _ in rt.forever() {
+        if !round(
+            rt,
+            alloc,
+            instance,
+            &mut buffers,
+            lock,
+            gate,
+            stop,
+            pass,
+            place,
+        ) {
+            break;
+        }
+    }
+}
+
 /// Works until there is nothing more to do, or the worker sees that it is asked to stop.
 pub(crate) fn work<B: Board, L: Ledger, G: Gate, S: Stop, R: Wait>(
     rt: &R,
@@ -233,20 +270,5 @@ pub(crate) fn work<B: Board, L: Ledger, G: Gate, S: Stop, R: Wait>(
 {
     let badge = mem::replace(&mut place.badge, Badge::blank());
     let mut pass = badge.into_seat();
-    let mut buffers = Buffers::new(alloc, instance);
-    for _ in rt.forever() {
-        if !round(
-            rt,
-            alloc,
-            instance,
-            &mut buffers,
-            lock,
-            gate,
-            stop,
-            &mut pass,
-            place,
-        ) {
-            break;
-        }
-    }
+    rounds(rt, alloc, instance, lock, gate, stop, &mut pass, place);
 }

@@ -4,6 +4,7 @@ use Rattle.board_lock.specs.Roots.{root_at}
 use Rattle.worker_gate.specs.Workers.{KnowsBoard}
 use Rattle.worker_gate.proofs.Hands.{all_emptied, emptied_more}
 use Rattle.worker_gate.proofs.Pointwise.{any_default, set_each}
+use Rattle.worker_gate.proofs.News.{set_more, tells_on, told_at, Tells}
 use Rattle.worker_gate.proofs.last.empty_all.Goals as goal
 
 pub empty_hand-requires : goal.empty_hand-requires
@@ -47,6 +48,13 @@ loop-place-preserved g c =
           let b = e.told (omega (arith, a, less)) in
           omega (arith, a, b))
           i.told;
+      last = set_more (Tells (λ p. p.seat.told) (λ p. (goal.Adviser-dyn g (p.seat.adviser.vtable, p.seat.adviser.value)).last p.seat.adviser.value) c.args.held.now.workers (g.B.Board.seen c.args.held.now.opened.value)) (tells_on (λ p. p.seat.told) (λ p. (goal.Adviser-dyn g (p.seat.adviser.vtable, p.seat.adviser.value)).last p.seat.adviser.value) c.args.held.now.workers (g.B.Board.seen c.args.held.now.opened.value))
+          c.args.bench.now c.loop-place.bench at c.place-item.result c.empty_hand.new.place low i.last
+          (told_at g.B.Board.seen (root_at c.args.held.now.opened c.args.held.now.workers) (root_at c.loop-place.held.opened c.loop-place.held.workers) at (slice_index_or c.loop-place.bench at c.place-item.result).number
+          (slice_index_or c.loop-place.bench at c.place-item.result).seat.told c.empty_hand.new.place.seat.told
+          ((goal.Adviser-dyn g ((slice_index_or c.loop-place.bench at c.place-item.result).seat.adviser.vtable, (slice_index_or c.loop-place.bench at c.place-item.result).seat.adviser.value)).last (slice_index_or c.loop-place.bench at c.place-item.result).seat.adviser.value)
+          ((goal.Adviser-dyn g (c.empty_hand.new.place.seat.adviser.vtable, c.empty_hand.new.place.seat.adviser.value)).last c.empty_hand.new.place.seat.adviser.value)
+          i.root number e.last);
     }
 
 pub returns-clause-empty : goal.returns-clause-empty
@@ -56,3 +64,6 @@ returns-clause-empty g c = λ still.
     let workers = ap (λ r. r.workers) i.root in
     all_emptied held.workers (g.B.Board.seen held.opened.value) (g.B.Board.seen held.board) held.commits.total held.empty (g.met.B.Board.sound held.board) held.turns
     (λ w low. i.passed still w (omega (arith, low, workers, c.requires.all, c.loop-place.auto.bench, c.loop-place-test.false)))
+
+pub returns-clause-last : goal.returns-clause-last
+returns-clause-last g c = λ i d low. c.loop-place.invariant.last i d (omega (arith, low, c.loop-place.auto.bench))

@@ -1,6 +1,7 @@
 use Rattle.std.proofs.Common.{◌≡◌, ◌<◌, ◌+◌, ◌^◌, ℕ, None, length, slice_index_or}
 use Rattle.search_core.specs.Core.{hand}
 use Rattle.board_lock.specs.Roots.{root_at}
+use Rattle.worker_gate.specs.Workers.{IsToldLast}
 use Rattle.worker_gate.proofs.last.empty_all.Given as goal
 
 abbrev pub invariant-loop-place : goal.invariant-loop-place
@@ -13,4 +14,8 @@ invariant-loop-place g l = record {
       → (goal.Adviser-dyn g ((slice_index_or l.initial.bench i d).seat.adviser.vtable, (slice_index_or l.initial.bench i d).seat.adviser.value)).told (slice_index_or l.initial.bench i d).seat.adviser.value < 2 ^ 63 + (slice_index_or l.initial.bench i d).seat.told
       → (goal.Adviser-dyn g ((slice_index_or l.bench i d).seat.adviser.vtable, (slice_index_or l.bench i d).seat.adviser.value)).told (slice_index_or l.bench i d).seat.adviser.value + (slice_index_or l.initial.bench i d).seat.told
       ≡ (goal.Adviser-dyn g ((slice_index_or l.initial.bench i d).seat.adviser.vtable, (slice_index_or l.initial.bench i d).seat.adviser.value)).told (slice_index_or l.initial.bench i d).seat.adviser.value + (slice_index_or l.bench i d).seat.told;
+  last : (i : ℕ) (d : _) → i < length l.bench
+      → IsToldLast l.initial.held.workers (g.B.Board.seen l.initial.held.opened.value) i (slice_index_or l.initial.bench i d).seat.told (slice_index_or l.bench i d).seat.told
+      ((goal.Adviser-dyn g ((slice_index_or l.initial.bench i d).seat.adviser.vtable, (slice_index_or l.initial.bench i d).seat.adviser.value)).last (slice_index_or l.initial.bench i d).seat.adviser.value)
+      ((goal.Adviser-dyn g ((slice_index_or l.bench i d).seat.adviser.vtable, (slice_index_or l.bench i d).seat.adviser.value)).last (slice_index_or l.bench i d).seat.adviser.value);
 }

@@ -1,6 +1,7 @@
 use Rattle.std.proofs.Common.{◌≡◌, ◌<◌, ◌+◌, ◌-◌, ◌^◌, None}
 use Rattle.search_core.specs.Core.{empty_hands}
 use Rattle.board_lock.specs.Roots.{root_at}
+use Rattle.worker_gate.specs.Workers.{IsToldLast}
 use Rattle.worker_gate.proofs.last.go_on.Given as goal
 
 abbrev pub invariant-loop-held : goal.invariant-loop-held
@@ -12,6 +13,9 @@ invariant-loop-held g l = record {
   told : (goal.Adviser-dyn g (l.initial.place.seat.adviser.vtable, l.initial.place.seat.adviser.value)).told l.initial.place.seat.adviser.value < 2 ^ 63 + l.initial.place.seat.told
       → (goal.Adviser-dyn g (l.place.seat.adviser.vtable, l.place.seat.adviser.value)).told l.place.seat.adviser.value + l.initial.place.seat.told
       ≡ (goal.Adviser-dyn g (l.initial.place.seat.adviser.vtable, l.initial.place.seat.adviser.value)).told l.initial.place.seat.adviser.value + l.place.seat.told;
+  last : IsToldLast l.initial.held.workers (g.B.Board.seen l.initial.held.opened.value) 0 l.initial.place.seat.told l.place.seat.told
+      ((goal.Adviser-dyn g (l.initial.place.seat.adviser.vtable, l.initial.place.seat.adviser.value)).last l.initial.place.seat.adviser.value)
+      ((goal.Adviser-dyn g (l.place.seat.adviser.vtable, l.place.seat.adviser.value)).last l.place.seat.adviser.value);
 }
 
 abbrev pub decreases-loop-held : goal.decreases-loop-held
