@@ -68,7 +68,9 @@ fn solve<R: Threads + Wait + Sync>(
     };
     let (path, method) = match command {
         Command::Search {
-            journal, method, ..
+            journal,
+            method,
+            ..
         } => (String::from_str(alloc, journal)?, method),
         Command::Demo { .. } => (String::new(alloc), Method::Greedy),
     };

@@ -106,7 +106,7 @@ unread_of words found status reads (inr asked) = inr (asked.0, asked.1, let e : 
 pub too_many : (met : Met) (asked have : ℕ) (status : Status) → status ≡ Workers asked have → met.opened ≡ false → met.demo ≡ None → met.told.after ≡ []
     → AsksWorkers met.asks asked → have ≡ workers_for met.told.before → have < asked → Explains met status
 too_many met asked have status is opened demo none asks all more =
-    subst (Explains met) (sym is) (record { opened = opened; demo = demo }, none, record { asked = asks; all = all; more = more })
+    subst (Explains met) (sym is) (record { opened = opened; demo = demo }, none, record { workers = asks; all = all; more = more })
 
 -- nothing is asked for
 pub unasked : (met : Met) (status : Status) → status ≡ Usage → met.opened ≡ false → met.demo ≡ None → met.told.after ≡ [] → ((asked : Asked) → met.asks asked → ⊥) → Explains met status
@@ -165,7 +165,7 @@ module _ (met : Met) (asks : Asked → Type 0) (one : Asked) (is : met.asks one)
   ends_turned command (Journal why) e = over_turned command (Journal why) e
   ends_turned command (Input why) e = (unopened_turned e.0, e.1, e.2)
   ends_turned command ReadFault e = (unopened_turned e.0, e.1, e.2)
-  ends_turned command NoMemory e = elim e [ | inl none ↦ inl (unopened_turned none.0, none.1, none.2) | inr over ↦ inr (over_turned command NoMemory over) ]
+  ends_turned command NoMemory e = elim e [ inl none ↦ inl (unopened_turned none.0, none.1, none.2) | inr over ↦ inr (over_turned command NoMemory over) ]
   ends_turned command Usage e = absurd e
   ends_turned command (Workers asked have) e = absurd e
 
@@ -177,18 +177,18 @@ module _ (met : Met) (asks : Asked → Type 0) (one : Asked) (is : met.asks one)
 
   pub explains_turned : (status : Status) → Explains met status → Explains turned status
   explains_turned Usage e = absurd (e.2 one is)
-  explains_turned (Workers asked have) e = (unopened_turned e.0, e.1, record { asked = workers_turned asked e.2.asked; all = e.2.all; more = e.2.more })
+  explains_turned (Workers asked have) e = (unopened_turned e.0, e.1, record { workers = workers_turned asked e.2.workers; all = e.2.all; more = e.2.more })
   explains_turned (Input why) e = search_turned (Input why) e
   explains_turned ReadFault e = search_turned ReadFault e
   explains_turned DiskFault e = search_turned DiskFault e
   explains_turned (Journal why) e = search_turned (Journal why) e
-  explains_turned Optimal e = elim e [ | inl search ↦ inl (search_turned Optimal search) | inr demo ↦ inr (demo_turned Optimal demo) ]
-  explains_turned Budget e = elim e [ | inl search ↦ inl (search_turned Budget search) | inr demo ↦ inr (demo_turned Budget demo) ]
-  explains_turned (Full end limit) e = elim e [ | inl search ↦ inl (search_turned (Full end limit) search) | inr demo ↦ inr (demo_turned (Full end limit) demo) ]
-  explains_turned WriteFault e = elim e [ | inl search ↦ inl (search_turned WriteFault search) | inr demo ↦ inr (demo_turned WriteFault demo) ]
+  explains_turned Optimal e = elim e [ inl search ↦ inl (search_turned Optimal search) | inr demo ↦ inr (demo_turned Optimal demo) ]
+  explains_turned Budget e = elim e [ inl search ↦ inl (search_turned Budget search) | inr demo ↦ inr (demo_turned Budget demo) ]
+  explains_turned (Full end limit) e = elim e [ inl search ↦ inl (search_turned (Full end limit) search) | inr demo ↦ inr (demo_turned (Full end limit) demo) ]
+  explains_turned WriteFault e = elim e [ inl search ↦ inl (search_turned WriteFault search) | inr demo ↦ inr (demo_turned WriteFault demo) ]
   explains_turned NoMemory e = elim e [
     | inl none ↦ inl (unopened_turned none.0, none.1, none.2)
-    | inr some ↦ inr (elim some [ | inl search ↦ inl (search_turned NoMemory search) | inr demo ↦ inr (demo_turned NoMemory demo) ])
+    | inr some ↦ inr (elim some [ inl search ↦ inl (search_turned NoMemory search) | inr demo ↦ inr (demo_turned NoMemory demo) ])
   ]
 
 -- some worker is asked for

@@ -121,7 +121,7 @@ pub record EndsDemo (met : Met) (status : Status) : Type 0 where
 
 -- the words ask for a search by so many workers, or for a demonstration by one, and that is more than there are advisers for
 pub record AsksTooMany (met : Met) (asked have : ℕ) : Type 0 where
-  pub asked : AsksWorkers met.asks asked
+  pub workers : AsksWorkers met.asks asked
   pub all : have ≡ workers_for met.told.before
   pub more : have < asked
 

@@ -133,8 +133,8 @@ fn end_search<K: Sink, D: Disk>(
         → SearchEnds D.reads D.images D.images_since D.calls D.faults disk instance.now workers budget (record { before = before; after = map (λ a. told a) searched.advisers.items }) searched.book searched.end
         → workers ≤ workers_for before
         → OverDisk (met_of D.reads D.images D.images_since D.calls D.faults disk result.disk)
-            (record { held = K.held out.old; held_after = K.held out.new; faults = (K.faults out.old, K.faults out.new) })
-            instance.now table budget workers (record { before = before; after = map (λ a. told a) result.advisers.items }) result.opened result.status }
+        (record { held = K.held out.old; held_after = K.held out.new; faults = (K.faults out.old, K.faults out.new) })
+        instance.now table budget workers (record { before = before; after = map (λ a. told a) result.advisers.items }) result.opened result.status }
     ensures unwritten { EndsUnwritten result.status → out.new ≡ out.old }
     ensures demo { result.demo ≡ None }
 {
@@ -192,9 +192,7 @@ fn run_over<S: Source, K: Sink, D: Disk + Send, G: Gate + Sync, R: Threads + Wai
 {
     match read_instance(alloc, input) {
         Ok(instance) => {
-            let searched = run_search(
-                rt, alloc, &instance, request, disk, advisers, gate, &Never,
-            );
+            let searched = run_search(rt, alloc, &instance, request, disk, advisers, gate, &Never);
             end_search(alloc, &instance, searched, table, out)
         }
         Err(why) => {
@@ -311,9 +309,7 @@ pub fn run_command<
                 return Ended::early(alloc, Status::Workers { asked, have }, disk);
             }
             let request = Request { workers, steps };
-            run_over(
-                rt, alloc, request, table, input, out, disk, advisers, gate,
-            )
+            run_over(rt, alloc, request, table, input, out, disk, advisers, gate)
         }
         Command::Demo { number, steps } => {
             if have < 1 {

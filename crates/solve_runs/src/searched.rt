@@ -47,10 +47,7 @@ impl SearchEnd {
     {
         matches!(
             self,
-            SearchEnd::Finished
-                | SearchEnd::Spent
-                | SearchEnd::Full { .. }
-                | SearchEnd::Stopped
+            SearchEnd::Finished | SearchEnd::Spent | SearchEnd::Full { .. } | SearchEnd::Stopped
         )
     }
 }

@@ -52,7 +52,7 @@ pub returns-else-have-asked-clause-unread : goal.returns-else-have-asked-clause-
 returns-else-have-asked-clause-unread g c = λ unread.
     let s = c.in-Search in
     absurd (not_unread _ (record { journal = s.field-0.now; workers = c.unwrap_or-workers.result; steps = s.steps; table = s.table }) _ (c.run_over.ensures.status (λ a. a ≡ asked c.args.command) s.field-0.now)
-        (λ number steps is. no_demonstration (asked c.args.command) s.field-0.now s.workers s.steps s.table s.field-4 number steps (sym (ap asked s.is)) is) unread)
+    (λ number steps is. no_demonstration (asked c.args.command) s.field-0.now s.workers s.steps s.table s.field-4 number steps (sym (ap asked s.is)) is) unread)
 
 pub returns-else-have-asked-clause-beside : goal.returns-else-have-asked-clause-beside
 returns-else-have-asked-clause-beside g c = λ number steps is.
