@@ -1,7 +1,8 @@
--- What an adviser keeps of what it was told.
-use Rattle.std.specs.Prelude.{ℕ, ℤ, ◌+◌, ◌-◌, ◌^◌, min, List, Some, None}
+-- What an adviser keeps, and what it was told.
+use Rattle.std.specs.Prelude.{ℕ, ℤ, ◌+◌, ◌-◌, ◌^◌, min, List, Option, Some, None}
 use Rattle.advice.specs.declared.adviser.Told.{Told}
 use Rattle.advisers.specs.declared.heard.Heard.{Heard}
+use Rattle.advisers.specs.declared.greedy_plan.GreedyPlan.{GreedyPlan}
 
 -- nothing yet
 abbrev pub unheard : Heard
@@ -17,7 +18,13 @@ pub record FixedPrices : Type 0 where
   pub slots : List ℤ
   pub heard : Heard
 
--- the scale that an adviser of prices at a scale was made with, and what it was told
+-- the plan that an adviser keeps, once it is made, and what the adviser was told
+pub record Planned : Type 0 where
+  pub kept : Option GreedyPlan
+  pub heard : Heard
+
+-- the scale that an adviser of prices at a scale was made with, its plan, once it is made, and what it was told
 pub record Scaled : Type 0 where
   pub q : ℕ
+  pub kept : Option GreedyPlan
   pub heard : Heard

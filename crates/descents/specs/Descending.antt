@@ -1,5 +1,5 @@
 -- Plans that no move makes cheaper. Source: descent by moves is the local search of Musliu, Schaerf and Slany 2004, without its lists of forbidden moves.
-use Rattle.std.specs.Prelude.{◌≡◌, ◌⊎◌, ℕ, ◌+◌, ◌*◌, ◌/◌, ◌%◌, ◌<◌, ◌≤◌, IsTrue, List, length, slice_get, Some, None}
+use Rattle.std.specs.Prelude.{◌≡◌, ◌⊎◌, ℕ, ◌+◌, ◌*◌, ◌/◌, ◌%◌, ◌<◌, ◌≤◌, IsTrue, List, length, MatchOption, Option, slice_get, Some, None}
 use Rattle.break_rules.specs.declared.Break.{Break}
 use Rattle.break_rules.specs.Causes.{first_cause}
 use Rattle.shift_instance.specs.declared.Duty.{Duty}
@@ -57,7 +57,12 @@ pub record IsDescent (i : Problem) (rounds : ℕ) (rows : List Row) : Type 0 whe
   pub cheaper : cost i (rota_of rows) ≤ cost i (rota_of (greedy_rows i))
   pub optimum : ∥ IsLocalOptimum i (rota_of rows) ⊎ (cost i (rota_of rows) + rounds ≤ cost i (rota_of (greedy_rows i))) ∥₁
 
--- the most moves that an adviser of descents takes, and what it was told
+-- the most moves that an adviser of descents takes, the rows of its plan, once it is made, and what it was told
 pub record Descending : Type 0 where
   pub rounds : ℕ
+  pub kept : Option (List Row)
   pub heard : Heard
+
+-- the rows of the plan of an adviser: those that it keeps or, where it keeps none yet, those of a descent in the instance asked about
+abbrev pub IsOwnPlan : Problem → Descending → List Row → Type 0
+IsOwnPlan i d rows = MatchOption d.kept (IsDescent i d.rounds rows) (λ kept. rows ≡ kept)

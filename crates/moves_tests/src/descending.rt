@@ -3,7 +3,7 @@ ghost use Rattle.std.specs.Prelude.{◌≡◌};
 
 use crate::fixtures::{DAY, early, instance_of};
 use break_rules::NoMemory;
-use descents::{descend, descended};
+use descents::{Descent, descend, descended};
 use local_moves::Draft;
 use rota_cost::cost_rows;
 use shift_instance::{Instance, Rows};
@@ -50,5 +50,21 @@ fn descent_ends_where_no_move_is_left(rt: HostRuntime) -> Result<(), Fail> {
     let alloc = rt.alloc();
     let instance = instance_of(alloc, DAY)?;
     assert_eq!(rt; costs(alloc, &instance)?, (6, 3));
+    Ok(())
+}
+
+/// What the plans of two advisers cost, of which one was made of the instance, and the other makes itself.
+fn adviser_costs(alloc: Global, instance: &Instance) -> Result<(u64, u64), Fail> {
+    let made = Descent::of(alloc, instance, 5)?.plan(instance)?;
+    let first = Descent::new(alloc, 5).plan(instance)?;
+    Ok((cost_of(instance, made)?, cost_of(instance, first)?))
+}
+
+// No plan of the day is cheaper than 3.
+#[test]
+fn an_adviser_descends_in_its_instance(rt: HostRuntime) -> Result<(), Fail> {
+    let alloc = rt.alloc();
+    let instance = instance_of(alloc, DAY)?;
+    assert_eq!(rt; adviser_costs(alloc, &instance)?, (3, 3));
     Ok(())
 }

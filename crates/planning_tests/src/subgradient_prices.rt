@@ -3,7 +3,7 @@ ghost use Rattle.std.specs.Prelude.{◌≡◌, ◌≤◌, ◌^◌, IfOk, length}
 
 use crate::fixtures::day;
 use advice::{Advice, Adviser, Ask};
-use advisers::Subgradient;
+use advisers::{GreedyPlan, Subgradient};
 use break_rules::{Break, Breaks, NoMemory, Rule};
 use dual_bound::{PriceFault, prove};
 use head_splits::{Class, Cut, Cuts, Hint, Prices, Side};
@@ -47,12 +47,13 @@ fn ask(alloc: Global, cuts: Cuts) -> Ask
     }
 }
 
-/// What an adviser of prices at a scale advises for the node of these cuts, where the best rota so far has no duty.
+/// What the adviser of an instance advises for the node of these cuts, of prices at a scale, where the best rota so far has no duty.
 fn advised(alloc: Global, instance: &Instance, q: u16, cuts: Cuts) -> Result<Advice, NoMemory>
     requires few { length cuts ≤ 2 ^ 33 }
     requires scale { (1 ≤ q) × (q ≤ 10000) }
 {
-    Subgradient::new(alloc, q).advise(instance, &ask(alloc, cuts))
+    let plan = GreedyPlan::of(alloc, instance)?;
+    Subgradient::of(alloc, plan.copy()?, q).advise(instance, &ask(alloc, cuts))
 }
 
 /// What a plan costs, and `None` where there is none or it isn't legal.
@@ -115,12 +116,13 @@ fn weighted(prices: &[i64]) -> i64 {
     sum
 }
 
-// These numbers are those of the method before it kept lists and tables from round to round.
+// These numbers are those of the method before it kept lists and tables from round to round. The adviser makes itself.
 #[test]
 fn the_advice_on_a_made_week_is_as_before(rt: HostRuntime) -> Result<(), Fail> {
     let alloc = rt.alloc();
     let instance = generate(alloc, 1)?;
-    let Advice { prices, .. } = advised(alloc, &instance, 100, Cuts::new(Vec::new(alloc)))?;
+    let root = ask(alloc, Cuts::new(Vec::new(alloc)));
+    let Advice { prices, .. } = Subgradient::new(alloc, 100).advise(&instance, &root)?;
     let sum = weighted(prices.slots.as_slice());
     assert_eq!(rt; (sum, value(alloc, &instance, prices)), (-101_416, Ok(18)));
     Ok(())

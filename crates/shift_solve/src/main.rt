@@ -3,7 +3,7 @@
 //! made from a number, and prints a line.
 #![tactic(auto)]
 
-use advice::Adviser;
+use advice::{Adviser, Never};
 use advisers::{Greedy, Subgradient};
 use descents::Descent;
 use plan_base::{FileDisk, StdSink, StdSource};
@@ -47,7 +47,7 @@ fn adviser_at(
     place: usize,
 ) -> Result<Box<dyn Adviser + Send>, AllocError> {
     let adviser: Box<dyn Adviser + Send> = match method {
-        Method::Thorough => Box::new(alloc, Thorough::new(alloc, place as u64 + 1))?,
+        Method::Thorough => Box::new(alloc, Thorough::new(alloc, place as u64 + 1, Never))?,
         _ if 0 < place => Box::new(alloc, Subgradient::new(alloc, SCALE))?,
         Method::Local => Box::new(alloc, Descent::new(alloc, MOVES))?,
         Method::Greedy => Box::new(alloc, Greedy::new(alloc))?,

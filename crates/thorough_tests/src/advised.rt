@@ -1,10 +1,9 @@
-//! Prices, plans and splits that are advised where the adviser was asked for another day before.
-ghost use Rattle.std.specs.Prelude.{◌≡◌, IfOk, length};
+//! Prices, plans and splits that are advised for the adviser's day, for another one, and where a stop asks.
+ghost use Rattle.std.specs.Prelude.{◌≡◌, [], true};
 
-use advice::{Advice, Adviser, Ask, Told};
-use break_rules::{Breaks, NoMemory};
+use advice::{Advice, Adviser, Ask, Never, Stop, Told};
 use dual_bound::prove;
-use head_splits::{Class, Cut, Cuts, Hint, Prices, Side};
+use head_splits::{Cuts, Hint, Prices};
 use instance_json::read;
 use rota_cost::cost_rows;
 use shift_instance::{Instance, Rows};
@@ -26,27 +25,14 @@ const TWO: &str =
 const MANY_BREAKS: &str =
     "{\"slot_minutes\":15,\"days\":1,\"need\":[1,0,1,0,1,0,1,0,1,0,1,0,1,0,1,0,1,0,1,0,1,0,1,0,1,0,1,0,1,0,1,0,1,0,1,0,1,0,1,0,1,0,1,0,1,0,1,0,1,0,1,0,0,0,0,0,0,0,0,0,0,0,0,0,0,0,0,0,0,0,0,0,0,0,0,0,0,0,0,0,0,0,0,0,0,0,0,0,0,0,0,0,0,0,0,0],\"max_heads\":1,\"weights\":{\"excess\":1,\"shortage\":2,\"shift\":3},\"types\":[{\"name\":\"L\",\"start_min\":0,\"start_max\":0,\"len_min\":51,\"len_max\":51,\"breaks\":{\"lead\":1,\"tail\":1,\"work_min\":1,\"work_max\":1,\"long_work\":1,\"long_rest\":1,\"size_min\":1,\"size_max\":1,\"totals\":[[51,25]],\"lunches\":[],\"resettle\":0}}]}";
 
-/// One cut: at least one duty of the shift.
-fn used(alloc: Global) -> Result<Cuts, NoMemory>
-    ensures { IfOk result (λ cuts. length cuts ≡ 1) }
-{
-    let class = Class {
-        shift: 0,
-        day: 0,
-        prefix: Breaks::new(Vec::new(alloc)),
-    };
-    let side = Side::AtLeast;
-    Ok(Cuts::new(vec![in alloc; Cut { class, side, m: 1 }]?))
-}
-
-/// What is asked for the node of these cuts, where the plan without duties is the best, and no prices were posted.
-fn asked(alloc: Global, cuts: Cuts) -> Ask
-    ensures { result.cuts ≡ cuts }
+/// What is asked for the node without cuts, where the plan without duties is the best and costs so much, and no prices were posted.
+fn asked(alloc: Global, best: u64) -> Ask
+    ensures { result.cuts ≡ [] }
 {
     Ask {
-        cuts,
+        cuts: Cuts::new(Vec::new(alloc)),
         floor: 0,
-        best: 8,
+        best,
         hint: Hint {
             prices: None,
             rows: Rows::new(Vec::new(alloc)),
@@ -96,38 +82,68 @@ fn seen_of(alloc: Global, instance: &Instance, advice: Advice) -> Seen {
     }
 }
 
-/// What is seen of the second advice of an adviser that was asked for another day first, through a box, and was told something.
-fn second_seen(alloc: Global, first: &str, second: &str) -> Result<Seen, Fail> {
-    let mut adviser: Box<dyn Adviser + Send> = Box::new(alloc, Thorough::new(alloc, 1))?;
-    let other = read(alloc, first.as_bytes())?;
-    let _first = adviser.advise(&other, &asked(alloc, used(alloc)?))?;
+/// A stop that asks from the beginning.
+#[derive(Clone, Copy)]
+struct Asked;
+
+impl Stop for Asked {
+    ghost can_ask = { λ asked. true };
+
+    fn is_asked(&self) -> bool {
+        true
+    }
+}
+
+/// What is seen of the advice of an adviser in a box, which was told something before, for a day on which the plan without duties
+/// costs so much.
+fn seen_by(alloc: Global, adviser: Thorough<Never>, day: &str, best: u64) -> Result<Seen, Fail> {
+    let mut adviser: Box<dyn Adviser + Send> = Box::new(alloc, adviser)?;
     adviser.learn(&Told {
         node: 1,
         floor: 3,
         best: 8,
     });
-    let instance = read(alloc, second.as_bytes())?;
-    let advice = adviser.advise(&instance, &asked(alloc, Cuts::new(Vec::new(alloc))))?;
+    let instance = read(alloc, day.as_bytes())?;
+    let advice = adviser.advise(&instance, &asked(alloc, best))?;
     Ok(seen_of(alloc, &instance, advice))
 }
 
-// Nothing of the first day is left. Where one duty is the most, the best prices earn what the shift costs, which its plan costs too. Where
-// two may be, half a shift would do, which costs half of it: the node is split above one duty, as a second one would only cost.
+/// The adviser of a day.
+fn adviser_of(alloc: Global, day: &str) -> Result<Thorough<Never>, Fail> {
+    let instance = read(alloc, day.as_bytes())?;
+    let adviser = Thorough::of(alloc, &instance, 1, Never)?;
+    Ok(adviser)
+}
+
+// Where one duty is the most, the best prices earn what the shift costs, which its plan costs too. Where two may be, half a shift would
+// do, which costs half of it: the node is split above one duty, as a second one would only cost. It is all the same whether the adviser
+// was made of the day, or makes itself of it at its first advice.
 #[test]
-fn another_instance_is_begun_anew(rt: HostRuntime) -> Result<(), Fail> {
+fn an_adviser_knows_its_day(rt: HostRuntime) -> Result<(), Fail> {
     let alloc = rt.alloc();
     let one = Seen {
         bound: Some(3),
         cost: Some(3),
         split: None,
     };
-    assert_eq!(rt; second_seen(alloc, TWO, MORNING)?, one);
+    assert_eq!(rt;
+        seen_by(alloc, adviser_of(alloc, MORNING)?, MORNING, 8)?,
+        one
+    );
+    assert_eq!(rt;
+        seen_by(alloc, Thorough::new(alloc, 1, Never), MORNING, 8)?,
+        one
+    );
     let two = Seen {
         bound: Some(2),
         cost: Some(3),
         split: Some((0, 0, 1)),
     };
-    assert_eq!(rt; second_seen(alloc, MORNING, TWO)?, two);
+    assert_eq!(rt; seen_by(alloc, adviser_of(alloc, TWO)?, TWO, 8)?, two);
+    assert_eq!(rt;
+        seen_by(alloc, Thorough::new(alloc, 1, Never), TWO, 8)?,
+        two
+    );
     Ok(())
 }
 
@@ -136,10 +152,29 @@ fn another_instance_is_begun_anew(rt: HostRuntime) -> Result<(), Fail> {
 #[test]
 fn the_greedy_plan_is_advised_where_the_search_has_none(rt: HostRuntime) -> Result<(), Fail> {
     let alloc = rt.alloc();
-    let instance = read(alloc, MANY_BREAKS.as_bytes())?;
-    let mut ask = asked(alloc, Cuts::new(Vec::new(alloc)));
-    ask.best = 52;
-    let advice = Thorough::new(alloc, 1).advise(&instance, &ask)?;
-    assert_eq!(rt; seen_of(alloc, &instance, advice).cost, Some(3));
+    let seen = seen_by(alloc, Thorough::new(alloc, 1, Never), MANY_BREAKS, 52)?;
+    assert_eq!(rt; seen.cost, Some(3));
+    Ok(())
+}
+
+// The prices are those of a day of fewer slots, which give no bound here. The plans that the search has are none of this day, and the
+// greedy plan is one.
+#[test]
+fn an_adviser_of_another_day_advises_nothing_unlawful(rt: HostRuntime) -> Result<(), Fail> {
+    let alloc = rt.alloc();
+    let seen = seen_by(alloc, adviser_of(alloc, MORNING)?, MANY_BREAKS, 52)?;
+    assert_eq!(rt; (seen.bound, seen.cost), (None, Some(3)));
+    Ok(())
+}
+
+// The first prices are those of an employee too few in each of the four slots, which earn more than the shift costs: they give the bound
+// 3. There is no time for a plan.
+#[test]
+fn what_is_known_is_advised_once_a_stop_asks(rt: HostRuntime) -> Result<(), Fail> {
+    let alloc = rt.alloc();
+    let instance = read(alloc, MORNING.as_bytes())?;
+    let advice = Thorough::new(alloc, 1, Asked).advise(&instance, &asked(alloc, 8))?;
+    let seen = seen_of(alloc, &instance, advice);
+    assert_eq!(rt; (seen.bound, seen.cost), (Some(3), None));
     Ok(())
 }

@@ -4,7 +4,7 @@ use Rattle.shift_instance.specs.Rota.{cost, rota_of}
 use Rattle.greedy.specs.Greedy.{greedy_rows}
 use Rattle.descents.specs.Descending.{IsLocalOptimum}
 use Rattle.descents.proofs.Evener.{from_dearer}
-use Rattle.descents.proofs.kept.descent_rows.Goals as goal
+use Rattle.descents.proofs.descent.descent_rows.Goals as goal
 
 pub returns : goal.returns
 returns c =
