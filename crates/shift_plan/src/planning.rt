@@ -1,6 +1,6 @@
 //! A search for a plan.
 
-ghost use Rattle.std.specs.Prelude.{◌<◌};
+ghost use Rattle.std.specs.Prelude.{◌<◌, ◌^◌};
 
 use crate::journals::locked_journal;
 use crate::listening::{listen, stop_of};
@@ -60,6 +60,13 @@ fn progress_of(rt: HostRuntime, words: &PlanWords) -> Result<Arc<Progress>, Refu
     Ok(Arc::new(alloc, progress)?)
 }
 
+/// How many steps a search of so many seconds may take. One without time takes none.
+fn steps_of(seconds: u32) -> u64
+    ensures { result < 2 ^ 63 }
+{
+    if seconds == 0 { 0 } else { STEPS_MOST }
+}
+
 /// An adviser for each worker, who searches thoroughly with a seed of its own until the search ends.
 fn advisers_of(
     rt: HostRuntime,
@@ -103,7 +110,7 @@ fn searched<R: Threads + Wait + Sync>(
     };
     let request = Request {
         workers: words.workers,
-        steps: if words.seconds == 0 { 0 } else { STEPS_MOST },
+        steps: steps_of(words.seconds),
     };
     let disk = journal.disk()?;
     let Planned { searched, plan } = search_plan(
