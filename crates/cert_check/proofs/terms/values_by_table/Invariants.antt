@@ -1,6 +1,6 @@
 use Rattle.std.proofs.Common.{◌≡◌, length}
 use Rattle.bound_sums.specs.Values.{AreValues}
-use Rattle.cert_check.proofs.terms.values_by_nodes.Given as goal
+use Rattle.cert_check.proofs.terms.values_by_table.Given as goal
 
 abbrev pub invariant-loop-day : goal.invariant-loop-day
 invariant-loop-day l = record {
