@@ -1,4 +1,4 @@
-use Rattle.std.proofs.Common.{◌≡◌, ◌+ℤ◌, ◌-ℤ◌, ◌-◌, ℕ, ℤ, List, [], ◌∷◌, ◌++◌, Some, None, map, take, ap, sym, subst, ◌∙◌, arith, to_z, of_z, false, FitsSigned, ◌^◌, ◌≤◌, ◌<◌}
+use Rattle.std.proofs.Common.{◌≡◌, ◌+ℤ◌, ◌-ℤ◌, ◌-◌, ℕ, ℤ, List, [], ◌∷◌, ◌++◌, Some, None, map, take, slice_index_or, ap, sym, subst, ◌∙◌, arith, to_z, of_z, false, FitsSigned, ◌^◌, ◌≤◌, ◌<◌}
 use Rattle.std.specs.Int.{w64, w128}
 use Rattle.std.specs.Int.RustNames.{unsigned_abs}
 use Rattle.std.proofs.lemmas.Int.{to_z-of_z, fits_signed_from_abs}
@@ -15,9 +15,14 @@ use Rattle.check_values.specs.Ways.{way_by}
 use Rattle.cert_check.specs.Walks.{StandsAt}
 use Rattle.cert_check.proofs.Greatest.{greatest_none, greatest_some, legal_alone}
 use Rattle.cert_check.proofs.Values.{before_of, before_fits}
-use Rattle.cert_check.proofs.WaysOn.{got, way_more, way_stands, way_nearer, ways_all}
+use Rattle.std.proofs.lemmas.List.{get_or_default}
+use Rattle.head_splits.proofs.Walked.{index_get}
+use Rattle.cert_check.proofs.WaysOn.{way_more, way_stands, way_nearer, ways_all}
 use Rattle.cert_check.proofs.Whole.{whole_stops, whole_ends, whole_via, greatest_whole_small}
 use Rattle.cert_check.proofs.below.+best_below.Goals as goal
+
+none : Way
+none = record { stop = record { start = 0; len = 0 }; spot = record { offset = 0; used = 0; lunches = 0 } }
 
 pub returns-then-not-goes_further-clause-greatest : goal.returns-then-not-goes_further-clause-greatest
 returns-then-not-goes_further-clause-greatest t c =
@@ -51,16 +56,16 @@ loop-way-init t c =
     greatest_none rule len list (whole_worth cuts prices s day sums rule len list)
 
 pub best_below-requires : goal.best_below-requires
-best_below-requires t c = λ κs outlives.
+best_below-requires t c =
     let rule = c.args.work.now.rule.now in
     let len = c.args.work.now.len in
     let sums = c.args.work.now.sums.now in
     let list = c.args.list.now in
     let ways = c.as_slice-way-items.result.now in
-    let way = c.way-item.result in
+    let way : Way = slice_index_or ways c.loop-way.way-index none in
     let st : StandsAt rule len c.args.spot list = c.requires.stands in
     let are : ways ≡ map (way_by rule list) (live_stops rule len list) = c.as_slice-way-items.ensures.value ∙ c.in_ok-ways.ensures sums list c.requires.sums c.requires.table st.walk st.reaches in
-    let here = got ways c.loop-way.way-index way c.loop-way-test.true c.way-item.is in
+    let here = index_get ways c.loop-way.way-index none c.loop-way-test.true in
     let nearer = way_nearer rule len c.args.spot list ways st are c.loop-way.way-index way here in
     let at = way_stands rule len c.args.spot list ways st are c.loop-way.way-index way here in
     let same : c.deref.result.now ≡ list ++ way.stop ∷ [] = c.deref.ensures.value ∙ c.in_ok-longer.ensures in
@@ -78,7 +83,7 @@ loop-way-preserved t c =
     let sums = c.args.work.now.sums.now in
     let list = c.args.list.now in
     let ways = c.as_slice-way-items.result.now in
-    let way = c.way-item.result in
+    let way : Way = slice_index_or ways c.loop-way.way-index none in
     let i = c.loop-way.way-index in
     let b : Break = way.stop in
     let st : StandsAt rule len c.args.spot list = c.requires.stands in
@@ -96,7 +101,7 @@ loop-way-preserved t c =
     let behind : IsGreatest (Completes rule len (list ++ b ∷ [])) (whole_worth cuts prices s day sums rule len (list ++ b ∷ [])) w =
     subst (IsGreatest (Completes rule len (list ++ b ∷ [])) (whole_worth cuts prices s day sums rule len (list ++ b ∷ []))) (sym kept)
     (subst (λ (l : List Break). IsGreatest (Completes rule len l) (whole_worth cuts prices s day sums rule len l) c.in_ok-behind.behind) same c.in_ok-behind.ensures.greatest) in
-    subst (λ (bs : List Break). IsGreatest (Through rule len list bs) (whole_worth cuts prices s day sums rule len list) (to_z w128 (of_z w128 c.greater.result))) (sym (way_more rule len c.args.spot list ways st are i way c.loop-way-test.true c.way-item.is))
+    subst (λ (bs : List Break). IsGreatest (Through rule len list bs) (whole_worth cuts prices s day sums rule len list) (to_z w128 (of_z w128 c.greater.result))) (sym (way_more rule len c.args.spot list ways st are i way c.loop-way-test.true (get_or_default ways i none way c.loop-way-test.true)))
     (subst (IsGreatest (Through rule len list (map (λ (w : Way). w.stop) (take i ways) ++ b ∷ [])) (whole_worth cuts prices s day sums rule len list)) (sym (to_z-of_z w128 _ (record { sfits = c.greater.type_inv }) ∙ c.greater.ensures))
     (whole_via cuts prices s day sums rule len list (map (λ (w : Way). w.stop) (take i ways)) b c.loop-way.best w v c.requires.rule c.loop-way.invariant behind is))
 
@@ -145,7 +150,7 @@ returns-clause-greatest t c =
     let st : StandsAt rule len c.args.spot list = c.requires.stands in
     let are : ways ≡ map (way_by rule list) (live_stops rule len list) = c.as_slice-way-items.ensures.value ∙ c.in_ok-ways.ensures sums list c.requires.sums c.requires.table st.walk st.reaches in
     let worth : List Break → ℤ = whole_worth cuts prices s day sums rule len list in
-    let none : IsGreatestOf (Through rule len list (live_stops rule len list)) worth None =
+    let nothing : IsGreatestOf (Through rule len list (live_stops rule len list)) worth None =
     subst (λ (bs : List Break). IsGreatestOf (Through rule len list bs) worth None) (ways_all rule len c.args.spot list ways st are c.loop-way.way-index c.loop-way-test.false)
     (subst (IsGreatestOf (Through rule len list (map (λ (w : Way). w.stop) (take c.loop-way.way-index ways))) worth) c.in-None.is c.loop-way.invariant) in
     let v : ℤ = c.rest_value.result in
@@ -155,4 +160,4 @@ returns-clause-greatest t c =
     let alone : to_z w128 (of_z w128 c.earned_and-alone.result) ≡ v +ℤ bonuses cuts prices (duty_with s day list) =
     to_z-of_z w128 _ (record { sfits = c.earned_and-alone.type_inv }) ∙ c.earned_and-alone.ensures ∙ ap (λ (z : ℤ). z +ℤ to_z w128 (of_z w128 c.bonuses.result)) read ∙ ap (λ (z : ℤ). v +ℤ z) added in
     let live = live_from rule len list most.reached.0 most.reached.1 in
-    subst (IsGreatest (Completes rule len list) worth) (sym alone) (whole_ends cuts prices s day sums rule len list v (legal_alone rule len list worth live none) most)
+    subst (IsGreatest (Completes rule len list) worth) (sym alone) (whole_ends cuts prices s day sums rule len list v (legal_alone rule len list worth live nothing) most)
