@@ -130,15 +130,7 @@ fn pass_days(
 {
     for day in 0..instance.days() {
         let class = whole_class(alloc, shift, day);
-        let fixed = pass_class(
-            alloc,
-            instance,
-            cuts,
-            lists,
-            Spot::opening(),
-            &class,
-            rows,
-        )?;
+        let fixed = pass_class(alloc, instance, cuts, lists, Spot::opening(), &class, rows)?;
         if !fixed {
             return Ok(false);
         }

@@ -27,11 +27,7 @@ use std::marker::Model;
 const DAYS: usize = 8;
 
 /// The most that a duty of a shift on a day is worth, and `None` where no list is legal.
-fn most_worth(
-    alloc: Global,
-    duties: &Duties<'_>,
-    work: &Work<'_>,
-) -> Result<Option<i128>, NoMemory>
+fn most_worth(alloc: Global, duties: &Duties<'_>, work: &Work<'_>) -> Result<Option<i128>, NoMemory>
     requires rule { IsRule work.now.rule.now }
     requires sums { AreSums work.now.len work.now.sums.now }
     requires table { AreLayers work.now.rule.now work.now.len work.now.sums.now work.now.table.now }
@@ -185,5 +181,7 @@ pub(crate) fn bound_by_table(
     ensures memory { memory.new ≡ memory.old }
 {
     let tables = &mut memory.tables;
-    memory.values.bound_by(alloc, tables, instance, cuts, prices)
+    memory
+        .values
+        .bound_by(alloc, tables, instance, cuts, prices)
 }

@@ -21,7 +21,7 @@ use Rattle.cert_check.proofs.WaysOn.{way_more, way_stands, way_nearer, ways_all}
 use Rattle.cert_check.proofs.Whole.{whole_stops, whole_ends, whole_via, greatest_whole_small}
 use Rattle.cert_check.proofs.below.+best_below.Goals as goal
 
-none : Way
+abbrev none : Way
 none = record { stop = record { start = 0; len = 0 }; spot = record { offset = 0; used = 0; lunches = 0 } }
 
 pub returns-then-not-goes_further-clause-greatest : goal.returns-then-not-goes_further-clause-greatest
