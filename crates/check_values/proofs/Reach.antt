@@ -343,7 +343,7 @@ module _ (rule : Rule) (len : ℕ) (sums : List ℤ) (list : List Break) (r : Is
               let here = (each c.start window).greatest (c ∷ rest) ((refl, g, h.0.1), h.1) in
               let low : reach_worth sums rule len list (c ∷ rest) ≤ℤ number_in row c.start = here.1 in
               let up : number_in row c.start ≤ℤ y = m.greatest c.start window.earliest window.latest
-                  (λ none. not_above (reach_worth sums rule len list (c ∷ rest)) here.0 (subst (λ (v : ℤ). reach_worth sums rule len list (c ∷ rest) ≤ℤ v) none low)) in
+              (λ none. not_above (reach_worth sums rule len list (c ∷ rest)) here.0 (subst (λ (v : ℤ). reach_worth sums rule len list (c ∷ rest) ≤ℤ v) none low)) in
               (here.0, omega (arith, ints))
         ]
 

@@ -12,8 +12,8 @@ ghost use Rattle.check_values.specs.Rows.{number_in};
 ghost use Rattle.check_values.specs.Layered.{layer_of, layer_number, layer_count, layer_place, AreLayersBefore, AreLayers, IsReachOfAll, IsValueOrNothing};
 
 use crate::reaching::best_reaches;
-use crate::sizes::{has_time, total_among};
 use crate::rows::{NOTHING, less, number_at};
+use crate::sizes::{has_time, total_among};
 use crate::sums::{resumption, sum_before};
 use break_rules::{NoMemory, Rule, Spot, ends};
 use std::alloc::Global;

@@ -9,19 +9,12 @@ ghost use Rattle.check_values.specs.Rows.{number_in};
 ghost use Rattle.check_values.specs.Layered.{layer_of, AreLayersBefore, layer_number, IsSizeIn, AreSizesIn, IsInWindow, IsRaised, IsReachAt, IsReachOfSizes, IsReachOfAll};
 
 use crate::layers::{Layer, place_at, time_left};
-use crate::sizes::{Sizes, layer_sizes, longest_work, lunches_met, lunches_of};
 use crate::rows::{add_sums, clear, number_at, raise_at, raise_between, raise_to_windows};
+use crate::sizes::{Sizes, layer_sizes, longest_work, lunches_met, lunches_of};
 use break_rules::{Break, Rule};
 
 /// Raises numbers by start to what is earned behind the breaks of a layer that have a length.
-fn raise_by_size(
-    row: &mut [i64],
-    rule: &Rule,
-    len: u16,
-    table: &[i64],
-    layer: Layer,
-    size: u16,
-)
+fn raise_by_size(row: &mut [i64], rule: &Rule, len: u16, table: &[i64], layer: Layer, size: u16)
     requires rule { IsRule rule.now }
     requires size { IsSizeIn rule.now len layer size }
     requires row { length row.old ≡ len + 1 }

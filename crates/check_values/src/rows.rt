@@ -69,13 +69,7 @@ pub(crate) fn add_sums(row: &mut [i64], sums: &[i64])
 }
 
 /// Raises the numbers of a row from one place on and before another to those that stand so many places behind in a table.
-pub(crate) fn raise_between(
-    row: &mut [i64],
-    from: usize,
-    to: usize,
-    table: &[i64],
-    behind: usize,
-)
+pub(crate) fn raise_between(row: &mut [i64], from: usize, to: usize, table: &[i64], behind: usize)
     requires to { to ≤ length row.old }
     requires row { length row.old ≤ 65536 }
     requires behind { behind ≤ 2 ^ 40 }

@@ -22,7 +22,7 @@ loop-number-preserved c =
       known = λ s.
           let sums = c.args.sums.now in
           subst (λ n. AreLayersBefore rule len sums ((n + 1) * (len + 1)) c.add_layer.new.table.items) same
-          (c.in_ok-add_layer.ensures.known  s (subst (λ n. AreLayersBefore rule len sums (n * (len + 1)) c.loop-number.table.items) (sym same) (i.known  s)));
+          (c.in_ok-add_layer.ensures.known s (subst (λ n. AreLayersBefore rule len sums (n * (len + 1)) c.loop-number.table.items) (sym same) (i.known s)));
     }
 
 pub returns : goal.returns
@@ -32,4 +32,4 @@ returns c = λ s.
     let total : c.total_among-total.result ≡ total_of rule len = c.total_among-total.ensures ∙ ap (λ t. total_in t len) c.as_slice.ensures in
     let end : c.loop-number.number ≡ (c.total_among-total.result + 1) * 4 = omega (arith, c.from.ensures, c.loop-number-test.false, c.loop-number.auto.number-end) in
     let all : c.loop-number.number ≡ layer_count rule len = end ∙ ap (λ t. (t + 1) * 4) total in
-    subst (λ n. AreLayersBefore rule len c.args.sums.now (n * (len + 1)) c.loop-number.table.items) all (c.loop-number.invariant.known  s)
+    subst (λ n. AreLayersBefore rule len c.args.sums.now (n * (len + 1)) c.loop-number.table.items) all (c.loop-number.invariant.known s)

@@ -10,7 +10,7 @@ use Rattle.check_values.proofs.reaching.set_reaches.Goals as goal
 pub loop-size-init : goal.loop-size-init
 loop-size-init c = record {
   each = λ s known list start inside walk is window.
-      subst (IsBehindAt c.args.rule.now c.args.len c.args.sums.now list start c.args.sizes.from c.args.sizes.from) (sym (c.clear.ensures  start))
+      subst (IsBehindAt c.args.rule.now c.args.len c.args.sums.now list start c.args.sizes.from c.args.sizes.from) (sym (c.clear.ensures start))
       (none_at c.args.rule.now c.args.len c.args.sums.now list c.requires.rule s start c.args.sizes.from);
 }
 
@@ -28,7 +28,7 @@ loop-size-preserved c =
           let own : IsInWindow rule list (record { start = start; len = size }) =
           record { earliest = window.earliest; latest = subst (λ n. start ≤ end_of_all list + n) (sym (c.requires.sizes.alike size low c.loop-size-test.true)) window.latest } in
           size_raised rule len sums list c.requires.rule s start sizes.from size (number_in c.loop-size.row start) raised.most (number_in c.raise_by_size.new.row start) low raised.raised
-          (c.loop-size.invariant.each  s known list start inside walk is window) (raised.exact list walk is own);
+          (c.loop-size.invariant.each s known list start inside walk is window) (raised.exact list walk is own);
     }
 
 pub returns : goal.returns
@@ -49,6 +49,6 @@ returns c = λ s known list start walk is window.
       | inr inside ↦
           let below : start < length row = omega (arith, many, inside) in
           let own : IsBehindAt rule len sums list start sizes.from sizes.to (number_in row start) =
-          subst (λ (n : ℕ). IsBehindAt rule len sums list start sizes.from n (number_in row start)) end (c.loop-size.invariant.each  s known list start inside walk is window) in
-          with_sum rule len sums list r s start sizes.from sizes.to (number_in row start) (number_in new start) own (c.add_sums.ensures.nothing  start below) (c.add_sums.ensures.total  start below)
+          subst (λ (n : ℕ). IsBehindAt rule len sums list start sizes.from n (number_in row start)) end (c.loop-size.invariant.each s known list start inside walk is window) in
+          with_sum rule len sums list r s start sizes.from sizes.to (number_in row start) (number_in new start) own (c.add_sums.ensures.nothing start below) (c.add_sums.ensures.total start below)
     ]
