@@ -2,6 +2,7 @@
 #![tactic(auto)]
 
 mod bars;
+mod cells;
 mod chart;
 mod days;
 mod escaping;

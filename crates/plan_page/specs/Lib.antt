@@ -1,0 +1,4 @@
+pub mod Escaping
+pub mod Cells
+pub mod Overview
+pub mod Page
