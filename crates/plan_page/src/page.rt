@@ -6,7 +6,6 @@ ghost use Rattle.plan_page.specs.Page.{IsPage};
 use crate::days::add_days;
 use crate::head::add_head;
 use crate::overview::add_overview;
-use crate::staffing::staffed_slots;
 use break_rules::NoMemory;
 use plan_tables::{Attendance, Summary, rows_by_start};
 use shift_instance::{Instance, Rows};
@@ -28,15 +27,18 @@ pub fn plan_page(
     ensures { IfOk result (λ page. IsPage instance.now rows.now heading.now standing.now (string_bytes page)) }
 {
     let attendance = Attendance::new(alloc, instance, rows)?;
-    let slots = staffed_slots(alloc, instance, &attendance)?;
     let ordered = rows_by_start(alloc, instance, rows)?;
     let summary = Summary::new(alloc, instance, rows)?;
-    let mut days = String::new(alloc);
-    add_days(&mut days, instance, &summary, &slots, &ordered)?;
     let mut page = String::new(alloc);
     add_head(&mut page, heading)?;
     add_overview(&mut page, instance, &summary, standing)?;
-    page.push_str(days.as_str())?;
+    add_days(
+        &mut page,
+        instance,
+        &attendance,
+        ordered.as_slice(),
+        summary.days.as_slice(),
+    )?;
     page.push_str("</body>\n</html>\n")?;
     Ok(page)
 }
