@@ -12,6 +12,7 @@ pub trait Stop {
 }
 
 /// The stop that never asks.
+#[derive(Clone, Copy)]
 pub struct Never;
 
 impl Stop for Never {

@@ -4,7 +4,7 @@ use mir.Syntax.{w128}
 use Rattle.std.specs.Int.RustNames.{unsigned_abs}
 use Rattle.std.proofs.lemmas.Int.{fits_signed_from_abs, to_z-of_z}
 use Rattle.break_rules.specs.Sums.{int_sum_by}
-use Rattle.break_rules.proofs.Lists.{Has}
+use Rattle.break_rules.specs.Lists.{Has}
 use Rattle.break_rules.proofs.Sizes.{abs_add}
 use Rattle.break_rules.proofs.Sums.{int_sum_by-cons}
 

@@ -6,7 +6,8 @@ use Rattle.break_rules.specs.declared.Break.{Break}
 use Rattle.break_rules.specs.declared.Rule.{Rule}
 use Rattle.break_rules.specs.Breaks.{is_legal, is_live}
 use Rattle.break_rules.specs.Walk.{nexts_of, spot_of}
-use Rattle.break_rules.proofs.Lists.{Has, from_map, Has-filter}
+use Rattle.break_rules.specs.Lists.{Has}
+use Rattle.break_rules.proofs.Lists.{from_map, Has-filter}
 use Rattle.break_rules.proofs.LegalLists.{live_rest, live_from}
 use Rattle.break_rules.proofs.Reaching.{rest_first}
 use Rattle.break_graph.specs.declared.Edge.{Edge}

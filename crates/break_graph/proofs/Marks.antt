@@ -7,7 +7,7 @@ use Rattle.break_rules.specs.declared.Rule.{Rule}
 use Rattle.break_rules.specs.Ranges.{IsRule}
 use Rattle.break_rules.specs.Live.{place_of}
 use Rattle.break_rules.specs.Walk.{end_of_all, may_follow, nexts_of, spot_of, is_walk}
-use Rattle.break_rules.proofs.Lists.{Has}
+use Rattle.break_rules.specs.Lists.{Has}
 use Rattle.break_rules.proofs.Steps.{has_next}
 use Rattle.break_rules.proofs.Reaching.{is_walk-more, later_place, walk_small}
 use Rattle.break_graph.specs.Building.{IsMarked, AreMarked}

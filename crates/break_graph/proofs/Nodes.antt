@@ -13,7 +13,7 @@ use Rattle.break_rules.specs.Breaks.{is_legal, is_live, is_lunch}
 use Rattle.break_rules.specs.Ranges.{IsRule}
 use Rattle.break_rules.specs.Live.{place_of}
 use Rattle.break_rules.specs.Walk.{nexts_of, spot_of, is_walk, bits_of}
-use Rattle.break_rules.proofs.Lists.{Has}
+use Rattle.break_rules.specs.Lists.{Has}
 use Rattle.break_rules.proofs.LegalLists.{live_rest, no_longer_list}
 use Rattle.break_rules.proofs.Reaching.{walk_on, later_place, live_cases, live_back, live_legal}
 use Rattle.break_graph.specs.declared.Edge.{Edge}

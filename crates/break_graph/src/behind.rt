@@ -3,7 +3,7 @@
 ghost use Rattle.std.specs.Prelude.{◌≡◌, ℕ, false, MatchOption};
 ghost use Rattle.break_rules.specs.declared.Rule.{Rule};
 ghost use Rattle.break_rules.specs.Breaks.{is_live};
-ghost use Rattle.break_rules.proofs.Lists.{Has};
+ghost use Rattle.break_rules.specs.Lists.{Has};
 ghost use Rattle.break_graph.specs.declared.Edge.{Edge};
 ghost use Rattle.break_graph.specs.Graph.{IsGraph, StandsAt};
 

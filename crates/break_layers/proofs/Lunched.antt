@@ -7,7 +7,8 @@ use Rattle.break_rules.specs.declared.Break.{Break}
 use Rattle.break_rules.specs.declared.Lunch.{Lunch}
 use Rattle.break_rules.specs.Breaks.{end_of, is_lunch}
 use Rattle.break_rules.specs.Walk.{bits_of}
-use Rattle.break_rules.proofs.Lists.{Has, any_none, any_some}
+use Rattle.break_rules.specs.Lists.{Has}
+use Rattle.break_rules.proofs.Lists.{any_none, any_some}
 
 pub has_at : {X : Type 0} (xs : List X) (i : ℕ) (d : X) → i < length xs → Has xs (get_or xs i d)
 has_at [] i d h = absurd (omega arith)

@@ -4,7 +4,7 @@ use Rattle.break_rules.specs.declared.Break.{Break}
 use Rattle.break_rules.specs.declared.Rule.{Rule}
 use Rattle.break_rules.specs.Breaks.{is_legal, is_less_list, is_live}
 use Rattle.break_rules.specs.Walk.{end_of_all, nexts_of, spot_of}
-use Rattle.break_rules.proofs.Lists.{Has}
+use Rattle.break_rules.specs.Lists.{Has}
 use Rattle.price_sums.specs.Along.{price_in, resumes, earned_from, Completes}
 
 -- what a list's rest earns

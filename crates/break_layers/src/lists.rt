@@ -5,7 +5,7 @@ ghost use Rattle.break_rules.specs.declared.Break.{Break};
 ghost use Rattle.break_rules.specs.Breaks.{is_legal, is_live};
 ghost use Rattle.break_rules.specs.Ranges.{IsRule};
 ghost use Rattle.break_rules.specs.Walk.{is_walk, nexts_of, spot_of, end_of_all};
-ghost use Rattle.break_rules.proofs.Lists.{Has};
+ghost use Rattle.break_rules.specs.Lists.{Has};
 ghost use Rattle.price_sums.specs.Along.{AreSums, sum_at, resumes};
 ghost use Rattle.break_layers.specs.Rests.{IsMostEarned, IsBestFrom, IsBestList, LeadsOn};
 ghost use Rattle.break_layers.specs.Layered.{AreLayers, IsReachBy};

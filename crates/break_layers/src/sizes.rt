@@ -7,7 +7,7 @@ ghost use Rattle.break_rules.specs.declared.Lunch.{Lunch};
 ghost use Rattle.break_rules.specs.Breaks.{total_in, is_lunch};
 ghost use Rattle.break_rules.specs.Ranges.{IsRule};
 ghost use Rattle.break_rules.specs.Walk.{bits_of};
-ghost use Rattle.break_rules.proofs.Lists.{Has};
+ghost use Rattle.break_rules.specs.Lists.{Has};
 ghost use Rattle.break_layers.specs.Layered.{layer_of, longest_work_of, size_limit_of, AreSizesIn};
 
 use crate::layers::Layer;

@@ -5,9 +5,10 @@ use Rattle.std.proofs.lemmas.Bool.{and_from}
 use Rattle.break_rules.specs.declared.Break.{Break}
 use Rattle.break_rules.specs.declared.Rule.{Rule}
 use Rattle.break_rules.specs.Breaks.{same_list, is_less_list, is_legal, legal_lists}
-use Rattle.break_rules.proofs.Lists.{Has, any_at, any_some, same_tests}
+use Rattle.break_rules.specs.Lists.{Has, Sorted}
+use Rattle.break_rules.proofs.Lists.{any_at, any_some, same_tests}
 use Rattle.break_rules.proofs.LegalLists.{Has-legal_lists, from_legal_lists, same_list_decides}
-use Rattle.break_rules.proofs.Ordered.{Sorted, Sorted-legal_lists, IsLess}
+use Rattle.break_rules.proofs.Ordered.{Sorted-legal_lists, IsLess}
 
 pub any_legal : (rule : Rule) (len : ℕ) (list : List Break) → list_any (same_list list) (legal_lists rule len) ≡ is_legal rule len list
 any_legal rule len list =

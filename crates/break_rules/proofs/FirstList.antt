@@ -9,9 +9,9 @@ use Rattle.break_rules.specs.declared.Spot.{Spot}
 use Rattle.break_rules.specs.Breaks.{same_break, is_less_break, is_less_list, is_legal, is_live, legal_lists, breaks_between, end_of}
 use Rattle.break_rules.specs.Walk.{may_follow, nexts_of, spot_of, is_walk, end_of_all}
 use Rattle.break_rules.specs.Live.{IsLeastLegal}
-use Rattle.break_rules.proofs.Lists.{Has}
+use Rattle.break_rules.specs.Lists.{Has, Sorted}
 use Rattle.break_rules.proofs.LegalLists.{live_rest, live_from, no_longer_list, same_break_decides, from_legal_lists, Has-legal_lists}
-use Rattle.break_rules.proofs.Ordered.{Sorted, Sorted-filter, Sorted-breaks, IsLessBreak, least_legal}
+use Rattle.break_rules.proofs.Ordered.{Sorted-filter, Sorted-breaks, IsLessBreak, least_legal}
 use Rattle.break_rules.proofs.Steps.{bounds, from_next}
 use Rattle.break_rules.proofs.Reaching.{rest_first}
 

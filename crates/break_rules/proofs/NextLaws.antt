@@ -7,9 +7,10 @@ use Rattle.break_rules.specs.declared.Rule.{Rule}
 use Rattle.break_rules.specs.declared.Spot.{Spot}
 use Rattle.break_rules.specs.Breaks.{same_break, is_less_break, breaks_between}
 use Rattle.break_rules.specs.Walk.{may_follow, nexts_of, spot_of, is_walk}
-use Rattle.break_rules.proofs.Lists.{Has, any_at, any_some, same_tests}
+use Rattle.break_rules.specs.Lists.{Has, Sorted}
+use Rattle.break_rules.proofs.Lists.{any_at, any_some, same_tests}
 use Rattle.break_rules.proofs.LegalLists.{same_break_decides}
-use Rattle.break_rules.proofs.Ordered.{Sorted, Sorted-filter, Sorted-breaks, IsLessBreak}
+use Rattle.break_rules.proofs.Ordered.{Sorted-filter, Sorted-breaks, IsLessBreak}
 use Rattle.break_rules.proofs.Steps.{has_next, from_next}
 use Rattle.break_rules.proofs.Reaching.{is_walk-more}
 

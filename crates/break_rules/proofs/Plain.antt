@@ -7,7 +7,7 @@ use Rattle.std.proofs.lemmas.List.Sums.{sum_by-cons}
 use Rattle.break_rules.specs.declared.Break.{Break}
 use Rattle.break_rules.specs.Breaks.{same_break, is_legal, legal_lists}
 use Rattle.break_rules.specs.Plain.{plain_rule}
-use Rattle.break_rules.proofs.Lists.{Has}
+use Rattle.break_rules.specs.Lists.{Has}
 use Rattle.break_rules.proofs.LegalLists.{legal_from, legal_parts, legal_in_order, no_rest, from_legal_lists}
 use Rattle.break_rules.proofs.Once.{once_legal}
 

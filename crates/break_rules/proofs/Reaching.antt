@@ -13,7 +13,8 @@ use Rattle.break_rules.specs.Breaks.{end_of, is_legal, is_live, total_of, is_lun
 use Rattle.break_rules.specs.Ranges.{IsRule}
 use Rattle.break_rules.specs.Walk.{end_of_all, may_follow, is_walk, is_walk_from, may_end, nexts_of, spot_of}
 use Rattle.break_rules.specs.Live.{place_of, AreKnown, AreLive}
-use Rattle.break_rules.proofs.Lists.{Has, same_tests}
+use Rattle.break_rules.specs.Lists.{Has}
+use Rattle.break_rules.proofs.Lists.{same_tests}
 use Rattle.break_rules.proofs.Walk.{legal_is_walk}
 use Rattle.break_rules.proofs.LegalLists.{live_rest, live_from}
 use Rattle.break_rules.proofs.Steps.{bounds, total_small, has_next, from_next}

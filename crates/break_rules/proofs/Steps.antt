@@ -14,7 +14,8 @@ use Rattle.break_rules.specs.Breaks.{end_of, has_work, is_lunch, is_lunched, is_
 use Rattle.break_rules.specs.Ranges.{IsRule, IsTotal}
 use Rattle.break_rules.specs.Next.{IsAt, shortest_of}
 use Rattle.break_rules.specs.Walk.{breaks_left, may_follow, nexts_of, spot_of, end_of_all, bits_of, is_walk}
-use Rattle.break_rules.proofs.Lists.{Has, Has-flat_map, Has-map, Has-filter, Has-range, from_filter}
+use Rattle.break_rules.specs.Lists.{Has}
+use Rattle.break_rules.proofs.Lists.{Has-flat_map, Has-map, Has-filter, Has-range, from_filter}
 use Rattle.break_rules.proofs.Walk.{follows_parts, legal_by_end, follows_from}
 use Rattle.break_rules.proofs.Bits.{bits_same, bits_or}
 

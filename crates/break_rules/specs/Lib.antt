@@ -1,3 +1,4 @@
+pub mod Lists
 pub mod Breaks
 pub mod Sums
 pub mod Bonuses

@@ -11,7 +11,8 @@ use Rattle.break_rules.specs.declared.Break.{Break}
 use Rattle.break_rules.specs.declared.Rule.{Rule}
 use Rattle.break_rules.specs.Breaks.{is_legal, is_live, legal_lists, works_at}
 use Rattle.break_rules.specs.Sums.{int_sum_by, greatest}
-use Rattle.break_rules.proofs.Lists.{Has, Has-map, from_map, from_below}
+use Rattle.break_rules.specs.Lists.{Has}
+use Rattle.break_rules.proofs.Lists.{Has-map, from_map, from_below}
 use Rattle.break_rules.proofs.Sums.{int_sum_by-same, greatest_bounds, greatest_reached}
 use Rattle.break_rules.proofs.LegalLists.{from_legal_lists, live_from, live_rest}
 use Rattle.shift_instance.specs.declared.Shift.{Shift}

@@ -9,7 +9,8 @@ use Rattle.break_rules.specs.declared.Rule.{Rule}
 use Rattle.break_rules.specs.declared.Spot.{Spot}
 use Rattle.break_rules.specs.Breaks.{is_live}
 use Rattle.break_rules.specs.Walk.{end_of_all, nexts_of, spot_of, is_walk}
-use Rattle.break_rules.proofs.Lists.{Has, from_filter}
+use Rattle.break_rules.specs.Lists.{Has}
+use Rattle.break_rules.proofs.Lists.{from_filter}
 use Rattle.break_rules.proofs.FirstList.{nearer}
 use Rattle.break_rules.proofs.Reaching.{walk_on}
 use Rattle.break_graph.specs.declared.Edge.{Edge}

@@ -8,7 +8,8 @@ use Rattle.break_rules.specs.declared.Break.{Break}
 use Rattle.break_rules.specs.declared.Rule.{Rule}
 use Rattle.break_rules.specs.Breaks.{begins_with, same_break, is_legal}
 use Rattle.break_rules.specs.Ranges.{IsRule}
-use Rattle.break_rules.proofs.Lists.{Has, any_at, any_none, any_some, same_tests}
+use Rattle.break_rules.specs.Lists.{Has}
+use Rattle.break_rules.proofs.Lists.{any_at, any_none, any_some, same_tests}
 use Rattle.break_rules.proofs.Sums.{int_sum_by-same, int_sum_by_zero}
 use Rattle.break_rules.proofs.LegalLists.{same_break_decides, no_longer_list}
 use Rattle.head_splits.specs.declared.Cut.{Cut}

@@ -10,7 +10,7 @@ use Rattle.break_rules.specs.declared.Break.{Break}
 use Rattle.break_rules.specs.declared.Rule.{Rule}
 use Rattle.break_rules.specs.Ranges.{IsRule}
 use Rattle.break_rules.specs.Walk.{end_of_all}
-use Rattle.break_rules.proofs.Lists.{Has}
+use Rattle.break_rules.specs.Lists.{Has}
 use Rattle.break_rules.proofs.Sizes.{abs_add}
 use Rattle.break_graph.specs.declared.Edge.{Edge}
 use Rattle.break_graph.specs.declared.Node.{Node}

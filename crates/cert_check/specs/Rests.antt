@@ -4,7 +4,7 @@ use Rattle.std.specs.Int.{int_max}
 use Rattle.break_rules.specs.declared.Break.{Break}
 use Rattle.break_rules.specs.declared.Rule.{Rule}
 use Rattle.break_rules.specs.Walk.{end_of_all}
-use Rattle.break_rules.proofs.Lists.{Has}
+use Rattle.break_rules.specs.Lists.{Has}
 use Rattle.break_graph.specs.declared.Node.{Node}
 use Rattle.break_graph.specs.Graph.{StandsAt}
 use Rattle.price_sums.specs.Along.{sum_at, price_in, resumes, earned_from, Completes}

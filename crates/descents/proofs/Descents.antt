@@ -11,7 +11,7 @@ use Rattle.break_rules.specs.declared.Break.{Break}
 use Rattle.break_rules.specs.Causes.{first_cause}
 use Rattle.break_rules.proofs.Causes.{NoCause, no_cause, none_from_no_cause}
 use Rattle.break_rules.proofs.Counts.{count_by-append}
-use Rattle.break_rules.proofs.Lists.{Has}
+use Rattle.break_rules.specs.Lists.{Has}
 use Rattle.shift_instance.specs.declared.Duty.{Duty}
 use Rattle.shift_instance.specs.declared.Row.{Row}
 use Rattle.shift_instance.specs.Problem.{Problem, shift_list}

@@ -7,8 +7,9 @@ use Rattle.std.proofs.lemmas.Int.{ints}
 use Rattle.std.proofs.lemmas.Bool.{cases_Bool, false≢true}
 use Rattle.std.proofs.Common.{arith}
 use Rattle.break_rules.specs.declared.Break.{Break}
-use Rattle.break_rules.proofs.Lists.{Has, any_some, any_none}
-use Rattle.break_rules.proofs.Ordered.{Sorted, IsLess}
+use Rattle.break_rules.specs.Lists.{Has, Sorted}
+use Rattle.break_rules.proofs.Lists.{any_some, any_none}
+use Rattle.break_rules.proofs.Ordered.{IsLess}
 use Rattle.shift_instance.specs.Problem.{Problem, shift_list}
 use Rattle.shift_instance.specs.Rota.{is_list_of, lists_of}
 use Rattle.shift_instance.specs.Valid.{IsValid}

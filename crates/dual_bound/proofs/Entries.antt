@@ -4,7 +4,8 @@ use Rattle.std.specs.Int.RustNames.{unsigned_abs}
 use Rattle.std.specs.List.{list_all, zip, filter}
 use Rattle.std.proofs.lemmas.List.Elements.{All-nil, All-cons}
 use Rattle.break_rules.specs.declared.Break.{Break}
-use Rattle.break_rules.proofs.Lists.{Has, from_map, from_filter, all_at}
+use Rattle.break_rules.specs.Lists.{Has}
+use Rattle.break_rules.proofs.Lists.{from_map, from_filter, all_at}
 use Rattle.head_splits.specs.declared.Cut.{Cut}
 use Rattle.head_splits.specs.Bound.{is_nil, signed_price, entries_of, is_cut_price}
 use Rattle.bound_sums.proofs.Pairs.{pairs_from, pairs_next}

@@ -6,8 +6,9 @@ use Rattle.std.proofs.lemmas.Int.{ints}
 use Rattle.std.proofs.lemmas.Bool.{cases_Bool, false≢true}
 use Rattle.break_rules.specs.declared.Break.{Break}
 use Rattle.break_rules.specs.Sums.{int_sum_by}
-use Rattle.break_rules.proofs.Lists.{Has, any_some, any_none}
-use Rattle.break_rules.proofs.Ordered.{Sorted, IsLess}
+use Rattle.break_rules.specs.Lists.{Has, Sorted}
+use Rattle.break_rules.proofs.Lists.{any_some, any_none}
+use Rattle.break_rules.proofs.Ordered.{IsLess}
 use Rattle.shift_instance.specs.declared.Duty.{Duty}
 use Rattle.shift_instance.specs.Problem.{Problem, slots, shift_list, below}
 use Rattle.shift_instance.specs.Rota.{lists_of, is_list_of, works}

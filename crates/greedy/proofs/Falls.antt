@@ -14,7 +14,8 @@ use Rattle.break_rules.specs.declared.Break.{Break}
 use Rattle.break_rules.specs.declared.Rule.{Rule}
 use Rattle.break_rules.specs.Breaks.{works_at}
 use Rattle.break_rules.specs.Sums.{int_sum_by}
-use Rattle.break_rules.proofs.Lists.{Has, from_below, any_some, any_none, any_at, same_tests}
+use Rattle.break_rules.specs.Lists.{Has}
+use Rattle.break_rules.proofs.Lists.{from_below, any_some, any_none, any_at, same_tests}
 use Rattle.break_rules.proofs.Counts.{count_by-append, count_by_same, count_by_none, sum_by_same, count_by_at_most, count_by-below}
 use Rattle.break_rules.proofs.Sums.{int_sum_by-cons, int_sum_by-same, int_sum_by-add, int_sum_by_swap, int_sum_by_if, int_sum_by_zero, mul-suc, mul-zero}
 use Rattle.shift_instance.specs.declared.Shift.{Shift}

@@ -4,7 +4,8 @@ use Rattle.std.specs.Prelude.{int_lt}
 use Rattle.std.specs.List.{list_any, find, range_with_len}
 use Rattle.std.proofs.lemmas.Int.{ints}
 use Rattle.std.proofs.lemmas.Bool.{and_from, cases_Bool, cases_eq}
-use Rattle.break_rules.proofs.Lists.{Has, Has-below, from_below, any_at, any_some}
+use Rattle.break_rules.specs.Lists.{Has}
+use Rattle.break_rules.proofs.Lists.{Has-below, from_below, any_at, any_some}
 use Rattle.shift_instance.specs.Problem.{below}
 use Rattle.greedy.specs.Greedy.{first_greatest}
 use Rattle.greedy.specs.Drafts.{Leads}

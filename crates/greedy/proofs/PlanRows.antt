@@ -2,7 +2,8 @@
 use Rattle.std.proofs.Common.{◌≡◌, inl, inr, ◌*◌, true, cond, List, filter, drop, replicate, sym, ap, ◌∙◌, subst, arith, nat_lt, nat_le}
 use Rattle.std.specs.List.{flat_map, list_all, zip, count_by}
 use Rattle.std.proofs.lemmas.Bool.{and_parts, and_from, cases_Bool}
-use Rattle.break_rules.proofs.Lists.{Has, from_map, from_flat_map, from_filter, from_replicate, all_at, all_from}
+use Rattle.break_rules.specs.Lists.{Has}
+use Rattle.break_rules.proofs.Lists.{from_map, from_flat_map, from_filter, from_replicate, all_at, all_from}
 use Rattle.break_rules.proofs.Counts.{sum_by_same, sum_by_if, count_by-flat_map, count_by-replicate}
 use Rattle.break_rules.proofs.Once.{cond_same}
 use Rattle.break_rules.proofs.Ordered.{Sorted-map, Sorted-filter}

@@ -8,7 +8,8 @@ use Rattle.std.proofs.lemmas.Bool.{and_parts, and_from, ltb-true, lt-ltb, le-leb
 use Rattle.std.proofs.lemmas.List.Sums.{sum_by-cons}
 use Rattle.break_rules.specs.declared.Break.{Break}
 use Rattle.break_rules.specs.Sums.{int_sum_by}
-use Rattle.break_rules.proofs.Lists.{Has, Has-map, from_map, from_filter, Has-filter, from_below, Has-append_cases, all_at, all_from, any_some, any_none}
+use Rattle.break_rules.specs.Lists.{Has}
+use Rattle.break_rules.proofs.Lists.{Has-map, from_map, from_filter, Has-filter, from_below, Has-append_cases, all_at, all_from, any_some, any_none}
 use Rattle.break_rules.proofs.Counts.{count_by-append, count_by-map, count_by_same, count_by_none, count_by-below}
 use Rattle.break_rules.proofs.Once.{count_by_and}
 use Rattle.break_rules.proofs.Sums.{int_sum_by-same, int_sum_by_zero}

@@ -5,9 +5,10 @@ use Rattle.std.proofs.lemmas.Bool.{and_parts, or_cases, eqb-true, ltb-true, lt-l
 use Rattle.std.proofs.lemmas.List.Sums.{sum_by_push}
 use Rattle.break_rules.specs.Breaks.{is_less_list}
 use Rattle.break_rules.specs.declared.Break.{Break}
-use Rattle.break_rules.proofs.Lists.{Has, from_map, from_filter, same_tests}
+use Rattle.break_rules.specs.Lists.{Has, Sorted}
+use Rattle.break_rules.proofs.Lists.{from_map, from_filter, same_tests}
 use Rattle.break_rules.proofs.Counts.{Has-from_count}
-use Rattle.break_rules.proofs.Ordered.{Sorted, less_apart}
+use Rattle.break_rules.proofs.Ordered.{less_apart}
 use Rattle.shift_instance.specs.declared.Duty.{Duty}
 use Rattle.shift_instance.specs.declared.Row.{Row}
 use Rattle.shift_instance.specs.Problem.{Problem}

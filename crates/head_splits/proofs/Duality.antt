@@ -10,7 +10,8 @@ use Rattle.std.proofs.Math.Nat.{mul-le-mul_left, mul-le-mul_right, mul_assoc, mu
 use Rattle.break_rules.specs.declared.Break.{Break}
 use Rattle.break_rules.specs.Breaks.{begins_with, same_list}
 use Rattle.std.proofs.Math.Bool.{and-true}
-use Rattle.break_rules.proofs.Lists.{Has, Has-map, all_at, any_some, any_none, from_below}
+use Rattle.break_rules.specs.Lists.{Has}
+use Rattle.break_rules.proofs.Lists.{Has-map, all_at, any_some, any_none, from_below}
 use Rattle.break_rules.proofs.LegalLists.{same_list_decides}
 use Rattle.shift_instance.specs.declared.Duty.{Duty}
 use Rattle.shift_instance.specs.Problem.{Problem, slots, need_at, shift_list, below}

@@ -8,7 +8,8 @@ use Rattle.std.proofs.lemmas.List.{take-append-drop, append-nil}
 use Rattle.break_rules.specs.declared.Break.{Break}
 use Rattle.break_rules.specs.declared.Rule.{Rule}
 use Rattle.break_rules.specs.Breaks.{is_legal, same_list, begins_with}
-use Rattle.break_rules.proofs.Lists.{Has, from_map, from_flat_map, all_at, all_from, any_some, from_replicate}
+use Rattle.break_rules.specs.Lists.{Has}
+use Rattle.break_rules.proofs.Lists.{from_map, from_flat_map, all_at, all_from, any_some, from_replicate}
 use Rattle.break_rules.proofs.Counts.{count_by_same, count_by_at_most, sum_by_same, sum_by_if, count_by-flat_map, count_by-replicate}
 use Rattle.break_rules.proofs.LegalLists.{begins_rest, begins_from, no_longer_list, same_list_decides}
 use Rattle.break_rules.proofs.Once.{cond_same}

@@ -6,9 +6,10 @@ use Rattle.break_rules.specs.declared.Break.{Break}
 use Rattle.break_rules.specs.declared.Rule.{Rule}
 use Rattle.break_rules.specs.Breaks.{same_break, is_less_break, is_less_list, is_legal, is_live, legal_lists, breaks_between, begins_with}
 use Rattle.break_rules.specs.Walk.{may_follow, nexts_of, spot_of}
-use Rattle.break_rules.proofs.Lists.{Has, from_flat_map, Has-flat_map, from_filter, Has-filter}
+use Rattle.break_rules.specs.Lists.{Has, Sorted}
+use Rattle.break_rules.proofs.Lists.{from_flat_map, Has-flat_map, from_filter, Has-filter}
 use Rattle.break_rules.proofs.LegalLists.{begins_rest, begins_from, no_longer_list, same_break_decides, from_legal_lists, Has-legal_lists}
-use Rattle.break_rules.proofs.Ordered.{Sorted, Sorted-filter, Sorted-flat_map, Sorted-breaks, Sorted-legal_lists, IsLess, IsLessBreak, less_apart}
+use Rattle.break_rules.proofs.Ordered.{Sorted-filter, Sorted-flat_map, Sorted-breaks, Sorted-legal_lists, IsLess, IsLessBreak, less_apart}
 use Rattle.break_rules.proofs.Reaching.{rest_first}
 use Rattle.break_graph.specs.Graph.{live_nexts}
 

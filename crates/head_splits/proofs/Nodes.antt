@@ -3,7 +3,8 @@ use Rattle.std.proofs.Common.{◌≡◌, ◌⊎◌, inl, inr, ℕ, zero, suc, �
 use Rattle.std.specs.Prelude.{slice_get}
 use Rattle.std.proofs.lemmas.Bool.{and_parts, and_from, le-leb, cases_lt, cond_both}
 use Rattle.std.proofs.lemmas.List.Folds.{list_all-append}
-use Rattle.break_rules.proofs.Lists.{Has, Has-append_left, Has-append_right, Has-append_cases}
+use Rattle.break_rules.specs.Lists.{Has}
+use Rattle.break_rules.proofs.Lists.{Has-append_left, Has-append_right, Has-append_cases}
 use Rattle.shift_instance.specs.declared.Duty.{Duty}
 use Rattle.shift_instance.specs.Problem.{Problem}
 use Rattle.shift_instance.specs.declared.TheConstants.{TOP}

@@ -9,7 +9,8 @@ use Rattle.std.proofs.lemmas.List.{take-append-drop, take_all}
 use Rattle.break_rules.specs.declared.Break.{Break}
 use Rattle.break_rules.specs.declared.Rule.{Rule}
 use Rattle.break_rules.specs.Breaks.{is_legal, is_live, live_lists, same_list, break_lists, end_of}
-use Rattle.break_rules.proofs.Lists.{Has, Has-map, from_map, Has-flat_map, Has-filter, any_at, Has-below}
+use Rattle.break_rules.specs.Lists.{Has}
+use Rattle.break_rules.proofs.Lists.{Has-map, from_map, Has-flat_map, Has-filter, any_at, Has-below}
 use Rattle.break_rules.proofs.LegalLists.{StandInOrder, legal_in_order, live_from, live_rest, Has-all_lists, same_list_decides, short}
 use Rattle.shift_instance.specs.declared.Shift.{Shift}
 use Rattle.shift_instance.specs.Problem.{Problem, shift_list, below}

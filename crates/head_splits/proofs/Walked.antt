@@ -13,7 +13,8 @@ use Rattle.break_rules.specs.declared.Break.{Break}
 use Rattle.break_rules.specs.declared.Rule.{Rule}
 use Rattle.break_rules.specs.Breaks.{is_legal, legal_lists, begins_with}
 use Rattle.break_rules.proofs.LegalLists.{begins_rest}
-use Rattle.break_rules.proofs.Lists.{Has, Has-map, from_map, from_filter, any_at, any_some, Has-below, from_below}
+use Rattle.break_rules.specs.Lists.{Has}
+use Rattle.break_rules.proofs.Lists.{Has-map, from_map, from_filter, any_at, any_some, Has-below, from_below}
 use Rattle.break_rules.proofs.Reaching.{find_none}
 use Rattle.list_walks.specs.declared.steps.Standing.{Standing}
 use Rattle.list_walks.specs.declared.steps.Way.{Way}

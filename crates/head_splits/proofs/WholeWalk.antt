@@ -7,7 +7,8 @@ use Rattle.std.proofs.lemmas.Bool.{cases_Bool, false≢true}
 use Rattle.std.proofs.lemmas.Grind.{flat_map-append}
 use Rattle.break_rules.specs.declared.Break.{Break}
 use Rattle.break_rules.specs.Breaks.{is_live, legal_lists, begins_with}
-use Rattle.break_rules.proofs.Lists.{Has, all_from, all_at}
+use Rattle.break_rules.specs.Lists.{Has}
+use Rattle.break_rules.proofs.Lists.{all_from, all_at}
 use Rattle.break_rules.proofs.LegalLists.{from_legal_lists, live_from}
 use Rattle.break_rules.proofs.FirstList.{find_has, find_none_at}
 use Rattle.list_walks.specs.Stands.{Walks}

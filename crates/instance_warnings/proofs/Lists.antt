@@ -3,7 +3,8 @@ use Rattle.std.proofs.Common.{◌≡◌, inl, inr, ℕ, ◌+◌, ◌<◌, ◌≤
 use Rattle.std.specs.List.{list_any, range_with_len}
 use Rattle.std.proofs.lemmas.Bool.{cases_Bool, false≢true}
 use Rattle.std.proofs.lemmas.List.Sums.{sum_by-cons}
-use Rattle.break_rules.proofs.Lists.{Has, any_some, any_at, Has-range, from_range}
+use Rattle.break_rules.specs.Lists.{Has}
+use Rattle.break_rules.proofs.Lists.{any_some, any_at, Has-range, from_range}
 use Rattle.shift_instance.proofs.Ranges.{below_next}
 use Rattle.shift_instance.specs.Problem.{below}
 

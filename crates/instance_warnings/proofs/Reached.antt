@@ -8,7 +8,8 @@ use Rattle.std.proofs.lemmas.Bool.{cases_Bool, cases_eq, ne_eqb, false≢true, a
 use Rattle.std.proofs.lemmas.Int.{ints}
 use Rattle.std.proofs.lemmas.List.Elements.{All-set, All-replicate, All-nil, All-cons, All-head, All-tail, All-filter}
 use Rattle.break_rules.specs.declared.Break.{Break}
-use Rattle.break_rules.proofs.Lists.{Has, any_at, any_some, from_below}
+use Rattle.break_rules.specs.Lists.{Has}
+use Rattle.break_rules.proofs.Lists.{any_at, any_some, from_below}
 use Rattle.break_rules.proofs.Sums.{int_sum_by-same, int_sum_by_pick_below}
 use Rattle.price_sums.specs.Along.{AreSmallPrices}
 use Rattle.shift_instance.specs.declared.Duty.{Duty}

@@ -14,7 +14,8 @@ use Rattle.break_rules.specs.Breaks.{end_of, is_legal, is_live}
 use Rattle.break_rules.specs.Ranges.{IsRule}
 use Rattle.break_rules.specs.Walk.{end_of_all, nexts_of, spot_of}
 use Rattle.break_rules.proofs.LegalLists.{live_rest, no_longer_list}
-use Rattle.break_rules.proofs.Lists.{Has, Has-map, Has-filter, from_filter}
+use Rattle.break_rules.specs.Lists.{Has}
+use Rattle.break_rules.proofs.Lists.{Has-map, Has-filter, from_filter}
 use Rattle.break_rules.proofs.Reaching.{live_cases, live_walks, walk_small}
 use Rattle.break_rules.proofs.Steps.{bounds, from_next}
 use Rattle.break_graph.specs.declared.Node.{Node}

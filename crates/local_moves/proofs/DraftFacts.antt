@@ -6,7 +6,7 @@ use Rattle.std.proofs.lemmas.List.Sums.{sum_by-cons, sum_by_push}
 use Rattle.std.proofs.lemmas.Nat.{mul-add-lt}
 use Rattle.std.proofs.Math.Nat.{mul-le-mul}
 use Rattle.break_rules.proofs.Counts.{count_by_at_most}
-use Rattle.break_rules.proofs.Ordered.{Sorted}
+use Rattle.break_rules.specs.Lists.{Sorted}
 use Rattle.shift_instance.specs.declared.Duty.{Duty}
 use Rattle.shift_instance.specs.declared.Row.{Row}
 use Rattle.shift_instance.specs.Problem.{Problem, shift_list}

@@ -12,7 +12,8 @@ use Rattle.break_rules.specs.Breaks.{is_legal}
 use Rattle.break_rules.specs.Causes.{first_cause}
 use Rattle.break_rules.proofs.Causes.{no_cause}
 use Rattle.break_rules.proofs.Counts.{count_by_none, count_by_same, count_by_at_most, count_by-map, any_by_count, any_from_count}
-use Rattle.break_rules.proofs.Lists.{Has, Has-below, from_filter, from_map}
+use Rattle.break_rules.specs.Lists.{Has}
+use Rattle.break_rules.proofs.Lists.{Has-below, from_filter, from_map}
 use Rattle.shift_instance.specs.declared.Duty.{Duty}
 use Rattle.shift_instance.specs.declared.Row.{Row}
 use Rattle.shift_instance.specs.declared.Shift.{Shift}

@@ -5,8 +5,8 @@ use Rattle.std.proofs.lemmas.Bool.{or_cases, or_left, or_right, and_parts, and_f
 use Rattle.break_rules.specs.declared.Break.{Break}
 use Rattle.break_rules.specs.Breaks.{same_break, is_less_break, is_less_list}
 use Rattle.break_rules.proofs.LegalLists.{same_break_decides}
-use Rattle.break_rules.proofs.Lists.{Has}
-use Rattle.break_rules.proofs.Ordered.{Sorted, less_apart}
+use Rattle.break_rules.specs.Lists.{Has, Sorted}
+use Rattle.break_rules.proofs.Ordered.{less_apart}
 use Rattle.shift_instance.specs.declared.Duty.{Duty}
 use Rattle.shift_instance.specs.declared.Row.{Row}
 use Rattle.shift_instance.specs.Rota.{same_duty, duty_of, is_before}

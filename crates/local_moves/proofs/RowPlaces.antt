@@ -4,8 +4,7 @@ use Rattle.std.specs.Prelude.{slice_get}
 use Rattle.std.specs.List.{list_all}
 use Rattle.std.proofs.lemmas.Bool.{cases_Bool, cases_lt, false≢true, ltb-true, lt-ltb, le-ltb, and_parts}
 use Rattle.break_rules.proofs.Counts.{count_by-append, count_by-replicate}
-use Rattle.break_rules.proofs.Lists.{Has}
-use Rattle.break_rules.proofs.Ordered.{Sorted}
+use Rattle.break_rules.specs.Lists.{Has, Sorted}
 use Rattle.shift_instance.specs.declared.Duty.{Duty}
 use Rattle.shift_instance.specs.declared.Row.{Row}
 use Rattle.shift_instance.specs.Rota.{same_duty, count_of, duty_of, rota_of, is_before}

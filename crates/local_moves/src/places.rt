@@ -1,6 +1,6 @@
 //! Duties among rows that stand in order.
 ghost use Rattle.std.specs.Prelude.{◌≡◌, ◌+◌, ◌≤◌, ◌<◌, All, length, vec_capacity, vec_len};
-ghost use Rattle.break_rules.proofs.Ordered.{Sorted};
+ghost use Rattle.break_rules.specs.Lists.{Sorted};
 ghost use Rattle.shift_instance.specs.Rota.{count_of, rota_of};
 ghost use Rattle.greedy.specs.Drafts.{with_one_more};
 ghost use Rattle.shift_instance.specs.AllDuties.{row_of};

@@ -14,7 +14,8 @@ use Rattle.break_rules.specs.declared.Spot.{Spot}
 use Rattle.break_rules.specs.Breaks.{is_legal, is_live, works_at}
 use Rattle.break_rules.specs.Ranges.{IsRule}
 use Rattle.break_rules.specs.Walk.{end_of_all, spot_of, nexts_of}
-use Rattle.break_rules.proofs.Lists.{Has, Has-append_cases, Has-append_left, Has-append_right, from_range}
+use Rattle.break_rules.specs.Lists.{Has}
+use Rattle.break_rules.proofs.Lists.{Has-append_cases, Has-append_left, Has-append_right, from_range}
 use Rattle.break_rules.proofs.LegalLists.{live_rest, live_from}
 use Rattle.break_rules.proofs.Reaching.{rest_first}
 use Rattle.break_rules.proofs.Sums.{int_sum_by-same}

@@ -8,7 +8,8 @@ use Rattle.break_rules.specs.Breaks.{is_legal, is_live, begins_with}
 use Rattle.break_rules.specs.Bonuses.{bonus_of}
 use Rattle.break_rules.specs.Ranges.{IsRule}
 use Rattle.std.specs.Prelude.{Result, Ok, Err, IfOk}
-use Rattle.break_rules.proofs.Lists.{Has, any_some}
+use Rattle.break_rules.specs.Lists.{Has}
+use Rattle.break_rules.proofs.Lists.{any_some}
 use Rattle.break_rules.proofs.LegalLists.{live_from}
 use Rattle.pricing.specs.declared.found.Found.{Found}
 use Rattle.price_sums.specs.Along.{Completes, price_in, earned_from}

@@ -15,9 +15,10 @@ use Rattle.break_rules.specs.declared.Rule.{Rule}
 use Rattle.break_rules.specs.Breaks.{end_of, is_legal, is_live, is_less_break, is_less_list, same_break}
 use Rattle.break_rules.specs.Ranges.{IsRule}
 use Rattle.break_rules.specs.Walk.{end_of_all, nexts_of, spot_of}
-use Rattle.break_rules.proofs.Lists.{Has, Has-append_cases, Has-map, from_map, Has-filter}
+use Rattle.break_rules.specs.Lists.{Has, Sorted}
+use Rattle.break_rules.proofs.Lists.{Has-append_cases, Has-map, from_map, Has-filter}
 use Rattle.break_rules.proofs.LegalLists.{no_longer_list}
-use Rattle.break_rules.proofs.Ordered.{Sorted, Sorted-filter, Sorted-breaks, IsLessBreak}
+use Rattle.break_rules.proofs.Ordered.{Sorted-filter, Sorted-breaks, IsLessBreak}
 use Rattle.break_rules.proofs.Reaching.{rest_first, has_middle}
 use Rattle.break_rules.proofs.Steps.{bounds, from_next}
 use Rattle.break_graph.specs.declared.Edge.{Edge}

@@ -9,7 +9,8 @@ use Rattle.break_rules.specs.declared.Break.{Break}
 use Rattle.break_rules.specs.Breaks.{begins_with}
 use Rattle.break_rules.specs.Bonuses.{share_of, bonus_of}
 use Rattle.break_rules.proofs.Sums.{int_sum_by-same}
-use Rattle.break_rules.proofs.Lists.{Has, Has-map, Has-append_cases, Has-append_left, Has-append_right, any_at, any_some}
+use Rattle.break_rules.specs.Lists.{Has}
+use Rattle.break_rules.proofs.Lists.{Has-map, Has-append_cases, Has-append_left, Has-append_right, any_at, any_some}
 use Rattle.break_rules.proofs.LegalLists.{begins_from}
 use Rattle.pricing.specs.Found.{leads_further}
 use Rattle.pricing.specs.Keeping.{IsBeginning, HaveFirst, AreBeginnings}

@@ -8,9 +8,9 @@ use Rattle.break_rules.specs.declared.Rule.{Rule}
 use Rattle.break_rules.specs.declared.Spot.{Spot}
 use Rattle.break_rules.specs.Breaks.{is_legal, is_live, is_less_list, legal_lists}
 use Rattle.break_rules.specs.Walk.{is_walk, spot_of}
-use Rattle.break_rules.proofs.Lists.{Has}
+use Rattle.break_rules.specs.Lists.{Has, Sorted}
 use Rattle.break_rules.proofs.LegalLists.{Has-legal_lists, from_legal_lists}
-use Rattle.break_rules.proofs.Ordered.{Sorted, IsLess, Sorted-legal_lists}
+use Rattle.break_rules.proofs.Ordered.{IsLess, Sorted-legal_lists}
 use Rattle.price_sums.specs.Along.{price_in, earned_from}
 use Rattle.break_layers.specs.Rests.{IsBestFrom, IsBestList, IsMostEarned, Priced, rest_worth}
 use Rattle.break_layers.proofs.Following.{best_whole, none_legal}

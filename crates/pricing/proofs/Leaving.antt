@@ -8,7 +8,8 @@ use Rattle.break_rules.specs.declared.Rule.{Rule}
 use Rattle.break_rules.specs.Breaks.{is_legal, begins_with}
 use Rattle.break_rules.specs.Ranges.{IsRule}
 use Rattle.break_rules.specs.Walk.{end_of_all}
-use Rattle.break_rules.proofs.Lists.{Has, any_none, same_tests}
+use Rattle.break_rules.specs.Lists.{Has}
+use Rattle.break_rules.proofs.Lists.{any_none, same_tests}
 use Rattle.break_rules.proofs.LegalLists.{begins_rest, begins_from}
 use Rattle.break_rules.proofs.Sums.{int_sum_by-same}
 use Rattle.break_rules.specs.Bonuses.{bonus_of, share_of}

@@ -6,7 +6,8 @@ use Rattle.std.proofs.lemmas.Int.{ints}
 use Rattle.std.proofs.lemmas.Bool.{cond_both}
 use Rattle.std.specs.Prelude.{int_lt}
 use Rattle.std.proofs.lemmas.List.{take_more, take_all}
-use Rattle.break_rules.proofs.Lists.{Has, Has-append_cases}
+use Rattle.break_rules.specs.Lists.{Has}
+use Rattle.break_rules.proofs.Lists.{Has-append_cases}
 use Rattle.break_graph.specs.declared.Edge.{Edge}
 use Rattle.pricing.specs.Values.{IsMostReached}
 

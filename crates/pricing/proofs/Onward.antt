@@ -4,7 +4,8 @@ use Rattle.std.proofs.lemmas.Bool.{false≢true}
 use Rattle.break_rules.specs.declared.Break.{Break}
 use Rattle.break_rules.specs.Breaks.{is_legal, is_live}
 use Rattle.break_rules.specs.Ranges.{IsRule}
-use Rattle.break_rules.proofs.Lists.{Has, Has-append_cases}
+use Rattle.break_rules.specs.Lists.{Has}
+use Rattle.break_rules.proofs.Lists.{Has-append_cases}
 use Rattle.break_rules.proofs.LegalLists.{live_rest, no_longer_list}
 use Rattle.break_rules.proofs.Reaching.{rest_first, live_back, live_legal}
 use Rattle.break_layers.specs.Rests.{Priced}

@@ -12,7 +12,8 @@ use Rattle.break_rules.specs.declared.Spot.{Spot}
 use Rattle.break_rules.specs.Breaks.{same_list}
 use Rattle.break_rules.specs.Live.{place_of}
 use Rattle.break_rules.specs.Walk.{end_of_all, spot_of}
-use Rattle.break_rules.proofs.Lists.{Has, Has-append_cases, Has-append_left, Has-append_right, from_map, from_filter}
+use Rattle.break_rules.specs.Lists.{Has}
+use Rattle.break_rules.proofs.Lists.{Has-append_cases, Has-append_left, Has-append_right, from_map, from_filter}
 use Rattle.break_rules.proofs.LegalLists.{same_list_decides}
 use Rattle.break_graph.specs.declared.Node.{Node}
 use Rattle.break_graph.specs.Graph.{IsGraph, node_at}

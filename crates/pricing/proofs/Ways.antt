@@ -11,9 +11,10 @@ use Rattle.break_rules.specs.Breaks.{is_legal, is_live, is_less_break, is_less_l
 use Rattle.break_rules.specs.Bonuses.{bonus_of, share_of}
 use Rattle.break_rules.specs.Ranges.{IsRule}
 use Rattle.break_rules.specs.Walk.{end_of_all, nexts_of, spot_of}
-use Rattle.break_rules.proofs.Lists.{Has, Has-map, Has-append_cases, Has-append_left, Has-append_right, Has-filter, any_at, any_none, any_some, same_tests}
+use Rattle.break_rules.specs.Lists.{Has, Sorted}
+use Rattle.break_rules.proofs.Lists.{Has-map, Has-append_cases, Has-append_left, Has-append_right, Has-filter, any_at, any_none, any_some, same_tests}
 use Rattle.break_rules.proofs.LegalLists.{begins_from, begins_rest, same_break_decides, same_list_decides}
-use Rattle.break_rules.proofs.Ordered.{Sorted, IsLessBreak, less_apart}
+use Rattle.break_rules.proofs.Ordered.{IsLessBreak, less_apart}
 use Rattle.break_rules.proofs.Reaching.{rest_first}
 use Rattle.break_rules.proofs.Sums.{int_sum_by-same}
 use Rattle.break_rules.proofs.Sizes.{abs_add}

@@ -9,7 +9,7 @@ use Rattle.break_rules.specs.Walk.{spot_of}
 use Rattle.break_layers.specs.declared.ways.Way.{Way}
 use Rattle.break_layers.specs.Rests.{IsMostEarned, Priced}
 use Rattle.break_layers.specs.Ways.{live_stops}
-use Rattle.break_rules.proofs.Lists.{Has}
+use Rattle.break_rules.specs.Lists.{Has}
 use Rattle.break_graph.specs.declared.Edge.{Edge}
 use Rattle.break_graph.specs.declared.Node.{Node}
 use Rattle.break_graph.specs.Graph.{IsGraph, StandsAt, node_at}

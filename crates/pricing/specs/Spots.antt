@@ -6,7 +6,7 @@ use Rattle.break_rules.specs.declared.Rule.{Rule}
 use Rattle.break_rules.specs.declared.Spot.{Spot}
 use Rattle.break_rules.specs.Breaks.{is_live}
 use Rattle.break_rules.specs.Walk.{end_of_all, spot_of, is_walk}
-use Rattle.break_rules.proofs.Lists.{Has}
+use Rattle.break_rules.specs.Lists.{Has}
 use Rattle.shift_instance.specs.declared.Shift.{Shift}
 use Rattle.shift_instance.specs.Problem.{Problem, slot_of}
 use Rattle.shift_instance.specs.Worth.{price_of}

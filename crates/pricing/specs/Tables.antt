@@ -6,7 +6,7 @@ use Rattle.break_rules.specs.declared.Rule.{Rule}
 use Rattle.break_rules.specs.declared.Spot.{Spot}
 use Rattle.break_rules.specs.Bonuses.{bonus_of}
 use Rattle.break_rules.specs.Walk.{end_of_all, spot_of, is_walk}
-use Rattle.break_rules.proofs.Lists.{Has}
+use Rattle.break_rules.specs.Lists.{Has}
 use Rattle.shift_instance.specs.declared.Shift.{Shift}
 use Rattle.shift_instance.specs.Problem.{Problem, shift_list, slot_of}
 use Rattle.pricing.specs.Found.{leads_further}

@@ -4,7 +4,7 @@ ghost use Rattle.std.specs.Prelude.{◌≡◌, ◌==◌, ◌⊎◌, List, [], If
 ghost use Rattle.std.specs.List.{IsDistinct};
 ghost use Rattle.break_rules.specs.declared.Break.{Break};
 ghost use Rattle.break_rules.specs.Breaks.{same_list};
-ghost use Rattle.break_rules.proofs.Lists.{Has};
+ghost use Rattle.break_rules.specs.Lists.{Has};
 ghost use Rattle.pricing.specs.Keeping.{AreBeginnings, HaveFirst, IsBeginning, is_named};
 
 use break_rules::{Break, Breaks, NoMemory};

@@ -4,7 +4,7 @@ ghost use Rattle.std.specs.Prelude.{◌≡◌, ◌<◌, ◌≤◌, ℕ, List, []
 ghost use Rattle.std.specs.Int.{w64};
 ghost use Rattle.break_rules.specs.declared.Break.{Break};
 ghost use Rattle.break_rules.specs.Breaks.{is_legal};
-ghost use Rattle.break_rules.proofs.Lists.{Has};
+ghost use Rattle.break_rules.specs.Lists.{Has};
 ghost use Rattle.break_graph.specs.declared.Edge.{Edge};
 ghost use Rattle.break_graph.specs.Graph.{IsGraph, StandsAt};
 ghost use Rattle.shift_instance.specs.Problem.{shift_list};

@@ -5,7 +5,7 @@ ghost use Rattle.std.specs.Int.RustNames.{unsigned_abs};
 ghost use Rattle.break_rules.specs.declared.Break.{Break};
 ghost use Rattle.break_rules.specs.Breaks.{begins_with};
 ghost use Rattle.break_rules.specs.Ranges.{IsRule};
-ghost use Rattle.break_rules.proofs.Lists.{Has};
+ghost use Rattle.break_rules.specs.Lists.{Has};
 ghost use Rattle.break_graph.specs.Graph.{IsGraph};
 ghost use Rattle.break_rules.specs.Bonuses.{bonus_of};
 ghost use Rattle.shift_instance.specs.Problem.{shift_list, slots};

@@ -6,7 +6,7 @@ ghost use Rattle.break_rules.specs.declared.Break.{Break};
 ghost use Rattle.break_rules.specs.declared.Rule.{Rule};
 ghost use Rattle.break_rules.specs.Breaks.{is_legal, is_live};
 ghost use Rattle.break_rules.specs.Walk.{spot_of, nexts_of, is_walk};
-ghost use Rattle.break_rules.proofs.Lists.{Has};
+ghost use Rattle.break_rules.specs.Lists.{Has};
 ghost use Rattle.shift_instance.specs.declared.Shift.{Shift};
 ghost use Rattle.shift_instance.specs.Problem.{shift_list, slots};
 ghost use Rattle.price_sums.specs.Along.{sum_at, AreSmallPrices, ArePricesOf, Completes};

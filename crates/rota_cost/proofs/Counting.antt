@@ -4,7 +4,8 @@ use Rattle.std.specs.List.{list_all, zip}
 use Rattle.std.proofs.lemmas.Bool.{and_parts, false≢true}
 use Rattle.std.proofs.lemmas.List.Sums.{sum_by_more, sum_by_more_le}
 use Rattle.std.proofs.lemmas.List.{take_all}
-use Rattle.break_rules.proofs.Lists.{Has, Has-flat_map, all_at, from_below}
+use Rattle.break_rules.specs.Lists.{Has}
+use Rattle.break_rules.proofs.Lists.{Has-flat_map, all_at, from_below}
 use Rattle.break_rules.proofs.Counts.{sum_by_same}
 use Rattle.shift_instance.specs.declared.Duty.{Duty}
 use Rattle.shift_instance.specs.declared.Row.{Row}

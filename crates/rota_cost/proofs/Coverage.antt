@@ -10,7 +10,8 @@ use Rattle.std.proofs.lemmas.Nat.{mul-add-lt, div-mul-add}
 use Rattle.std.proofs.Math.Nat.{mul-le-mul, mul-le-mul_right}
 use Rattle.break_rules.specs.declared.Rule.{Rule}
 use Rattle.break_rules.specs.Breaks.{works_at}
-use Rattle.break_rules.proofs.Lists.{Has, any_some, any_none, from_below}
+use Rattle.break_rules.specs.Lists.{Has}
+use Rattle.break_rules.proofs.Lists.{any_some, any_none, from_below}
 use Rattle.break_rules.proofs.Counts.{count_by_none, count_by_at_most, count_by_same}
 use Rattle.shift_instance.specs.declared.Shift.{Shift}
 use Rattle.shift_instance.specs.declared.Duty.{Duty}

@@ -12,7 +12,8 @@ use Rattle.break_rules.specs.declared.Break.{Break}
 use Rattle.break_rules.specs.declared.Rule.{Rule}
 use Rattle.break_rules.specs.Breaks.{is_legal, is_live, total_in}
 use Rattle.break_rules.specs.Ranges.{IsRule, IsTotal}
-use Rattle.break_rules.proofs.Lists.{Has, Has-flat_map, all_at}
+use Rattle.break_rules.specs.Lists.{Has}
+use Rattle.break_rules.proofs.Lists.{Has-flat_map, all_at}
 use Rattle.break_rules.proofs.LegalLists.{legal_parts, live_rest}
 use Rattle.break_rules.proofs.Ranges.{ranges_from_none}
 use Rattle.shift_instance.specs.declared.Shift.{Shift}

@@ -2,7 +2,8 @@
 use Rattle.std.proofs.Common.{◌≡◌, ◌⊎◌, inl, inr, ℕ, ◌<◌, ◌≤◌, min, true, false, cond, not, List, [], ◌∷◌, get_or, refl, sym, ap, ◌∙◌, subst, arith, fold, nat_lt}
 use Rattle.std.proofs.lemmas.Bool.{cases_Bool, cases_lt, and_cases, and_from, and_parts, lt-ltb, not-true, ltb-false, false≢true}
 use Rattle.std.specs.Prelude.{Any}
-use Rattle.break_rules.proofs.Lists.{Has, all_at}
+use Rattle.break_rules.specs.Lists.{Has}
+use Rattle.break_rules.proofs.Lists.{all_at}
 use Rattle.shift_instance.specs.declared.Duty.{Duty}
 use Rattle.shift_instance.specs.Problem.{Problem}
 use Rattle.shift_instance.specs.Rota.{is_legal_rota, cost, rota_of}

@@ -7,10 +7,11 @@ use Rattle.std.proofs.lemmas.Bool.{and_parts, and_from, or_left, or_right, eqb-t
 use Rattle.break_rules.specs.declared.Break.{Break}
 use Rattle.break_rules.specs.declared.Rule.{Rule}
 use Rattle.break_rules.specs.Breaks.{is_legal, legal_lists, same_list, is_less_list}
-use Rattle.break_rules.proofs.Lists.{Has, from_map, Has-map, from_flat_map, Has-flat_map, Has-below, from_below}
+use Rattle.break_rules.specs.Lists.{Has, Sorted}
+use Rattle.break_rules.proofs.Lists.{from_map, Has-map, from_flat_map, Has-flat_map, Has-below, from_below}
 use Rattle.break_rules.proofs.Counts.{count_by_none, sum_by_same, count_by-flat_map, count_by-map, count_by-below}
 use Rattle.break_rules.proofs.Once.{once_legal, count_by_and, cond_same}
-use Rattle.break_rules.proofs.Ordered.{Sorted, Sorted-map, Sorted-flat_map, Sorted-range, IsLess, Sorted-legal_lists}
+use Rattle.break_rules.proofs.Ordered.{Sorted-map, Sorted-flat_map, Sorted-range, IsLess, Sorted-legal_lists}
 use Rattle.shift_instance.specs.declared.Shift.{Shift}
 use Rattle.shift_instance.specs.declared.Duty.{Duty}
 use Rattle.shift_instance.specs.Problem.{Problem, shift_list, below}

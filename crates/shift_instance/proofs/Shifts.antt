@@ -4,7 +4,8 @@ use Rattle.std.specs.Prelude.{slice_get, IsSomeAnd, ◌*◌, ◌%◌, ◌-◌}
 use Rattle.std.proofs.Math.Nat.{mul-le-mul_right}
 use Rattle.std.specs.List.{enumerate_from}
 use Rattle.break_rules.specs.declared.Rule.{Rule}
-use Rattle.break_rules.proofs.Lists.{Has, from_flat_map, from_map, from_range}
+use Rattle.break_rules.specs.Lists.{Has}
+use Rattle.break_rules.proofs.Lists.{from_flat_map, from_map, from_range}
 use Rattle.shift_instance.specs.declared.Shift.{Shift}
 use Rattle.shift_instance.specs.Kind.{Kind}
 use Rattle.shift_instance.specs.Valid.{IsValid, IsKind, IsShift}

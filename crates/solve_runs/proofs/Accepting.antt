@@ -8,7 +8,7 @@ use Rattle.std.specs.Prelude.{zip}
 use Rattle.std.specs.List.{AllByRecursion}
 use Rattle.std.proofs.lemmas.List.Elements.{All-from_recursion}
 use Rattle.break_rules.specs.Breaks.{is_live}
-use Rattle.break_rules.proofs.Lists.{Has}
+use Rattle.break_rules.specs.Lists.{Has}
 use Rattle.shift_instance.specs.declared.TheConstants.{TOP}
 use Rattle.shift_instance.specs.Problem.{Problem, slots, shift_list}
 use Rattle.shift_instance.specs.Valid.{IsValid}

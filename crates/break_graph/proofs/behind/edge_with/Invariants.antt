@@ -1,5 +1,5 @@
 use Rattle.std.proofs.Common.{◌≡◌, take}
-use Rattle.break_rules.proofs.Lists.{Has}
+use Rattle.break_rules.specs.Lists.{Has}
 use Rattle.break_graph.specs.declared.Edge.{Edge}
 use Rattle.break_graph.proofs.behind.edge_with.Given as goal
 

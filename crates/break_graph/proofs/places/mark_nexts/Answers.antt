@@ -2,7 +2,8 @@ use Rattle.std.proofs.Common.{◌≡◌, ◌++◌, [], ◌∷◌, inl, inr, sym,
 use Rattle.break_rules.specs.declared.Break.{Break}
 use Rattle.break_rules.specs.Live.{place_of}
 use Rattle.break_rules.specs.Walk.{nexts_of, spot_of}
-use Rattle.break_rules.proofs.Lists.{Has, Has-append_cases}
+use Rattle.break_rules.specs.Lists.{Has}
+use Rattle.break_rules.proofs.Lists.{Has-append_cases}
 use Rattle.break_rules.proofs.Steps.{from_next}
 use Rattle.break_rules.proofs.Reaching.{has_middle, walk_on}
 use Rattle.break_graph.proofs.Marks.{walk_front, place_small}

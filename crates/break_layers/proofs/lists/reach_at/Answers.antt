@@ -3,7 +3,7 @@ use Rattle.std.specs.Int.{w64}
 use Rattle.std.proofs.lemmas.Int.{to_z-of_z}
 use Rattle.break_rules.specs.declared.Spot.{Spot}
 use Rattle.break_rules.specs.Walk.{is_walk, nexts_of, spot_of}
-use Rattle.break_rules.proofs.Lists.{Has}
+use Rattle.break_rules.specs.Lists.{Has}
 use Rattle.break_rules.proofs.Reaching.{walk_on}
 use Rattle.break_rules.proofs.Steps.{from_next}
 use Rattle.price_sums.specs.Along.{sum_at}

@@ -3,7 +3,8 @@ use Rattle.std.proofs.lemmas.Bool.{false≢true, false_from_ne_true}
 use Rattle.break_rules.specs.declared.Break.{Break}
 use Rattle.break_rules.specs.Walk.{may_follow, nexts_of}
 use Rattle.break_rules.proofs.LegalLists.{same_break_decides}
-use Rattle.break_rules.proofs.Lists.{Has, Has-append_cases}
+use Rattle.break_rules.specs.Lists.{Has}
+use Rattle.break_rules.proofs.Lists.{Has-append_cases}
 use Rattle.break_rules.proofs.Reaching.{has_middle}
 use Rattle.break_rules.proofs.Steps.{from_next, has_next}
 use Rattle.break_layers.proofs.walks.may_come.Goals as goal

@@ -3,7 +3,8 @@ use Rattle.std.specs.List.{find}
 use Rattle.break_rules.specs.declared.Break.{Break}
 use Rattle.break_rules.specs.Breaks.{is_live}
 use Rattle.break_rules.specs.Walk.{nexts_of}
-use Rattle.break_rules.proofs.Lists.{Has, Has-append_cases}
+use Rattle.break_rules.specs.Lists.{Has}
+use Rattle.break_rules.proofs.Lists.{Has-append_cases}
 use Rattle.break_rules.proofs.Steps.{from_next}
 use Rattle.break_rules.proofs.Reaching.{has_middle, live_behind, find_here, find_none}
 use Rattle.break_rules.proofs.living.first_live.Goals as goal

@@ -1,5 +1,5 @@
 use Rattle.std.proofs.Common.{◌≡◌, take}
-use Rattle.break_rules.proofs.Lists.{Has}
+use Rattle.break_rules.specs.Lists.{Has}
 use Rattle.break_graph.specs.declared.Edge.{Edge}
 use Rattle.price_sums.specs.Days.{sums_on}
 use Rattle.pricing.specs.Values.{reach_of, AreFit}

@@ -5,8 +5,9 @@ use Rattle.std.proofs.lemmas.List.{take_more}
 use Rattle.break_rules.specs.declared.Break.{Break}
 use Rattle.break_rules.specs.Breaks.{is_live}
 use Rattle.break_rules.specs.Walk.{nexts_of, spot_of}
-use Rattle.break_rules.proofs.Lists.{Has, Has-map, from_filter}
-use Rattle.break_rules.proofs.Ordered.{Sorted, Sorted-filter, Sorted-breaks, IsLessBreak}
+use Rattle.break_rules.specs.Lists.{Has, Sorted}
+use Rattle.break_rules.proofs.Lists.{Has-map, from_filter}
+use Rattle.break_rules.proofs.Ordered.{Sorted-filter, Sorted-breaks, IsLessBreak}
 use Rattle.break_layers.specs.declared.ways.Way.{Way}
 use Rattle.break_layers.specs.Ways.{live_stops}
 use Rattle.pricing.specs.Keeping.{IsBestWay, better_way, is_named}

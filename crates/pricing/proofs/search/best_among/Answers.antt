@@ -1,5 +1,6 @@
 use Rattle.std.proofs.Common.{◌≡◌, ◌++◌, ◌∷◌, [], inl, refl, sym, subst}
-use Rattle.break_rules.proofs.Lists.{Has, Has-append_left, Has-append_right}
+use Rattle.break_rules.specs.Lists.{Has}
+use Rattle.break_rules.proofs.Lists.{Has-append_left, Has-append_right}
 use Rattle.pricing.specs.Found.{Covers}
 use Rattle.pricing.proofs.Onward.{left_or_covered}
 use Rattle.pricing.proofs.search.best_among.Goals as goal

@@ -1,6 +1,6 @@
 use Rattle.std.proofs.Common.{◌⊎◌, List, length}
 use Rattle.break_rules.specs.declared.Break.{Break}
-use Rattle.break_rules.proofs.Lists.{Has}
+use Rattle.break_rules.specs.Lists.{Has}
 use Rattle.pricing.specs.Found.{IsLegal, IsFound, Keeps, Covers}
 use Rattle.pricing.proofs.search.best_among.Given as goal
 

@@ -4,7 +4,8 @@ use Rattle.std.proofs.lemmas.Int.{to_z-of_z}
 use Rattle.std.proofs.lemmas.Bool.{false≢true}
 use Rattle.std.proofs.lemmas.List.{take_all, take_more}
 use Rattle.break_rules.specs.declared.Spot.{Spot}
-use Rattle.break_rules.proofs.Lists.{Has, Has-append_cases}
+use Rattle.break_rules.specs.Lists.{Has}
+use Rattle.break_rules.proofs.Lists.{Has-append_cases}
 use Rattle.pricing.proofs.Most.{has_at}
 use Rattle.pricing.proofs.Behind.{same_spot_decides}
 use Rattle.pricing.proofs.spots.value_beside.Goals as goal

@@ -1,5 +1,5 @@
 use Rattle.std.proofs.Common.{take, ℤ}
-use Rattle.break_rules.proofs.Lists.{Has}
+use Rattle.break_rules.specs.Lists.{Has}
 use Rattle.pricing.proofs.spots.value_beside.Given as goal
 
 abbrev pub invariant-loop-at : goal.invariant-loop-at

@@ -6,7 +6,7 @@ use Rattle.break_rules.specs.declared.Rule.{Rule}
 use Rattle.break_rules.specs.Next.{IsNext}
 use Rattle.break_rules.specs.Ranges.{IsRule}
 use Rattle.break_rules.specs.Walk.{spot_of, nexts_of, is_walk}
-use Rattle.break_rules.proofs.Lists.{Has}
+use Rattle.break_rules.specs.Lists.{Has}
 use Rattle.break_rules.proofs.Reaching.{walk_on}
 use Rattle.break_rules.proofs.Steps.{bounds, from_next}
 use Rattle.price_sums.specs.Along.{resumes, sum_at}

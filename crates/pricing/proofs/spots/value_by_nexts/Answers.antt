@@ -1,7 +1,7 @@
 use Rattle.std.proofs.Common.{◌≡◌, ◌++◌, ◌∷◌, [], ap, sym, subst, ◌∙◌, append_assoc, append-nil}
 use Rattle.break_rules.specs.declared.Rule.{Rule}
 use Rattle.break_rules.specs.Walk.{spot_of, nexts_of}
-use Rattle.break_rules.proofs.Lists.{Has}
+use Rattle.break_rules.specs.Lists.{Has}
 use Rattle.break_rules.proofs.Reaching.{has_middle}
 use Rattle.shift_instance.specs.declared.Shift.{Shift}
 use Rattle.price_sums.proofs.Prices.{some_at}

@@ -1,5 +1,5 @@
 use Rattle.std.proofs.Common.{◌≡◌, ◌∙◌, ◌+◌, ◌≤◌, ℕ, List, sym, subst, rules}
-use Rattle.break_rules.proofs.Ordered.{Sorted}
+use Rattle.break_rules.specs.Lists.{Sorted}
 use Rattle.shift_instance.specs.declared.Duty.{Duty}
 use Rattle.shift_instance.specs.declared.Row.{Row}
 use Rattle.shift_instance.specs.Rota.{count_of, heads_on, rota_of}

@@ -1,6 +1,6 @@
 use Rattle.std.proofs.Common.{◌≡◌, ◌⊎◌, map, sym, subst}
 use Rattle.break_rules.specs.Breaks.{same_list}
-use Rattle.break_rules.proofs.Lists.{Has}
+use Rattle.break_rules.specs.Lists.{Has}
 use Rattle.break_rules.proofs.LegalLists.{same_list_decides}
 use Rattle.indexmap.specs.IndexSet.{insert_key}
 use Rattle.pricing.proofs.Firsts.{has_inserted, keeps_inserted, only_inserted}

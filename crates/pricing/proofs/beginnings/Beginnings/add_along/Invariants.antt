@@ -1,6 +1,6 @@
 use Rattle.std.proofs.Common.{◌⊎◌, List}
 use Rattle.break_rules.specs.declared.Break.{Break}
-use Rattle.break_rules.proofs.Lists.{Has}
+use Rattle.break_rules.specs.Lists.{Has}
 use Rattle.pricing.specs.Keeping.{HaveFirst, IsBeginning}
 use Rattle.pricing.proofs.beginnings.Beginnings.add_along.Given as goal
 

@@ -4,8 +4,8 @@ use Rattle.std.proofs.lemmas.Int.{to_z-of_z}
 use Rattle.std.proofs.lemmas.List.{take_more}
 use Rattle.break_rules.specs.declared.Break.{Break}
 use Rattle.break_rules.specs.Walk.{spot_of}
-use Rattle.break_rules.proofs.Lists.{Has}
-use Rattle.break_rules.proofs.Ordered.{Sorted, Sorted-filter, Sorted-breaks, IsLessBreak}
+use Rattle.break_rules.specs.Lists.{Has, Sorted}
+use Rattle.break_rules.proofs.Ordered.{Sorted-filter, Sorted-breaks, IsLessBreak}
 use Rattle.break_graph.specs.declared.Edge.{Edge}
 use Rattle.break_graph.specs.Graph.{StandsAt, node_at}
 use Rattle.pricing.specs.Keeping.{IsBestEdge, better_way, is_named}
