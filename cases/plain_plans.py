@@ -6,14 +6,19 @@ what is wrong, and last `N passed, M failed`, counted in instances and runs. Bui
 import collections
 import csv
 import fcntl
+import hashlib
 import json
+import os
 import pathlib
+import pty
 import random
 import re
+import shutil
 import signal
 import subprocess
 import sys
 import tempfile
+import termios
 import time
 
 from plain_reading import Reading, Trial, read_report
@@ -48,6 +53,18 @@ class Folder:
 
     def plan(self, *words):
         return self.run("plan", "week.json", *words)
+
+    def begun(self, *words, starter=None, **how):
+        """A search that begins, by the program itself or by the command that starts it."""
+        how = {"stdin": subprocess.DEVNULL, "stdout": subprocess.PIPE, "stderr": subprocess.PIPE, **how}
+        return subprocess.Popen([*(starter or [program("shift_plan")]), "plan", "week.json", *words], cwd=self.path, **how)
+
+    def wait_for(self, name):
+        """Waits until there is a file of that name, half a minute at most."""
+        for _ in range(15000):
+            if (self.path / name).exists():
+                return
+            time.sleep(0.002)
 
     def table(self, name, columns):
         with open(self.path / "week.plan" / name, newline="") as source:
@@ -265,10 +282,147 @@ def short_time(folder):
     return ends(run, 0) + (["3 seconds took %.1f" % taken] if taken > 6 else [])
 
 
+ASKED = "the search ends early, as it was asked to"
+
+
+def ended(folder, run, status, *texts, given=b""):
+    """What is wrong with a search that must end so within ten seconds, with its plan written whole where it ends with 0."""
+    try:
+        _, said = run.communicate(given, timeout=10)
+    except subprocess.TimeoutExpired:
+        run.kill()
+        return ["it doesn't end"]
+    names = {path.name for path in (folder.path / "week.plan").iterdir()}
+    return ends((run.returncode, "", said.decode()), status, *texts) + (["no plan is written whole"] if status == 0 and names != set(FILES) else [])
+
+
+def line_in_mid_search(folder):
+    run = folder.begun("--seconds", "60", "--stop-on", "line", stdin=subprocess.PIPE)
+    time.sleep(3)
+    return ended(folder, run, 0, ASKED, given=b"\n")
+
+
+def end_of_input_in_mid_search(folder):
+    run = folder.begun("--seconds", "60", "--stop-on", "line", stdin=subprocess.PIPE)
+    time.sleep(3)
+    return ended(folder, run, 0, ASKED)
+
+
+def line_before_the_search(folder):
+    folder.plan("--seconds", "1")
+    return ended(folder, folder.begun("--seconds", "60", "--stop-on", "line"), 0, "goes on from ", ASKED)
+
+
+def input_meant_for_others(folder):
+    reads, writes = os.pipe()
+    os.write(writes, b"for others\n")
+    faults = ended(folder, folder.begun("--seconds", "1", stdin=reads), 0)
+    os.close(writes)
+    return faults + ([] if os.read(reads, 100) == b"for others\n" else ["input that was meant for others was read"])
+
+
+def enter_at_a_terminal(folder):
+    ours, theirs = pty.openpty()
+    how = {"stdin": theirs, "stdout": subprocess.DEVNULL, "stderr": theirs, "start_new_session": True}
+    run = folder.begun("--seconds", "60", preexec_fn=lambda: fcntl.ioctl(0, termios.TIOCSCTTY, 0), **how)
+    os.close(theirs)
+    said = b""
+    while b"press Enter to end" not in said and run.poll() is None:
+        said += os.read(ours, 1000)
+    os.write(ours, b"\n")
+    try:
+        while True:
+            said += os.read(ours, 1000)
+    except OSError:
+        return ends((run.wait(), "", said.decode()), 0, "press Enter to end", ASKED)
+
+
+def starter(folder):
+    """`run` of a repository that has nothing but the program, as it is built."""
+    top, sources = folder.path / "made", hashlib.sha256()
+    shutil.copytree(TOP / "tools", top / "tools")
+    shutil.copy(TOP / "run", top)
+    (top / "crates/shift_plan/src").mkdir(parents=True)
+    (top / "crates/shift_plan/out").mkdir()
+    (top / "crates/shift_plan/out/shift_plan").symlink_to(program("shift_plan"))
+    for path, text in ("crates.txt", "shift_plan:\n"), ("crates/shift_plan/src/main.rt", ""):
+        (top / path).write_text(text)
+        sources.update(b"%s\n" % path.encode() + hashlib.sha256(text.encode()).digest())
+    (top / "crates/shift_plan/out/run.sum").write_text(sources.hexdigest())
+    return [str(top / "run"), "shift_plan"]
+
+
+def interrupts(folder, awaited, *signals, seconds="60"):
+    """A search by `run` that gets these signals once there is a file of that name."""
+    run = folder.begun("--seconds", seconds, starter=starter(folder))
+    folder.wait_for(awaited)
+    for number in signals:
+        run.send_signal(number)
+    return run
+
+
+def interrupted_as_it_begins(folder):
+    return ended(folder, interrupts(folder, "week.journal", signal.SIGINT), 0, ASKED)
+
+
+def terminated_in_mid_search(folder):
+    run = folder.begun("--seconds", "60", starter=starter(folder))
+    time.sleep(5)
+    run.terminate()
+    return ended(folder, run, 0, ASKED)
+
+
+def interrupted_while_it_writes(folder):
+    return ended(folder, interrupts(folder, "week.plan/report", signal.SIGINT, seconds="2"), 0)
+
+
+def interrupted_twice(folder):
+    run = interrupts(folder, "week.journal", signal.SIGTERM, signal.SIGINT)
+    return ["it ends with %d" % run.returncode] if run.wait() not in (130, 143) else ended(folder, folder.begun("--seconds", "1"), 0)
+
+
+def interrupted_with_a_word(folder):
+    reads, writes = os.pipe()
+    run = folder.begun("--seconds", "60", "--stop-on", "line", starter=starter(folder), stdin=reads)
+    folder.wait_for("week.journal")
+    run.send_signal(signal.SIGINT)
+    faults = ended(folder, run, 0, ASKED)
+    os.close(reads)
+    os.close(writes)
+    return faults
+
+
+def line_given_to_run(folder):
+    run = folder.begun("--seconds", "60", "--stop-on", "line", starter=starter(folder), stdin=subprocess.PIPE)
+    folder.wait_for("week.journal")
+    return ended(folder, run, 0, ASKED, given=b"\n")
+
+
+def program_killed_below_run(folder):
+    run = folder.begun("--seconds", "60", starter=starter(folder))
+    time.sleep(5)
+    subprocess.run(["pkill", "-KILL", "-P", str(run.pid)], check=True)
+    return ended(folder, run, 0, "the program was killed by signal 9", "goes on from ")
+
+
+def journal_without_room(folder):
+    """A journal with the prices of 4,154 steps, and no room for one more."""
+    day, slots = ",".join("1" if 8 <= slot < 12 else "0" for slot in range(24)), ",0" * 1992
+    texts = [(TOP / "cases/texts" / name).read_text() for name in ("morning.json", "morning.canonical.json")]
+    document, canonical = (text.replace('"slot_minutes":60', '"slot_minutes":5').replace('"days":1', '"days":7').replace(day, day + slots) for text in texts)
+    (folder.path / "week.json").write_text(document)
+    record = bytes.fromhex("01 133f0000 0100 02 0000 00000000 0100 e0070000") + bytes(8 * 2016 + 4)
+    (folder.path / "week.journal").write_bytes(b"SHIFTJ1\n" + len(canonical).to_bytes(4, "little") + canonical.encode() + record * 4154 + b"\0")
+    run = folder.begun("--seconds", "60", "--workers", "1")
+    return ended(folder, run, 0, "goes on from 4154 steps: cost 8, bound 0", "the journal is full", "another journal begins the search anew")
+
+
 MEETINGS = (
     lock_in_use, killed_run, search_gone_on_with, begun_anew, no_search_to_show, journal_that_is_a_folder, journal_of_another_instance, damaged_journal, torn_journal,
     journal_on_a_full_device, folder_below_a_file, folder_that_is_a_file, instance_that_isnt_there, instance_that_is_a_folder, journal_of_the_instance, bent_report,
-    words_in_the_wrong_order, report_that_is_none, closed_output, short_time,
+    words_in_the_wrong_order, report_that_is_none, closed_output, short_time, line_in_mid_search, end_of_input_in_mid_search, line_before_the_search,
+    input_meant_for_others, enter_at_a_terminal, interrupted_as_it_begins, terminated_in_mid_search, interrupted_while_it_writes, interrupted_twice,
+    interrupted_with_a_word, line_given_to_run, program_killed_below_run, journal_without_room,
 )
 
 

@@ -1,7 +1,8 @@
--- What an adviser keeps of what it was told.
-use Rattle.std.specs.Prelude.{ℕ, ℤ, ◌+◌, ◌-◌, ◌^◌, min, List, Some, None}
+-- What an adviser keeps, and what it was told.
+use Rattle.std.specs.Prelude.{Bool, ℕ, ℤ, ◌+◌, ◌-◌, ◌^◌, min, List, Option, Some, None}
 use Rattle.advice.specs.declared.adviser.Told.{Told}
 use Rattle.advisers.specs.declared.heard.Heard.{Heard}
+use Rattle.advisers.specs.declared.greedy_plan.GreedyPlan.{GreedyPlan}
 
 -- nothing yet
 abbrev pub unheard : Heard
@@ -17,7 +18,16 @@ pub record FixedPrices : Type 0 where
   pub slots : List ℤ
   pub heard : Heard
 
--- the scale that an adviser of prices at a scale was made with, and what it was told
+-- whether an adviser keeps the plan that it first makes, the plan that it keeps, once it keeps one, and what the adviser was told
+pub record Planned : Type 0 where
+  pub keeps : Bool
+  pub kept : Option GreedyPlan
+  pub heard : Heard
+
+-- the scale that an adviser of prices at a scale was made with, whether it keeps the plan that it first makes, the plan that it keeps, once it
+-- keeps one, and what it was told
 pub record Scaled : Type 0 where
   pub q : ℕ
+  pub keeps : Bool
+  pub kept : Option GreedyPlan
   pub heard : Heard

@@ -1,13 +1,12 @@
 -- Prices by the subgradient method, and what its adviser advises. Source: Held, Wolfe and Crowder 1974 for the method; the first prices, the steps
 -- and the number of rounds are this project's profile.
-use Rattle.std.specs.Prelude.{ℕ, zero, suc, ◌+◌, ◌-◌, ◌*◌, ◌/◌, ℤ, pos, neg_ℤ, ◌+ℤ◌, ◌-ℤ◌, ◌*ℤ◌, not, nat_lt, nat_le, min, max, List, map, length, replicate, Option, None, unwrap_or, if◌then◌else◌}
+use Rattle.std.specs.Prelude.{ℕ, zero, suc, ◌+◌, ◌-◌, ◌*◌, ◌/◌, ℤ, pos, neg_ℤ, ◌+ℤ◌, ◌-ℤ◌, ◌*ℤ◌, not, nat_lt, nat_le, min, max, List, map, length, replicate, None, unwrap_or, if◌then◌else◌}
 use Rattle.std.specs.Int.{int_max, int_min}
 use Rattle.std.specs.Option.{option_map_or}
 use Rattle.std.specs.List.{list_any, find, zip}
 use Rattle.shift_instance.specs.declared.Duty.{Duty}
-use Rattle.shift_instance.specs.declared.Row.{Row}
 use Rattle.shift_instance.specs.Problem.{Problem, slots, need_at, below}
-use Rattle.shift_instance.specs.Rota.{cost, cover, rota_of}
+use Rattle.shift_instance.specs.Rota.{cover}
 use Rattle.shift_instance.specs.Worth.{price_of}
 use Rattle.head_splits.specs.declared.TheConstants.{CUT_PRICE_MAX}
 use Rattle.head_splits.specs.declared.Side.{Side}
@@ -18,7 +17,8 @@ use Rattle.head_splits.specs.Cuts.{class_count}
 use Rattle.head_splits.specs.Bound.{bound_of, is_nil}
 use Rattle.advice.specs.declared.advice.Advice.{Advice}
 use Rattle.advice.specs.declared.advice.Ask.{Ask}
-use Rattle.advisers.specs.Advised.{greedy_plan}
+use Rattle.advisers.specs.declared.greedy_plan.GreedyPlan.{GreedyPlan}
+use Rattle.advisers.specs.Advised.{plan_with_cost, plan_of}
 use Rattle.advisers.specs.Forced.{forced_prices}
 use Rattle.advisers.specs.Solutions.{solution}
 
@@ -77,18 +77,22 @@ rounds_made value goal most = option_map_or (λ round. round + 1) (find (λ roun
 unfoldable pub greatest_round : (ℕ → ℕ) → ℕ → ℕ
 greatest_round value many = unwrap_or (find (λ round. not (list_any (λ other. nat_lt (value round) (value other)) (below many))) (below many)) 0
 
--- the value at which no more is wanted: what the best rota costs or, where it is less, the plan
-abbrev pub goal_of : Problem → ℕ → Option (List Row) → ℕ
-goal_of i best plan = option_map_or (λ rows. min best (cost i (rota_of rows))) plan best
+-- the value at which no more is wanted: what the best rota costs or, where it is less, a plan that has a duty
+abbrev pub goal_of : ℕ → GreedyPlan → ℕ
+goal_of best kept = if is_nil kept.rows then best else min best kept.cost
 
 -- the prices of greatest value of at most so many rounds
 unfoldable pub best_prices : Problem → List Cut → ℕ → ℕ → ℕ → Prices
 best_prices i cuts q goal most = prices_in i cuts q (greatest_round (value_in i cuts q) (rounds_made (value_in i cuts q) goal most))
 
--- what the subgradient adviser of a scale advises: the prices of greatest value of at most 40 rounds, the greedy plan, and no split
-abbrev pub subgradient_advice : Problem → ℕ → Ask → Advice
-subgradient_advice i q ask = record {
-  prices = best_prices i ask.cuts q (goal_of i ask.best (greedy_plan i)) 40;
-  plan = greedy_plan i;
+-- what the subgradient adviser of a scale and of a plan advises: the prices of greatest value of at most 40 rounds, the plan, and no split
+abbrev pub subgradient_advice_with : GreedyPlan → Problem → ℕ → Ask → Advice
+subgradient_advice_with kept i q ask = record {
+  prices = best_prices i ask.cuts q (goal_of ask.best kept) 40;
+  plan = plan_of kept.rows;
   split = None;
 }
+
+-- what the subgradient adviser of an instance advises for it
+abbrev pub subgradient_advice : Problem → ℕ → Ask → Advice
+subgradient_advice i q ask = subgradient_advice_with (plan_with_cost i) i q ask

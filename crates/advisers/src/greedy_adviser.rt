@@ -1,133 +1,139 @@
 //! The adviser that advises the greedy plan.
-ghost use Rattle.std.specs.Prelude.{◌≡◌, ◌≤◌, ◌^◌, IfOk, IfSome, IsTrue, length, replicate};
-ghost use Rattle.shift_instance.specs.Rota.{are_legal_rows};
-ghost use Rattle.greedy.specs.Greedy.{greedy_rows};
-ghost use Rattle.advisers.specs.Advised.{greedy_advice, greedy_plan};
-ghost use Rattle.advisers.specs.Forced.{forced_prices};
+ghost use Rattle.std.specs.Prelude.{◌≡◌, ◌≤◌, ◌^◌, IfErr, IfOk, None, OnOk, Some, false, length, replicate, true};
+ghost use Rattle.advisers.specs.Advised.{IsOwn, advice_with, greedy_advice, greedy_prices, kept_after, own_plan, plan_with_cost};
 ghost use Rattle.advisers.specs.Hearing.{after, unheard};
 
 use crate::forced::forced_prices;
+use crate::greedy_plan::{GreedyPlan, plan_of};
 use crate::heard::Heard;
-use crate::kept::KeptPlan;
 use advice::{Advice, Adviser, Ask, Told};
 use break_rules::NoMemory;
-use head_splits::{CutPrices, Prices, SlotPrices};
-use shift_instance::{Instance, Rows};
+use head_splits::{CutPrices, Cuts, Prices, SlotPrices};
+use shift_instance::Instance;
 use std::alloc::Global;
 use std::marker::Model;
 
-/// The adviser of the greedy plan. It makes the plan at its first advice, and keeps it for as long as it is asked about
-/// the same instance.
+/// The adviser of the greedy plan. Made by `new`, it makes the plan of each instance that it is asked about, at each advice. Else it
+/// serves one instance, whose plan it keeps: that of the plan that it was made with, or the first that it advises for.
 ///
-/// Contracts see what the adviser was told.
+/// Contracts see whether it keeps the plan that it first makes, the plan with its cost, once it keeps one, and what the adviser was
+/// told.
 #[derive(Drop)]
 pub struct Greedy {
     alloc: Global,
-    kept: Option<KeptPlan>,
+    keeps: bool,
+    kept: Option<GreedyPlan>,
     heard: Heard,
 }
 
 impl Model for Greedy {
-    ghost use Rattle.advisers.specs.declared.heard.Heard.{Heard};
+    ghost use Rattle.advisers.specs.Hearing.{Planned};
 
-    ghost Value = { Heard };
+    ghost Value = { Planned };
 
-    ghost view = { λ g. g.heard };
+    ghost view = { λ g. record { keeps = g.keeps; kept = g.kept; heard = g.heard } };
+}
+
+/// The prices of what cuts force, at scale 1. A slot's price is the cost of an employee too few where fewer work there than
+/// needed of the duties that the cuts force, each with the least legal list of its shift; minus the cost of an employee too
+/// many where more do; and else 0. Each cut's price is 0.
+pub fn greedy_prices(alloc: Global, instance: &Instance, cuts: &Cuts) -> Result<Prices, NoMemory>
+    requires { length cuts.now ≤ 2 ^ 33 }
+    ensures { IfOk result (λ prices. prices ≡ greedy_prices instance.now cuts.now) }
+{
+    let slots = forced_prices(alloc, instance, cuts)?;
+    let none = vec![in alloc; 0; cuts.len()]?;
+    Ok(Prices {
+        q: 1,
+        slots: SlotPrices::new(slots),
+        cuts: CutPrices::new(none),
+    })
 }
 
 impl Greedy {
-    /// An adviser that wasn't asked yet. It takes no memory.
+    /// The adviser of every instance. It keeps no plan. It takes no memory.
     pub fn new(alloc: Global) -> Greedy
-        ensures { result ≡ unheard }
+        ensures { result ≡ record { keeps = false; kept = None; heard = unheard } }
     {
         Greedy {
             alloc,
+            keeps: false,
             kept: None,
             heard: Heard::nothing(),
         }
     }
 
-    /// The kept rows of the greedy plan of this instance, if they are kept.
-    fn kept_rows(&self, instance: &Instance) -> Result<Option<Rows>, NoMemory>
-        ensures rows { IfOk result (λ rows. IfSome rows (λ rows. rows ≡ greedy_rows instance.now)) }
-        ensures legal { IfOk result (λ rows. IfSome rows (λ rows. IsTrue (are_legal_rows instance.now rows))) }
+    /// The adviser of the first instance that it advises for. It takes no memory.
+    pub fn of_first(alloc: Global) -> Greedy
+        ensures { result ≡ record { keeps = true; kept = None; heard = unheard } }
+    {
+        let mut greedy = Greedy::new(alloc);
+        greedy.keeps = true;
+        greedy
+    }
+
+    /// The adviser of the instance of this plan. It takes no memory.
+    pub fn of(alloc: Global, plan: GreedyPlan) -> Greedy
+        ensures { result ≡ record { keeps = true; kept = Some plan; heard = unheard } }
+    {
+        Greedy {
+            alloc,
+            keeps: true,
+            kept: Some(plan),
+            heard: Heard::nothing(),
+        }
+    }
+
+    /// The kept plan once more or, where none is kept, the greedy plan of this instance.
+    pub(crate) fn own_plan(&self, instance: &Instance) -> Result<GreedyPlan, NoMemory>
+        ensures { IfOk result (λ plan. plan ≡ own_plan self.now.kept instance.now) }
     {
         match &self.kept {
-            Some(kept) if kept.is_of(instance) => Ok(Some(kept.copy()?)),
-            _ => Ok(None),
+            Some(kept) => kept.copy(),
+            None => GreedyPlan::of(self.alloc, instance),
         }
     }
 
-    /// The rows of the greedy plan, kept or made now.
-    fn rows(&mut self, instance: &Instance) -> Result<Rows, NoMemory>
-        ensures rows { IfOk result (λ rows. rows ≡ greedy_rows instance.now) }
-        ensures legal { IfOk result (λ rows. IsTrue (are_legal_rows instance.now rows)) }
-        ensures same { self.new ≡ self.old }
+    /// Keeps a plan, where any is kept and none is yet.
+    pub(crate) fn keep(&mut self, plan: &GreedyPlan) -> Result<(), NoMemory>
+        ensures kept { OnOk result (self.new ≡ record self.old { kept = kept_after self.old.keeps self.old.kept plan.now }) }
+        ensures wanting { IfErr result (λ _. self.new ≡ self.old) }
     {
-        if let Some(rows) = self.kept_rows(instance)? {
-            return Ok(rows);
+        if self.keeps && self.kept.is_none() {
+            self.kept = Some(plan.copy()?);
         }
-        let kept = KeptPlan::of(self.alloc, instance)?;
-        let rows = kept.copy()?;
-        self.kept = Some(kept);
-        Ok(rows)
-    }
-
-    /// The greedy plan, and `None` where it has no duty.
-    pub(crate) fn plan(&mut self, instance: &Instance) -> Result<Option<Rows>, NoMemory>
-        ensures plan { IfOk result (λ plan. plan ≡ greedy_plan instance.now) }
-        ensures legal { IfOk result (λ plan. IfSome plan (λ rows. IsTrue (are_legal_rows instance.now rows))) }
-        ensures same { self.new ≡ self.old }
-    {
-        let rows = self.rows(instance)?;
-        if rows.is_empty() {
-            return Ok(None);
-        }
-        Ok(Some(rows))
-    }
-
-    /// Advises for a node: prices at scale 1, and the greedy plan where it has a duty. A slot's price is the cost of an
-    /// employee too few where fewer work there than needed of the duties that the cuts force, each with the least legal
-    /// list of its shift; minus the cost of an employee too many where more do; and else 0. Each cut's price is 0. It advises no
-    /// split.
-    pub fn advise(&mut self, instance: &Instance, ask: &Ask) -> Result<Advice, NoMemory>
-        requires { length ask.now.cuts ≤ 2 ^ 33 }
-        ensures advice { IfOk result (λ advice. advice ≡ greedy_advice instance.now ask.now.cuts) }
-        ensures same { self.new ≡ self.old }
-    {
-        let slots = forced_prices(self.alloc, instance, &ask.cuts)?;
-        let cuts = vec![in self.alloc; 0; ask.cuts.len()]?;
-        let prices = Prices {
-            q: 1,
-            slots: SlotPrices::new(slots),
-            cuts: CutPrices::new(cuts),
-        };
-        let plan = self.plan(instance)?;
-        Ok(Advice {
-            prices,
-            plan,
-            split: None,
-        })
+        Ok(())
     }
 }
 
 impl Adviser for Greedy {
-    ghost told = { λ g. g.told };
+    ghost told = { λ g. g.heard.told };
 
-    ghost last = { λ g. g.last };
+    ghost last = { λ g. g.heard.last };
 
-    /// Advises the prices of the duties that the cuts force, the greedy plan where it has a duty, and no split.
+    /// Advises the prices of what the cuts force in the instance asked about, the adviser's plan where it has a duty, and no
+    /// split.
     fn advise(&mut self, instance: &Instance, ask: &Ask) -> Result<Advice, NoMemory>
         requires { length ask.now.cuts ≤ 2 ^ 33 }
-        ensures advice { IfOk result (λ advice. advice ≡ greedy_advice instance.now ask.now.cuts) }
-        ensures same { self.new ≡ self.old }
+        ensures advice { IfOk result (λ advice. advice ≡ advice_with (own_plan self.old.kept instance.now) instance.now ask.now.cuts) }
+        ensures own { IsOwn self.old.kept instance.now → IfOk result (λ advice. advice ≡ greedy_advice instance.now ask.now.cuts) }
+        ensures kept { OnOk result (self.new ≡ record self.old { kept = kept_after self.old.keeps self.old.kept (plan_with_cost instance.now) }) }
+        ensures wanting { IfErr result (λ _. self.new ≡ self.old) }
     {
-        self.advise(instance, ask)
+        let prices = greedy_prices(self.alloc, instance, &ask.cuts)?;
+        let plan = self.own_plan(instance)?;
+        self.keep(&plan)?;
+        let GreedyPlan { rows, .. } = plan;
+        Ok(Advice {
+            prices,
+            plan: plan_of(rows),
+            split: None,
+        })
     }
 
     /// Tells the adviser what became of a step.
     fn learn(&mut self, news: &Told)
-        ensures { self.new ≡ after self.old news.now }
+        ensures { self.new ≡ record self.old { heard = after self.old.heard news.now } }
     {
         self.heard.hear(news);
     }

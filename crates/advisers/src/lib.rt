@@ -5,13 +5,14 @@ mod choosing;
 mod fixed;
 mod forced;
 mod greedy_adviser;
+mod greedy_plan;
 mod heard;
-mod kept;
-mod kept_parts;
 mod rounds;
 mod stepping;
 mod subgradient;
 
 pub use fixed::Fixed;
-pub use greedy_adviser::Greedy;
+pub use greedy_adviser::{Greedy, greedy_prices};
+pub use greedy_plan::{GreedyPlan, plan_of};
+pub use heard::Heard;
 pub use subgradient::Subgradient;

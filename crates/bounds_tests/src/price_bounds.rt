@@ -30,6 +30,17 @@ fn a_bound_is_proved(rt: HostRuntime) -> Result<(), Fail> {
     Ok(())
 }
 
+#[test]
+fn a_price_above_its_range(rt: HostRuntime) -> Result<(), Fail> {
+    let alloc = rt.alloc();
+    let instance = day(alloc)?;
+    let prices = prices(alloc, 3, 0)?;
+    let cuts = two_cuts(alloc)?;
+    let fault = PriceFault::SlotPrice { slot: 8 };
+    assert_eq!(rt; bound(alloc, &instance, cuts, prices), Err(fault));
+    Ok(())
+}
+
 /// Whether a pricer has the bound of the prices above, and then of those where an hour is worth 1 and the cuts 0.
 fn follow_prices<L: Ledger>(
     alloc: Global,

@@ -2,6 +2,7 @@
 ghost use Rattle.std.specs.Prelude.{◌≤◌, length};
 
 use crate::days::{LONG, first_break};
+use advice::Never;
 use break_rules::NoMemory;
 use dual_bound::prove;
 use head_splits::{Cut, CutPrices, Cuts, Prices, SlotPrices};
@@ -50,12 +51,12 @@ fn climb_in(
     let start = vec![in alloc; tables.shortage; tables.slots]?;
     let limits = Limits {
         rounds,
-        stop: 1000000.0,
+        goal: 1000000.0,
         stalls: 8,
         step: 0.1,
     };
     let mut climb = Climb::new(alloc, tables)?;
-    let value = climb.climb(tables, &ranges, &start, limits)?;
+    let value = climb.climb(tables, &ranges, &start, limits, &Never)?;
     Ok((value, Vec::from_slice(alloc, climb.best())?))
 }
 

@@ -1,21 +1,18 @@
 -- Which moves lower the cost of a plan, and what is known where none was found.
-use Rattle.std.proofs.Common.{◌≡◌, ◌⊎◌, inl, inr, ℕ, zero, suc, ◌+◌, ◌*◌, ◌/◌, ◌%◌, ◌<◌, ◌≤◌, Bool, true, false, cond, not, ◌&&◌, ◌==◌, nat_lt, List, [], ◌∷◌, ◌++◌, length, get_or, Option, Some, None, refl, sym, ap, ◌∙◌, subst, arith, eq-eqb}
-use Rattle.std.specs.Prelude.{slice_get, MatchBool}
-use Rattle.std.specs.List.{count_by}
-use Rattle.std.specs.Bool.{OnFalse}
-use Rattle.std.specs.Option.{is_some}
-use Rattle.std.proofs.lemmas.Bool.{and_parts, and_from, cases_Bool, ltb-true, lt-ltb, ltb-false, le-ltb, false≢true}
+use Rattle.std.proofs.Common.{◌≡◌, ◌⊎◌, inl, inr, ℕ, zero, suc, ◌+◌, ◌*◌, ◌/◌, ◌%◌, ◌<◌, ◌≤◌, Bool, true, false, not, ◌==◌, nat_lt, List, [], ◌∷◌, ◌++◌, length, get_or, Option, Some, None, refl, sym, ap, ◌∙◌, subst, arith}
+use Rattle.std.specs.Prelude.{slice_get}
+use Rattle.std.proofs.lemmas.Bool.{cases_Bool, ltb-true, lt-ltb, ltb-false, le-ltb, false≢true}
 use Rattle.std.proofs.lemmas.Nat.{div-mul-add, mod-mul-add, mul-add-lt}
 use Rattle.std.proofs.lemmas.Option.{slice_get_read, slice_get_past}
 use Rattle.break_rules.specs.declared.Break.{Break}
 use Rattle.break_rules.specs.Causes.{first_cause}
-use Rattle.break_rules.proofs.Causes.{NoCause, no_cause, none_from_no_cause}
+use Rattle.break_rules.proofs.Causes.{no_cause, none_from_no_cause}
 use Rattle.break_rules.proofs.Counts.{count_by-append}
 use Rattle.break_rules.specs.Lists.{Has}
 use Rattle.shift_instance.specs.declared.Duty.{Duty}
 use Rattle.shift_instance.specs.declared.Row.{Row}
 use Rattle.shift_instance.specs.Problem.{Problem, shift_list}
-use Rattle.shift_instance.specs.Rota.{same_duty, count_of, heads_on, is_list_of, is_used, lists_of, duty_of, rota_of, cost, are_legal_rows}
+use Rattle.shift_instance.specs.Rota.{same_duty, count_of, heads_on, is_list_of, is_used, duty_of, rota_of, cost}
 use Rattle.shift_instance.proofs.Alike.{alike_from_counts, alike_cost}
 use Rattle.rota_cost.specs.Cover.{without}
 use Rattle.rota_cost.specs.Counted.{duties_of}
@@ -28,7 +25,7 @@ use Rattle.local_moves.specs.declared.moves.MoveFault.{MoveFault}
 use Rattle.local_moves.specs.declared.moves.MoveFault.TheVariants.{UnknownShift, Day, Breaks, Absent, HeadsOver, OtherKind, NotNear, NoMemory}
 use Rattle.local_moves.specs.Drafting.{Drafting}
 use Rattle.descents.specs.Descending.{IsNoGain, IsLocalOptimum, IsDutyOptimal, IsBestRebreak, IsOptimalAt, IsPlace, places}
-use Rattle.local_moves.specs.Moves.{Answers, AreSameDuties, is_known, pair_causes, heads_causes, move_causes, moved}
+use Rattle.local_moves.specs.Moves.{Answers, AreSameDuties, is_known, pair_causes, move_causes, moved}
 use Rattle.local_moves.proofs.Reshifts.{unused_by_count, pair_parts}
 use Rattle.local_moves.proofs.RowPlaces.{some_of}
 

@@ -1,11 +1,9 @@
 -- What other breaks of a duty leave as it is, and moves that make a plan more even one after another.
 use Rattle.std.proofs.Common.{◌≡◌, ◌⊎◌, inl, inr, ℕ, zero, suc, cond, ◌+◌, ◌<◌, ◌≤◌, ◌&&◌, ◌==◌, List, [], ◌∷◌, ◌++◌, None, refl, sym, ap, ◌∙◌, subst, arith}
-use Rattle.std.specs.Prelude.{sum_by}
 use Rattle.break_rules.specs.declared.Break.{Break}
 use Rattle.break_rules.specs.Causes.{first_cause}
 use Rattle.break_rules.proofs.Causes.{no_cause}
 use Rattle.shift_instance.specs.declared.Duty.{Duty}
-use Rattle.shift_instance.specs.declared.Row.{Row}
 use Rattle.shift_instance.specs.Problem.{Problem}
 use Rattle.shift_instance.specs.Rota.{cost, count_of, heads_on, is_on, rota_of}
 use Rattle.shift_instance.proofs.Alike.{alike_from_counts}

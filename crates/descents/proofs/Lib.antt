@@ -2,3 +2,4 @@ pub mod OneMore
 pub mod Descents
 pub mod Tries
 pub mod Evener
+pub mod Advising

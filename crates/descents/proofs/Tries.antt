@@ -1,5 +1,5 @@
 -- What is known of a draft once a move was tried on it.
-use Rattle.std.proofs.Common.{◌≡◌, ℕ, zero, suc, ◌+◌, ◌*◌, ◌/◌, ◌%◌, ◌<◌, ◌≤◌, Bool, true, false, List, [], ◌∷◌, ◌++◌, length, get_or, Option, Some, None, sym, ap, ◌∙◌, subst, arith}
+use Rattle.std.proofs.Common.{◌≡◌, ℕ, zero, suc, ◌*◌, ◌/◌, ◌%◌, ◌<◌, ◌≤◌, Bool, true, false, List, [], ◌∷◌, ◌++◌, length, get_or, Option, Some, None, sym, ap, ◌∙◌, subst, arith}
 use Rattle.std.specs.Prelude.{IfSome, IsTrue, MatchBool, MatchOption}
 use Rattle.std.specs.Bool.{OnFalse}
 use Rattle.std.proofs.lemmas.Nat.{div_below, mod_below}
@@ -19,7 +19,7 @@ use Rattle.local_moves.specs.declared.moves.Move.{Move}
 use Rattle.local_moves.specs.declared.moves.Move.TheVariants.{Add, Drop, Rebreak, Reshift}
 use Rattle.local_moves.specs.Changes.{IsDone}
 use Rattle.local_moves.specs.Drafting.{Drafting}
-use Rattle.descents.specs.Descending.{IsNoGain, IsDutyOptimal, IsBestRebreak, IsLocalOptimum, IsOptimalAt, IsPlace, places}
+use Rattle.descents.specs.Descending.{IsNoGain, IsDutyOptimal, IsBestRebreak, IsLocalOptimum, IsOptimalAt, IsPlace}
 use Rattle.local_moves.specs.Moves.{AreSameDuties, move_causes, moved}
 use Rattle.local_moves.proofs.Views.{same_drafting}
 use Rattle.descents.proofs.Descents.{no_gain, no_list, best_other, not_better, best_no_better, best_add_no_better, row_optimal, no_row}

@@ -1,5 +1,5 @@
 -- Plans that no move makes cheaper. Source: descent by moves is the local search of Musliu, Schaerf and Slany 2004, without its lists of forbidden moves.
-use Rattle.std.specs.Prelude.{◌≡◌, ◌⊎◌, ℕ, ◌+◌, ◌*◌, ◌/◌, ◌%◌, ◌<◌, ◌≤◌, IsTrue, List, length, slice_get, Some, None}
+use Rattle.std.specs.Prelude.{◌≡◌, ◌⊎◌, ℕ, ◌+◌, ◌*◌, ◌/◌, ◌%◌, ◌<◌, ◌≤◌, Bool, IsTrue, List, [], length, MatchOption, Option, slice_get, Some, None, unwrap_or, if◌then◌else◌}
 use Rattle.break_rules.specs.declared.Break.{Break}
 use Rattle.break_rules.specs.Causes.{first_cause}
 use Rattle.shift_instance.specs.declared.Duty.{Duty}
@@ -7,6 +7,7 @@ use Rattle.shift_instance.specs.declared.Row.{Row}
 use Rattle.shift_instance.specs.Problem.{Problem, shift_list}
 use Rattle.shift_instance.specs.Rota.{are_legal_rows, cost, duty_of, rota_of}
 use Rattle.greedy.specs.Greedy.{greedy_rows}
+use Rattle.advice.specs.declared.advice.Advice.{Advice}
 use Rattle.advisers.specs.declared.heard.Heard.{Heard}
 use Rattle.descents.specs.declared.descending.Part.{Part}
 use Rattle.descents.specs.declared.descending.Part.TheVariants.{Rows, Shifts, Days}
@@ -57,7 +58,22 @@ pub record IsDescent (i : Problem) (rounds : ℕ) (rows : List Row) : Type 0 whe
   pub cheaper : cost i (rota_of rows) ≤ cost i (rota_of (greedy_rows i))
   pub optimum : ∥ IsLocalOptimum i (rota_of rows) ⊎ (cost i (rota_of rows) + rounds ≤ cost i (rota_of (greedy_rows i))) ∥₁
 
--- the most moves that an adviser of descents takes, and what it was told
+-- the most moves that an adviser of descents takes, whether it keeps the plan that it first makes, the rows of the plan that it keeps, once it
+-- keeps one, and what it was told
 pub record Descending : Type 0 where
   pub rounds : ℕ
+  pub keeps : Bool
+  pub kept : Option (List Row)
   pub heard : Heard
+
+-- the rows of the plan of an adviser: those that it keeps or, where it keeps none, those of a descent in the instance asked about
+abbrev pub IsOwnPlan : Problem → Descending → List Row → Type 0
+IsOwnPlan i d rows = MatchOption d.kept (IsDescent i d.rounds rows) (λ kept. rows ≡ kept)
+
+-- the rows of an advised plan, and none where no plan is advised
+abbrev pub advised_rows : Advice → List Row
+advised_rows advice = unwrap_or advice.plan []
+
+-- what an adviser keeps after it gave the rows of its plan: these, where it keeps any, and else what it kept
+abbrev pub kept_after : Descending → List Row → Option (List Row)
+kept_after d rows = if d.keeps then Some rows else d.kept

@@ -1,30 +1,32 @@
 //! The adviser that descends from the greedy plan.
-ghost use Rattle.std.specs.Prelude.{◌≡◌, ◌≤◌, ◌^◌, IfOk, IfSome, MatchOption, [], length};
-ghost use Rattle.instance_json.specs.Canonical.{canonical_text};
-ghost use Rattle.advisers.specs.Advised.{greedy_advice};
+ghost use Rattle.std.specs.Prelude.{◌≡◌, ◌≤◌, ◌^◌, IfErr, IfOk, IsSomeAnd, None, false, length, true};
+ghost use Rattle.advisers.specs.Advised.{greedy_prices, plan_of};
 ghost use Rattle.advisers.specs.Hearing.{after, unheard};
-ghost use Rattle.descents.specs.Descending.{IsDescent};
+ghost use Rattle.descents.specs.Descending.{IsDescent, IsOwnPlan, advised_rows, kept_after};
 
-use crate::kept::KeptDescent;
+use crate::descending::descended;
+use crate::evening::evened;
 use advice::{Advice, Adviser, Ask, Told};
-use advisers::Greedy;
+use advisers::{Heard, greedy_prices, plan_of};
 use break_rules::NoMemory;
-use instance_json::canonical;
+use greedy::greedy_plan;
 use shift_instance::{Instance, Rows};
 use std::alloc::Global;
 use std::marker::Model;
 
 /// The adviser of the greedy adviser's prices, and of the plan that a descent makes of the greedy plan, moves that make it more even,
-/// and another descent, each of at most so many moves. It makes the plan at its first advice, and keeps it for as long as it is asked
-/// about the same instance.
+/// and another descent, each of at most so many moves. Made by `new`, it makes the plan of each instance that it is asked about, at each
+/// advice. Else it serves one instance, whose plan it keeps: the one that it was made of, or the first that it advises for.
 ///
-/// Contracts see the most moves, and what the adviser was told.
+/// Contracts see the most moves, whether it keeps the plan that it first makes, the rows of the plan, once it keeps one, and what the
+/// adviser was told.
 #[derive(Drop)]
 pub struct Descent {
     alloc: Global,
     rounds: u16,
-    greedy: Greedy,
-    kept: Option<KeptDescent>,
+    keeps: bool,
+    kept: Option<Rows>,
+    heard: Heard,
 }
 
 impl Model for Descent {
@@ -32,55 +34,81 @@ impl Model for Descent {
 
     ghost Value = { Descending };
 
-    ghost view = { λ d. record { rounds = d.rounds; heard = d.greedy } };
+    ghost view = { λ d. record { rounds = d.rounds; keeps = d.keeps; kept = d.kept; heard = d.heard } };
+}
+
+/// The rows of the greedy plan after a descent, moves that make it more even, and another descent, each of at most `rounds`
+/// moves.
+fn descent_rows(alloc: Global, instance: &Instance, rounds: u16) -> Result<Rows, NoMemory>
+    ensures { IfOk result (λ rows. IsDescent instance.now rounds rows) }
+{
+    let greedy = greedy_plan(alloc, instance)?;
+    let low = descended(alloc, instance, greedy, rounds)?;
+    let even = evened(alloc, instance, low, rounds)?;
+    let rows = descended(alloc, instance, even, rounds)?;
+    Ok(rows)
 }
 
 impl Descent {
-    /// An adviser of descents of at most `rounds` moves each. It takes no memory.
+    /// The adviser of descents of at most `rounds` moves each for every instance. It keeps no plan. It takes no memory.
     pub fn new(alloc: Global, rounds: u16) -> Descent
-        ensures { result ≡ record { rounds = rounds; heard = unheard } }
+        ensures { result ≡ record { rounds = rounds; keeps = false; kept = None; heard = unheard } }
     {
         Descent {
             alloc,
             rounds,
-            greedy: Greedy::new(alloc),
+            keeps: false,
             kept: None,
+            heard: Heard::nothing(),
         }
     }
 
-    /// The kept rows of the plan of this instance, which is written as this text, if they are kept.
-    fn kept_rows(&self, instance: &Instance, text: &[u8]) -> Result<Option<Rows>, NoMemory>
-        requires { text.now ≡ canonical_text instance.now }
-        ensures { IfOk result (λ rows. IfSome rows (λ rows. IsDescent instance.now self.now.rounds rows)) }
+    /// The adviser of descents of at most `rounds` moves each for the first instance that it advises for. It takes no memory.
+    pub fn of_first(alloc: Global, rounds: u16) -> Descent
+        ensures { result ≡ record { rounds = rounds; keeps = true; kept = None; heard = unheard } }
     {
-        match &self.kept {
-            Some(kept) if kept.is_of(instance, self.rounds, text) => Ok(Some(kept.copy()?)),
-            _ => Ok(None),
-        }
+        let mut descent = Descent::new(alloc, rounds);
+        descent.keeps = true;
+        descent
     }
 
-    /// The rows of a legal plan that costs no more than the greedy plan. Where a move that isn't refused still lowers its
-    /// cost, it costs at least as much less than the greedy plan as moves may be taken.
+    /// The adviser of an instance, whose plan it makes by descents of at most `rounds` moves each.
+    pub fn of(alloc: Global, instance: &Instance, rounds: u16) -> Result<Descent, NoMemory>
+        ensures plan { IfOk result (λ d. IsSomeAnd d.kept (IsDescent instance.now rounds)) }
+        ensures unheard { IfOk result (λ d. d ≡ record { rounds = rounds; keeps = true; kept = d.kept; heard = unheard }) }
+    {
+        let rows = descent_rows(alloc, instance, rounds)?;
+        Ok(Descent {
+            alloc,
+            rounds,
+            keeps: true,
+            kept: Some(rows),
+            heard: Heard::nothing(),
+        })
+    }
+
+    /// The rows of the adviser's plan. Where it keeps none, they are made of this instance: a legal plan that costs no more than the
+    /// greedy plan. Where a move that isn't refused still lowers its cost, it costs at least as much less than the greedy plan as moves
+    /// may be taken.
     pub fn plan(&mut self, instance: &Instance) -> Result<Rows, NoMemory>
-        ensures descent { IfOk result (λ rows. IsDescent instance.now self.old.rounds rows) }
-        ensures same { self.new ≡ self.old }
+        ensures plan { IfOk result (IsOwnPlan instance.now self.old) }
+        ensures kept { IfOk result (λ rows. self.new ≡ record self.old { kept = kept_after self.old rows }) }
+        ensures wanting { IfErr result (λ _. self.new ≡ self.old) }
     {
-        let text = canonical(self.alloc, instance)?;
-        if let Some(rows) = self.kept_rows(instance, text.as_slice())? {
-            return Ok(rows);
+        let made = match &self.kept {
+            Some(kept) => {
+                let rows = kept.clone()?;
+                return Ok(rows);
+            }
+            None => descent_rows(self.alloc, instance, self.rounds)?,
+        };
+        if !self.keeps {
+            return Ok(made);
         }
-        let kept = KeptDescent::of(self.alloc, instance, self.rounds, text)?;
-        let rows = kept.copy()?;
-        self.kept = Some(kept);
+        let rows = made.clone()?;
+        self.kept = Some(made);
         Ok(rows)
     }
-}
-
-/// The plan of these rows, and none where they are none.
-fn plan_of(rows: Rows) -> Option<Rows>
-    ensures { MatchOption result (rows ≡ []) (λ plan. plan ≡ rows) }
-{
-    if rows.is_empty() { None } else { Some(rows) }
 }
 
 impl Adviser for Descent {
@@ -88,31 +116,29 @@ impl Adviser for Descent {
 
     ghost last = { λ d. d.heard.last };
 
-    /// Advises the greedy adviser's prices, the plan of the descent where it has a duty, and no split.
+    /// Advises the greedy adviser's prices, the adviser's plan where it has a duty, and no split.
     fn advise(&mut self, instance: &Instance, ask: &Ask) -> Result<Advice, NoMemory>
         requires { length ask.now.cuts ≤ 2 ^ 33 }
-        ensures prices { IfOk result (λ advice. advice.prices ≡ (greedy_advice instance.now ask.now.cuts).prices) }
-        ensures plan { IfOk result (λ advice. MatchOption advice.plan (IsDescent instance.now self.old.rounds []) (λ rows. IsDescent instance.now self.old.rounds rows)) }
-        ensures split { IfOk result (λ advice. advice.split ≡ (greedy_advice instance.now ask.now.cuts).split) }
-        ensures same { self.new ≡ self.old }
+        ensures prices { IfOk result (λ advice. advice.prices ≡ greedy_prices instance.now ask.now.cuts) }
+        ensures plan { IfOk result (λ advice. IsOwnPlan instance.now self.old (advised_rows advice)) }
+        ensures duties { IfOk result (λ advice. advice.plan ≡ plan_of (advised_rows advice)) }
+        ensures split { IfOk result (λ advice. advice.split ≡ None) }
+        ensures kept { IfOk result (λ advice. self.new ≡ record self.old { kept = kept_after self.old (advised_rows advice) }) }
+        ensures wanting { IfErr result (λ _. self.new ≡ self.old) }
     {
-        let Advice {
-            prices,
-            plan: _,
-            split,
-        } = self.greedy.advise(instance, ask)?;
+        let prices = greedy_prices(self.alloc, instance, &ask.cuts)?;
         let rows = self.plan(instance)?;
         Ok(Advice {
             prices,
             plan: plan_of(rows),
-            split,
+            split: None,
         })
     }
 
     /// Tells the adviser what became of a step.
     fn learn(&mut self, news: &Told)
-        ensures { self.new ≡ record { rounds = self.old.rounds; heard = after self.old.heard news.now } }
+        ensures { self.new ≡ record self.old { heard = after self.old.heard news.now } }
     {
-        self.greedy.learn(news);
+        self.heard.hear(news);
     }
 }

@@ -6,7 +6,6 @@ mod best;
 mod descending;
 mod descent;
 mod evening;
-mod kept;
 
 pub use best::best_duty;
 pub use descending::{descend, descended};

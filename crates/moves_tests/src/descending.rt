@@ -1,9 +1,9 @@
 //! Plans that no move makes cheaper, worked out by hand.
 ghost use Rattle.std.specs.Prelude.{◌≡◌};
 
-use crate::fixtures::{DAY, early, instance_of};
+use crate::fixtures::{DAY, NIGHT, early, instance_of};
 use break_rules::NoMemory;
-use descents::{descend, descended};
+use descents::{Descent, descend, descended};
 use local_moves::Draft;
 use rota_cost::cost_rows;
 use shift_instance::{Instance, Rows};
@@ -50,5 +50,40 @@ fn descent_ends_where_no_move_is_left(rt: HostRuntime) -> Result<(), Fail> {
     let alloc = rt.alloc();
     let instance = instance_of(alloc, DAY)?;
     assert_eq!(rt; costs(alloc, &instance)?, (6, 3));
+    Ok(())
+}
+
+/// What the plan that an adviser gives for a day costs.
+fn cost_by(alloc: Global, adviser: &mut Descent, day: &str) -> Result<u64, Fail> {
+    let instance = instance_of(alloc, day)?;
+    let rows = adviser.plan(&instance)?;
+    cost_of(&instance, rows)
+}
+
+/// The adviser of the day.
+fn adviser_of_day(alloc: Global) -> Result<Descent, Fail> {
+    let instance = instance_of(alloc, DAY)?;
+    let adviser = Descent::of(alloc, &instance, 5)?;
+    Ok(adviser)
+}
+
+// No plan of the day is cheaper than 3.
+#[test]
+fn an_adviser_descends_in_its_instance(rt: HostRuntime) -> Result<(), Fail> {
+    let alloc = rt.alloc();
+    let mut made = adviser_of_day(alloc)?;
+    let mut first = Descent::of_first(alloc, 5);
+    assert_eq!(rt; cost_by(alloc, &mut made, DAY)?, 3);
+    assert_eq!(rt; cost_by(alloc, &mut first, DAY)?, 3);
+    Ok(())
+}
+
+// In the eight hours the three duties cost the shift and a shortage for each break.
+#[test]
+fn an_adviser_of_every_instance_descends_in_each(rt: HostRuntime) -> Result<(), Fail> {
+    let alloc = rt.alloc();
+    let mut each = Descent::new(alloc, 5);
+    assert_eq!(rt; cost_by(alloc, &mut each, DAY)?, 3);
+    assert_eq!(rt; cost_by(alloc, &mut each, NIGHT)?, 9);
     Ok(())
 }

@@ -1,6 +1,7 @@
 //! Chains of moves, each from a start of its own, from hot to cold.
 
 use crate::search::PlanSearch;
+use advice::Stop;
 use break_rules::NoMemory;
 use shift_tables::Tables;
 
@@ -50,7 +51,7 @@ fn unit(tables: &Tables) -> f64 {
     tables.excess.min(tables.shortage).max(1.0)
 }
 
-impl PlanSearch {
+impl<S: Stop + Drop> PlanSearch<S> {
     /// Puts the best plan so far in place of the running one.
     fn restore_best(&mut self, tables: &Tables) -> Result<(), NoMemory> {
         self.plan.clear(tables);
@@ -193,7 +194,7 @@ impl PlanSearch {
     }
 
     /// Goes on for some work, counted in edges of graphs and in slots, and a little more: the move that is under way then is
-    /// ended, which is cut short where it takes long.
+    /// ended, which is cut short where it takes long. Once the search is asked to stop, the move that is under way is cut short.
     pub fn run(&mut self, tables: &Tables, work: u64) -> Result<(), NoMemory> {
         if tables.usable.is_empty() {
             return Ok(());
@@ -201,7 +202,7 @@ impl PlanSearch {
         let until = self.work.saturating_add(work);
         self.limit = until.saturating_add(BEYOND);
         for _ in 0..work {
-            if until <= self.work {
+            if until <= self.work || self.stop().is_asked() {
                 break;
             }
             if self.chain.is_over() {

@@ -1,6 +1,7 @@
 //! Moves on the set of used shifts.
 
 use crate::search::PlanSearch;
+use advice::Stop;
 use break_rules::NoMemory;
 use shift_tables::Tables;
 use working_plan::Placed;
@@ -39,7 +40,7 @@ fn halved(heads: &Heads) -> (Heads, Heads) {
     (first, second)
 }
 
-impl PlanSearch {
+impl<S: Stop + Drop> PlanSearch<S> {
     /// Takes all duties of a shift on a day out, and tells how many there were.
     fn drop_day(&mut self, tables: &Tables, shift: u16, day: usize) -> Result<usize, NoMemory> {
         let count = self.plan.duties(tables, shift, day).len();

@@ -1,6 +1,7 @@
 //! The move on the duties of a day: some out, and the best ones in again.
 
 use crate::search::PlanSearch;
+use advice::Stop;
 use break_rules::NoMemory;
 use shift_tables::Tables;
 use working_plan::Placed;
@@ -15,7 +16,7 @@ fn touch(days: &mut Touched, day: usize) {
     }
 }
 
-impl PlanSearch {
+impl<S: Stop + Drop> PlanSearch<S> {
     /// Adds the days to the list on which a shift has a duty whose window has a slot.
     fn list_days_near(&mut self, tables: &Tables, shift: u16, slot: usize) -> Result<(), NoMemory> {
         let len = tables.len_of(shift);

@@ -2,6 +2,7 @@
 ghost use Rattle.std.specs.Prelude.{◌≡◌, IfOk, IfSome};
 
 use crate::search::PlanSearch;
+use advice::Stop;
 use break_rules::{Breaks, NoMemory};
 use rota_cost::{Costed, cost_rows};
 use shift_instance::{Instance, Row, Rows};
@@ -33,7 +34,7 @@ fn rows_of(alloc: Global, sorted: &[Placed]) -> Result<Vec<Row>, NoMemory> {
     Ok(rows)
 }
 
-impl PlanSearch {
+impl<S: Stop + Drop> PlanSearch<S> {
     /// The best plan so far, with its cost, judged: none where there is none, or where it isn't legal.
     pub fn best_plan(&self, instance: &Instance) -> Result<Option<Costed>, NoMemory>
         ensures instance { IfOk result (λ plan. IfSome plan (λ c. c.instance ≡ instance.now)) }

@@ -4,8 +4,9 @@ use crate::chains::Chain;
 use crate::chance::Chance;
 use crate::guide::Guide;
 use crate::nearness::Nearness;
+use advice::Stop;
 use break_rules::NoMemory;
-use shift_tables::{Pauses, Tables};
+use shift_tables::{ListGraph, Pauses, Tables};
 use std::alloc::Global;
 use working_plan::{Placed, Plan, Stretches, ones};
 
@@ -22,15 +23,21 @@ pub(crate) struct Change {
     is_put: bool,
 }
 
-/// A search for plans of one instance. It does the same for the same seed.
+/// What a walk along a graph of break lists reads and writes.
 #[derive(Drop)]
-pub struct PlanSearch {
-    pub(crate) alloc: Global,
-    pub(crate) chance: Chance,
+struct Walk {
     /// The prices before each offset of a window.
     sums: Vec<f64>,
     /// What the best rest behind each node of a graph earns.
     values: Vec<f64>,
+}
+
+/// A search for plans of one instance. It does the same for the same seed, for as long as it isn't asked to stop.
+#[derive(Drop)]
+pub struct PlanSearch<S: Stop + Drop> {
+    pub(crate) alloc: Global,
+    pub(crate) chance: Chance,
+    walk: Walk,
     /// Small numbers that are added to prices, so that equals are told apart at random.
     noise: Vec<f64>,
     near: Nearness,
@@ -52,6 +59,8 @@ pub struct PlanSearch {
     pub(crate) work: u64,
     /// The work at which a move that is under way is cut short.
     pub(crate) limit: u64,
+    /// What may ask the search to stop.
+    stop: S,
 }
 
 /// Numbers from 0 to below 1 / 256, in eighths of that.
@@ -88,15 +97,37 @@ fn lay_sums(sums: &mut [f64], full: &[u8], noise: &[f64], short: f64, spare: f64
     }
 }
 
-impl PlanSearch {
-    /// A search that hasn't begun.
-    pub fn new(alloc: Global, tables: &Tables, seed: u64) -> Result<PlanSearch, NoMemory> {
+impl Walk {
+    /// What the best list of a graph earns at the first so many sums.
+    fn best_value(&mut self, graph: &ListGraph, count: usize) -> f64 {
+        let sums = self.sums.get(..count).unwrap_or(&[]);
+        graph.best_value(sums, &mut self.values)
+    }
+
+    /// The list of a graph that earns most at the first so many sums.
+    fn best_list(&mut self, graph: &ListGraph, count: usize) -> Option<Pauses> {
+        let sums = self.sums.get(..count).unwrap_or(&[]);
+        let _ = graph.best_value(sums, &mut self.values);
+        graph.best_list(sums, &self.values)
+    }
+}
+
+impl<S: Stop + Drop> PlanSearch<S> {
+    /// A search that hasn't begun, and ends early once it is asked to stop.
+    pub fn new(
+        alloc: Global,
+        tables: &Tables,
+        seed: u64,
+        stop: S,
+    ) -> Result<PlanSearch<S>, NoMemory> {
         let plan = Plan::new(alloc, tables)?;
         Ok(PlanSearch {
             alloc,
             chance: Chance::new(seed),
-            sums: vec![in alloc; 0.0; WINDOW + 1]?,
-            values: vec![in alloc; 0.0; tables.most_nodes()]?,
+            walk: Walk {
+                sums: vec![in alloc; 0.0; WINDOW + 1]?,
+                values: vec![in alloc; 0.0; tables.most_nodes()]?,
+            },
             noise: noise(alloc, seed)?,
             near: Nearness::new(alloc, tables)?,
             guide: Guide::none(alloc),
@@ -111,6 +142,7 @@ impl PlanSearch {
             repaired_rise: 0.0,
             work: 0,
             limit: 0,
+            stop,
         })
     }
 
@@ -134,9 +166,14 @@ impl PlanSearch {
         self.guide = guide;
     }
 
+    /// What may ask the search to stop.
+    pub fn stop(&self) -> &S {
+        &self.stop
+    }
+
     /// Whether a move that is under way is cut short.
     pub(crate) fn is_spent(&self) -> bool {
-        self.limit <= self.work
+        self.limit <= self.work || self.stop.is_asked()
     }
 
     /// Counts work.
@@ -150,7 +187,13 @@ impl PlanSearch {
         let turn = self.chance.below(TURNS);
         let noise = from_place(&self.noise, turn);
         let full = self.plan.levels.full(tables.base(shift, day), len);
-        lay_sums(&mut self.sums, full, noise, tables.shortage, tables.excess);
+        lay_sums(
+            &mut self.walk.sums,
+            full,
+            noise,
+            tables.shortage,
+            tables.excess,
+        );
         len.saturating_add(1)
     }
 
@@ -161,8 +204,7 @@ impl PlanSearch {
             return f64::MIN;
         };
         self.count(graph.edge_count().saturating_add(count));
-        let sums = self.sums.get(..count).unwrap_or(&[]);
-        graph.best_value(sums, &mut self.values).floor()
+        self.walk.best_value(graph, count).floor()
     }
 
     /// The breaks of a duty of a shift on a day that gains most, one of them at random.
@@ -170,9 +212,7 @@ impl PlanSearch {
         let count = self.lay_window(tables, shift, day);
         let graph = tables.graph(shift)?;
         self.count(graph.edge_count().saturating_add(count));
-        let sums = self.sums.get(..count).unwrap_or(&[]);
-        let _ = graph.best_value(sums, &mut self.values);
-        graph.best_list(sums, &self.values)
+        self.walk.best_list(graph, count)
     }
 
     /// No duty of a shift on a day gains more than this.

@@ -1,6 +1,7 @@
 //! Filling up and sweeping the duties of a day.
 
 use crate::search::{PlanSearch, stretches};
+use advice::Stop;
 use break_rules::NoMemory;
 use shift_tables::Tables;
 use working_plan::Placed;
@@ -8,7 +9,7 @@ use working_plan::Placed;
 /// The most duties that are filled in at a time.
 const FILLS: u32 = 4096;
 
-impl PlanSearch {
+impl<S: Stop + Drop> PlanSearch<S> {
     /// The used shift, other than `barred`, of which one more duty on a day gains most, where that is more than `least`.
     fn best_used(
         &mut self,

@@ -1,5 +1,6 @@
 //! Plans of a search on a day whose best plan is plain to see.
 
+use advice::Never;
 use break_rules::NoMemory;
 use instance_json::read;
 use plan_search::PlanSearch;
@@ -32,8 +33,8 @@ fn searched(
     tables: &Tables,
     seed: u64,
     slices: u32,
-) -> Result<PlanSearch, NoMemory> {
-    let mut search = PlanSearch::new(alloc, tables, seed)?;
+) -> Result<PlanSearch<Never>, NoMemory> {
+    let mut search = PlanSearch::new(alloc, tables, seed, Never)?;
     for _ in 0..slices {
         search.run(tables, 20_000)?;
     }
@@ -41,12 +42,12 @@ fn searched(
 }
 
 /// The best plan of a search.
-fn plan_of(search: &PlanSearch, instance: &Instance) -> Result<Costed, Fail> {
+fn plan_of(search: &PlanSearch<Never>, instance: &Instance) -> Result<Costed, Fail> {
     Ok(search.best_plan(instance)?.ok_or("no plan")?)
 }
 
 /// What a search came to.
-fn outcome_of(search: &PlanSearch, instance: &Instance) -> Result<Outcome, Fail> {
+fn outcome_of(search: &PlanSearch<Never>, instance: &Instance) -> Result<Outcome, Fail> {
     let plan = plan_of(search, instance)?;
     Ok(Outcome {
         told: search.best_cost(),
@@ -82,7 +83,7 @@ fn offered(
     tables: &Tables,
     rows: &Rows,
 ) -> Result<Outcome, Fail> {
-    let mut search = PlanSearch::new(alloc, tables, 2)?;
+    let mut search = PlanSearch::new(alloc, tables, 2, Never)?;
     search.offer(tables, rows)?;
     outcome_of(&search, instance)
 }

@@ -1,7 +1,7 @@
 //! Which words ask for what: no clause says it.
 
 use clap::error::ErrorKind;
-use planning_words::{PlanWords, Wanted, wanted_by};
+use planning_words::{PlanWords, StopOn, Wanted, wanted_by};
 use std::alloc::{AllocError, Global};
 use std::test::Fail;
 
@@ -23,8 +23,8 @@ fn kind_at(alloc: Global, line: &str) -> Result<Option<ErrorKind>, AllocError> {
     }
 }
 
-/// What a line asks for where it asks for a plan: its journal and folder, `-` where they aren't said, its seconds, its workers, and whether
-/// it begins again.
+/// What a line asks for where it asks for a plan: its journal and folder, `-` where they aren't said, its seconds, its workers, whether
+/// it begins again, and at what else it ends.
 fn plan_at(alloc: Global, line: &str) -> Result<Option<String>, AllocError> {
     let words = words_of(alloc, line)?;
     match wanted_by(alloc, words.as_slice()) {
@@ -37,12 +37,20 @@ fn plan_at(alloc: Global, line: &str) -> Result<Option<String>, AllocError> {
                     workers,
                     out,
                     anew,
+                    stop_on,
                 },
             ),
         ) => {
             let journal = journal.unwrap_or("-");
             let out = out.unwrap_or("-");
-            Ok(Some(format!(in alloc; "{instance} {journal} {seconds} {workers} {out} {anew}")?))
+            let end = match stop_on {
+                Some(StopOn::Line) => "line",
+                Some(StopOn::Enter) => "enter",
+                None => "-",
+            };
+            Ok(Some(format!(in alloc;
+                "{instance} {journal} {seconds} {workers} {out} {anew} {end}"
+            )?))
         }
         _ => Ok(None),
     }
@@ -52,10 +60,13 @@ fn plan_at(alloc: Global, line: &str) -> Result<Option<String>, AllocError> {
 fn a_plan_has_its_words(rt: HostRuntime) -> Result<(), Fail> {
     let alloc = rt.alloc();
     let short = plan_at(alloc, "shift_plan plan w.json")?.ok_or("no plan")?;
-    assert_eq!(rt; short.as_str(), "w.json - 60 4 - false");
-    let long = "shift_plan plan w.json --journal j --seconds 0 --workers=16 --out o --anew";
+    assert_eq!(rt; short.as_str(), "w.json - 60 4 - false -");
+    let long =
+        "shift_plan plan w.json --journal j --seconds 0 --workers=16 --out o --stop-on line --anew";
     let long = plan_at(alloc, long)?.ok_or("no plan")?;
-    assert_eq!(rt; long.as_str(), "w.json j 0 16 o true");
+    assert_eq!(rt; long.as_str(), "w.json j 0 16 o true line");
+    let told = plan_at(alloc, "shift_plan plan --stop-on=enter w.json")?.ok_or("no plan")?;
+    assert_eq!(rt; told.as_str(), "w.json - 60 4 - false enter");
     Ok(())
 }
 
@@ -83,6 +94,8 @@ fn other_words_are_refused(rt: HostRuntime) -> Result<(), Fail> {
     assert!(rt; matches!(kind, Some(ErrorKind::ValueValidation)));
     let kind = kind_at(alloc, "shift_plan plan w.json --seconds ten")?;
     assert!(rt; matches!(kind, Some(ErrorKind::ValueValidation)));
+    let kind = kind_at(alloc, "shift_plan plan w.json --stop-on dusk")?;
+    assert!(rt; matches!(kind, Some(ErrorKind::InvalidValue)));
     let kind = kind_at(alloc, "shift_plan --help")?;
     assert!(rt; matches!(kind, Some(ErrorKind::DisplayHelp)));
     Ok(())

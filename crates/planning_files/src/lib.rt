@@ -1,10 +1,8 @@
 //! The files of a plan: the journal of a search, which one run alone has, and files that are written whole.
 #![tactic(auto)]
 
-mod journal;
 mod locked_journal;
 mod whole_files;
 
-pub use journal::Journal;
 pub use locked_journal::{LockFault, LockedJournal, set_aside};
 pub use whole_files::{make_folder, write_whole};

@@ -1,9 +1,8 @@
 //! The file of a journal, which one run alone has.
 
-ghost use Rattle.std.specs.Prelude.{None};
+ghost use Rattle.std.specs.Prelude.{◌≡◌, IfOk};
 
-use crate::journal::Journal;
-use plan_base::FileDisk;
+use plan_base::{Disk, FileDisk};
 use std::alloc::{AllocError, Global};
 use std::fs::{self, File, OpenOptions, TryLockError};
 use std::io;
@@ -55,24 +54,19 @@ impl<R: Files<File = File> + Clone + Drop + Send> LockedJournal<R> {
         }
     }
 
-    /// Its length in bytes.
-    pub fn len(&self) -> io::Result<u64> {
-        Ok(self.lock.metadata()?.len())
-    }
-}
-
-impl<R: Files<File = File> + Clone + Drop + Send> Journal for LockedJournal<R> {
-    type File = FileDisk<R>;
-
-    ghost content = { λ journal. None };
-
-    fn open(&mut self) -> Result<FileDisk<R>, AllocError> {
+    /// The disk over its file, on which no call was made.
+    pub fn disk(&self) -> Result<FileDisk<R>, AllocError>
+        ensures { IfOk result (λ disk. ⟦<FileDisk<R> as Disk>⟧.calls disk ≡ 0) }
+    {
         let path = self.path.clone()?;
         let rt = self.rt.clone()?;
         Ok(FileDisk::new(rt, path))
     }
 
-    fn close(&mut self, _disk: FileDisk<R>) {}
+    /// Its length in bytes.
+    pub fn len(&self) -> io::Result<u64> {
+        Ok(self.lock.metadata()?.len())
+    }
 }
 
 /// The first of the names `PATH.1`, `PATH.2` and so on that no file has.

@@ -1,2 +1,1 @@
-pub mod Pace
 pub mod Progress

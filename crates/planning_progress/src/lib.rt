@@ -1,12 +1,12 @@
-//! How far a search has come, and how many steps it is to take next.
+//! How far a search has come, the line that says so, and when the search is to end.
 #![tactic(auto)]
 
 mod line;
-mod pace;
 mod progress;
+mod until;
 mod watched;
 
 pub use line::{Reached, gap_of, progress_line};
-pub use pace::{Pace, next_steps};
 pub use progress::Progress;
+pub use until::Until;
 pub use watched::{Shown, Watched};

@@ -7,15 +7,15 @@ use crate::progress::Progress;
 use advice::{Advice, Adviser, Ask, Told};
 use break_rules::NoMemory;
 use shift_instance::Instance;
-use std::alloc::{AllocError, Global};
+use std::alloc::Global;
 use std::sync::Arc;
 use std::time::Clock;
 
 /// Where and how often the line of a search is said.
 #[derive(Clone, Copy, PartialEq, Eq)]
 pub enum Shown {
-    /// On a terminal: a line each second, in place of the one before.
-    InPlace,
+    /// On a terminal: a line each second, in place of the one before, which says whether Enter ends the search.
+    InPlace { enter_ends: bool },
     /// Elsewhere: a line each ten seconds, below the one before.
     Below,
 }
@@ -24,14 +24,14 @@ impl Shown {
     /// The milliseconds from one line to the next.
     fn each(self) -> u64 {
         match self {
-            Shown::InPlace => 1_000,
+            Shown::InPlace { .. } => 1_000,
             Shown::Below => 10_000,
         }
     }
 }
 
-/// An adviser that gives another's advice as it is, until the time of a slice is over: then it gives none, as where there is no memory, so
-/// that its worker ends. It writes down what it is asked and told, and says a line on standard error where one is due.
+/// An adviser that gives another's advice as it is. It writes down what it is asked and told, and says a line on standard error where
+/// one is due.
 #[derive(Drop)]
 pub struct Watched<A: Adviser, R: Clock + Eprint + Drop> {
     alloc: Global,
@@ -65,7 +65,10 @@ impl<A: Adviser, R: Clock + Eprint + Drop> Watched<A, R> {
     }
 
     /// Says a line where one is due. Where there is no memory for it, or standard error takes none, the search goes on without.
-    fn say(&self, now: u64) {
+    fn say(&self) {
+        let Some(now) = self.progress.now(&self.rt) else {
+            return;
+        };
         if !self.progress.takes_turn(now, self.shown.each()) {
             return;
         }
@@ -73,7 +76,10 @@ impl<A: Adviser, R: Clock + Eprint + Drop> Watched<A, R> {
             return;
         };
         let _ = match self.shown {
-            Shown::InPlace => eprint!(self.rt; "\r{line}\u{1b}[K"),
+            Shown::InPlace { enter_ends: true } => {
+                eprint!(self.rt; "\r{line}, press Enter to end\u{1b}[K")
+            }
+            Shown::InPlace { enter_ends: false } => eprint!(self.rt; "\r{line}\u{1b}[K"),
             Shown::Below => eprintln!(self.rt; "{line}"),
         };
     }
@@ -85,21 +91,13 @@ impl<A: Adviser, R: Clock + Eprint + Drop> Adviser for Watched<A, R> {
     ghost last = { λ w. A.last w.adviser };
 
     fn advise(&mut self, instance: &Instance, ask: &Ask) -> Result<Advice, NoMemory> {
-        let now = self.progress.now(&self.rt);
-        if self.progress.turns_away(now) {
-            return Err(AllocError);
-        }
-        if let Some(now) = now {
-            self.progress.see(self.worker, ask, now);
-            self.say(now);
-        }
+        self.progress.see(self.worker, ask);
+        self.say();
         self.adviser.advise(instance, ask)
     }
 
     fn learn(&mut self, news: &Told) {
-        if let Some(now) = self.progress.now(&self.rt) {
-            self.progress.count(self.worker, news.best, now);
-        }
+        self.progress.count(self.worker, news.best);
         self.adviser.learn(news);
     }
 }

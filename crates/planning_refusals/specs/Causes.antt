@@ -1,9 +1,9 @@
 -- What stands against a plan, and the numbers with which the program ends.
 use Rattle.std.specs.Prelude.{◌≡◌, ◌⊎◌, ℕ, Option, None, Some}
-use Rattle.planning_runs.specs.declared.plans.Unshown.{Unshown}
-use Rattle.planning_runs.specs.declared.plans.Unshown.TheVariants as shown
-use Rattle.solve_runs.specs.declared.status.Status.{Status}
-use Rattle.solve_runs.specs.declared.status.Status.TheVariants as ended
+use Rattle.planning_runs.specs.declared.judging.Unshown.{Unshown}
+use Rattle.planning_runs.specs.declared.judging.Unshown.TheVariants as shown
+use Rattle.solve_runs.specs.declared.searched.SearchEnd.{SearchEnd}
+use Rattle.solve_runs.specs.declared.searched.SearchEnd.TheVariants as ended
 use Rattle.planning_refusals.specs.declared.refusal.Cause.{Cause}
 use Rattle.planning_refusals.specs.declared.refusal.Cause.TheVariants.{Refused, Words, Document, Report, Unread, Unwritten, System, NoMemory, Journal}
 
@@ -26,20 +26,16 @@ IsFor cause found = (found ≡ cause) ⊎ (found ≡ NoMemory)
 -- why a report shows no plan, as a cause
 abbrev pub cause_of : Unshown → Cause
 cause_of (shown.Document why) = Document
-cause_of (shown.Report line) = Report
+cause_of (shown.Report why) = Report
 cause_of (shown.Refused why) = Refused
-cause_of shown.NoMemory = NoMemory
 
--- why a run that ended so has no report, and nothing where it has one
-abbrev pub status_cause : Status → Option Cause
-status_cause ended.Optimal = None
-status_cause ended.Budget = None
-status_cause (ended.Full end limit) = None
-status_cause ended.Usage = Some NoMemory
-status_cause (ended.Input why) = Some Document
-status_cause (ended.Workers asked have) = Some NoMemory
-status_cause ended.ReadFault = Some NoMemory
-status_cause ended.WriteFault = Some NoMemory
-status_cause ended.DiskFault = Some System
-status_cause ended.NoMemory = Some NoMemory
-status_cause (ended.Journal why) = Some Journal
+-- why a search that ended so was cut off, and nothing where it wasn't
+abbrev pub end_cause : SearchEnd → Option Cause
+end_cause ended.Finished = None
+end_cause ended.Spent = None
+end_cause (ended.Full end limit) = None
+end_cause ended.Stopped = None
+end_cause ended.DiskFault = Some System
+end_cause ended.NoMemory = Some NoMemory
+end_cause (ended.TooFewAdvisers asked have) = Some Words
+end_cause (ended.Refused why) = Some Journal

@@ -3,17 +3,17 @@
 ghost use Rattle.std.specs.Prelude.{◌≡◌, MatchOption, MatchResult, None, Some};
 ghost use Rattle.planning_refusals.specs.declared.refusal.Cause.{Cause};
 ghost use Rattle.planning_refusals.specs.declared.refusal.Cause.TheVariants.{Document, NoMemory, Report, System, Unread, Unwritten};
-ghost use Rattle.planning_refusals.specs.Causes.{IsFor, cause_of, number_of, status_cause};
+ghost use Rattle.planning_refusals.specs.Causes.{IsFor, cause_of, end_cause, number_of};
 
 use cert_check::Refused;
-use certificate::BUNDLE_MAX;
+use certificate::{BUNDLE_MAX, CertText};
 use instance_json::ReadRefusal;
 use journal_texts::journal_sentence;
 use planning_files::LockFault;
 use planning_runs::Unshown;
 use refusal_texts::{Role, document_sentence, file_sentence};
 use search_book::OpenFault;
-use solve_runs::Status;
+use solve_runs::SearchEnd;
 use std::alloc::{AllocError, AllocFailed, Global};
 use std::marker::Model;
 use std::{fmt, io};
@@ -179,14 +179,14 @@ impl Refusal {
     {
         match why {
             Unshown::Document(why) => Refusal::document(alloc, document, why),
-            Unshown::Report { line } => Refusal::said(
+            Unshown::Report(CertText::Departs { line }) => Refusal::said(
                 Cause::Report,
                 format!(in alloc;
                     "the report's line {line}, counted from 1, is none that could stand there: the file is no report, or was cut off or changed"
                 ),
             ),
+            Unshown::Report(CertText::NoMemory) => Refusal::from(AllocError),
             Unshown::Refused(why) => Refusal::said(Cause::Refused, refused_sentence(alloc, why)),
-            Unshown::NoMemory => Refusal::from(AllocError),
         }
     }
 
@@ -206,19 +206,22 @@ impl Refusal {
         Refusal::said(Cause::System, sentence)
     }
 
-    /// Why a run that ended so has no report, and `None` where it has one.
-    pub fn of_status(alloc: Global, document: &[u8], status: &Status) -> Option<Refusal>
-        ensures { MatchOption result (status_cause status.now ≡ None) (λ refusal. (cause : Cause) × (status_cause status.now ≡ Some cause) × IsFor cause refusal) }
+    /// Why a search that ended so didn't go on to the end of its time, and `None` where it wasn't cut off.
+    pub fn of_end(alloc: Global, end: &SearchEnd) -> Option<Refusal>
+        ensures { MatchOption result (end_cause end.now ≡ None) (λ refusal. (cause : Cause) × (end_cause end.now ≡ Some cause) × IsFor cause refusal) }
     {
-        match status {
-            Status::Optimal | Status::Budget | Status::Full { .. } => None,
-            Status::Input(why) => Some(Refusal::document(alloc, document, why)),
-            Status::Journal(why) => {
+        match end {
+            SearchEnd::Finished | SearchEnd::Spent | SearchEnd::Full { .. } | SearchEnd::Stopped =>
+                None,
+            SearchEnd::Refused(why) => {
                 Some(Refusal::said(Cause::Journal, unopened_sentence(alloc, why)))
             }
-            Status::DiskFault => Some(Refusal::said(Cause::System, disk_sentence(alloc))),
-            // the document and the report are in memory, the words are a command, and there are advisers enough
-            _ => Some(Refusal::from(AllocError)),
+            SearchEnd::DiskFault => Some(Refusal::said(Cause::System, disk_sentence(alloc))),
+            SearchEnd::TooFewAdvisers { asked, have } => Some(Refusal::said(
+                Cause::Words,
+                format!(in alloc; "{asked} workers are asked for, and at most {have} can search"),
+            )),
+            SearchEnd::NoMemory => Some(Refusal::from(AllocError)),
         }
     }
 }

@@ -1,10 +1,10 @@
-//! Plans for people: a search that runs in slices within a time, over one journal, and the plan that its report shows.
+//! Plans for people: the search for one over a journal, and the judgement on what it found, or on a report that stands.
 #![tactic(auto)]
 
-mod plans;
-mod runs;
-mod slices;
+mod judging;
+mod plan;
+mod search;
 
-pub use plans::{Plan, Unshown, cert_of, instance_of, judged_plan, steps_in};
-pub use runs::run_until;
-pub use slices::{Slices, is_reported};
+pub use judging::{Unshown, judged_plan};
+pub use plan::Plan;
+pub use search::{Planned, search_plan};

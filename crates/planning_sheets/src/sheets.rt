@@ -10,7 +10,6 @@ use planning_files::{make_folder, write_whole};
 use planning_refusals::{Cause, Refusal};
 use planning_runs::Plan;
 use refusal_texts::Role;
-use rota_cost::legal_rows;
 use shift_instance::{Instance, Rows};
 use std::alloc::{AllocError, Global};
 use std::io::{self, Write};
@@ -87,21 +86,12 @@ fn say(rt: HostRuntime, text: &str) {
     let _ = out.flush();
 }
 
-/// What is refused of a report whose rows aren't legal for its instance.
-fn not_legal(alloc: Global) -> Refusal {
-    Refusal::said(
-        Cause::Refused,
-        String::from_str(alloc, "the report's plan isn't legal for this instance"),
-    )
-}
-
-/// Writes the plan of a report to a folder, each file whole or not at all, and says it on standard output. `instance` is the word that
-/// names the instance's file.
+/// Writes a plan to a folder, each file whole or not at all, and says it on standard output. `instance` is the word that names the
+/// instance's file.
 pub fn show_plan(
     rt: HostRuntime,
     instance: &str,
     folder: &str,
-    report: &[u8],
     plan: &Plan,
 ) -> Result<(), Refusal> {
     let alloc = rt.alloc();
@@ -113,12 +103,9 @@ pub fn show_plan(
         say(rt, text.as_str());
         return Ok(());
     };
-    if legal_rows(&plan.instance, rows).is_err() {
-        return Err(not_legal(alloc));
-    }
     let stands = standing(alloc, &plan.cert, *cost)?;
     let sheets = Sheets::new(alloc, &plan.instance, rows, instance, stands.as_str())?;
-    write_file(rt, folder, "report", report)?;
+    write_file(rt, folder, "report", plan.report.as_slice())?;
     write_file(rt, folder, "duties.csv", sheets.duties.as_slice())?;
     write_file(rt, folder, "cover.csv", sheets.cover.as_slice())?;
     write_file(rt, folder, "plan.html", sheets.page.as_bytes())?;

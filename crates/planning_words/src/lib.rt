@@ -5,4 +5,4 @@ mod names;
 mod wanted;
 
 pub use names::{folder_beside, is_same_file, journal_beside};
-pub use wanted::{PlanWords, ShowWords, Wanted, wanted_by};
+pub use wanted::{PlanWords, ShowWords, StopOn, Wanted, wanted_by};

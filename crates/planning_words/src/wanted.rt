@@ -18,6 +18,9 @@ const WORKERS_UNSAID: u16 = 4;
 /// The most workers.
 const WORKERS_MOST: u16 = 16;
 
+/// The words for what ends a search.
+const STOPS: &[&str] = &["line", "enter"];
+
 const ABOUT: &str =
     "Plans shifts: from the employees wanted in each slot to duties with their breaks.";
 
@@ -32,6 +35,15 @@ Examples:
 
   shift_plan show week.json week.plan/report
       Judges a report that stands and shows its plan once more.";
+
+/// At what else than its time a search is to end.
+#[derive(Clone, Copy, PartialEq, Eq, Drop)]
+pub enum StopOn {
+    /// At a line of standard input, or its end.
+    Line,
+    /// The same, where the line is somebody's Enter, so that the line of progress says so.
+    Enter,
+}
 
 /// The words that ask for a plan.
 #[derive(Clone, Copy, Drop)]
@@ -48,6 +60,8 @@ pub struct PlanWords<'a> {
     pub out: Option<&'a str>,
     /// Whether to begin again, with the old journal under another name.
     pub anew: bool,
+    /// At what else the search is to end, if it is said.
+    pub stop_on: Option<StopOn>,
 }
 
 /// The words that ask for a report to be shown.
@@ -122,6 +136,17 @@ fn anew_word<'a>(alloc: Global) -> Arg<'a> {
         .help("Begin again: the journal that stands is kept under another name")
 }
 
+/// The word for what ends a search before its time.
+fn stop_word<'a>(alloc: Global) -> Arg<'a> {
+    Arg::new(alloc, "stop-on")
+        .long("stop-on")
+        .value_name("WHAT")
+        .value_parser(STOPS)
+        .help(
+            "End the search at a line of standard input or at its end; with enter the line of progress says so [default: at Enter, on a terminal]",
+        )
+}
+
 /// The command `plan` with the words for what is read and how long is searched.
 fn timed_command<'a>(alloc: Global) -> Result<Command<'a>, AllocError> {
     Command::new(alloc, "plan")
@@ -136,6 +161,7 @@ fn plan_command<'a>(alloc: Global) -> Result<Command<'a>, AllocError> {
     timed_command(alloc)?
         .arg(workers_word(alloc))?
         .arg(out_word(alloc))?
+        .arg(stop_word(alloc))?
         .arg(anew_word(alloc))
 }
 
@@ -167,6 +193,14 @@ fn command<'a>(alloc: Global) -> Result<Command<'a>, AllocError> {
     planning.subcommand(show_command(alloc)?)
 }
 
+/// What ends a search, by its word.
+fn stop_on(word: &str) -> StopOn {
+    match word {
+        "enter" => StopOn::Enter,
+        _ => StopOn::Line,
+    }
+}
+
 /// What the words behind `plan` ask for.
 fn plan_words<'a>(matches: &ArgMatches<'a>) -> PlanWords<'a>
     ensures seconds { result.seconds ≤ SECONDS_MOST }
@@ -183,6 +217,7 @@ fn plan_words<'a>(matches: &ArgMatches<'a>) -> PlanWords<'a>
         workers: workers.clamp(1, WORKERS_MOST),
         out: matches.get_str("out"),
         anew: matches.get_flag("anew"),
+        stop_on: matches.get_str("stop-on").map(stop_on),
     }
 }
 
@@ -199,7 +234,7 @@ fn show_words<'a>(matches: &ArgMatches<'a>) -> ShowWords<'a> {
 /// What the words of a command line ask for, the program's name first among them. The error is what clap says of other words, and the help
 /// where that is asked for.
 ///
-/// The words are `plan INSTANCE [--journal FILE] [--seconds T] [--workers W] [--out FOLDER] [--anew]` or
+/// The words are `plan INSTANCE [--journal FILE] [--seconds T] [--workers W] [--out FOLDER] [--stop-on line|enter] [--anew]` or
 /// `show INSTANCE REPORT [--out FOLDER]`. T is at most 4,000,000 and 60 where it isn't given, W is from 1 to 16 and 4 where it isn't
 /// given.
 pub fn wanted_by<'a>(alloc: Global, words: &'a [String]) -> Result<Wanted<'a>, Error>

@@ -6,6 +6,7 @@ use crate::pass::clear;
 use crate::price_range::PriceRange;
 use crate::ranges::Ranges;
 use crate::values::Values;
+use advice::Stop;
 use break_rules::NoMemory;
 use shift_tables::Tables;
 use std::alloc::Global;
@@ -240,17 +241,19 @@ impl Climb {
     }
 
     /// Rounds over the working set, from the current prices of a value; gives the value of those it ends at.
-    fn run_batch(
+    fn run_batch<S: Stop>(
         &mut self,
         tables: &Tables,
         ranges: &Ranges,
         pace: &mut Pace,
         from: f64,
-        stop: f64,
+        goal: f64,
+        stop: &S,
     ) -> Result<f64, NoMemory> {
         let mut value = from;
         for _ in 0..BATCH {
-            if stop <= value || self.is_spent() || !self.go(tables, value, pace.step) {
+            let is_over = goal <= value || self.is_spent() || stop.is_asked();
+            if is_over || !self.go(tables, value, pace.step) {
                 break;
             }
             let next = self.pass(tables, ranges, false)?;
@@ -335,13 +338,15 @@ impl Climb {
     /// greatest value found: a bound on the cost below the cuts, but for rounding.
     ///
     /// It prices all shifts at most once more than there are tens of rounds, and those of the working set at most once in each
-    /// round. It ends at the round after which it has visited some two thousand million edges and slots.
-    pub fn climb(
+    /// round. It ends at the round after which it has visited some two thousand million edges and slots, or in which it is asked to
+    /// stop.
+    pub fn climb<S: Stop>(
         &mut self,
         tables: &Tables,
         ranges: &Ranges,
         start: &[f64],
         limits: Limits,
+        stop: &S,
     ) -> Result<f64, NoMemory> {
         self.end = self.values.work.saturating_add(MOST_WORK);
         let mut best = self.begin(tables, ranges, start)?;
@@ -353,11 +358,12 @@ impl Climb {
         };
         let mut stalls = 0u32;
         for _ in 0..limits.rounds / BATCH {
-            if limits.stop <= best || limits.stalls <= stalls || self.is_spent() {
+            let is_over = limits.goal <= best || limits.stalls <= stalls || self.is_spent();
+            if is_over || stop.is_asked() {
                 break;
             }
             let from = value;
-            value = self.run_batch(tables, ranges, &mut pace, value, limits.stop)?;
+            value = self.run_batch(tables, ranges, &mut pace, value, limits.goal, stop)?;
             if best < value {
                 let stock = self.take_stock(tables, ranges, best)?;
                 value = stock.value;

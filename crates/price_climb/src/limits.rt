@@ -6,7 +6,7 @@ pub struct Limits {
     /// The most rounds.
     pub rounds: u32,
     /// The value from which on it needn't go on.
-    pub stop: f64,
+    pub goal: f64,
     /// The batches in a row that may gain little.
     pub stalls: u32,
     /// The first size of a step, as a part of the value.

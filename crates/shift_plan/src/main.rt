@@ -2,8 +2,11 @@
 //! `shift_plan show INSTANCE REPORT` does so with the plan of a report that stands.
 #![tactic(auto)]
 
+mod journals;
+mod listening;
 mod planning;
 mod showing;
+mod telling;
 
 use planning_refusals::{Cause, Refusal};
 use planning_words::{Wanted, wanted_by};

@@ -11,17 +11,11 @@ pub(crate) fn show(rt: HostRuntime, words: &ShowWords) -> Result<(), Refusal> {
     let alloc = rt.alloc();
     let document = read_document(rt, words.instance)?;
     let report = read_report(rt, words.report)?;
-    let plan = match judged_plan(alloc, document.as_slice(), report.as_slice()) {
+    let plan = match judged_plan(alloc, document.as_slice(), report) {
         Ok(plan) => plan,
         Err(why) => return Err(Refusal::unshown(alloc, document.as_slice(), &why)),
     };
     let folder = folder_of(alloc, words.out, words.instance)?;
     ready_folder(rt, folder.as_str())?;
-    show_plan(
-        rt,
-        words.instance,
-        folder.as_str(),
-        report.as_slice(),
-        &plan,
-    )
+    show_plan(rt, words.instance, folder.as_str(), &plan)
 }

@@ -3,12 +3,13 @@
 //! made from a number, and prints a line.
 #![tactic(auto)]
 
-use advice::Adviser;
+use advice::{Adviser, Never};
 use advisers::{Greedy, Subgradient};
 use descents::Descent;
 use plan_base::{FileDisk, StdSink, StdSource};
-use solve_runs::{Status, journal_path, solve_run, status_line, wants_local, wants_thorough};
-use std::alloc::AllocError;
+use solve_runs::{Status, run_command, status_line};
+use solve_words::{Command, Method, command_of};
+use std::alloc::{AllocError, Global};
 use std::process::ExitCode;
 use std::sync::Wait;
 use std::thread::Threads;
@@ -47,29 +48,34 @@ fn solve<R: Threads + Wait + Sync>(
     words: &[String],
 ) -> Result<Status, AllocError> {
     let alloc = host.alloc();
-    let path = match journal_path(alloc, words)? {
-        Some(path) => path,
-        None => String::new(alloc),
+    let Some(command) = command_of(alloc, words)? else {
+        return Ok(Status::Usage);
     };
-    let is_thorough = wants_thorough(alloc, words)?;
-    let is_local = wants_local(alloc, words)?;
+    let (path, method) = match command {
+        Command::Search {
+            journal,
+            method,
+            ..
+        } => (String::from_str(alloc, journal)?, method),
+        Command::Demo { .. } => (String::new(alloc), Method::Greedy),
+    };
     let mut advisers: Vec<Box<dyn Adviser + Send>> = Vec::with_capacity(alloc, ADVISERS)?;
     for place in 0..ADVISERS {
-        if is_thorough {
-            advisers.push(Box::new(alloc, Thorough::new(alloc, place as u64 + 1))?)?;
-        } else if 0 < place {
-            advisers.push(Box::new(alloc, Subgradient::new(alloc, SCALE))?)?;
-        } else if is_local {
-            advisers.push(Box::new(alloc, Descent::new(alloc, MOVES))?)?;
-        } else {
-            advisers.push(Box::new(alloc, Greedy::new(alloc))?)?;
+        match method {
+            Method::Thorough => advisers.push(Box::new(
+                alloc,
+                Thorough::new(alloc, place as u64 + 1, Never),
+            )?)?,
+            _ if 0 < place => advisers.push(Box::new(alloc, Subgradient::of_first(alloc, SCALE))?)?,
+            Method::Local => advisers.push(Box::new(alloc, Descent::of_first(alloc, MOVES))?)?,
+            Method::Greedy => advisers.push(Box::new(alloc, Greedy::of_first(alloc))?)?,
         }
     }
     let mut input = StdSource::new(host);
     let mut out = StdSink::new(host);
     let disk = FileDisk::new(host, path);
-    let ended = solve_run(
-        rt, alloc, words, &mut input, &mut out, disk, advisers, &Open,
+    let ended = run_command(
+        rt, alloc, command, &mut input, &mut out, disk, advisers, &Open,
     );
     Ok(ended.status)
 }

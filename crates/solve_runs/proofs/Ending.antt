@@ -1,10 +1,11 @@
--- How a search over a book ends, and a run whose book isn't opened.
-use Rattle.std.proofs.Common.{◌≡◌, ◌≢◌, inl, inr, sym, ap, subst, refl, ℕ, ◌+◌, ◌*◌, ◌<◌, ◌≤◌, Bool, true, false, List, arith, Option, Some, None}
-use Rattle.std.specs.Prelude.{◌⊎◌, IfSome}
-use Rattle.std.proofs.lemmas.Bool.{cases_lt, false≢true}
+-- How a search over a book ends, and one whose book isn't opened.
+use Rattle.std.proofs.Common.{◌≡◌, ◌≢◌, inl, inr, sym, ap, subst, refl, ℕ, ◌+◌, ◌*◌, ◌<◌, ◌≤◌, false, List, take, arith, Option, Some, None}
+use Rattle.std.specs.Prelude.{◌⊎◌, IfSome, Result, Ok, Err}
+use Rattle.std.proofs.lemmas.Bool.{cases_lt}
 use Rattle.gated_journal.specs.declared.TheConstants.{JOURNAL_MAX}
 use Rattle.instance_json.specs.Canonical.{canonical_text}
 use Rattle.shift_instance.specs.Problem.{Problem}
+use Rattle.search_core.specs.Board.{BoardView}
 use Rattle.search_core.specs.Calls.{full_hands, steps_enough, IsFresh}
 use Rattle.search_book.specs.declared.open_fault.OpenFault.{OpenFault}
 use Rattle.search_book.specs.declared.open_fault.OpenFault.TheVariants.{DiskFault as OpeningsDisk, NotAJournal, OtherInstance, Damaged, Rejected, NoMemory as OpeningsMemory}
@@ -12,17 +13,19 @@ use Rattle.search_book.specs.Head.{KeepsHead}
 use Rattle.search_book.specs.Opened.{HoldsBook, OpenCause}
 use Rattle.search_book.specs.Search.{SearchView, board_of}
 use Rattle.worker_gate.specs.declared.run.RunEnd.{RunEnd}
-use Rattle.worker_gate.specs.declared.run.RunEnd.TheVariants.{Finished, Spent, Full as FullEnd, DiskFault as DiskEnd, NoMemory as MemoryEnd, Stopped}
+use Rattle.worker_gate.specs.declared.run.RunEnd.TheVariants.{Finished as FinishedEnd, Spent as SpentEnd, Full as FullEnd, DiskFault as DiskEnd, NoMemory as MemoryEnd, Stopped as StoppedEnd}
 use Rattle.board_lock.specs.Turns.{plans_since, prices_since, AreTurns}
 use Rattle.worker_gate.specs.Runs.{IsSameSearch}
 use Rattle.worker_gate.specs.Workers.{WorkersEnd}
-use Rattle.solve_runs.specs.Run.{IsLeft, IsRefusal, OverDisk, status_of}
-use Rattle.solve_runs.specs.Search.{is_reported, status_at, Ends, IsLanded, IsReported, SearchEnds, Told, Unwritten}
-use Rattle.solve_runs.specs.Served.{AreUntold, ToldMet}
-use Rattle.solve_runs.specs.Session.{met_of, DiskMet}
-use Rattle.solve_runs.specs.Streams.{SinkMet}
-use Rattle.solve_runs.specs.declared.status.Status.{Status}
-use Rattle.solve_runs.specs.declared.status.Status.TheVariants.{Optimal, Budget, Full, Usage, Input, Workers, ReadFault, WriteFault, DiskFault, NoMemory, Journal}
+use Rattle.solve_runs.specs.declared.searched.SearchEnd.{SearchEnd}
+use Rattle.solve_runs.specs.declared.searched.SearchEnd.TheVariants.{Finished, Spent, Full, Stopped, DiskFault, NoMemory, TooFewAdvisers, Refused}
+use Rattle.solve_runs.specs.Ended.{HasEnded, IsLeft, IsRefusal}
+use Rattle.solve_runs.specs.Search.{Ends}
+use Rattle.solve_runs.specs.Searching.{end_of, end_unopened, HasNotSearched, SearchEnds}
+use Rattle.solve_runs.specs.Served.{AreUntold, Served, ToldMet}
+use Rattle.solve_runs.specs.Session.{met_of, DiskMet, IsUncalled, Session}
+use Rattle.solve_runs.specs.Words.{workers_for}
+use Rattle.solve_runs.proofs.Telling.{told_of_all, untold_of_all}
 
 -- ---- how a search ends
 pub few_steps : (budget enough : ℕ) → (enough ≤ budget → ⊥) → budget < enough
@@ -32,14 +35,14 @@ module _ {D : Type 0} (reads : D → Option (List ℕ)) (calls faults : D → �
   pub run_ends : (workers commits : ℕ) (old new : SearchView D) (end : RunEnd) → IsSameSearch (board_of reads calls faults old) (board_of reads calls faults new) → IsFresh (board_of reads calls faults old)
       → WorkersEnd (board_of reads calls faults old) (board_of reads calls faults new) end → ∥ AreTurns workers (board_of reads calls faults old) (board_of reads calls faults new) commits ∥₁
       → commits ≤ prices_since old.log.history new.log.history + workers * plans_since old.log.history new.log.history → (new.halted ≡ false → commits + full_hands new.hands ≡ new.taken)
-      → (steps_enough old.log.instance ≤ old.budget → end ≢ Spent) → end ≢ Stopped → Ends reads calls faults workers commits old new end
-  run_ends workers commits old new end same fresh ends turns shown exact enough unasked = record {
+      → (steps_enough old.log.instance ≤ old.budget → end ≢ SpentEnd) → Ends reads calls faults workers commits old new end
+  run_ends workers commits old new end same fresh ends turns shown exact enough = record {
     fresh = fresh;
     ends = ends;
     turns = turns;
     shown = shown;
     spent = λ e.
-        let s : WorkersEnd (board_of reads calls faults old) (board_of reads calls faults new) Spent = subst (WorkersEnd (board_of reads calls faults old) (board_of reads calls faults new)) e ends in
+        let s : WorkersEnd (board_of reads calls faults old) (board_of reads calls faults new) SpentEnd = subst (WorkersEnd (board_of reads calls faults old) (board_of reads calls faults new)) e ends in
         let none : full_hands new.hands ≡ 0 = ap full_hands s.0.empty in
         let each : commits + full_hands new.hands ≡ new.taken = exact s.0.going in
         let all : new.taken ≡ new.budget = s.2 in
@@ -47,49 +50,7 @@ module _ {D : Type 0} (reads : D → Option (List ℕ)) (calls faults : D → �
         omega (arith, none, each, all, budget);
     exact = exact;
     few = λ e. few_steps old.budget (steps_enough old.log.instance) (λ le. enough le e);
-    unasked = unasked;
   }
-
-module _ {D : Type 0} (reads : D → Option (List ℕ)) (calls faults : D → ℕ) (workers : ℕ) (told : ToldMet) (old new : SearchView D) (table : Bool) (held holds : Option (List ℕ)) (writes : ℕ × ℕ) where
-  -- a search of which no report is written
-  pub unreported : (end : RunEnd) → Told reads calls faults workers told old new end → is_reported end ≡ false → SearchEnds reads calls faults workers told old new table held holds writes (status_at end)
-  unreported Finished e none = absurd (false≢true (sym none))
-  unreported Spent e none = absurd (false≢true (sym none))
-  unreported (FullEnd end limit) e none = absurd (false≢true (sym none))
-  unreported DiskEnd e none = e
-  unreported MemoryEnd e none = (MemoryEnd, e, tt)
-  unreported Stopped e none = absurd (e.1.unasked refl)
-
-  -- a search whose report was written
-  pub reported : (end : RunEnd) → Told reads calls faults workers told old new end → is_reported end ≡ true → IsReported new table held holds → SearchEnds reads calls faults workers told old new table held holds writes (status_at end)
-  reported Finished e some written = (e, written)
-  reported Spent e some written = (e, written)
-  reported (FullEnd end limit) e some written = (e, written)
-  reported DiskEnd e some written = absurd (false≢true some)
-  reported MemoryEnd e some written = absurd (false≢true some)
-  reported Stopped e some written = absurd (false≢true some)
-
-  landed : (end : RunEnd) → is_reported end ≡ true → IsLanded end
-  landed Finished some = tt
-  landed Spent some = tt
-  landed (FullEnd end limit) some = tt
-  landed DiskEnd some = absurd (false≢true some)
-  landed MemoryEnd some = tt
-  landed Stopped some = absurd (false≢true some)
-
-  -- a search whose report wasn't written, or not whole
-  pub cut_short : (end : RunEnd) (status : Status) → Told reads calls faults workers told old new end → is_reported end ≡ true → Unwritten new table held holds writes status → SearchEnds reads calls faults workers told old new table held holds writes status
-  cut_short end WriteFault e some part = (end, e, some, part)
-  cut_short end NoMemory e some part = (end, e, landed end some)
-  cut_short end Optimal e some part = absurd part
-  cut_short end Budget e some part = absurd part
-  cut_short end (Full n limit) e some part = absurd part
-  cut_short end Usage e some part = absurd part
-  cut_short end (Input why) e some part = absurd part
-  cut_short end (Workers asked have) e some part = absurd part
-  cut_short end ReadFault e some part = absurd part
-  cut_short end DiskFault e some part = absurd part
-  cut_short end (Journal why) e some part = absurd part
 
 -- ---- a book that isn't opened
 none_held : (fault : OpenFault) → IsRefusal fault → (fault ≡ OpeningsDisk) ⊎ (fault ≡ OpeningsMemory) → ⊥
@@ -101,28 +62,99 @@ no_book : (file : Option (List ℕ)) (i : Problem) (fault : OpenFault) → IsRef
 no_book None i fault refusal only = tt
 no_book (Some file) i fault refusal only = λ holds. none_held fault refusal (only holds)
 
-pub not_opened : (disk : DiskMet) (sink : SinkMet) (i : Problem) (table : Bool) (budget workers : ℕ) (told : ToldMet) (fault : OpenFault) → AreUntold workers told
+pub not_opened : (disk : DiskMet) (i : Problem) (workers : ℕ) (told : ToldMet) (fault : OpenFault) → AreUntold workers told
     → KeepsHead (canonical_text i) disk.file disk.file_after fault → OpenCause JOURNAL_MAX i disk.file disk.faults.0 disk.faults.1 fault
     → IfSome disk.file (λ f. HoldsBook JOURNAL_MAX i f → (fault ≡ OpeningsDisk) ⊎ (fault ≡ OpeningsMemory)) → IsLeft disk i
-    → OverDisk disk sink i table budget workers told false (status_of fault)
-not_opened disk sink i table budget workers told OpeningsDisk untold keeps cause only left = (cause, inl (refl, left, untold))
-not_opened disk sink i table budget workers told NotAJournal untold keeps cause only left =
-    (refl, record { refusal = tt; cause = cause; none = no_book disk.file i NotAJournal tt only; same = keeps }, left, untold)
-not_opened disk sink i table budget workers told (OtherInstance at) untold keeps cause only left =
-    (refl, record { refusal = tt; cause = cause; none = no_book disk.file i (OtherInstance at) tt only; same = keeps }, left, untold)
-not_opened disk sink i table budget workers told (Damaged at) untold keeps cause only left =
-    (refl, record { refusal = tt; cause = cause; none = no_book disk.file i (Damaged at) tt only; same = keeps }, left, untold)
-not_opened disk sink i table budget workers told (Rejected at why) untold keeps cause only left =
-    (refl, record { refusal = tt; cause = cause; none = no_book disk.file i (Rejected at why) tt only; same = keeps }, left, untold)
-not_opened disk sink i table budget workers told OpeningsMemory untold keeps cause only left = inl (refl, left, untold, keeps)
+    → HasNotSearched disk i workers told (end_unopened fault)
+not_opened disk i workers told OpeningsDisk untold keeps cause only left = (cause, left, untold)
+not_opened disk i workers told NotAJournal untold keeps cause only left =
+    (record { refusal = tt; cause = cause; none = no_book disk.file i NotAJournal tt only; same = keeps }, left, untold)
+not_opened disk i workers told (OtherInstance at) untold keeps cause only left =
+    (record { refusal = tt; cause = cause; none = no_book disk.file i (OtherInstance at) tt only; same = keeps }, left, untold)
+not_opened disk i workers told (Damaged at) untold keeps cause only left =
+    (record { refusal = tt; cause = cause; none = no_book disk.file i (Damaged at) tt only; same = keeps }, left, untold)
+not_opened disk i workers told (Rejected at why) untold keeps cause only left =
+    (record { refusal = tt; cause = cause; none = no_book disk.file i (Rejected at why) tt only; same = keeps }, left, untold)
+not_opened disk i workers told OpeningsMemory untold keeps cause only left = (left, untold, keeps)
 
--- the end of a run, by what it hands back
-pub same_end : {D : Type 0} (reads : D → Option (List ℕ)) (images : D → List ℕ → Type 0) (images_since : D → ℕ → List ℕ → Type 0) (calls faults : D → ℕ) (old : D) (sink : SinkMet) (i : Problem) (table : Bool) (budget workers : ℕ) (before : List ℕ)
-    (disk kept : D) (after told : List ℕ) (opened opens : Bool) (status ends : Status) → disk ≡ kept → after ≡ told → opened ≡ opens → status ≡ ends
-    → OverDisk (met_of reads images images_since calls faults old kept) sink i table budget workers (record { before = before; after = told }) opens ends
-    → OverDisk (met_of reads images images_since calls faults old disk) sink i table budget workers (record { before = before; after = after }) opened status
-same_end reads images images_since calls faults old sink i table budget workers before disk kept after told opened opens status ends same_disk same_told same_opened same_status holds =
-    subst (λ (s : Status). OverDisk (met_of reads images images_since calls faults old disk) sink i table budget workers (record { before = before; after = after }) opened s) (sym same_status)
-    (subst (λ (o : Bool). OverDisk (met_of reads images images_since calls faults old disk) sink i table budget workers (record { before = before; after = after }) o ends) (sym same_opened)
-    (subst (λ (l : List ℕ). OverDisk (met_of reads images images_since calls faults old disk) sink i table budget workers (record { before = before; after = l }) opens ends) (sym same_told)
-    (subst (λ d. OverDisk (met_of reads images images_since calls faults old d) sink i table budget workers (record { before = before; after = told }) opens ends) (sym same_disk) holds)))
+-- a disk that is handed back as it was
+pub uncalled : {D : Type 0} (reads : D → Option (List ℕ)) (images : D → List ℕ → Type 0) (images_since : D → ℕ → List ℕ → Type 0) (calls faults : D → ℕ) (disk : D) → IsUncalled (met_of reads images images_since calls faults disk disk)
+uncalled reads images images_since calls faults disk = record { file = refl; images = λ image. (λ before. before, λ after. after); calls = refl; faults = refl }
+
+-- the answer of a search, by what it hands back
+pub same_answer : {D : Type 0} (reads : D → Option (List ℕ)) (images : D → List ℕ → Type 0) (images_since : D → ℕ → List ℕ → Type 0) (calls faults : D → ℕ) (disk : D) (i : Problem) (workers budget : ℕ) (before after told : List ℕ)
+    (book kept : Result (SearchView D) D) (end ends : SearchEnd) → book ≡ kept → after ≡ told → end ≡ ends
+    → SearchEnds reads images images_since calls faults disk i workers budget (record { before = before; after = told }) kept ends
+    → SearchEnds reads images images_since calls faults disk i workers budget (record { before = before; after = after }) book end
+same_answer {D} reads images images_since calls faults disk i workers budget before after told book kept end ends same_book same_told same_end holds =
+    subst (λ (e : SearchEnd). SearchEnds reads images images_since calls faults disk i workers budget (record { before = before; after = after }) book e) (sym same_end)
+    (subst (λ (l : List ℕ). SearchEnds reads images images_since calls faults disk i workers budget (record { before = before; after = l }) book ends) (sym same_told)
+    (subst (λ (b : Result (SearchView D) D). SearchEnds reads images images_since calls faults disk i workers budget (record { before = before; after = told }) b ends) (sym same_book) holds))
+
+-- ---- the advisers that serve are the first of all
+
+module _ (disk : DiskMet) (i : Problem) (budget workers : ℕ) (before after : List ℕ) where
+  served_all : (end : RunEnd) (last : BoardView) (s : Session disk i) → Served workers budget (record { before = take workers before; after = after }) end last s → Served workers budget (record { before = before; after = after }) end last s
+  served_all end last s served = (served.0, served.1, told_of_all workers served.0 before after served.2)
+
+  ended_all : (end : RunEnd) (last : BoardView) (s : Session disk i) → HasEnded disk i workers budget (record { before = take workers before; after = after }) end last s → HasEnded disk i workers budget (record { before = before; after = after }) end last s
+  unfolding served_all
+  ended_all FinishedEnd last s e = (e.0, e.1, served_all FinishedEnd last s e.2)
+  ended_all SpentEnd last s e = (e.0, e.1, told_of_all workers budget before after e.2)
+  ended_all (FullEnd end limit) last s e = (served_all (FullEnd end limit) last s e.0, e.1)
+  ended_all DiskEnd last s e = (e.0, served_all DiskEnd last s e.1)
+  ended_all StoppedEnd last s e = (e.0, served_all StoppedEnd last s e.1)
+  ended_all MemoryEnd last s e = (e.0, served_all MemoryEnd last s e.1)
+
+  -- where no book was opened, and the advisers were enough
+  unsearched_all : (end : SearchEnd) → workers ≤ workers_for (take workers before) → HasNotSearched disk i workers (record { before = take workers before; after = after }) end → HasNotSearched disk i workers (record { before = before; after = after }) end
+  unsearched_all (TooFewAdvisers asked have) enough e =
+      let as_many = e.2 in let all = e.3 in let fewer = e.4 in absurd (omega (arith, enough, as_many, all, fewer))
+  unsearched_all (Refused why) enough e = (e.0, e.1, untold_of_all workers before after e.2)
+  unsearched_all DiskFault enough e = (e.0, e.1, untold_of_all workers before after e.2)
+  unsearched_all NoMemory enough e = (e.0, untold_of_all workers before after e.1, e.2)
+  unsearched_all Finished enough e = absurd e
+  unsearched_all Spent enough e = absurd e
+  unsearched_all (Full end limit) enough e = absurd e
+  unsearched_all Stopped enough e = absurd e
+
+module _ {D : Type 0} (reads : D → Option (List ℕ)) (images : D → List ℕ → Type 0) (images_since : D → ℕ → List ℕ → Type 0) (calls faults : D → ℕ) (disk : D) (i : Problem) (budget workers : ℕ) (before after : List ℕ) (end : SearchEnd) where
+  of_all : (book : Result (SearchView D) D) → workers ≤ workers_for (take workers before)
+      → SearchEnds reads images images_since calls faults disk i workers budget (record { before = take workers before; after = after }) book end
+      → SearchEnds reads images images_since calls faults disk i workers budget (record { before = before; after = after }) book end
+  of_all (Ok book) enough s = record {
+    how = s.how;
+    is = s.is;
+    session = s.session;
+    own = s.own;
+    ended = ended_all (met_of reads images images_since calls faults disk book.log.disk) i budget workers before after s.how (board_of reads calls faults book) s.session s.ended;
+  }
+  of_all (Err left) enough s = unsearched_all (met_of reads images images_since calls faults disk left) i budget workers before after end enough s
+
+-- the answer of a search by the advisers that serve, as one by all
+pub search_of_all : {D : Type 0} (reads : D → Option (List ℕ)) (images : D → List ℕ → Type 0) (images_since : D → ℕ → List ℕ → Type 0) (calls faults : D → ℕ) (disk : D) (i : Problem) (budget served workers : ℕ) (before first after : List ℕ) (book : Result (SearchView D) D) (end : SearchEnd)
+    → served ≡ workers → first ≡ take workers before → workers ≤ workers_for (take workers before)
+    → SearchEnds reads images images_since calls faults disk i served budget (record { before = first; after = after }) book end
+    → SearchEnds reads images images_since calls faults disk i workers budget (record { before = before; after = after }) book end
+search_of_all reads images images_since calls faults disk i budget served workers before first after book end as_many first_is enough ends =
+    of_all reads images images_since calls faults disk i budget workers before after end book enough
+    (subst (λ (l : List ℕ). SearchEnds reads images images_since calls faults disk i workers budget (record { before = l; after = after }) book end) first_is
+    (subst (λ (n : ℕ). SearchEnds reads images images_since calls faults disk i n budget (record { before = first; after = after }) book end) as_many ends))
+
+-- ---- a search that was stopped
+
+pub never_stopped : (fault : OpenFault) → end_unopened fault ≢ Stopped
+never_stopped OpeningsDisk e = absurd (cc (e))
+never_stopped NotAJournal e = absurd (cc (e))
+never_stopped (OtherInstance at) e = absurd (cc (e))
+never_stopped (Damaged at) e = absurd (cc (e))
+never_stopped (Rejected at why) e = absurd (cc (e))
+never_stopped OpeningsMemory e = absurd (cc (e))
+
+pub stopped_run : (how : RunEnd) → end_of how ≡ Stopped → how ≡ StoppedEnd
+stopped_run FinishedEnd e = absurd (cc (e))
+stopped_run SpentEnd e = absurd (cc (e))
+stopped_run (FullEnd end limit) e = absurd (cc (e))
+stopped_run DiskEnd e = absurd (cc (e))
+stopped_run MemoryEnd e = absurd (cc (e))
+stopped_run StoppedEnd e = refl

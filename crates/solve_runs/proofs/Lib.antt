@@ -6,7 +6,7 @@ pub mod Demos
 pub mod Explaining
 pub mod Paths
 pub mod Walked
-pub mod Wishes
 pub mod Telling
 pub mod Unfit
 pub mod Limits
+pub mod Written

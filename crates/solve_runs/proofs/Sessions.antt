@@ -1,18 +1,14 @@
--- From a search over a book to what a run says of it.
-use Rattle.std.proofs.Common.{◌≡◌, inr, ◌∙◌, sym, ap, subst, refl, ℕ, ◌+◌, ◌*◌, ◌<◌, ◌≤◌, List, [], ◌∷◌, ◌++◌, length, drop, arith}
-use Rattle.std.specs.Prelude.{Option, Some, None, OnSome, IfSome, IsSome, IsFalse, IsTrue, Bool, true, false, count_by}
+-- From a search over a book to what is said of it.
+use Rattle.std.proofs.Common.{◌≡◌, ◌∙◌, sym, ap, subst, refl, ℕ, ◌+◌, ◌*◌, ◌<◌, ◌≤◌, List, [], ◌∷◌, ◌++◌, length, drop, arith}
+use Rattle.std.specs.Prelude.{Option, Some, None, OnSome, IfSome, IsSome, IsFalse, IsTrue, true, false, count_by}
 use Rattle.std.proofs.Math.Logic.{∥∥₁_elim}
 use Rattle.std.proofs.Props.{props}
 use Rattle.std.proofs.lemmas.Bool.{false≢true}
-use Rattle.std.specs.Io.KnownBytes.{Appends}
 use Rattle.plan_base.specs.Causes.{Rose}
-use Rattle.plan_base.specs.Streams.{AppendsPart}
 use Rattle.plan_base.specs.Disk.{TellsAlike}
 use Rattle.gated_journal.specs.declared.TheConstants.{JOURNAL_MAX}
 use Rattle.post_codec.specs.declared.post.Post.{Post}
 use Rattle.shift_instance.specs.Problem.{Problem}
-use Rattle.shift_instance.specs.Valid.{IsValid}
-use Rattle.certificate.specs.Departing.{Spells}
 use Rattle.search_core.specs.declared.board.Origin.{Origin}
 use Rattle.search_core.specs.Board.{book_at, leaves_open}
 use Rattle.search_core.specs.Book.{Book, book_of, is_finished}
@@ -31,17 +27,14 @@ use Rattle.search_book.specs.Search.{SearchView, board_of}
 use Rattle.search_book.specs.Posts.{IsJournalOf}
 use Rattle.post_codec.specs.Batches.{joined}
 use Rattle.worker_gate.specs.declared.run.RunEnd.{RunEnd}
-use Rattle.worker_gate.specs.declared.run.RunEnd.TheVariants.{Finished, Spent, Full as FullEnd, DiskFault as DiskEnd, NoMemory as MemoryEnd, Stopped}
+use Rattle.worker_gate.specs.declared.run.RunEnd.TheVariants.{Finished, Spent, Full as FullEnd, DiskFault as DiskEnd, NoMemory as MemoryEnd, Stopped as StoppedEnd}
 use Rattle.board_lock.specs.Turns.{is_plan, is_prices, AreTurns}
-use Rattle.solve_runs.specs.Report.{cert_of, output_of, IsUnbeaten}
-use Rattle.solve_runs.specs.Run.{HasEnded, OverDisk, IsFinished, IsSpent, IsFull, Reports, ReportsPart}
-use Rattle.solve_runs.specs.Search.{is_reported, Ends, GoesOn, IsLanded, IsReported, IsReportedPart, SearchEnds, Told}
+use Rattle.solve_runs.specs.Report.{IsUnbeaten}
+use Rattle.solve_runs.specs.Ended.{HasEnded, IsFinished, IsFull, IsSpent, IsStopped}
+use Rattle.solve_runs.specs.Search.{Ends, GoesOn, IsLanded, Told}
+use Rattle.solve_runs.specs.Searching.{end_of, HasSearched}
 use Rattle.solve_runs.specs.Served.{AreTold, Served, ToldMet, Works}
 use Rattle.solve_runs.specs.Session.{met_of, Session, IsOnlyJournal}
-use Rattle.solve_runs.specs.Streams.{SinkMet}
-use Rattle.solve_runs.specs.declared.status.Status.{Status}
-use Rattle.solve_runs.specs.declared.status.Status.TheVariants.{Optimal, Budget, Full, Usage, Input, Workers, ReadFault, WriteFault, DiskFault, NoMemory, Journal}
-use Rattle.solve_runs.proofs.Accepting.{accepted, FewBreaks}
 use Rattle.solve_runs.proofs.Unfit.{unfit_open}
 use Rattle.solve_runs.proofs.Walked.{turned, OfStep, Turned}
 
@@ -103,8 +96,6 @@ module _ {D : Type 0} (reads : D → Option (List ℕ)) (images : D → List ℕ
     pub telling : TellsAlike (reads new.log.opened) (reads new.log.disk)
     pub fault : ShutOf new.log.limit (faults new.log.opened) (faults new.log.disk) new.log.in_flight new.log.shut
     pub now_counts : (disk : D) (moment : ℕ) (image : List ℕ) → moment ≤ calls disk → images disk image → images_since disk moment image
-    pub valid : IsValid i
-    pub few : FewBreaks i
 
   is_of : Known → new.log.instance ≡ i
   is_of k = k.on.same.instance ∙ k.begins.instance
@@ -194,7 +185,7 @@ module _ {D : Type 0} (reads : D → Option (List ℕ)) (images : D → List ℕ
     landed_of commits k Spent e landed = subst (ShutOf new.log.limit (faults new.log.opened) (faults new.log.disk) new.log.in_flight) e.ends.0.running k.fault
     landed_of commits k (FullEnd end limit) e landed = (subst (ShutOf new.log.limit (faults new.log.opened) (faults new.log.disk) new.log.in_flight) e.ends.0 k.fault).0
     landed_of commits k DiskEnd e landed = absurd landed
-    landed_of commits k Stopped e landed = absurd landed
+    landed_of commits k StoppedEnd e landed = absurd landed
     landed_of commits k MemoryEnd e landed = subst (ShutOf new.log.limit (faults new.log.opened) (faults new.log.disk) new.log.in_flight) e.ends.0 k.fault
 
     finished_of : (commits : ℕ) (k : Known) → Ends reads calls faults workers commits old new Finished → IsFinished (session_of k)
@@ -212,6 +203,13 @@ module _ {D : Type 0} (reads : D → Option (List ℕ)) (images : D → List ℕ
     walked_of : (commits : ℕ) (k : Known) (end : RunEnd) → Ends reads calls faults workers commits old new end → AreTurns workers (board_of reads calls faults old) (board_of reads calls faults new) commits
         → Turned workers (board_of reads calls faults old) (board_of reads calls faults new) commits
     walked_of commits k end e turns = turned workers (board_of reads calls faults old) (board_of reads calls faults new) commits e.fresh k.begins.shut k.begins.batches turns
+
+    stopped_of : (commits : ℕ) (k : Known) → Ends reads calls faults workers commits old new StoppedEnd → IsStopped (session_of k)
+    unfolding session_of
+    stopped_of commits k e = record {
+      landed = subst (ShutOf new.log.limit (faults new.log.opened) (faults new.log.disk) new.log.in_flight) e.ends.0.running k.fault;
+      unfinished = subst (λ (b : Book). is_finished b ≡ false) (book_same k) e.ends.1;
+    }
 
     works_of : (commits : ℕ) (k : Known) (end : RunEnd) → Ends reads calls faults workers commits old new end → Works workers commits old.budget end (board_of reads calls faults new) (session_of k)
     unfolding session_of
@@ -289,44 +287,17 @@ module _ {D : Type 0} (reads : D → Option (List ℕ)) (images : D → List ℕ
     ended_of k Finished t = (finished_of t.0 k t.1, unbeaten_of t.0 k t.1, served_of k Finished t)
     ended_of k Spent t = let each = each_of k t in (spent_of t.0 k t.1, each.0, each.1)
     ended_of k (FullEnd end limit) t = (served_of k (FullEnd end limit) t, full_of t.0 k end limit t.1)
+    ended_of k StoppedEnd t = (stopped_of t.0 k t.1, served_of k StoppedEnd t)
     ended_of k DiskEnd t = (rose_of t.0 k t.1, served_of k DiskEnd t)
     ended_of k MemoryEnd t = (landed_of t.0 k MemoryEnd t.1 tt, served_of k MemoryEnd t)
-    ended_of k Stopped t = absurd (t.1.unasked refl)
 
-  -- ---- what is written
-
-  module _ (sink : SinkMet) (table : Bool) where
-    output_same : Known → output_of new.log.instance table new.log.history new.log.book ≡ output_of i table (new.log.opening ++ joined new.log.batches) new.log.book
-    output_same k = ap (λ (j : Problem). output_of j table new.log.history new.log.book) (is_of k) ∙ ap (λ (h : List Post). output_of i table h new.log.book) k.all
-
-    reports_of : (k : Known) → IsReported new table sink.held sink.held_after → Reports sink table (session_of k)
+    -- what a search over a book answers
+    pub has_searched : (k : Known) (end : RunEnd) → Told reads calls faults workers told old new end → HasSearched reads images images_since calls faults entry i workers old.budget told new (end_of end)
     unfolding session_of
-    reports_of k written = record {
-      written = subst (λ (bytes : List ℕ). Appends sink.held sink.held_after bytes) (output_same k) written.0;
-      sound = fold_sound i (new.log.opening ++ joined new.log.batches) new.log.book (ends_of k);
-      accepted = accepted i (new.log.opening ++ joined new.log.batches) new.log.book k.valid k.few (ends_of k);
-      reads =
-          subst (λ (bytes : List ℕ). Spells bytes (cert_of (new.log.opening ++ joined new.log.batches) new.log.book)) (output_same k)
-          (subst (λ (h : List Post). Spells (output_of new.log.instance table new.log.history new.log.book) (cert_of h new.log.book)) k.all written.1);
+    has_searched k end t = record {
+      how = end;
+      is = refl;
+      session = session_of k;
+      own = record { instance = is_of k; opening = refl; batches = refl; in_flight = refl; last = refl; since = refl; used = refl };
+      ended = ended_of k end t;
     }
-
-    part_of : (k : Known) → IsReportedPart new table sink.held sink.held_after sink.faults → ReportsPart sink table (session_of k)
-    unfolding session_of
-    part_of k part = record { written = subst (λ (bytes : List ℕ). AppendsPart sink.held sink.held_after bytes) (output_same k) part.0; cause = part.1 }
-
-    module _ (workers : ℕ) (told : ToldMet) where
-      -- what a search over a book says of the run
-      pub over_disk : (k : Known) (status : Status) → SearchEnds reads calls faults workers told old new table sink.held sink.held_after sink.faults status
-          → OverDisk (met_of reads images images_since calls faults entry new.log.disk) sink i table old.budget workers told true status
-      unfolding session_of
-      over_disk k Optimal e = (refl, session_of k, board_of reads calls faults new, ended_of workers told k Finished e.0, reports_of k e.1)
-      over_disk k Budget e = (refl, session_of k, board_of reads calls faults new, ended_of workers told k Spent e.0, reports_of k e.1)
-      over_disk k (Full end limit) e = (refl, session_of k, board_of reads calls faults new, ended_of workers told k (FullEnd end limit) e.0, reports_of k e.1)
-      over_disk k WriteFault e = (refl, session_of k, board_of reads calls faults new, e.0, e.2, ended_of workers told k e.0 e.1, part_of k e.3)
-      over_disk k DiskFault e = (rose_of workers told e.0 k e.1, inr (refl, session_of k, board_of reads calls faults new, ended_of workers told k DiskEnd e))
-      over_disk k NoMemory e = inr (refl, session_of k, board_of reads calls faults new, e.0, e.2, ended_of workers told k e.0 e.1)
-      over_disk k Usage e = absurd e
-      over_disk k (Input why) e = absurd e
-      over_disk k (Workers asked have) e = absurd e
-      over_disk k ReadFault e = absurd e
-      over_disk k (Journal why) e = absurd e

@@ -1,10 +1,13 @@
 pub mod Demo
+pub mod Ended
 pub mod Report
 pub mod Run
 pub mod Search
+pub mod Searching
 pub mod Served
 pub mod Session
 pub mod Status
 pub mod Steps
 pub mod Streams
 pub mod Words
+pub mod Writing

@@ -1,6 +1,5 @@
 -- What the workers of a run make of the book that it opened, and how often their advisers are told something.
 use Rattle.std.specs.Prelude.{◌≡◌, ℕ, ◌+◌, ◌*◌, ◌<◌, ◌≤◌, ◌^◌, List, [], length, take, count_by, sum, slice_index}
-use Rattle.post_codec.specs.declared.post.Post.{Post}
 use Rattle.post_codec.specs.Batches.{joined}
 use Rattle.shift_instance.specs.Problem.{Problem}
 use Rattle.search_core.specs.Board.{BoardView}

@@ -1,10 +1,9 @@
 -- What a run makes of its words.
-use Rattle.std.specs.Prelude.{◌≡◌, ◌⊎◌, ◌↔◌, ℕ, Bool, true, List, Option, Some, length, min, unwrap_or}
-use Rattle.solve_words.specs.Words.{from_number, over_journal, Asks}
+use Rattle.std.specs.Prelude.{◌≡◌, ◌⊎◌, ◌↔◌, ℕ, Bool, List, Option, Some, length, min, unwrap_or}
+use Rattle.solve_words.specs.Words.{from_number, over_journal, Asked, Asks}
 use Rattle.solve_words.specs.declared.command.Method.{Method}
-use Rattle.solve_words.specs.declared.command.Method.TheVariants.{Local, Thorough}
 
--- what the words ask for: a search over the journal on that path, by so many workers, of so many steps, and whether the table of its
+-- what a run is asked for: a search over the journal on that path, by so many workers, of so many steps, and whether the table of its
 -- plan is wanted
 pub record Command : Type 0 where
   pub journal : List ℕ
@@ -12,7 +11,7 @@ pub record Command : Type 0 where
   pub steps : ℕ
   pub table : Bool
 
--- how many workers search where the words say no number
+-- how many workers search where no number is said
 abbrev pub workers_unsaid : ℕ
 workers_unsaid = 4
 
@@ -20,18 +19,18 @@ workers_unsaid = 4
 abbrev pub workers_for : List ℕ → ℕ
 workers_for advisers = min 16 (length advisers)
 
--- the words ask for that search, by a method; where they say no number of workers, four search
-pub record IsCommand (words : List (List ℕ)) (command : Command) : Type 0 where
+-- what is asked for is that search, by a method; where no number of workers is said, four search
+pub record IsCommand (asks : Asked → Type 0) (command : Command) : Type 0 where
   pub workers : Option ℕ
   pub method : Method
-  pub asks : Asks words (over_journal command.journal workers command.steps command.table method)
+  pub is : asks (over_journal command.journal workers command.steps command.table method)
   pub all : command.workers ≡ unwrap_or workers workers_unsaid
 
--- the words ask for so many workers: those of a search, or the one of a demonstration
-abbrev pub AsksWorkers : List (List ℕ) → ℕ → Type 0
-AsksWorkers words asked =
-    ((command : Command) × IsCommand words command × (command.workers ≡ asked))
-    ⊎ ((number : ℕ) × (steps : ℕ) × Asks words (from_number number steps) × (asked ≡ 1))
+-- so many workers are asked for: those of a search, or the one of a demonstration
+abbrev pub AsksWorkers : (Asked → Type 0) → ℕ → Type 0
+AsksWorkers asks asked =
+    ((command : Command) × IsCommand asks command × (command.workers ≡ asked))
+    ⊎ ((number : ℕ) × (steps : ℕ) × asks (from_number number steps) × (asked ≡ 1))
 
 -- the words ask for a search over the journal at that path
 pub record NamesJournal (words : List (List ℕ)) (path : List ℕ) : Type 0 where
@@ -44,19 +43,3 @@ pub record NamesJournal (words : List (List ℕ)) (path : List ℕ) : Type 0 whe
 -- that, and nothing else, is the path of the journal that the words name
 abbrev pub IsPathIn : List (List ℕ) → Option (List ℕ) → Type 0
 IsPathIn words found = (path : List ℕ) → NamesJournal words path ↔ (found ≡ Some path)
-
--- the words ask for a search over a journal by that method
-pub record AsksMethod (method : Method) (words : List (List ℕ)) : Type 0 where
-  pub journal : List ℕ
-  pub workers : Option ℕ
-  pub steps : ℕ
-  pub table : Bool
-  pub asks : Asks words (over_journal journal workers steps table method)
-
--- a local search of plans is wanted where the words ask for it, and by no other words
-abbrev pub IsLocalIn : List (List ℕ) → Bool → Type 0
-IsLocalIn words wanted = AsksMethod Local words ↔ (wanted ≡ true)
-
--- and so is a thorough search
-abbrev pub IsThoroughIn : List (List ℕ) → Bool → Type 0
-IsThoroughIn words wanted = AsksMethod Thorough words ↔ (wanted ≡ true)

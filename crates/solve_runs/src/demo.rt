@@ -1,6 +1,6 @@
 //! A demonstration: a search without a document and without a journal's file, for the instance made from a number.
 
-ghost use Rattle.std.specs.Prelude.{◌≡◌, ◌⊎◌, ◌<◌, ◌^◌, ℕ, true, [], map, vec_len, IfOk, IsSome, None, OnErr, OnOk, option_and_then, Some};
+ghost use Rattle.std.specs.Prelude.{◌≡◌, ◌≢◌, ◌⊎◌, ◌<◌, ◌^◌, ℕ, true, [], map, vec_len, IfOk, IsSome, None, OnErr, OnOk, option_and_then, Some};
 ghost use Rattle.std.specs.Io.KnownBytes.{Appends};
 ghost use Rattle.plan_base.specs.Causes.{Rose};
 ghost use Rattle.plan_base.specs.Streams.{AppendsPart};
@@ -14,7 +14,6 @@ ghost use Rattle.solve_runs.specs.Served.{AreTold};
 ghost use Rattle.solve_runs.specs.Status.{EndsUnwritten};
 ghost use Rattle.solve_runs.specs.declared.status.Status.TheVariants.{NoMemory as MemoryStatus};
 
-use crate::search::{is_reported, status_at};
 use crate::status::Status;
 use advice::{Adviser, Never};
 use gated_journal::JOURNAL_MAX;
@@ -74,6 +73,36 @@ fn write_line<K: Sink, D: Disk>(
 {
     let bytes = line_of(alloc, number, book)?;
     Ok(write_all(out, bytes.as_slice()))
+}
+
+/// Whether a search came to an end of which a report is written.
+fn is_reported(end: RunEnd) -> bool
+    ensures { result ≡ is_reported end }
+{
+    match end {
+        RunEnd::Finished => true,
+        RunEnd::Spent => true,
+        RunEnd::Full { end: _, limit: _ } => true,
+        RunEnd::DiskFault => false,
+        RunEnd::NoMemory => false,
+        RunEnd::Stopped => false,
+    }
+}
+
+/// How a run ends whose search ended so, and whose report was written, where there is one.
+fn status_at(end: RunEnd) -> Status
+    requires { end ≢ RunEnd.Stopped }
+    ensures { result ≡ status_at end }
+{
+    match end {
+        RunEnd::Finished => Status::Optimal,
+        RunEnd::Spent => Status::Budget,
+        RunEnd::Full { end, limit } => Status::Full { end, limit },
+        RunEnd::DiskFault => Status::DiskFault,
+        RunEnd::NoMemory => Status::NoMemory,
+        // the run's stop never asks
+        RunEnd::Stopped => unreachable!(),
+    }
 }
 
 /// The search of a demonstration by the one adviser over a book from which no node was taken yet. The adviser comes back.

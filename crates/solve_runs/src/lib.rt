@@ -6,11 +6,15 @@ mod demo;
 mod report;
 mod run;
 mod search;
+mod searched;
 mod seats;
 mod status;
 mod words;
 
 pub use demo::demo_line;
-pub use run::{Ended, solve_run};
+pub use report::{cert_of, report_of};
+pub use run::{Ended, run_command, solve_run};
+pub use search::run_search;
+pub use searched::{Request, SearchEnd, Searched};
 pub use status::{Status, status_line};
-pub use words::{journal_path, wants_local, wants_thorough};
+pub use words::journal_path;

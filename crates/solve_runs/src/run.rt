@@ -1,51 +1,61 @@
 //! The run of `solve`.
 
-ghost use Rattle.std.specs.Prelude.{◌≡◌, ◌<◌, ◌≤◌, ◌^◌, ℕ, [], false, map, None, option_and_then, string_bytes, List, vec_len};
-ghost use Rattle.solve_words.specs.Words.{from_number, Asks};
+ghost use Rattle.std.specs.Prelude.{◌≡◌, ◌≢◌, ◌<◌, ◌≤◌, ◌^◌, ℕ, [], false, map, None, option_and_then, string_bytes, vec_len, List, MatchResult};
+ghost use Rattle.solve_words.specs.Asked.{asked};
+ghost use Rattle.solve_words.specs.Words.{from_number, Asked, Asks, IsWithin};
 ghost use Rattle.solve_runs.specs.Demo.{OverMemory};
-ghost use Rattle.solve_runs.specs.Run.{status_of, Explains, IsUnread, OverDisk, Searched};
+ghost use Rattle.solve_runs.specs.Run.{status_unread, EndsCommand, Explains, IsUnread, OverDisk};
+ghost use Rattle.solve_runs.specs.Searching.{SearchEnds};
 ghost use Rattle.solve_runs.specs.Session.{met_of};
 ghost use Rattle.solve_runs.specs.Status.{EndsEarly, EndsUnwritten};
 ghost use Rattle.solve_runs.specs.Words.{workers_for};
+ghost use Rattle.solve_runs.specs.Writing.{status_at, EndsAs};
 
 use crate::demo::run_demo;
-use crate::search::search;
-use crate::seats::{advisers_of, seats_of};
+use crate::report::write_report;
+use crate::search::{run_search, workers_for};
+use crate::searched::{Request, SearchEnd, Searched};
 use crate::status::Status;
-use advice::Adviser;
-use gated_journal::JOURNAL_MAX;
+use advice::{Adviser, Never};
 use instance_input::{Unread, read_instance};
-use instance_json::laws::canonical_text_is_short;
 use plan_base::{Disk, MemDisk, Sink, Source};
-use search_book::{Book, OpenFault};
+use search_book::Book;
 use shift_instance::Instance;
 use solve_words::{Command, command_of};
 use std::alloc::Global;
 use std::sync::Wait;
 use std::thread::Threads;
-use worker_gate::{Gate, Seat};
+use worker_gate::Gate;
 
-/// How many workers search where the words say no number.
+/// How many workers search where a command says no number.
 const WORKERS_UNSAID: u16 = 4;
 
-/// The most workers of a run.
-const WORKERS_MOST: usize = 16;
-
-/// For how many workers there are advisers.
-fn workers_for(advisers: &[Box<dyn Adviser + Send>]) -> u32
-    ensures { result ≡ workers_for (map (λ a. told a) advisers.now) }
+/// How a run ends whose document isn't read.
+fn status_unread(why: Unread) -> Status
+    ensures { result ≡ status_unread why }
 {
-    WORKERS_MOST.min(advisers.len()) as u32
+    match why {
+        Unread::Refused(why) => Status::Input(why),
+        Unread::ReadFault => Status::ReadFault,
+        Unread::NoMemory => Status::NoMemory,
+    }
 }
 
-/// How a run ends whose book isn't opened.
-fn unopened(fault: OpenFault) -> Status
-    ensures { result ≡ status_of fault }
+/// How a run ends whose search ended so, and whose report was written, where there is one.
+fn status_at(end: SearchEnd) -> Status
+    requires { end ≢ SearchEnd.Stopped }
+    ensures { result ≡ status_at end }
 {
-    match fault {
-        OpenFault::DiskFault => Status::DiskFault,
-        OpenFault::NoMemory => Status::NoMemory,
-        why => Status::Journal(why),
+    match end {
+        SearchEnd::Finished => Status::Optimal,
+        SearchEnd::Spent => Status::Budget,
+        SearchEnd::Full { end, limit } => Status::Full { end, limit },
+        SearchEnd::DiskFault => Status::DiskFault,
+        SearchEnd::NoMemory => Status::NoMemory,
+        // the stop of a run never asks
+        SearchEnd::Stopped => unreachable!(),
+        SearchEnd::TooFewAdvisers { asked, have } => Status::Workers { asked, have },
+        SearchEnd::Refused(why) => Status::Journal(why),
     }
 }
 
@@ -86,45 +96,56 @@ impl<D: Disk> Ended<D> {
     }
 }
 
-/// Opens the book of an instance on the disk, and searches it with a worker for each adviser.
-fn run_book<K: Sink, D: Disk + Send, G: Gate + Sync, R: Threads + Wait + Sync>(
-    rt: &R,
+/// Writes the report of a book where its search came to an end of which there is one, and says how the run ends.
+fn write_end<K: Sink, D: Disk>(
     alloc: Global,
     instance: &Instance,
+    book: &Book<D>,
+    end: SearchEnd,
     table: bool,
-    steps: u64,
     out: &mut K,
-    disk: D,
-    mut advisers: Vec<Box<dyn Adviser + Send>>,
-    gate: &G,
+) -> Status
+    requires same { book.now.log.instance ≡ instance.now }
+    requires going { end ≢ SearchEnd.Stopped }
+    ensures status { EndsAs instance.now book.now end table (record { held = K.held out.old; held_after = K.held out.new; faults = (K.faults out.old, K.faults out.new) }) result }
+    ensures unwritten { EndsUnwritten result → out.new ≡ out.old }
+{
+    if !end.is_reported() {
+        return status_at(end);
+    }
+    match write_report(alloc, instance, book, table, out) {
+        Ok(()) => status_at(end),
+        Err(status) => status,
+    }
+}
+
+/// Ends a run over what its search handed back: writes the report of the book, where there is one.
+fn end_search<K: Sink, D: Disk>(
+    alloc: Global,
+    instance: &Instance,
+    searched: Searched<D>,
+    table: bool,
+    out: &mut K,
 ) -> Ended<D>
-    requires count { D.calls disk < 2 ^ 62 }
-    requires steps { steps < 2 ^ 63 }
-    requires some { 0 < vec_len advisers }
-    requires sixteen { vec_len advisers ≤ 16 }
-    ensures status { OverDisk
-        (met_of D.reads D.images D.images_since D.calls D.faults disk result.disk)
+    requires going { searched.end ≢ SearchEnd.Stopped }
+    requires same { MatchResult searched.book (λ book. book.log.instance ≡ instance.now) (λ disk. Unit {0}) }
+    ensures status { (disk : _) (workers budget : ℕ) (before : List ℕ)
+        → SearchEnds D.reads D.images D.images_since D.calls D.faults disk instance.now workers budget (record { before = before; after = map (λ a. told a) searched.advisers.items }) searched.book searched.end
+        → workers ≤ workers_for before
+        → OverDisk (met_of D.reads D.images D.images_since D.calls D.faults disk result.disk)
         (record { held = K.held out.old; held_after = K.held out.new; faults = (K.faults out.old, K.faults out.new) })
-        instance.now table steps (vec_len advisers)
-        (record { before = map (λ a. told a) advisers.items; after = map (λ a. told a) result.advisers.items })
-        result.opened result.status }
+        instance.now table budget workers (record { before = before; after = map (λ a. told a) result.advisers.items }) result.opened result.status }
     ensures unwritten { EndsUnwritten result.status → out.new ≡ out.old }
     ensures demo { result.demo ≡ None }
 {
-    canonical_text_is_short(instance);
-    // an instance is valid
-    let _heads = instance.heads();
-    let Ok(mut seats) = Vec::<Seat>::with_capacity(alloc, advisers.len()) else {
-        return Ended::unopened(Status::NoMemory, advisers, disk);
-    };
-    match Book::open(alloc, instance, disk, steps, JOURNAL_MAX) {
-        Err(left) => Ended::unopened(unopened(left.fault), advisers, left.disk),
+    let Searched {
+        end,
+        book,
+        advisers,
+    } = searched;
+    match book {
         Ok(book) => {
-            seats_of(&mut advisers, &mut seats);
-            let (book, seats, status) = search(rt, alloc, instance, book, seats, gate, table, out);
-            advisers_of(seats, &mut advisers);
-            // what this answer says is what is known of the book
-            let _made = book.batches();
+            let status = write_end(alloc, instance, &book, end, table, out);
             Ended {
                 status,
                 advisers,
@@ -133,29 +154,29 @@ fn run_book<K: Sink, D: Disk + Send, G: Gate + Sync, R: Threads + Wait + Sync>(
                 demo: None,
             }
         }
+        Err(disk) => Ended::unopened(status_at(end), advisers, disk),
     }
 }
 
-/// The search of a command, by a worker for each adviser.
-fn run_search<S: Source, K: Sink, D: Disk + Send, G: Gate + Sync, R: Threads + Wait + Sync>(
+/// The search of a command over the document, for which there are advisers enough.
+fn run_over<S: Source, K: Sink, D: Disk + Send, G: Gate + Sync, R: Threads + Wait + Sync>(
     rt: &R,
     alloc: Global,
-    journal: &str,
+    request: Request,
     table: bool,
-    steps: u64,
     input: &mut S,
     out: &mut K,
     disk: D,
-    advisers: Vec<Box<dyn Adviser + Send>>,
+    mut advisers: Vec<Box<dyn Adviser + Send>>,
     gate: &G,
 ) -> Ended<D>
     requires count { D.calls disk < 2 ^ 62 }
-    requires steps { steps < 2 ^ 63 }
-    requires some { 0 < vec_len advisers }
-    requires sixteen { vec_len advisers ≤ 16 }
-    ensures status { (words : List (List ℕ)) → Searched
+    requires some { 0 < request.workers }
+    requires steps { request.steps < 2 ^ 63 }
+    requires enough { request.workers ≤ workers_for (map (λ a. told a) advisers.items) }
+    ensures status { (journal : List ℕ) → EndsCommand
         (record {
-          words = words;
+          asks = λ asked. Unit {0};
           left = S.left input.old;
           read_faults = (S.faults input.old, S.faults input.new);
           told = record { before = map (λ a. told a) advisers.items; after = map (λ a. told a) result.advisers.items };
@@ -164,18 +185,20 @@ fn run_search<S: Source, K: Sink, D: Disk + Send, G: Gate + Sync, R: Threads + W
           opened = result.opened;
           demo = option_and_then ⟦<MemDisk as Disk>⟧.reads result.demo;
         })
-        (record { journal = journal.now; workers = vec_len advisers; steps = steps; table = table })
+        (record { journal = journal; workers = request.workers; steps = request.steps; table = table })
         result.status }
     ensures unwritten { EndsUnwritten result.status → out.new ≡ out.old }
     ensures untouched { EndsEarly result.status → result.disk ≡ disk }
 {
     match read_instance(alloc, input) {
-        Ok(instance) => run_book(
-            rt, alloc, &instance, table, steps, out, disk, advisers, gate,
-        ),
-        Err(Unread::Refused(why)) => Ended::unopened(Status::Input(why), advisers, disk),
-        Err(Unread::ReadFault) => Ended::unopened(Status::ReadFault, advisers, disk),
-        Err(Unread::NoMemory) => Ended::unopened(Status::NoMemory, advisers, disk),
+        Ok(instance) => {
+            let searched = run_search(rt, alloc, &instance, request, disk, advisers, gate, &Never);
+            end_search(alloc, &instance, searched, table, out)
+        }
+        Err(why) => {
+            advisers.truncate(request.workers as usize);
+            Ended::unopened(status_unread(why), advisers, disk)
+        }
     }
 }
 
@@ -214,36 +237,39 @@ fn run_beside<K: Sink, D: Disk, G: Gate>(
     }
 }
 
-/// The run of `solve`, with the words that `solve_words::command_of` reads: of `solve JOURNAL`, or of `solve --demo N`.
+/// The run of a command of `solve`: of `solve JOURNAL`, or of `solve --demo N`.
 ///
-/// `solve JOURNAL` reads the instance document from `input` to its end, opens the book of its search on the disk, takes steps until
-/// no node is open or B are taken, and writes the report of the book to `out`: the best plan with its cost, the bound, and the proof
-/// lines of all its posts, with the table of the plan behind them where that is asked for. `solve --demo N` calls neither `input`
-/// nor the disk: it makes the instance of the number, searches it over a new journal in memory, and writes one line. The disk is
-/// handed back, with whether a book was opened on it.
+/// `solve JOURNAL` reads the instance document from `input` to its end, searches over the disk by [`run_search`], and writes the
+/// report of the book to `out`: the best plan with its cost, the bound, and the proof lines of all its posts, with the table of the
+/// plan behind them where that is asked for. `solve --demo N` calls neither `input` nor the disk: it makes the instance of the
+/// number, searches it over a new journal in memory, and writes one line. The disk is handed back, with whether a book was opened on
+/// it.
 ///
-/// A search has W workers, four where the words say no number, each with an adviser of its own: the first W serve and come back in
-/// their order, the others are dropped; where there is no memory to read the words, all come back. Whatever they advise, and in
-/// whatever order the workers get the book, all that is said here holds. A demonstration is searched by one worker with the first
-/// adviser.
+/// A search has W workers, four where the command says no number, each with an adviser of its own: the first W serve and come back in
+/// their order, the others are dropped. Whatever they advise, and in whatever order the workers get the book, all that is said here
+/// holds. A demonstration is searched by one worker with the first adviser.
 ///
-/// The book may have `JOURNAL_MAX` bytes, and B is 1,000 where none is given. The status is `Optimal` exactly where no node is open
-/// and the report or the line was written, and `Budget` where all steps were taken and a node is open; `Full` where there was no
-/// room for the posts of a step. Under these the whole report or line was written, and the certificate of a report is accepted.
-/// `Usage` comes where the words are no command, and `Workers` where they ask for more workers than sixteen or than there are
-/// advisers, and then no adviser comes back; `Input` where the document is refused; `Journal` where the disk's file isn't empty and
-/// doesn't stand for posts of this instance that make a book, with the cause; `ReadFault`, `WriteFault` and `DiskFault` only where
-/// a fault of the source, the sink or the disk was counted. `NoMemory` may come at any step. So the words of a command, advisers
-/// enough, the document of an instance, a file that is empty or holds a book of it, and no fault give `Optimal`, `Budget`, `Full`
-/// or `NoMemory`, and so do those of a demonstration without a fault of the sink; with enough steps not `Budget`. Nothing is
-/// written before the report or the line, and the disk isn't called before the document is read.
+/// The book may have `JOURNAL_MAX` bytes. The status is `Optimal` exactly where no node is open and the report or the line was
+/// written, and `Budget` where all steps were taken and a node is open; `Full` where there was no room for the posts of a step. Under
+/// these the whole report or line was written, and the certificate of a report is accepted. `Workers` comes where more workers are
+/// asked for than sixteen or than there are advisers, and then no adviser comes back; `Input` where the document is refused; `Journal`
+/// where the disk's file isn't empty and doesn't stand for posts of this instance that make a book, with the cause; `ReadFault`,
+/// `WriteFault` and `DiskFault` only where a fault of the source, the sink or the disk was counted. `NoMemory` may come at any step.
+/// Nothing is written before the report or the line, and the disk isn't called before the document is read.
 ///
 /// After a crash at any moment once the book is opened, a disk that keeps to the disk model and tells its content opens again to
 /// a book with all posts that were in it and each that was acknowledged.
-pub fn solve_run<S: Source, K: Sink, D: Disk + Send, G: Gate + Sync, R: Threads + Wait + Sync>(
+pub fn run_command<
+    'a,
+    S: Source,
+    K: Sink,
+    D: Disk + Send,
+    G: Gate + Sync,
+    R: Threads + Wait + Sync,
+>(
     rt: &R,
     alloc: Global,
-    words: &[String],
+    command: Command<'a>,
     input: &mut S,
     out: &mut K,
     disk: D,
@@ -251,9 +277,10 @@ pub fn solve_run<S: Source, K: Sink, D: Disk + Send, G: Gate + Sync, R: Threads 
     gate: &G,
 ) -> Ended<D>
     requires count { D.calls disk < 2 ^ 62 }
+    requires within { IsWithin (asked command) }
     ensures status { Explains
         (record {
-          words = map string_bytes words.now;
+          asks = λ a. a ≡ asked command.entry;
           left = S.left input.old;
           read_faults = (S.faults input.old, S.faults input.new);
           told = record { before = map (λ a. told a) advisers.items; after = map (λ a. told a) result.advisers.items };
@@ -263,40 +290,74 @@ pub fn solve_run<S: Source, K: Sink, D: Disk + Send, G: Gate + Sync, R: Threads 
           demo = option_and_then ⟦<MemDisk as Disk>⟧.reads result.demo;
         })
         result.status }
-    ensures unread { IsUnread (map string_bytes words.now) result.status → input.new ≡ input.old }
+    ensures unread { IsUnread (λ a. a ≡ asked command.entry) result.status → input.new ≡ input.old }
     ensures unwritten { EndsUnwritten result.status → out.new ≡ out.old }
     ensures untouched { EndsEarly result.status → result.disk ≡ disk }
-    ensures beside { (number steps : ℕ) → Asks (map string_bytes words.now) (from_number number steps) → result.disk ≡ disk }
+    ensures beside { (number steps : ℕ) → asked command.entry ≡ from_number number steps → result.disk ≡ disk }
 {
     let have = workers_for(advisers.as_slice());
-    match command_of(alloc, words) {
-        Ok(
-            Some(
-                Command::Search {
-                    journal,
-                    workers,
-                    steps,
-                    table,
-                    ..
-                },
-            ),
-        ) => {
-            let asked = workers.unwrap_or(WORKERS_UNSAID) as u32;
+    match command {
+        Command::Search {
+            workers,
+            steps,
+            table,
+            ..
+        } => {
+            let workers = workers.unwrap_or(WORKERS_UNSAID);
+            let asked = workers as u32;
             if have < asked {
                 return Ended::early(alloc, Status::Workers { asked, have }, disk);
             }
-            advisers.truncate(asked as usize);
-            run_search(
-                rt, alloc, journal, table, steps, input, out, disk, advisers, gate,
-            )
+            let request = Request { workers, steps };
+            run_over(rt, alloc, request, table, input, out, disk, advisers, gate)
         }
-        Ok(Some(Command::Demo { number, steps })) => {
+        Command::Demo { number, steps } => {
             if have < 1 {
                 return Ended::early(alloc, Status::Workers { asked: 1, have }, disk);
             }
             advisers.truncate(1);
             run_beside(alloc, number, steps, out, disk, advisers, gate)
         }
+    }
+}
+
+/// The run of `solve` with these words: the run of the command that `solve_words::command_of` reads in them ([`run_command`], whose
+/// promises hold of it). `Usage` comes where the words are no command, and then no adviser comes back; where there is no memory to
+/// read them, all come back.
+///
+/// So the words of a command, advisers enough, the document of an instance, a file that is empty or holds a book of it, and no fault
+/// give `Optimal`, `Budget`, `Full` or `NoMemory`, and so do those of a demonstration without a fault of the sink; with enough steps
+/// not `Budget`.
+pub fn solve_run<S: Source, K: Sink, D: Disk + Send, G: Gate + Sync, R: Threads + Wait + Sync>(
+    rt: &R,
+    alloc: Global,
+    words: &[String],
+    input: &mut S,
+    out: &mut K,
+    disk: D,
+    advisers: Vec<Box<dyn Adviser + Send>>,
+    gate: &G,
+) -> Ended<D>
+    requires count { D.calls disk < 2 ^ 62 }
+    ensures status { Explains
+        (record {
+          asks = Asks (map string_bytes words.now);
+          left = S.left input.old;
+          read_faults = (S.faults input.old, S.faults input.new);
+          told = record { before = map (λ a. told a) advisers.items; after = map (λ a. told a) result.advisers.items };
+          sink = record { held = K.held out.old; held_after = K.held out.new; faults = (K.faults out.old, K.faults out.new) };
+          disk = met_of D.reads D.images D.images_since D.calls D.faults disk result.disk;
+          opened = result.opened;
+          demo = option_and_then ⟦<MemDisk as Disk>⟧.reads result.demo;
+        })
+        result.status }
+    ensures unread { IsUnread (Asks (map string_bytes words.now)) result.status → input.new ≡ input.old }
+    ensures unwritten { EndsUnwritten result.status → out.new ≡ out.old }
+    ensures untouched { EndsEarly result.status → result.disk ≡ disk }
+    ensures beside { (number steps : ℕ) → Asks (map string_bytes words.now) (from_number number steps) → result.disk ≡ disk }
+{
+    match command_of(alloc, words) {
+        Ok(Some(command)) => run_command(rt, alloc, command, input, out, disk, advisers, gate),
         Ok(None) => Ended::early(alloc, Status::Usage, disk),
         Err(_) => Ended::unopened(Status::NoMemory, advisers, disk),
     }

@@ -1,13 +1,17 @@
-//! What a run does with the book that it has opened.
+//! The search for a cheapest plan of an instance over the journal on a disk.
 
-ghost use Rattle.std.specs.Prelude.{◌≡◌, ◌<◌, ◌≤◌, ◌^◌, All, map, vec_len, OnOk, IfErr};
-ghost use Rattle.solve_runs.specs.Search.{is_reported, status_at, GoesOn, IsBegun, IsReported, SearchEnds, Told, Unwritten};
-ghost use Rattle.solve_runs.specs.Status.{EndsUnwritten};
+ghost use Rattle.std.specs.Prelude.{◌≡◌, ◌<◌, ◌≤◌, ◌^◌, true, All, map, vec_len};
+ghost use Rattle.solve_runs.specs.Search.{GoesOn, IsBegun, Told};
+ghost use Rattle.solve_runs.specs.Searching.{SearchEnds};
+ghost use Rattle.solve_runs.specs.Words.{workers_for};
 
-use crate::report::output_of;
-use crate::status::Status;
-use advice::{Adviser, Never};
-use plan_base::{Disk, Failed, Sink, write_all};
+use crate::searched::{Request, SearchEnd, Searched, end_of, end_unopened};
+use crate::seats::{advisers_of, seats_of};
+use advice::{Adviser, Stop};
+use gated_journal::JOURNAL_MAX;
+use instance_json::laws::canonical_text_is_short;
+use plan_base::Disk;
+use post_codec::Post;
 use search_book::Book;
 use search_core::keeps_sound;
 use shift_instance::Instance;
@@ -16,14 +20,33 @@ use std::sync::Wait;
 use std::thread::Threads;
 use worker_gate::{Gate, RunEnd, Seat, run_workers};
 
-/// Runs a worker for each seat over a book from which no node was taken yet.
-fn run_search<D: Disk + Send, G: Gate + Sync, R: Threads + Wait + Sync>(
+/// The most workers of a search.
+const WORKERS_MOST: usize = 16;
+
+/// For how many workers there are advisers.
+pub(crate) fn workers_for(advisers: &[Box<dyn Adviser + Send>]) -> u32
+    ensures { result ≡ workers_for (map (λ a. told a) advisers.now) }
+{
+    WORKERS_MOST.min(advisers.len()) as u32
+}
+
+/// How many steps posted these: each has prices. Nothing is claimed of it.
+fn steps_in(posts: &[Post]) -> u64 {
+    let priced = posts
+        .iter()
+        .filter(|post| matches!(post, Post::Priced { .. }));
+    priced.count() as u64
+}
+
+/// Runs a worker for each seat over a book from which no node was taken yet. The gate is told of the book first.
+fn search_by<D: Disk + Send, G: Gate + Sync, S: Stop + Sync, R: Threads + Wait + Sync>(
     rt: &R,
     alloc: Global,
     instance: &Instance,
     book: Book<D>,
     seats: Vec<Seat>,
     gate: &G,
+    stop: &S,
 ) -> (Book<D>, Vec<Seat>, RunEnd)
     requires same { book.log.instance ≡ instance.now }
     requires begun { IsBegun book }
@@ -34,95 +57,98 @@ fn run_search<D: Disk + Send, G: Gate + Sync, R: Threads + Wait + Sync>(
     ensures goes_on { GoesOn D.reads D.calls D.faults book result.0 }
     ensures ends { Told D.reads D.calls D.faults (vec_len seats) (record { before = map (λ s. told (s.adviser.vtable, s.adviser.value)) seats.items; after = map (λ s. told (s.adviser.vtable, s.adviser.value)) result.1.items }) book result.0 result.2 }
     ensures seats { vec_len result.1 ≡ vec_len seats }
+    ensures stopped { result.2 ≡ RunEnd.Stopped → S.can_ask stop.now ≡ true }
 {
+    gate.begin(steps_in(book.history()), book.best_cost(), book.floor());
     // what every board keeps, and this one as it is opened
     keeps_sound(&book);
-    run_workers(rt, alloc, instance, book, seats, gate, &Never)
+    run_workers(rt, alloc, instance, book, seats, gate, stop)
 }
 
-/// Whether a search came to an end of which a report is written.
-pub(crate) fn is_reported(end: RunEnd) -> bool
-    ensures { result ≡ is_reported end }
-{
-    match end {
-        RunEnd::Finished => true,
-        RunEnd::Spent => true,
-        RunEnd::Full { end: _, limit: _ } => true,
-        RunEnd::DiskFault => false,
-        RunEnd::NoMemory => false,
-        RunEnd::Stopped => false,
-    }
-}
-
-/// How a run ends whose search ended so, and whose report was written, where there is one.
-pub(crate) fn status_at(end: RunEnd) -> Status
-    ensures { result ≡ status_at end }
-{
-    match end {
-        RunEnd::Finished => Status::Optimal,
-        RunEnd::Spent => Status::Budget,
-        RunEnd::Full { end, limit } => Status::Full { end, limit },
-        RunEnd::DiskFault => Status::DiskFault,
-        RunEnd::NoMemory => Status::NoMemory,
-        // nothing asks the search of a run to stop
-        RunEnd::Stopped => Status::NoMemory,
-    }
-}
-
-/// Writes the report of a book, with its table where that is asked for.
-fn write_report<K: Sink, D: Disk>(
-    alloc: Global,
-    instance: &Instance,
-    book: &Book<D>,
-    table: bool,
-    out: &mut K,
-) -> Result<(), Status>
-    requires same { book.now.log.instance ≡ instance.now }
-    ensures ok { OnOk result (IsReported book.now table (K.held out.old) (K.held out.new)) }
-    ensures err { IfErr result (Unwritten book.now table (K.held out.old) (K.held out.new) (K.faults out.old, K.faults out.new)) }
-    ensures unwritten { IfErr result (λ status. EndsUnwritten status → out.new ≡ out.old) }
-{
-    let Ok(bytes) = output_of(alloc, instance, book, table) else {
-        return Err(Status::NoMemory);
-    };
-    match write_all(out, bytes.as_slice()) {
-        Ok(()) => Ok(()),
-        Err(Failed) => Err(Status::WriteFault),
-    }
-}
-
-/// Runs the search over the book that was opened, and writes the report of the book as it is then. Where the disk failed or
-/// there was no memory, nothing is written. The book and the seats come back.
-pub(crate) fn search<K: Sink, D: Disk + Send, G: Gate + Sync, R: Threads + Wait + Sync>(
+/// Opens the book of an instance on the disk, and searches it with a worker for each adviser.
+fn search_with<D: Disk + Send, G: Gate + Sync, S: Stop + Sync, R: Threads + Wait + Sync>(
     rt: &R,
     alloc: Global,
     instance: &Instance,
-    book: Book<D>,
-    seats: Vec<Seat>,
+    steps: u64,
+    disk: D,
+    mut advisers: Vec<Box<dyn Adviser + Send>>,
     gate: &G,
-    table: bool,
-    out: &mut K,
-) -> (Book<D>, Vec<Seat>, Status)
-    requires same { book.log.instance ≡ instance.now }
-    requires begun { IsBegun book }
-    requires budget { book.budget < 2 ^ 63 }
-    requires some { 0 < vec_len seats }
-    requires sixteen { vec_len seats ≤ 16 }
-    requires new { All (λ s. (s.told ≡ 0) × (s.share ≡ 0)) seats.items }
-    ensures goes_on { GoesOn D.reads D.calls D.faults book result.0 }
-    ensures status { SearchEnds D.reads D.calls D.faults (vec_len seats)
-        (record { before = map (λ s. told (s.adviser.vtable, s.adviser.value)) seats.items; after = map (λ s. told (s.adviser.vtable, s.adviser.value)) result.1.items })
-        book result.0 table (K.held out.old) (K.held out.new) (K.faults out.old, K.faults out.new) result.2 }
-    ensures seats { vec_len result.1 ≡ vec_len seats }
-    ensures unwritten { EndsUnwritten result.2 → out.new ≡ out.old }
+    stop: &S,
+) -> Searched<D>
+    requires count { D.calls disk < 2 ^ 62 }
+    requires steps { steps < 2 ^ 63 }
+    requires some { 0 < vec_len advisers }
+    requires sixteen { vec_len advisers ≤ 16 }
+    ensures ended { SearchEnds D.reads D.images D.images_since D.calls D.faults disk instance.now (vec_len advisers) steps
+        (record { before = map (λ a. told a) advisers.items; after = map (λ a. told a) result.advisers.items }) result.book result.end }
+    ensures stopped { result.end ≡ SearchEnd.Stopped → S.can_ask stop.now ≡ true }
 {
-    let (book, seats, end) = run_search(rt, alloc, instance, book, seats, gate);
-    if !is_reported(end) {
-        return (book, seats, status_at(end));
-    }
-    let status = match write_report(alloc, instance, &book, table, out) {
-        Ok(()) => status_at(end),
-        Err(status) => status,
+    canonical_text_is_short(instance);
+    // an instance is valid
+    let _heads = instance.heads();
+    let Ok(mut seats) = Vec::<Seat>::with_capacity(alloc, advisers.len()) else {
+        return Searched::unopened(SearchEnd::NoMemory, disk, advisers);
     };
-    (book, seats, status)
+    match Book::open(alloc, instance, disk, steps, JOURNAL_MAX) {
+        Err(left) => Searched::unopened(end_unopened(left.fault), left.disk, advisers),
+        Ok(book) => {
+            seats_of(&mut advisers, &mut seats);
+            let (book, seats, end) = search_by(rt, alloc, instance, book, seats, gate, stop);
+            advisers_of(seats, &mut advisers);
+            // what this answer says is what is known of the book
+            let _made = book.batches();
+            Searched {
+                end: end_of(end),
+                book: Ok(book),
+                advisers,
+            }
+        }
+    }
+}
+
+/// Opens the book of an instance on the disk, creating its journal in an empty file, and takes steps until no node is open or so many
+/// were taken as are asked for. The journal may have `JOURNAL_MAX` bytes. The book comes back with its disk; where none was opened,
+/// the disk does.
+///
+/// So many workers search as are asked for, each with an adviser of its own: the first advisers serve and come back in their order,
+/// the others are dropped. Where there are too few of them, or more than sixteen workers are asked for, all come back. Whatever they
+/// advise, and in whatever order the workers get the book, all that is said here holds.
+///
+/// The end is `Finished` where no node is open, `Spent` where all steps were taken and a node is open, `Full` where there was no room
+/// for the posts of a step, and `Stopped` only where the stop can ask, a node is open and a step left. `DiskFault` comes only where a
+/// fault of the disk was counted, and `NoMemory` may come at any step.
+pub fn run_search<D: Disk + Send, G: Gate + Sync, S: Stop + Sync, R: Threads + Wait + Sync>(
+    rt: &R,
+    alloc: Global,
+    instance: &Instance,
+    request: Request,
+    disk: D,
+    mut advisers: Vec<Box<dyn Adviser + Send>>,
+    gate: &G,
+    stop: &S,
+) -> Searched<D>
+    requires count { D.calls disk < 2 ^ 62 }
+    requires some { 0 < request.workers }
+    requires steps { request.steps < 2 ^ 63 }
+    ensures ended { SearchEnds D.reads D.images D.images_since D.calls D.faults disk instance.now request.workers request.steps
+        (record { before = map (λ a. told a) advisers.items; after = map (λ a. told a) result.advisers.items }) result.book result.end }
+    ensures stopped { result.end ≡ SearchEnd.Stopped → S.can_ask stop.now ≡ true }
+{
+    let have = workers_for(advisers.as_slice());
+    let asked = request.workers as u32;
+    if have < asked {
+        return Searched::unopened(SearchEnd::TooFewAdvisers { asked, have }, disk, advisers);
+    }
+    advisers.truncate(asked as usize);
+    search_with(
+        rt,
+        alloc,
+        instance,
+        request.steps,
+        disk,
+        advisers,
+        gate,
+        stop,
+    )
 }

@@ -1,4 +1,4 @@
-//! Tests of runs of `solve` with sources, sinks and disks in memory of which a call fails, and with advisers that no program has.
+//! Tests of runs of `solve` with sources, sinks and disks in memory of which a call fails.
 #![tactic(auto)]
 
 #[cfg(test)]

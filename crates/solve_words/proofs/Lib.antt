@@ -9,3 +9,4 @@ pub mod Sorting
 pub mod Spelled
 pub mod Steps
 pub mod Walks
+pub mod Within

@@ -1,5 +1,5 @@
 -- The words of the command line as a set: which words there are, and what they ask for. Nothing here says how words are read.
-use Rattle.std.specs.Prelude.{◌≡◌, ◌⊎◌, ◌↔◌, ℕ, List, [], ◌∷◌, ◌++◌, length, count_by, Bool, true, false, ◌&&◌, ◌||◌, not, ◌==◌, nat_le, if◌then◌else◌, Option, Some, None, is_some, option_map, option_and_then, codes}
+use Rattle.std.specs.Prelude.{◌≡◌, ◌⊎◌, ◌↔◌, ℕ, ◌≤◌, IfSome, List, [], ◌∷◌, ◌++◌, length, count_by, Bool, true, false, ◌&&◌, ◌||◌, not, ◌==◌, nat_le, if◌then◌else◌, Option, Some, None, is_some, option_map, option_and_then, codes}
 use Rattle.std.specs.List.{flat_map, list_all}
 use Rattle.std.specs.Option.{option_to_list}
 use Rattle.std.specs.Char.{is_ascii_digit}
@@ -203,3 +203,8 @@ pub record Asks (words : List (List ℕ)) (asked : Asked) : Type 0 where
 -- that, and nothing else, is what the words ask for; where there is nothing, they are no command
 abbrev pub IsReadAs : List (List ℕ) → Option Asked → Type 0
 IsReadAs words found = (asked : Asked) → Asks words asked ↔ (found ≡ Some asked)
+
+-- what is asked for has its numbers within their limits
+abbrev pub IsWithin : Asked → Type 0
+IsWithin (over_journal path count budget wish method) = IfSome count (λ n. (1 ≤ n) × (n ≤ 9999)) × (budget ≤ 4000000000)
+IsWithin (from_number n budget) = (n ≤ 999999) × (budget ≤ 4000000000)

@@ -1,8 +1,8 @@
 //! What a command line asks for.
 
-ghost use Rattle.std.specs.Prelude.{◌≡◌, map, option_map, string_bytes, IfOk};
+ghost use Rattle.std.specs.Prelude.{◌≡◌, map, option_map, string_bytes, IfOk, IfSome};
 ghost use Rattle.solve_words.specs.Asked.{asked, given, text_of};
-ghost use Rattle.solve_words.specs.Words.{asked_in, budget_in, demonstration_of, is_journal, method_in, method_of, number_in, search_on, workers_in, IsReadAs};
+ghost use Rattle.solve_words.specs.Words.{asked_in, budget_in, demonstration_of, is_journal, method_in, method_of, number_in, search_on, workers_in, IsReadAs, IsWithin};
 ghost use Rattle.solve_words.specs.Words.{demo as demo_setting};
 
 use crate::numbers::number_within;
@@ -161,7 +161,8 @@ fn asked_in<'a>(texts: &Texts<'a>) -> Option<Command<'a>>
 /// option's word. A number is one to ten decimal digits. W is from 1 to 9,999, B at most 4,000,000,000 and 1,000 where it isn't
 /// given, and N at most 999,999. JOURNAL isn't empty and doesn't begin with `-`.
 pub fn command_of<'a>(alloc: Global, words: &'a [String]) -> Result<Option<Command<'a>>, AllocError>
-    ensures { IfOk result (λ command. IsReadAs (map string_bytes words.now) (option_map asked command)) }
+    ensures reads { IfOk result (λ command. IsReadAs (map string_bytes words.now) (option_map asked command)) }
+    ensures within { IfOk result (λ command. IfSome command (λ command. IsWithin (asked command))) }
 {
     match words {
         [verb, rest @ ..] if verb.as_str() == "solve" => {

@@ -1,39 +1,39 @@
 //! The adviser.
-ghost use Rattle.std.specs.Prelude.{◌≡◌, ◌<◌, ◌≤◌, ◌+◌, ◌-◌, ◌^◌, IfErr, IfOk, IfSome, IsTrue, None, Some, length, min};
-ghost use Rattle.instance_json.specs.Canonical.{canonical_text};
+ghost use Rattle.std.specs.Prelude.{◌≡◌, ◌<◌, ◌≤◌, ◌+◌, ◌-◌, ◌^◌, IfOk, IfSome, IsTrue, None, Some, length, min};
 ghost use Rattle.shift_instance.specs.Rota.{are_legal_rows, cost, rota_of};
 ghost use Rattle.thorough_search.specs.HeadSplits.{IsHeadSplit};
 
 use crate::kept::Kept;
 use crate::splits::HeadSplit;
-use advice::{Advice, Adviser, Ask, Splitting, Told};
+use advice::{Advice, Adviser, Ask, Splitting, Stop, Told};
 use break_rules::{Breaks, NoMemory};
 use head_splits::{Class, Cuts, range};
-use instance_json::canonical;
 use rota_cost::Costed;
 use shift_instance::{Instance, Rows};
 use std::alloc::Global;
 use std::marker::Model;
 
-/// The adviser that searches thoroughly. With the same seed it advises the same for the same questions.
+/// The adviser that searches thoroughly for one instance: the one that it was made of or, where it was made of none, the one that
+/// it first advises for. With the same seed it advises the same for the same questions, for as long as it isn't asked to stop. Once
+/// it is, it advises what it has found by then.
 ///
-/// Contracts see what the adviser was told, and of which instance it keeps anything.
+/// Contracts see what the adviser was told.
 #[derive(Drop)]
-pub struct Thorough {
+pub struct Thorough<S: Stop + Clone> {
     alloc: Global,
     seed: u64,
-    kept: Option<Kept>,
+    stop: S,
+    kept: Option<Kept<S>>,
     told: u64,
     last: Option<Told>,
 }
 
-impl Model for Thorough {
-    ghost use Rattle.std.specs.Option.{option_map};
+impl<S: Stop + Clone> Model for Thorough<S> {
     ghost use Rattle.thorough_search.specs.Searching.{Searching};
 
     ghost Value = { Searching };
 
-    ghost view = { λ t. record { told = t.told; last = t.last; kept = option_map (λ k. k.text.items) t.kept } };
+    ghost view = { λ t. record { told = t.told; last = t.last } };
 }
 
 /// The rows of a plan of this instance, where it is cheaper than `best`.
@@ -51,10 +51,13 @@ fn rows_below(instance: &Instance, plan: Costed, best: u64) -> Option<Rows>
 
 /// The greedy plan where it was made in this advice and the search has none that is cheaper, and else the best plan of the search,
 /// if it is legal and cheaper than `best`.
-fn cheaper_plan(kept: &mut Kept, instance: &Instance, best: u64) -> Result<Option<Rows>, NoMemory>
+fn cheaper_plan<S: Stop + Drop>(
+    kept: &mut Kept<S>,
+    instance: &Instance,
+    best: u64,
+) -> Result<Option<Rows>, NoMemory>
     ensures legal { IfOk result (λ plan. IfSome plan (λ rows. IsTrue (are_legal_rows instance.now rows))) }
     ensures cheaper { IfOk result (λ plan. IfSome plan (λ rows. cost instance.now (rota_of rows) < best)) }
-    ensures text { kept.new.text ≡ kept.old.text }
 {
     let plan = match kept.take_greedy(instance) {
         Some(greedy) => Some(greedy),
@@ -86,51 +89,64 @@ fn judged(alloc: Global, instance: &Instance, cuts: &Cuts, split: HeadSplit) -> 
     None
 }
 
-impl Thorough {
-    /// An adviser that wasn't asked yet. It takes no memory.
-    pub fn new(alloc: Global, seed: u64) -> Thorough
-        ensures { result ≡ record { told = 0; last = None; kept = None } }
+impl<S: Stop + Clone> Thorough<S> {
+    /// An adviser that is made of no instance yet. It takes no memory.
+    pub fn new(alloc: Global, seed: u64, stop: S) -> Thorough<S>
+        ensures { result ≡ record { told = 0; last = None } }
     {
         Thorough {
             alloc,
             seed,
+            stop,
             kept: None,
             told: 0,
             last: None,
         }
     }
 
-    /// What is kept of this instance, taken out, or made now.
-    fn take_kept(&mut self, instance: &Instance) -> Result<Kept, NoMemory>
-        ensures text { IfOk result (λ k. k.text.items ≡ canonical_text instance.now) }
-        ensures left { self.new ≡ record self.old { kept = None } }
+    /// The adviser of an instance.
+    pub fn of(
+        alloc: Global,
+        instance: &Instance,
+        seed: u64,
+        stop: S,
+    ) -> Result<Thorough<S>, NoMemory>
+        ensures { IfOk result (λ t. t ≡ record { told = 0; last = None }) }
     {
-        let kept = self.kept.take();
-        let text = canonical(self.alloc, instance)?;
-        if let Some(kept) = kept {
-            if kept.text.as_slice() == text.as_slice() {
-                return Ok(kept);
+        let mut thorough = Thorough::new(alloc, seed, stop);
+        let kept = thorough.take_kept(instance)?;
+        thorough.kept = Some(kept);
+        Ok(thorough)
+    }
+
+    /// What is kept, taken out, or made of this instance now.
+    fn take_kept(&mut self, instance: &Instance) -> Result<Kept<S>, NoMemory>
+        ensures { self.new ≡ self.old }
+    {
+        match self.kept.take() {
+            Some(kept) => Ok(kept),
+            None => {
+                let stop = self.stop.clone()?;
+                Kept::new(self.alloc, instance, self.seed, stop)
             }
         }
-        Kept::new(self.alloc, instance, self.seed, text)
     }
 }
 
-impl Adviser for Thorough {
+impl<S: Stop + Clone> Adviser for Thorough<S> {
     ghost told = { λ t. t.told };
 
     ghost last = { λ t. t.last };
 
     /// Advises for a node: prices by a climb along rays from the hint's prices, the best plan so far where it is legal and cheaper
     /// than the best rota, and where the climb doesn't close the node the split of the duties of a shift on a day that promises
-    /// most. At first, where the best rota has no duty, it tries the greedy plan too. From then on it keeps something of this instance
-    /// alone, and nothing where it was out of memory.
+    /// most. At first, where the best rota has no duty, it tries the greedy plan too. Where it was out of memory, it begins anew at the
+    /// next advice.
     fn advise(&mut self, instance: &Instance, ask: &Ask) -> Result<Advice, NoMemory>
         ensures legal { IfOk result (λ a. IfSome a.plan (λ rows. IsTrue (are_legal_rows instance.now rows))) }
         ensures cheaper { IfOk result (λ a. IfSome a.plan (λ rows. cost instance.now (rota_of rows) < ask.now.best)) }
         ensures split { IfOk result (λ a. IfSome a.split (IsHeadSplit instance.now ask.now.cuts)) }
-        ensures kept { IfOk result (λ _. self.new ≡ record self.old { kept = Some (canonical_text instance.now) }) }
-        ensures wanting { IfErr result (λ _. self.new ≡ record self.old { kept = None }) }
+        ensures same { self.new ≡ self.old }
     {
         let mut kept = self.take_kept(instance)?;
         let (prices, found) = kept.look(instance, ask)?;
@@ -149,7 +165,7 @@ impl Adviser for Thorough {
 
     /// Tells the adviser what became of a step.
     fn learn(&mut self, news: &Told)
-        ensures { self.new ≡ record self.old { told = min (self.old.told + 1) (2 ^ 64 - 1); last = Some news.now } }
+        ensures { self.new ≡ record { told = min (self.old.told + 1) (2 ^ 64 - 1); last = Some news.now } }
     {
         self.told = self.told.saturating_add(1);
         self.last = Some(*news);

@@ -1,9 +1,9 @@
-//! What the adviser keeps of an instance.
+//! What the adviser keeps of its instance.
 ghost use Rattle.std.specs.Prelude.{◌≡◌, IfOk, IfSome};
 
 use crate::prices::{SCALE, begin_prices, cut_prices, slot_prices};
 use crate::splits::{HeadSplit, NodeView, best_split};
-use advice::Ask;
+use advice::{Ask, Stop};
 use break_rules::NoMemory;
 use greedy::greedy_plan;
 use head_splits::{CutPrices, Prices, SlotPrices};
@@ -28,14 +28,12 @@ const ROUNDED: f64 = 0.99;
 /// How far above that value no rounding of prices leads below it.
 const CLEAR: f64 = 0.25;
 
-/// What the adviser keeps of an instance.
+/// What the adviser keeps of its instance.
 #[derive(Drop)]
-pub(crate) struct Kept {
+pub(crate) struct Kept<S: Stop + Drop> {
     alloc: Global,
-    /// The canonical text of the instance.
-    pub(crate) text: Vec<u8>,
     tables: Tables,
-    plans: PlanSearch,
+    plans: PlanSearch<S>,
     climb: Climb,
     /// What the cheapest plan of hints costs that was offered to the plan search.
     offered: u64,
@@ -67,39 +65,36 @@ fn used_shifts(alloc: Global, parts: &[f64]) -> Result<Vec<u16>, NoMemory> {
 }
 
 /// When a climb to a value ends: at the node without cuts much later than below.
-fn limits_of(ask: &Ask, stop: f64) -> Limits {
+fn limits_of(ask: &Ask, goal: f64) -> Limits {
     if ask.cuts.is_empty() {
         return Limits {
             rounds: 2000,
-            stop,
+            goal,
             stalls: 1000,
             step: 0.1,
         };
     }
     Limits {
         rounds: 120,
-        stop,
+        goal,
         stalls: 4,
         step: 0.05,
     }
 }
 
-impl Kept {
-    /// What is known at first of an instance, which is written as this text.
+impl<S: Stop + Drop> Kept<S> {
+    /// What is known at first of an instance.
     pub(crate) fn new(
         alloc: Global,
         instance: &Instance,
         seed: u64,
-        text: Vec<u8>,
-    ) -> Result<Kept, NoMemory>
-        ensures { IfOk result (λ k. k.text ≡ text) }
-    {
+        stop: S,
+    ) -> Result<Kept<S>, NoMemory> {
         let tables = Tables::new(alloc, instance)?;
-        let plans = PlanSearch::new(alloc, &tables, seed)?;
+        let plans = PlanSearch::new(alloc, &tables, seed, stop)?;
         let climb = Climb::new(alloc, &tables)?;
         Ok(Kept {
             alloc,
-            text,
             tables,
             plans,
             climb,
@@ -132,8 +127,7 @@ impl Kept {
 
     /// The greedy plan, with its cost, judged, where it was made and not taken out yet.
     pub(crate) fn take_greedy(&mut self, instance: &Instance) -> Option<Costed>
-        ensures plan { IfSome result (λ c. c.instance ≡ instance.now) }
-        ensures text { self.new.text ≡ self.old.text }
+        ensures { IfSome result (λ c. c.instance ≡ instance.now) }
     {
         let rows = self.greedy.take()?;
         match cost_rows(instance, rows) {
@@ -144,9 +138,7 @@ impl Kept {
 
     /// Has the plan search go on from the hint's rows, where they are legal and cheaper than its best and than all that it was
     /// offered before.
-    fn take_hint(&mut self, instance: &Instance, ask: &Ask) -> Result<(), NoMemory>
-        ensures { self.new.text ≡ self.old.text }
-    {
+    fn take_hint(&mut self, instance: &Instance, ask: &Ask) -> Result<(), NoMemory> {
         if self.offered <= ask.best || self.is_cheaper_than(ask.best) {
             return Ok(());
         }
@@ -172,9 +164,7 @@ impl Kept {
     }
 
     /// Searches for plans as long as it is due.
-    fn search_plans(&mut self) -> Result<(), NoMemory>
-        ensures { self.new.text ≡ self.old.text }
-    {
+    fn search_plans(&mut self) -> Result<(), NoMemory> {
         let before = self.plans.best_cost();
         let due = self.due_work();
         self.climbed = self.climb.work();
@@ -185,12 +175,12 @@ impl Kept {
         Ok(())
     }
 
-    /// Makes the greedy plan, once and only where the best rota has no duty. Where the plan search has none that is cheaper, that plan
-    /// is kept to be advised, and offered to the search, which doesn't take it where a duty has too many breaks.
-    fn make_greedy(&mut self, instance: &Instance, ask: &Ask) -> Result<(), NoMemory>
-        ensures { self.new.text ≡ self.old.text }
-    {
-        if self.is_greedy_made || !ask.hint.rows.as_slice().is_empty() {
+    /// Makes the greedy plan, once and only where the best rota has no duty, and not where a stop is asked for. Where the plan search has
+    /// none that is cheaper, that plan is kept to be advised, and offered to the search, which doesn't take it where a duty has too many
+    /// breaks.
+    fn make_greedy(&mut self, instance: &Instance, ask: &Ask) -> Result<(), NoMemory> {
+        let is_wanted = !self.is_greedy_made && ask.hint.rows.as_slice().is_empty();
+        if !is_wanted || self.plans.stop().is_asked() {
             return Ok(());
         }
         self.is_greedy_made = true;
@@ -204,9 +194,7 @@ impl Kept {
     }
 
     /// Tells the plan search what the last climb knows: that of the node without cuts, or else of the first node.
-    fn guide_plans(&mut self, ask: &Ask) -> Result<(), NoMemory>
-        ensures { self.new.text ≡ self.old.text }
-    {
+    fn guide_plans(&mut self, ask: &Ask) -> Result<(), NoMemory> {
         if !ask.cuts.is_empty() && !self.plans.is_unguided() {
             return Ok(());
         }
@@ -222,13 +210,11 @@ impl Kept {
     }
 
     /// Climbs from the hint's prices, and gives the value reached.
-    fn climb_from(&mut self, ask: &Ask, ranges: &Ranges) -> Result<f64, NoMemory>
-        ensures { self.new.text ≡ self.old.text }
-    {
-        let stop = self.closing_value(ask.best);
+    fn climb_from(&mut self, ask: &Ask, ranges: &Ranges) -> Result<f64, NoMemory> {
+        let limits = limits_of(ask, self.closing_value(ask.best));
         let start = begin_prices(self.alloc, &self.tables, ranges, ask)?;
         self.climb
-            .climb(&self.tables, ranges, &start, limits_of(ask, stop))
+            .climb(&self.tables, ranges, &start, limits, self.plans.stop())
     }
 
     /// The prices of the last climb, as they are advised for so many cuts.
@@ -244,9 +230,7 @@ impl Kept {
     }
 
     /// The split that promises most after the last climb, which lacks so much of what would close the node.
-    fn split(&mut self, ranges: &Ranges, room: f64) -> Result<Option<HeadSplit>, NoMemory>
-        ensures { self.new.text ≡ self.old.text }
-    {
+    fn split(&mut self, ranges: &Ranges, room: f64) -> Result<Option<HeadSplit>, NoMemory> {
         let worth = self.climb.worth(&self.tables, ranges)?;
         let view = NodeView {
             ranges,
@@ -263,9 +247,7 @@ impl Kept {
         &mut self,
         instance: &Instance,
         ask: &Ask,
-    ) -> Result<(Prices, Option<HeadSplit>), NoMemory>
-        ensures { self.new.text ≡ self.old.text }
-    {
+    ) -> Result<(Prices, Option<HeadSplit>), NoMemory> {
         self.take_hint(instance, ask)?;
         let ranges = Ranges::new(self.alloc, &self.tables, ask.cuts.as_slice())?;
         let value = self.climb_from(ask, &ranges)?;

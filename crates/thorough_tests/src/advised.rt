@@ -1,10 +1,10 @@
-//! Prices, plans and splits that are advised where the adviser was asked for another day before.
-ghost use Rattle.std.specs.Prelude.{◌≡◌, IfOk, length};
+//! Prices, plans and splits that are advised for the adviser's day, for another one, and where a stop asks.
+ghost use Rattle.std.specs.Prelude.{◌≡◌, [], true};
 
-use advice::{Advice, Adviser, Ask, Told};
-use break_rules::{Breaks, NoMemory};
+use advice::{Advice, Adviser, Ask, Never, Splitting, Stop};
+use break_rules::NoMemory;
 use dual_bound::prove;
-use head_splits::{Class, Cut, Cuts, Hint, Prices, Side};
+use head_splits::{Cuts, Hint, Prices};
 use instance_json::read;
 use rota_cost::cost_rows;
 use shift_instance::{Instance, Rows};
@@ -26,27 +26,14 @@ const TWO: &str =
 const MANY_BREAKS: &str =
     "{\"slot_minutes\":15,\"days\":1,\"need\":[1,0,1,0,1,0,1,0,1,0,1,0,1,0,1,0,1,0,1,0,1,0,1,0,1,0,1,0,1,0,1,0,1,0,1,0,1,0,1,0,1,0,1,0,1,0,1,0,1,0,1,0,0,0,0,0,0,0,0,0,0,0,0,0,0,0,0,0,0,0,0,0,0,0,0,0,0,0,0,0,0,0,0,0,0,0,0,0,0,0,0,0,0,0,0,0],\"max_heads\":1,\"weights\":{\"excess\":1,\"shortage\":2,\"shift\":3},\"types\":[{\"name\":\"L\",\"start_min\":0,\"start_max\":0,\"len_min\":51,\"len_max\":51,\"breaks\":{\"lead\":1,\"tail\":1,\"work_min\":1,\"work_max\":1,\"long_work\":1,\"long_rest\":1,\"size_min\":1,\"size_max\":1,\"totals\":[[51,25]],\"lunches\":[],\"resettle\":0}}]}";
 
-/// One cut: at least one duty of the shift.
-fn used(alloc: Global) -> Result<Cuts, NoMemory>
-    ensures { IfOk result (λ cuts. length cuts ≡ 1) }
-{
-    let class = Class {
-        shift: 0,
-        day: 0,
-        prefix: Breaks::new(Vec::new(alloc)),
-    };
-    let side = Side::AtLeast;
-    Ok(Cuts::new(vec![in alloc; Cut { class, side, m: 1 }]?))
-}
-
-/// What is asked for the node of these cuts, where the plan without duties is the best, and no prices were posted.
-fn asked(alloc: Global, cuts: Cuts) -> Ask
-    ensures { result.cuts ≡ cuts }
+/// What is asked for the node without cuts, where the plan without duties is the best and costs so much, and no prices were posted.
+fn asked(alloc: Global, best: u64) -> Ask
+    ensures { result.cuts ≡ [] }
 {
     Ask {
-        cuts,
+        cuts: Cuts::new(Vec::new(alloc)),
         floor: 0,
-        best: 8,
+        best,
         hint: Hint {
             prices: None,
             rows: Rows::new(Vec::new(alloc)),
@@ -54,19 +41,7 @@ fn asked(alloc: Global, cuts: Cuts) -> Ask
     }
 }
 
-/// What is looked at of an advice for the node without cuts: the bound that its prices give, what its plan costs, and the shift, the day and
-/// the number of its split.
-#[derive(Clone, Copy, Debug, PartialEq, Eq, Drop)]
-struct Seen {
-    /// The bound, where the prices give one.
-    bound: Option<u64>,
-    /// The cost, where there is a plan and it is legal.
-    cost: Option<u64>,
-    /// The shift, the day and the number.
-    split: Option<(u16, u8, u16)>,
-}
-
-/// The bound that prices give at the root.
+/// The bound that prices give at the root, where they give one.
 fn bound_of(alloc: Global, instance: &Instance, prices: Prices) -> Option<u64> {
     match prove(alloc, instance, Cuts::new(Vec::new(alloc)), prices) {
         Ok(proved) => Some(proved.bound()),
@@ -74,72 +49,104 @@ fn bound_of(alloc: Global, instance: &Instance, prices: Prices) -> Option<u64> {
     }
 }
 
-/// What legal rows cost.
-fn cost_of(instance: &Instance, rows: Rows) -> Option<u64> {
-    match cost_rows(instance, rows) {
+/// What a plan costs, where there is one and it is legal.
+fn cost_of(instance: &Instance, plan: Option<Rows>) -> Option<u64> {
+    match cost_rows(instance, plan?) {
         Ok(costed) => Some(costed.cost()),
         Err(_) => None,
     }
 }
 
-/// What is seen of an advice.
-fn seen_of(alloc: Global, instance: &Instance, advice: Advice) -> Seen {
+/// The number of a split of the first shift on the first day.
+fn number_of(split: Option<Splitting>) -> Option<u16> {
+    let Splitting { class, m } = split?;
+    if (class.shift, class.day) == (0, 0) {
+        Some(m)
+    } else {
+        None
+    }
+}
+
+/// What is looked at of an advice for the node without cuts: the bound that its prices give, what its plan costs, and the number of its split.
+type Seen = (Option<u64>, Option<u64>, Option<u16>);
+
+/// What is seen of an adviser's advice, where the plan without duties costs so much.
+fn seen<S: Stop + Clone>(
+    alloc: Global,
+    adviser: &mut Thorough<S>,
+    instance: &Instance,
+    best: u64,
+) -> Result<Seen, NoMemory> {
     let Advice {
         prices,
         plan,
         split,
-    } = advice;
-    Seen {
-        bound: bound_of(alloc, instance, prices),
-        cost: plan.and_then(|rows| cost_of(instance, rows)),
-        split: split.map(|split| (split.class.shift, split.class.day, split.m)),
-    }
+    } = adviser.advise(instance, &asked(alloc, best))?;
+    let bound = bound_of(alloc, instance, prices);
+    Ok((bound, cost_of(instance, plan), number_of(split)))
 }
 
-/// What is seen of the second advice of an adviser that was asked for another day first, through a box, and was told something.
-fn second_seen(alloc: Global, first: &str, second: &str) -> Result<Seen, Fail> {
-    let mut adviser: Box<dyn Adviser + Send> = Box::new(alloc, Thorough::new(alloc, 1))?;
-    let other = read(alloc, first.as_bytes())?;
-    let _first = adviser.advise(&other, &asked(alloc, used(alloc)?))?;
-    adviser.learn(&Told {
-        node: 1,
-        floor: 3,
-        best: 8,
-    });
-    let instance = read(alloc, second.as_bytes())?;
-    let advice = adviser.advise(&instance, &asked(alloc, Cuts::new(Vec::new(alloc))))?;
-    Ok(seen_of(alloc, &instance, advice))
-}
-
-// Nothing of the first day is left. Where one duty is the most, the best prices earn what the shift costs, which its plan costs too. Where
-// two may be, half a shift would do, which costs half of it: the node is split above one duty, as a second one would only cost.
+// The best prices earn what the shift costs, which its plan costs too. The adviser makes itself of the day at its first advice.
 #[test]
-fn another_instance_is_begun_anew(rt: HostRuntime) -> Result<(), Fail> {
+fn an_adviser_closes_its_day(rt: HostRuntime) -> Result<(), Fail> {
     let alloc = rt.alloc();
-    let one = Seen {
-        bound: Some(3),
-        cost: Some(3),
-        split: None,
-    };
-    assert_eq!(rt; second_seen(alloc, TWO, MORNING)?, one);
-    let two = Seen {
-        bound: Some(2),
-        cost: Some(3),
-        split: Some((0, 0, 1)),
-    };
-    assert_eq!(rt; second_seen(alloc, MORNING, TWO)?, two);
+    let instance = read(alloc, MORNING.as_bytes())?;
+    let mut adviser = Thorough::new(alloc, 1, Never);
+    let found = seen(alloc, &mut adviser, &instance, 8)?;
+    assert_eq!(rt; found, (Some(3), Some(3), None));
     Ok(())
 }
 
-// A duty has 25 breaks, more than the search for plans puts into one, so the greedy plan is advised: the duty is just what is needed and
-// costs the shift, where the 26 slots without anybody cost 52.
+/// The adviser of a day.
+fn adviser_of(alloc: Global, day: &str) -> Result<Thorough<Never>, Fail> {
+    let instance = read(alloc, day.as_bytes())?;
+    let adviser = Thorough::of(alloc, &instance, 1, Never)?;
+    Ok(adviser)
+}
+
+// As two duties may be, half a shift would do, which costs half of it: the node is split above one duty, as a second one would only cost.
 #[test]
-fn the_greedy_plan_is_advised_where_the_search_has_none(rt: HostRuntime) -> Result<(), Fail> {
+fn the_adviser_of_a_day_splits_it(rt: HostRuntime) -> Result<(), Fail> {
+    let alloc = rt.alloc();
+    let instance = read(alloc, TWO.as_bytes())?;
+    let mut adviser = adviser_of(alloc, TWO)?;
+    let found = seen(alloc, &mut adviser, &instance, 8)?;
+    assert_eq!(rt; found, (Some(2), Some(3), Some(1)));
+    Ok(())
+}
+
+// The prices are those of a day of fewer slots, which give no bound here. The plans that the search has are none of this day, and the
+// greedy plan is one: the duty is just what is needed and costs the shift, where the 26 slots without anybody cost 52.
+#[test]
+fn an_adviser_of_another_day_advises_nothing_unlawful(rt: HostRuntime) -> Result<(), Fail> {
     let alloc = rt.alloc();
     let instance = read(alloc, MANY_BREAKS.as_bytes())?;
-    let mut ask = asked(alloc, Cuts::new(Vec::new(alloc)));
-    ask.best = 52;
-    let advice = Thorough::new(alloc, 1).advise(&instance, &ask)?;
-    assert_eq!(rt; seen_of(alloc, &instance, advice).cost, Some(3));
+    let mut adviser = adviser_of(alloc, MORNING)?;
+    let found = seen(alloc, &mut adviser, &instance, 52)?;
+    assert_eq!(rt; (found.0, found.1), (None, Some(3)));
+    Ok(())
+}
+
+/// A stop that asks from the beginning.
+#[derive(Clone, Copy)]
+struct Stopping;
+
+impl Stop for Stopping {
+    ghost can_ask = { λ stopping. true };
+
+    fn is_asked(&self) -> bool {
+        true
+    }
+}
+
+// The first prices are those of an employee too few in each of the four slots, which earn more than the shift costs: they give the bound
+// 3. There is no time for a plan.
+#[test]
+fn what_is_known_is_advised_once_a_stop_asks(rt: HostRuntime) -> Result<(), Fail> {
+    let alloc = rt.alloc();
+    let instance = read(alloc, MORNING.as_bytes())?;
+    let mut adviser = Thorough::new(alloc, 1, Stopping);
+    let found = seen(alloc, &mut adviser, &instance, 8)?;
+    assert_eq!(rt; (found.0, found.1), (Some(3), None));
     Ok(())
 }

@@ -1,13 +1,14 @@
-use Rattle.std.proofs.Common.{◌≡◌, ◌∙◌, ◌<◌, ◌^◌, ℕ, ap, arith, length, List, Option, Some, subst, sym}
+use Rattle.std.proofs.Common.{◌≡◌, ◌∙◌, ◌<◌, ◌^◌, ℕ, ap, arith, length, List, Option, Some, subst, sym, true}
 use Rattle.shift_instance.specs.declared.Row.{Row}
 use Rattle.certificate.specs.declared.Cert.{Cert}
 use Rattle.certificate.specs.declared.CertStatus.{CertStatus}
 use Rattle.certificate.specs.declared.proof_lines.Line.{Line}
+use Rattle.certificate.specs.Accepted.{is_accepted}
 use Rattle.certificate.specs.History.{lines_of}
 use Rattle.certificate.specs.Text.{Agrees}
-use Rattle.search_core.proofs.Fits.{rows_fit}
+use Rattle.search_core.proofs.Fits.{class_few, rows_fit}
 use Rattle.solve_runs.specs.Report.{cert_of, status_of_book}
-use Rattle.solve_runs.proofs.Accepting.{has_text}
+use Rattle.solve_runs.proofs.Accepting.{accepted, has_text}
 use Rattle.solve_runs.proofs.report.cert_of.Goals as goal
 
 cert_is : (c : Cert) (s : CertStatus) (p : Option (ℕ × List Row)) (n : ℕ) (ls : List Line) → c.status ≡ s → c.plan ≡ p → c.bound ≡ n → c.lines ≡ ls → c ≡ record { status = s; plan = p; bound = n; lines = ls }
@@ -29,3 +30,15 @@ returns-clause-agrees g c = λ valid.
     (e.lines ∙ ap lines_of c.history-posts.ensures.history) in
     let few : length v.history < 2 ^ 32 = omega (arith, c.history-posts.ensures.few) in
     subst Agrees (sym is) (has_text v.instance v.history v.book valid few (rows_fit v.instance v.book.best valid c.best.ensures.sound.legal).0 c.history-posts.ensures.folds)
+
+pub returns-clause-accepted : goal.returns-clause-accepted
+returns-clause-accepted g c = λ valid.
+    let v = c.args.book.now.log in
+    let e = c.in_ok-cert.ensures in
+    let is : c.in_ok-cert.cert ≡ cert_of v.history v.book =
+    cert_is c.in_ok-cert.cert (status_of_book v.book) (Some (v.book.cost, v.book.best)) _ (lines_of v.history)
+    (e.status ∙ c.status_of.ensures)
+    (e.plan ∙ ap (λ (n : ℕ). Some (n, c.best.result.now)) c.best_cost.ensures ∙ ap (λ (rows : List Row). Some (v.book.cost, rows)) c.best.ensures.best)
+    (e.bound ∙ c.floor.ensures.floor)
+    (e.lines ∙ ap lines_of c.history-posts.ensures.history) in
+    subst (λ (x : Cert). is_accepted v.instance x ≡ true) (sym is) (accepted v.instance v.history v.book valid (λ class live. class_few v.instance class valid live) c.history-posts.ensures.folds)

@@ -1,28 +1,43 @@
-use Rattle.std.proofs.Common.{sum_by, vec_len, arith}
-use Rattle.std.proofs.lemmas.Bool.{false≢true}
-use denote.Param.Send.{param_send, arg_send}
-use Rattle.search_core.specs.Calls.{IsFresh}
-use Rattle.search_book.proofs.Crosses.{book_send}
-use Rattle.search_book.specs.Search.{board_of}
-use Rattle.solve_runs.proofs.Ending.{run_ends}
-use Rattle.solve_runs.proofs.Telling.{are_told}
+use Rattle.std.proofs.Common.{◌∙◌, ap, ℕ, List, map, arith, refl, vec_len}
+use Rattle.std.proofs.lemmas.List.{length-map}
+use Rattle.solve_runs.proofs.Ending.{same_answer, search_of_all, uncalled}
+use Rattle.solve_runs.proofs.Limits.{served_are, still_enough}
+use Rattle.solve_runs.proofs.Telling.{have_same, map_take, Element}
 use Rattle.solve_runs.proofs.search.run_search.Goals as goal
 
-pub run_workers-requires-send-B : goal.run_workers-requires-send-B
-run_workers-requires-send-B g c κs within = let s = c.type_bounds.send-D in search (book_send, param_send, arg_send)
-
-pub returns-clause-goes_on : goal.returns-clause-goes_on
-returns-clause-goes_on g c = let r = c.run_workers.ensures in record { same = r.same; begins = r.begins }
-
-pub returns-clause-ends : goal.returns-clause-ends
-returns-clause-ends g c =
+pub returns-then-have-asked-clause-ended : goal.returns-then-have-asked-clause-ended
+returns-then-have-asked-clause-ended g c =
     let K = g.D.Disk in
-    let r = c.run_workers.ensures in
-    let seats = c.run_workers.result.1 in
-    let commits = sum_by (λ s. s.share) seats.items in
-    let fresh : IsFresh (board_of K.reads K.calls K.faults c.args.book) = record { sound = c.keeps_sound.ensures; none_taken = c.requires.begun.fresh; empty = c.requires.begun.empty } in (
-      commits,
-      run_ends K.reads K.calls K.faults (vec_len c.args.seats) commits c.args.book c.run_workers.result.0 c.run_workers.result.2 r.same fresh r.end r.turns r.posts r.exact r.enough (λ stopped. false≢true (r.stopped stopped)),
-      are_told (λ s. (goal.Adviser-dyn g (s.adviser.vtable, s.adviser.value)).told s.adviser.value) (λ s. s.told) (λ s. s.share) (vec_len c.args.seats) c.args.seats.items seats.items
-          (omega (arith, c.args.seats.ok)) (omega (arith, seats.ok, r.seats)) r.each r.told,
-    )
+    let e = c.unopened.ensures in
+    let heard : Element c.args.advisers.items → ℕ = λ a. (goal.Adviser-dyn g (a.vtable, a.value)).told a.value in
+    let before : List ℕ = map heard c.args.advisers.items in
+    let all = have_same heard c.as_slice.result.now c.args.advisers.items c.workers_for-have.result c.workers_for-have.ensures c.as_slice.ensures.value in
+    same_answer K.reads K.images K.images_since K.calls K.faults c.args.disk c.args.instance.now c.args.request.workers c.args.request.steps before _ before
+    _ _ _ _ e.1 (ap (λ v. map heard v.items) e.2) e.0
+    (uncalled K.reads K.images K.images_since K.calls K.faults c.args.disk, refl, refl, all, c.if-have-asked.true)
+
+pub search_with-requires-clause-some : goal.search_with-requires-clause-some
+search_with-requires-clause-some g c =
+    let heard : Element c.args.advisers.items → ℕ = λ a. (goal.Adviser-dyn g (a.vtable, a.value)).told a.value in
+    let before : List ℕ = map heard c.args.advisers.items in
+    let all = have_same heard c.as_slice.result.now c.args.advisers.items c.workers_for-have.result c.workers_for-have.ensures c.as_slice.ensures.value in
+    let served = served_are c.args.request.workers c.workers_for-have.result (vec_len c.args.advisers) (vec_len c.truncate.new.self) before all (omega (arith, length-map c.args.advisers.items heard, c.args.advisers.ok)) c.if-have-asked.false c.truncate.ensures.len in
+    omega (arith, served.0, c.requires.some)
+
+pub search_with-requires-clause-sixteen : goal.search_with-requires-clause-sixteen
+search_with-requires-clause-sixteen g c κs within =
+    let heard : Element c.args.advisers.items → ℕ = λ a. (goal.Adviser-dyn g (a.vtable, a.value)).told a.value in
+    let before : List ℕ = map heard c.args.advisers.items in
+    let all = have_same heard c.as_slice.result.now c.args.advisers.items c.workers_for-have.result c.workers_for-have.ensures c.as_slice.ensures.value in
+    let served = served_are c.args.request.workers c.workers_for-have.result (vec_len c.args.advisers) (vec_len c.truncate.new.self) before all (omega (arith, length-map c.args.advisers.items heard, c.args.advisers.ok)) c.if-have-asked.false c.truncate.ensures.len in
+    served.1
+
+pub returns-clause-ended : goal.returns-clause-ended
+returns-clause-ended g c =
+    let K = g.D.Disk in
+    let heard : Element c.args.advisers.items → ℕ = λ a. (goal.Adviser-dyn g (a.vtable, a.value)).told a.value in
+    let before : List ℕ = map heard c.args.advisers.items in
+    let all = have_same heard c.as_slice.result.now c.args.advisers.items c.workers_for-have.result c.workers_for-have.ensures c.as_slice.ensures.value in
+    let served = served_are c.args.request.workers c.workers_for-have.result (vec_len c.args.advisers) (vec_len c.truncate.new.self) before all (omega (arith, length-map c.args.advisers.items heard, c.args.advisers.ok)) c.if-have-asked.false c.truncate.ensures.len in
+    let first = ap (map heard) c.truncate.ensures.items ∙ map_take heard c.args.request.workers c.args.advisers.items in
+    search_of_all K.reads K.images K.images_since K.calls K.faults c.args.disk c.args.instance.now c.args.request.steps (vec_len c.truncate.new.self) c.args.request.workers before _ _ _ _ served.0 first (still_enough c.args.request.workers c.workers_for-have.result before all c.if-have-asked.false) c.search_with.ensures.ended

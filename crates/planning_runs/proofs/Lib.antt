@@ -1,3 +1,0 @@
-pub mod Reporting
-pub mod Running
-pub mod Slicing

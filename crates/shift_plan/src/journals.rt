@@ -1,0 +1,85 @@
+//! The journal of a search, locked for its run.
+
+use planning_files::{LockedJournal, set_aside};
+use planning_refusals::{Cause, Refusal};
+use planning_words::{PlanWords, is_same_file, journal_beside};
+use refusal_texts::Role;
+use std::alloc::{AllocError, Global};
+use std::fs;
+
+/// The journal that the words name, or else the one beside the instance.
+fn journal_of(alloc: Global, words: &PlanWords) -> Result<String, AllocError> {
+    match words.journal {
+        Some(journal) => String::from_str(alloc, journal),
+        None => String::from_str(alloc, journal_beside(alloc, words.instance)?.as_str()),
+    }
+}
+
+/// The journal of a run, locked, and the old one in whose place it stands, which stays locked as long.
+#[derive(Drop)]
+pub(crate) struct Journals {
+    /// The journal of the run.
+    pub(crate) now: LockedJournal<HostRuntime>,
+    old: Option<LockedJournal<HostRuntime>>,
+}
+
+/// Locks the journal of a path for this run.
+fn locked(rt: HostRuntime, path: &str) -> Result<LockedJournal<HostRuntime>, Refusal> {
+    let alloc = rt.alloc();
+    match LockedJournal::lock(rt, String::from_str(alloc, path)?) {
+        Ok(journal) => Ok(journal),
+        Err(why) => Err(Refusal::locked(alloc, path, &why)),
+    }
+}
+
+/// Whether there is something under a path that isn't empty.
+fn has_bytes(rt: HostRuntime, path: &str) -> bool {
+    match fs::metadata(&rt, path) {
+        Ok(found) => found.len() > 0,
+        Err(_) => false,
+    }
+}
+
+/// The refusal of words that ask for the plan of a search that there isn't.
+fn no_search(alloc: Global, path: &str) -> Refusal {
+    Refusal::said(
+        Cause::Words,
+        format!(in alloc;
+            "--seconds 0 writes the plan of the search that a journal holds, and `{path}` would hold none: give more seconds"
+        ),
+    )
+}
+
+/// The journal that the words name, locked for this run. Where they ask to begin again, the old one gets another name first.
+pub(crate) fn locked_journal(rt: HostRuntime, words: &PlanWords) -> Result<Journals, Refusal> {
+    let alloc = rt.alloc();
+    let path = journal_of(alloc, words)?;
+    if is_same_file(path.as_str(), words.instance) {
+        return Err(Refusal::said(
+            Cause::Words,
+            format!(in alloc;
+                "the instance and the journal would be the same file, {path}: name another journal with --journal"
+            ),
+        ));
+    }
+    if words.seconds == 0 && (words.anew || !has_bytes(rt, path.as_str())) {
+        return Err(no_search(alloc, path.as_str()));
+    }
+    let now = locked(rt, path.as_str())?;
+    if !words.anew || now.len().unwrap_or(0) == 0 {
+        return Ok(Journals { now, old: None });
+    }
+    match set_aside(&rt, alloc, path.as_str()) {
+        Ok(name) => {
+            let _ = eprintln!(rt; "shift_plan: begins again; the old journal is {name}");
+        }
+        Err(why) => {
+            return Err(Refusal::unwritten(alloc, Role::Journal, path.as_str(), why.kind()));
+        }
+    }
+    let fresh = locked(rt, path.as_str())?;
+    Ok(Journals {
+        now: fresh,
+        old: Some(now),
+    })
+}

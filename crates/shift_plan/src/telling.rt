@@ -1,0 +1,72 @@
+//! What is said of a search on standard error.
+
+use instance_warnings::warnings;
+use journal_texts::full_sentence;
+use planning_progress::{Progress, Shown};
+use planning_refusals::Refusal;
+use shift_instance::Instance;
+use solve_runs::SearchEnd;
+use std::io::IsTerminal;
+use std::sync::Arc;
+use worker_gate::Gate;
+
+/// Where and how often the line of the search is said.
+pub(crate) fn shown_on(rt: HostRuntime, enter_ends: bool) -> Shown {
+    if rt.stderr().is_terminal() {
+        Shown::InPlace { enter_ends }
+    } else {
+        Shown::Below
+    }
+}
+
+/// Says what a planner should know of an instance before it is searched.
+pub(crate) fn warn(rt: HostRuntime, instance: &Instance) -> Result<(), Refusal> {
+    for warning in &warnings(rt.alloc(), instance)? {
+        let _ = eprintln!(rt; "shift_plan: note that {warning}");
+    }
+    Ok(())
+}
+
+/// The gate that says from how many steps a search goes on, if from any, and counts them.
+#[derive(Drop)]
+pub(crate) struct Beginning {
+    pub(crate) rt: HostRuntime,
+    pub(crate) progress: Arc<Progress>,
+}
+
+impl Gate for Beginning {
+    fn begin(&self, steps: u64, cost: u64, bound: u64) {
+        self.progress.count_before(steps);
+        if steps != 0 {
+            let _ = eprintln!(self.rt;
+                "shift_plan: goes on from {steps} steps: cost {cost}, bound {bound}"
+            );
+        }
+    }
+
+    fn enter(&self, _worker: u32, _step: u64) {}
+}
+
+/// Says why a search with a plan ended before its time, if it did.
+pub(crate) fn tell_end(rt: HostRuntime, progress: &Progress, end: &SearchEnd) {
+    if shown_on(rt, false) != Shown::Below {
+        // the line of the search stands there without its line feed
+        let _ = eprintln!(rt);
+    }
+    match end {
+        SearchEnd::Full { end, limit } => {
+            if let Ok(sentence) = full_sentence(rt.alloc(), *end, *limit) {
+                let _ = eprintln!(rt; "shift_plan: {}", sentence.as_str());
+            }
+        }
+        SearchEnd::Stopped if progress.is_end_asked() => {
+            let _ = eprintln!(rt;
+                "shift_plan: the search ends early, as it was asked to: its plan is written, and the same line goes on from there"
+            );
+        }
+        _ => {}
+    }
+    if let Some(why) = Refusal::of_end(rt.alloc(), end) {
+        let _ = eprintln!(rt; "shift_plan: the search ends early: {why}");
+    }
+}
