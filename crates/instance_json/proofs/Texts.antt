@@ -1,5 +1,5 @@
 -- The canonical text's value, and that it has no float.
-use Rattle.std.proofs.Common.{◌≡◌, false, List, [], ◌∷◌, map, refl, ap}
+use Rattle.std.proofs.Common.{◌≡◌, Bool, true, false, List, [], ◌∷◌, map, refl, ap}
 use Rattle.break_rules.specs.declared.Rule.{Rule}
 use Rattle.shift_instance.specs.Kind.{Kind}
 use Rattle.shift_instance.specs.Problem.{Problem}
@@ -7,7 +7,7 @@ use Rattle.serde_json.specs.Data.{Data, item}
 use Rattle.serde_json.specs.View.{view, items_view}
 use Rattle.serde_json.specs.Written.{has_float, items_have_float}
 use Rattle.serde_json.specs.declared.value.Value.{Value}
-use Rattle.instance_json.specs.Canonical.{items_data, number_data, total_data, lunch_data, rule_data, kind_data, weights_data, document_data}
+use Rattle.instance_json.specs.Canonical.{items_data, number_data, total_data, lunch_data, rule_data, kind_data, weights_data, is_banded, document_stating, document_data}
 
 -- the items of a list of values
 pub items_of_values : (vs : List Value) → items_view vs ≡ items_data (map view vs)
@@ -26,7 +26,13 @@ has_float-kind : (k : Kind) → has_float (kind_data k) ≡ false
 unfolding kind_data
 has_float-kind k = rw (has_float-rule k.rule)
 
+has_float-stating : (stated : Bool) (p : Problem) → has_float (document_stating stated p) ≡ false
+unfolding weights_data
+has_float-stating true p =
+    rw (no_floats number_data (λ x. refl) p.need, no_floats number_data (λ x. refl) p.need_max, no_floats kind_data has_float-kind p.kinds)
+has_float-stating false p = rw (no_floats number_data (λ x. refl) p.need, no_floats kind_data has_float-kind p.kinds)
+
 -- no document has a float
 pub has_float-document : (p : Problem) → has_float (document_data p) ≡ false
-unfolding document_data weights_data
-has_float-document p = rw (no_floats number_data (λ x. refl) p.need, no_floats kind_data has_float-kind p.kinds)
+unfolding document_data
+has_float-document p = has_float-stating (is_banded p) p

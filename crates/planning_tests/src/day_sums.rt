@@ -11,6 +11,7 @@ fn two_days(alloc: Global) -> Result<Parts, NoMemory> {
     let mut parts = day(alloc, 1, 4, Rule::plain(alloc)?)?;
     parts.days = 2;
     parts.need = vec![in alloc; 0; 48]?;
+    parts.need_max = vec![in alloc; 0; 48]?;
     for kind in parts.types.iter_mut() {
         (kind.start_min, kind.start_max) = (22, 22);
     }

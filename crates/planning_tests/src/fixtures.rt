@@ -20,10 +20,12 @@ pub fn day(alloc: Global, heads: u16, len: u16, rule: Rule) -> Result<Parts, NoM
     let types = vec![in alloc; kind]?;
     let mut need = vec![in alloc; 0; 24]?;
     need[8..12].fill(1);
+    let need_max = need.clone()?;
     Ok(Parts {
         slot_minutes: 60,
         days: 1,
         need,
+        need_max,
         max_heads: heads,
         excess: 1,
         shortage: 2,
