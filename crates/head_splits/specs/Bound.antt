@@ -69,9 +69,13 @@ term i cuts prices s =
     else if is_forced i cuts s then pos (prices.q * i.shift) -ℤ int_sum_by (day_value i cuts prices s) (below i.days)
     else int_min (pos 0) (pos (prices.q * i.shift) -ℤ int_sum_by (free_day_value i cuts prices s) (below i.days))
 
--- what a price is worth at a slot: at its most wanted employees where it is below 0, and else at its need
+-- the wanted employees of a slot for which a price counts: the most of them where it is below 0, and else the need
+abbrev pub wanted_at : Problem → ℕ → ℤ → ℕ
+wanted_at i t p = if is_negative p then need_max_at i t else need_at i t
+
+-- what a price is worth at a slot
 abbrev pub worth_at : Problem → ℕ → ℤ → ℤ
-worth_at i t p = if is_negative p then p *ℤ pos (need_max_at i t) else p *ℤ pos (need_at i t)
+worth_at i t p = p *ℤ pos (wanted_at i t p)
 
 -- what a slot's price is worth, and a cut's price at its number
 abbrev pub slot_worth : Problem → Prices → ℕ → ℤ
