@@ -89,11 +89,15 @@ bands_pass : (number from : ℕ) (slots : List ℕ) → NoCause (map band_cause 
 bands_pass number from [] = tt
 bands_pass number from (slot ∷ slots) = (no_band_fault (need_of number slot) (small_need (is_busy slot) (draw number (draws_before slot + 1))), bands_pass number (from + 1) slots)
 
+all_bands_pass : (number count : ℕ) → NoCause (map band_cause (enumerate_from 0 (zip (needs_of number count) (needs_of number count))))
+unfolding needs_of
+all_bands_pass number count = bands_pass number 0 (below count)
+
 no_band_is_faulty : (number : ℕ) → first_cause (band_causes (generated number)) ≡ None
-unfolding generated needs_of
+unfolding generated
 no_band_is_faulty number =
     let count : not (length (needs_of number 168) == 168) ≡ false = ap (λ (n : ℕ). not (n == 168)) (needs_length number 168) in
-    none_from_no_cause (band_causes (generated number)) (count, bands_pass number 0 (below 168))
+    none_from_no_cause (band_causes (generated number)) (count, all_bands_pass number 168)
 
 all_are_wanted : (number : ℕ) → first_cause (wanted_causes (generated number)) ≡ None
 unfolding generated
