@@ -9,8 +9,8 @@ use Rattle.break_rules.specs.Walk.{nexts_of, spot_of}
 use Rattle.break_rules.proofs.Lists.{Has-append_cases, Has-append_left, Has-append_right, Has-filter}
 use Rattle.break_rules.proofs.LegalLists.{live_rest, no_longer_list}
 use Rattle.break_rules.proofs.Reaching.{rest_first}
-use Rattle.break_graph.specs.Graph.{live_nexts}
-use Rattle.price_sums.specs.Along.{Completes}
+use Rattle.check_values.specs.Ways.{live_stops}
+use Rattle.check_values.specs.Along.{Completes}
 use Rattle.cert_check.specs.Rests.{Through, IsGreatest, IsGreatestOf, greater_of}
 
 max_cases : (x y : ℤ) → ((int_max x y ≡ x) × (y ≤ℤ x)) ⊎ ((int_max x y ≡ y) × (x ≤ℤ y))
@@ -84,14 +84,14 @@ module _ (rule : Rule) (len : ℕ) (list : List Break) where
   greatest_none worth = λ other h. absurd h.3
 
   -- a rest that completes a list is empty, or begins with a live next break
-  rest_cases : (rest : List Break) → Completes rule len list rest → (rest ≡ []) ⊎ Through rule len list (live_nexts rule len list) rest
+  rest_cases : (rest : List Break) → Completes rule len list rest → (rest ≡ []) ⊎ Through rule len list (live_stops rule len list) rest
   rest_cases [] h = inl refl
   rest_cases (b ∷ bs) h =
       let f = rest_first rule len list b bs h in
       inr (b, bs, refl, Has-filter (λ b. is_live rule len (list ++ b ∷ [])) (nexts_of rule len (spot_of rule list)) b f.1 f.0, h)
 
   -- all breaks that may come next: where there are some
-  pub greatest_some : (worth : List Break → ℤ) (v : ℤ) → IsGreatestOf (Through rule len list (live_nexts rule len list)) worth (Some v) → IsGreatest (Completes rule len list) worth v
+  pub greatest_some : (worth : List Break → ℤ) (v : ℤ) → IsGreatestOf (Through rule len list (live_stops rule len list)) worth (Some v) → IsGreatest (Completes rule len list) worth v
   greatest_some worth v g = record {
     reached = (g.reached.0, g.reached.1.4, g.reached.2);
     greatest = λ other h. elim (rest_cases other h) [
@@ -108,7 +108,7 @@ module _ (rule : Rule) (len : ℕ) (list : List Break) where
       not_nil b bs e = cc
 
   -- and where there is none, the list itself is legal
-  pub legal_alone : (worth : List Break → ℤ) → is_live rule len list ≡ true → IsGreatestOf (Through rule len list (live_nexts rule len list)) worth None → Completes rule len list []
+  pub legal_alone : (worth : List Break → ℤ) → is_live rule len list ≡ true → IsGreatestOf (Through rule len list (live_stops rule len list)) worth None → Completes rule len list []
   legal_alone worth live none =
       let r = live_rest rule len list live in
       elim (rest_cases r.0 r.1) [

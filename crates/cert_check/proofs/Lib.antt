@@ -1,9 +1,9 @@
 pub mod Greatest
 pub mod Values
 pub mod WaysOn
-pub mod WithStart
 pub mod Whole
 pub mod ShiftTerms
 pub mod Passing
 pub mod KeptNodes
 pub mod Causes
+pub mod ListDuties

@@ -1,7 +1,7 @@
 -- The value of a duty.
 use Rattle.std.proofs.Common.{◌≡◌, inl, inr, ℕ, ◌+◌, ◌-◌, ◌^◌, ◌≤◌, ℤ, pos, ◌+ℤ◌, ◌≤ℤ◌, true, false, cond, List, [], ◌∷◌, length, map, set, refl, sym, ap, ◌∙◌, subst, arith, Option, Some, None}
 use Rattle.std.proofs.lemmas.List.{get_or-set_same, get_or-set_other}
-use Rattle.std.specs.Prelude.{slice_get, IsSomeAnd, ◌<◌}
+use Rattle.std.specs.Prelude.{slice_get, IsSomeAnd, MatchOption, ⊤, ◌<◌}
 use Rattle.std.specs.Int.RustNames.{unsigned_abs}
 use Rattle.std.specs.List.{range_with_len}
 use Rattle.std.specs.Option.{option_map_or}
@@ -23,13 +23,10 @@ use Rattle.shift_instance.proofs.Offsets.{earned_by_offsets}
 use Rattle.shift_instance.proofs.Rotas.{Has-lists_of, from_lists_of}
 use Rattle.shift_instance.proofs.Shifts.{Has_at, shift_short}
 use Rattle.shift_instance.specs.Valid.{IsValid}
-use Rattle.break_graph.specs.declared.Node.{Node}
-use Rattle.break_graph.specs.Graph.{IsGraph}
 use Rattle.head_splits.specs.declared.Cut.{Cut}
 use Rattle.head_splits.specs.declared.Prices.{Prices}
 use Rattle.head_splits.specs.Bound.{is_nil, reduced}
-use Rattle.price_sums.specs.Along.{sum_at, price_in, earned_from, AreSums, ArePricesOf, Completes}
-use Rattle.price_sums.specs.Days.{sums_on, AreSumsByDay}
+use Rattle.check_values.specs.Along.{sum_at, price_in, earned_from, AreSums, ArePricesOf, Completes}
 use Rattle.cert_check.specs.Rests.{IsGreatest}
 use Rattle.cert_check.specs.Below.{duty_with, bonuses, whole_worth}
 use Rattle.bound_sums.specs.Values.{AreValues, IsValue}
@@ -90,42 +87,46 @@ shift_at o x P e h = subst (λ (q : Option (Shift × Rule)). IsSomeAnd q P) e h
 
 -- a shift and its rule, as they are read
 module _ (i : Problem) (s : ℕ) (shift : Shift) (rule : Rule) (own_shift : IsSomeAnd (slice_get (shift_list i) s) (λ y. shift ≡ y.0)) (own_rule : IsSomeAnd (slice_get (shift_list i) s) (λ y. rule ≡ y.1)) where
-  pub own_graph : (nodes : List Node) → IsSomeAnd (slice_get (shift_list i) s) (λ x. IsGraph x.1 x.0.len nodes) → IsGraph rule shift.len nodes
-  own_graph nodes h =
-      let o = slice_get (shift_list i) s in
-      let x = shift_some o (λ x. IsGraph x.1 x.0.len nodes) h in
-      subst (λ (r : Rule). IsGraph r shift.len nodes) (sym (shift_at o x.0 (λ y. rule ≡ y.1) x.1 own_rule))
-      (subst (λ (z : Shift). IsGraph x.0.1 z.len nodes) (sym (shift_at o x.0 (λ y. shift ≡ y.0) x.1 own_shift)) x.2)
-
-  -- a shift without legal lists has none in the list of all
-  pub own_nil : ((list : List Break) → is_legal rule shift.len list ≡ false) → is_nil (lists_of i s) ≡ true
-  own_nil illegal =
+  -- a shift with which no list is live has no legal list
+  pub own_nil : is_live rule shift.len [] ≡ false → is_nil (lists_of i s) ≡ true
+  own_nil dead =
       let x = shift_some (slice_get (shift_list i) s) (λ y. shift ≡ y.0) own_shift in
       let same_rule : rule ≡ x.0.1 = shift_at (slice_get (shift_list i) s) x.0 (λ y. rule ≡ y.1) x.1 own_rule in
-      nil_without i s x.0 x.1 (dead x.0.1 x.0.0.len (λ list. subst (λ (r : Rule). is_legal r x.0.0.len list ≡ false) same_rule (subst (λ (z : Shift). is_legal rule z.len list ≡ false) x.2 (illegal list))))
-    where
-      dead : (r : Rule) (len : ℕ) → ((list : List Break) → is_legal r len list ≡ false) → is_live r len [] ≡ false
-      dead r len none = false_from_ne_true (is_live r len []) (λ live. let rest = live_rest r len [] live in false≢true (sym (none rest.0) ∙ rest.1))
+      nil_without i s x.0 x.1 (subst (λ (r : Rule). is_live r x.0.0.len [] ≡ false) same_rule (subst (λ (z : Shift). is_live rule z.len [] ≡ false) x.2 dead))
 
   -- the sums along the shift on a day
-  pub own_sums : (prices : List ℤ) (lanes : List (List ℤ)) (day : ℕ) → ((x : Shift × Rule) → slice_get (shift_list i) s ≡ Some x → AreSumsByDay i x.0 prices lanes) → day < i.days → AreSums shift.len (sums_on day lanes)
-  own_sums prices lanes day of less =
+  pub own_sums : (sums : List ℤ) → ((x : Shift × Rule) → slice_get (shift_list i) s ≡ Some x → AreSums x.0.len sums) → AreSums shift.len sums
+  own_sums sums of =
       let x = shift_some (slice_get (shift_list i) s) (λ y. shift ≡ y.0) own_shift in
-      subst (λ (z : Shift). AreSums z.len (sums_on day lanes)) (sym x.2) ((of x.0 x.1).small day less)
+      subst (λ (z : Shift). AreSums z.len sums) (sym x.2) (of x.0 x.1)
 
   -- the value of the shift's duties on a day
-  pub own_value : (cuts cs : List Cut) (prices : Prices) (ps : List ℕ) (lanes : List (List ℤ)) (day : ℕ) (v : ℤ) → IsValid i → cs ≡ cuts → ps ≡ prices.cuts
-      → ((x : Shift × Rule) → slice_get (shift_list i) s ≡ Some x → AreSumsByDay i x.0 prices.slots lanes) → day < i.days
-      → IsGreatest (Completes rule shift.len []) (whole_worth cs ps s day (sums_on day lanes) rule shift.len []) v → unsigned_abs v ≤ 2 ^ 74 → IsValue i cuts prices s day v
-  own_value cuts cs prices ps lanes day v valid same_cuts same_prices of less g size =
+  pub own_value : (cuts cs : List Cut) (prices : Prices) (ps : List ℕ) (sums : List ℤ) (day : ℕ) (v : ℤ) → IsValid i → cs ≡ cuts → ps ≡ prices.cuts
+      → ((x : Shift × Rule) → slice_get (shift_list i) s ≡ Some x → ArePricesOf i x.0 day prices.slots sums)
+      → IsGreatest (Completes rule shift.len []) (whole_worth cs ps s day sums rule shift.len []) v → unsigned_abs v ≤ 2 ^ 74 → IsValue i cuts prices s day v
+  own_value cuts cs prices ps sums day v valid same_cuts same_prices of g size =
       let o = slice_get (shift_list i) s in
       let x = shift_some o (λ y. shift ≡ y.0) own_shift in
-      let sums = sums_on day lanes in
-      value_is i cuts prices s day sums x.0 x.1 (shift_short i valid x.0 (Has_at (shift_list i) s x.0 x.1)) ((of x.0 x.1).each day less) v
+      value_is i cuts prices s day sums x.0 x.1 (shift_short i valid x.0 (Has_at (shift_list i) s x.0 x.1)) (of x.0 x.1) v
       (subst (λ (r : Rule). IsGreatest (Completes r x.0.0.len []) (whole_worth cuts prices.cuts s day sums r x.0.0.len []) v) (shift_at o x.0 (λ y. rule ≡ y.1) x.1 own_rule)
       (subst (λ (z : Shift). IsGreatest (Completes rule z.len []) (whole_worth cuts prices.cuts s day sums rule z.len []) v) x.2
       (subst (λ (qs : List ℕ). IsGreatest (Completes rule shift.len []) (whole_worth cuts qs s day sums rule shift.len []) v) same_prices
       (subst (λ (ds : List Cut). IsGreatest (Completes rule shift.len []) (whole_worth ds ps s day sums rule shift.len []) v) same_cuts g)))) size
+
+  -- what is found of a shift on a day
+  pub found_value : (cuts cs : List Cut) (prices : Prices) (ps : List ℕ) (sums : List ℤ) (day : ℕ) (found : Option ℤ) → IsValid i → cs ≡ cuts → ps ≡ prices.cuts
+      → ((x : Shift × Rule) → slice_get (shift_list i) s ≡ Some x → ArePricesOf i x.0 day prices.slots sums)
+      → MatchOption found (is_live rule shift.len [] ≡ false) (λ v. IsGreatest (Completes rule shift.len []) (whole_worth cs ps s day sums rule shift.len []) v)
+      → MatchOption found ⊤ (λ v. unsigned_abs v ≤ 2 ^ 74) → MatchOption found (is_nil (lists_of i s) ≡ true) (IsValue i cuts prices s day)
+  found_value cuts cs prices ps sums day None valid same_cuts same_prices of dead none = own_nil dead
+  found_value cuts cs prices ps sums day (Some v) valid same_cuts same_prices of g size = own_value cuts cs prices ps sums day v valid same_cuts same_prices of g size
+
+  -- the rule and the length of the shift
+  pub own_of_shift : IsSomeAnd (slice_get (shift_list i) s) (λ x. (rule ≡ x.1) × (shift.len ≡ x.0.len))
+  own_of_shift =
+      let o = slice_get (shift_list i) s in
+      let x = shift_some o (λ y. shift ≡ y.0) own_shift in
+      subst (λ (q : Option (Shift × Rule)). IsSomeAnd q (λ y. (rule ≡ y.1) × (shift.len ≡ y.0.len))) (sym x.1) (shift_at o x.0 (λ y. rule ≡ y.1) x.1 own_rule, ap (λ (z : Shift). z.len) x.2)
 
 -- the values of one day more
 pub values_set : (i : Problem) (cuts : List Cut) (prices : Prices) (s day k : ℕ) (values : List ℤ) (v w : ℤ) → k ≡ day → day < length values → w ≡ v → AreValues i cuts prices s day values → IsValue i cuts prices s day v

@@ -13,12 +13,10 @@ use Rattle.break_rules.specs.Ranges.{IsRule}
 use Rattle.break_rules.specs.Walk.{end_of_all, spot_of}
 use Rattle.break_rules.proofs.Reaching.{rest_first}
 use Rattle.break_rules.proofs.Steps.{bounds, from_next}
-use Rattle.break_graph.specs.declared.Edge.{Edge}
-use Rattle.break_graph.specs.declared.Node.{Node}
-use Rattle.break_graph.specs.Graph.{StandsAt, IsGraph, node_at}
-use Rattle.price_sums.specs.Along.{sum_at, price_in, AreSums, resumes, earned_from, Completes}
-use Rattle.cert_check.specs.Rests.{rest_worth, IsGreatest}
-use Rattle.price_sums.proofs.Stretches.{earned_more, earned_end, earned_small, spaced_rest, resumes_behind}
+use Rattle.check_values.specs.Along.{sum_at, price_in, AreSums, resumes, earned_from, Completes}
+use Rattle.check_values.specs.Rests.{rest_worth}
+use Rattle.cert_check.specs.Rests.{IsGreatest}
+use Rattle.check_values.proofs.Stretches.{earned_more, earned_end, earned_small, spaced_rest, resumes_behind}
 use Rattle.break_rules.proofs.Sizes.{abs_sub}
 use Rattle.cert_check.proofs.Greatest.{longer}
 
@@ -55,34 +53,6 @@ module _ (sums : List ℤ) (rule : Rule) (len : ℕ) (list : List Break) (r : Is
   -- the empty rest earns the stretch to the end
   pub worth_end : Completes rule len list [] → rest_worth sums rule len list [] ≡ sum_at sums len -ℤ sum_at sums (resumes rule (end_of_all list))
   worth_end h = earned_end sums rule len (resumes rule (end_of_all list)) (spaced_rest rule len list [] r h)
-
--- the breaks of the first edges, and of one more
-pub stops_more : (edges : List Edge) (i : ℕ) (e : Edge) → i < length edges → e ≡ get_or edges i e → map (λ (e : Edge). e.stop) (take (i + 1) edges) ≡ map (λ (e : Edge). e.stop) (take i edges) ++ e.stop ∷ []
-stops_more edges i e inside is =
-    ap (map (λ (e : Edge). e.stop)) (take_more edges i e inside) ∙ map-append (take i edges) (get_or edges i e ∷ []) ∙ ap (λ (x : Edge). map (λ (e : Edge). e.stop) (take i edges) ++ x.stop ∷ []) (sym is)
-  where
-    map-append : (xs ys : List Edge) → map (λ (e : Edge). e.stop) (xs ++ ys) ≡ map (λ (e : Edge). e.stop) xs ++ map (λ (e : Edge). e.stop) ys
-    map-append [] ys = refl
-    map-append (x ∷ xs) ys = ap (λ (zs : List Break). x.stop ∷ zs) (map-append xs ys)
-
-pub edge_at : (edges : List Edge) (i : ℕ) (e : Edge) → i < length edges → e ≡ get_or edges i e → slice_get edges i ≡ Some e
-edge_at [] i e inside is = absurd (omega arith)
-edge_at (x ∷ xs) zero e inside is = ap Some (sym is)
-edge_at (x ∷ xs) (suc i) e inside is = edge_at xs i e (omega arith) is
-
-abbrev pub no_edge : Edge
-no_edge = record { stop = record { start = 0; len = 0 }; next = 0 }
-
-module _ (rule : Rule) (len : ℕ) (nodes : List Node) (k : ℕ) (edges : List Edge) (g : IsGraph rule len nodes) (inside : k < length nodes) (are : edges ≡ (node_at nodes k).edges) where
-  -- an edge of the node
-  edge_there : (i : ℕ) → i < length edges → slice_get (node_at nodes k).edges i ≡ Some (get_or edges i no_edge)
-  edge_there i l = ap (λ (es : List Edge). slice_get es i) (sym are) ∙ edge_at edges i (get_or edges i no_edge) l (get_or_default edges i no_edge (get_or edges i no_edge) l)
-
-  pub edge_before : (i : ℕ) → i < length edges → (get_or edges i no_edge).next < k
-  edge_before i l = g.back k i (get_or edges i no_edge) inside (edge_there i l)
-
-  pub edge_behind : (i : ℕ) (list : List Break) → i < length edges → StandsAt rule len nodes k list → StandsAt rule len nodes (get_or edges i no_edge).next (list ++ (get_or edges i no_edge).stop ∷ [])
-  edge_behind i list l at = g.behind k i (get_or edges i no_edge) list at (edge_there i l)
 
 -- the greatest worth is small
 pub greatest_small : (sums : List ℤ) (rule : Rule) (len : ℕ) (list : List Break) (v : ℤ) → AreSums len sums → IsGreatest (Completes rule len list) (rest_worth sums rule len list) v → unsigned_abs v ≤ 10000000000 * 65535

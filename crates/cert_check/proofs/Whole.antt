@@ -14,10 +14,10 @@ use Rattle.break_rules.proofs.Sums.{int_sum_by-same, int_sum_by_zero}
 use Rattle.break_rules.proofs.LegalLists.{same_break_decides, no_longer_list}
 use Rattle.head_splits.specs.declared.Cut.{Cut}
 use Rattle.head_splits.specs.Bound.{is_nil, bonus, signed_price}
-use Rattle.price_sums.specs.Along.{AreSums, Completes}
-use Rattle.cert_check.specs.Rests.{rest_worth, Through, IsGreatest, IsGreatestOf, greater_of}
+use Rattle.check_values.specs.Along.{AreSums, Completes}
+use Rattle.check_values.specs.Rests.{rest_worth}
+use Rattle.cert_check.specs.Rests.{Through, IsGreatest, IsGreatestOf, greater_of}
 use Rattle.cert_check.specs.Below.{duty_with, bonuses, whole_worth, is_further, goes_further}
-use Rattle.bound_sums.specs.Kept.{has_prefix_cut}
 use Rattle.break_rules.proofs.Sizes.{abs_add}
 use Rattle.bound_sums.proofs.Sizes.{sum_size}
 use Rattle.cert_check.proofs.Greatest.{greatest_more}
@@ -158,33 +158,3 @@ module _ (cuts : List Cut) (prices : List ℕ) (s day : ℕ) (sums : List ℤ) (
   whole_via done b best w v r so_far behind is =
       greatest_more rule len list (whole_worth cuts prices s day sums rule len list) (whole_worth cuts prices s day sums rule len (list ++ b ∷ [])) done b w (before_of sums rule list b) v behind
       (λ bs h. whole_more b bs r h) is best so_far
-
--- a cut that goes further than no break bounds duties that begin with some break
-prefix_further : (s day : ℕ) (c : Cut) → is_further s day [] c ≡ true → (not (is_nil c.class.prefix) && (s == c.class.shift)) ≡ true
-prefix_further s day c h =
-    let on = (s == c.class.shift) && (day == c.class.day) in
-    let p = and_parts (on && nat_lt 0 (length c.class.prefix)) (begins_with c.class.prefix []) h in
-    let q = and_parts on (nat_lt 0 (length c.class.prefix)) p.0 in
-    let r = and_parts (s == c.class.shift) (day == c.class.day) q.0 in
-    and_from (not (is_nil c.class.prefix)) (s == c.class.shift) (some c.class.prefix q.1) r.0
-  where
-    some : (prefix : List Break) → nat_lt 0 (length prefix) ≡ true → not (is_nil prefix) ≡ true
-    some [] e = e
-    some (b ∷ bs) e = refl
-
-none_further : (cuts : List Cut) (s day : ℕ) → has_prefix_cut cuts s ≡ false → goes_further cuts s day [] ≡ false
-none_further cuts s day h =
-    elim (cases_Bool (goes_further cuts s day [])) [
-      | inl t ↦
-          let x = any_some (is_further s day []) cuts t in
-          absurd (false≢true (sym h ∙ any_at (λ (c : Cut). not (is_nil c.class.prefix) && (s == c.class.shift)) cuts x.0 x.1 (prefix_further s day x.0 x.2)))
-      | inr f ↦ f
-    ]
-
--- where no cut bounds duties that begin with some break, whole lists are worth what they earn
-pub whole_uncut : (cuts : List Cut) (prices : List ℕ) (s day : ℕ) (sums : List ℤ) (rule : Rule) (len : ℕ) (v : ℤ) → has_prefix_cut cuts s ≡ false
-    → IsGreatest (Completes rule len []) (rest_worth sums rule len []) v → IsGreatest (Completes rule len []) (whole_worth cuts prices s day sums rule len []) v
-whole_uncut cuts prices s day sums rule len v h g =
-    let none : bonuses cuts prices (duty_with s day []) ≡ pos 0 = bonuses_none cuts prices s day in
-    let alone : v +ℤ bonuses cuts prices (duty_with s day []) ≡ v = omega (arith, ints) in
-    subst (IsGreatest (Completes rule len []) (whole_worth cuts prices s day sums rule len [])) alone (whole_stops cuts prices s day sums rule len [] v (none_further cuts s day h) g)

@@ -8,7 +8,7 @@ use Rattle.break_rules.specs.Sums.{int_sum_by}
 use Rattle.shift_instance.specs.declared.Duty.{Duty}
 use Rattle.head_splits.specs.declared.Cut.{Cut}
 use Rattle.head_splits.specs.Bound.{bonus}
-use Rattle.cert_check.specs.Rests.{rest_worth}
+use Rattle.check_values.specs.Rests.{rest_worth}
 
 -- the duty of a shift on a day with some breaks
 abbrev pub duty_with : ℕ → ℕ → List Break → Duty

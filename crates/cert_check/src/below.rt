@@ -1,21 +1,22 @@
 //! The most that a duty of a shift on a day is worth at the prices of slots and cuts.
 
-ghost use Rattle.std.specs.Prelude.{◌≡◌, ◌+ℤ◌, ◌<◌, ◌≤◌, ◌+◌, ◌*◌, ◌^◌, ◌++◌, ◌∷◌, [], ℕ, ◌-ℤ◌, List, length, slice_index, IfOk, FitsSigned};
+ghost use Rattle.std.specs.Prelude.{◌≡◌, ◌+ℤ◌, ◌≤◌, ◌+◌, ◌*◌, ◌^◌, ◌++◌, ◌∷◌, [], ℕ, ◌-ℤ◌, List, length, slice_index, IfOk, FitsSigned};
 ghost use Rattle.std.specs.Int.{w64};
 ghost use Rattle.std.specs.Int.RustNames.{unsigned_abs};
 ghost use Rattle.break_rules.specs.declared.Break.{Break};
 ghost use Rattle.break_rules.specs.Ranges.{IsRule};
 ghost use Rattle.head_splits.specs.Bound.{bonus, signed_price};
-ghost use Rattle.price_sums.specs.Along.{sum_at, AreSums, Completes};
-ghost use Rattle.price_sums.specs.Days.{sums_on};
-ghost use Rattle.cert_check.specs.Rests.{AreValues, IsGreatest, greater_of};
+ghost use Rattle.check_values.specs.Along.{sum_at, AreSums, Completes};
+ghost use Rattle.check_values.specs.Layered.{AreLayers};
+ghost use Rattle.check_values.specs.Rests.{rest_worth};
+ghost use Rattle.cert_check.specs.Rests.{IsGreatest, greater_of};
+ghost use Rattle.cert_check.specs.Walks.{StandsAt};
 ghost use Rattle.cert_check.specs.Below.{bonuses, duty_with, goes_further, is_further, whole_worth};
 
-use crate::walks::Walk;
 use bound_sums::signed_price;
-use break_rules::{Break, NoMemory, Rule};
+use break_rules::{Break, NoMemory, Rule, Spot};
+use check_values::{live_ways, resumption, sum_before, value_at};
 use head_splits::Cut;
-use price_sums::{Lane, lane_at, resumption};
 use std::alloc::Global;
 
 /// The cuts of a node with their prices, and the shift and day whose duties are looked at.
@@ -31,15 +32,17 @@ pub struct Duties<'a> {
     pub day: u8,
 }
 
-/// The shifts of a rule and a length, and the prices of their work.
+/// The shifts of a rule and a length, the prices of their work on a day, and what rests of break lists earn at them.
 #[derive(Drop)]
 pub struct Work<'a> {
     /// The break rule of the shift.
     pub rule: &'a Rule,
     /// The length of the shift, in slots.
     pub len: u16,
-    /// The sums of the prices of the shift's first offsets, on all days side by side.
-    pub sums: &'a [Lane],
+    /// The sums of the prices of the shift's first offsets on the day.
+    pub sums: &'a [i64],
+    /// The table of what rests earn at most.
+    pub table: &'a [i64],
 }
 
 /// What a cut with its price adds to a duty.
@@ -119,20 +122,21 @@ fn greater(best: Option<i128>, value: i128) -> i128
     }
 }
 
-/// The number of a day in the lane at a place.
-fn number_on(lanes: &[Lane], at: usize, day: u8) -> i64
-    requires { day < 8 }
-    ensures { result ≡ sum_at (sums_on day lanes.now) at }
+/// The sum of the prices of a stretch of work.
+fn stretch(sums: &[i64], from: usize, to: usize) -> i64
+    ensures { FitsSigned w64 (sum_at sums.now to -ℤ sum_at sums.now from) → result ≡ sum_at sums.now to -ℤ sum_at sums.now from }
 {
-    lane_at(lanes, at)[usize::from(day)]
+    sum_before(sums, to).wrapping_sub(sum_before(sums, from))
 }
 
-/// The sum of the prices of a stretch of work on a day.
-fn stretch_on(sums: &[Lane], from: usize, to: usize, day: u8) -> i64
-    requires { day < 8 }
-    ensures { FitsSigned w64 (sum_at (sums_on day sums.now) to -ℤ sum_at (sums_on day sums.now) from) → result ≡ sum_at (sums_on day sums.now) to -ℤ sum_at (sums_on day sums.now) from }
+/// The most that a rest earns with which a list that stands at a spot is legal.
+fn rest_value(work: &Work<'_>, spot: Spot) -> i64
+    requires rule { IsRule work.now.rule.now }
+    requires sums { AreSums work.now.len work.now.sums.now }
+    requires table { AreLayers work.now.rule.now work.now.len work.now.sums.now work.now.table.now }
+    ensures { (list : List Break) → StandsAt work.now.rule.now work.now.len spot list → IsGreatest (Completes work.now.rule.now work.now.len list) (rest_worth work.now.sums.now work.now.rule.now work.now.len list) result }
 {
-    number_on(sums, to, day).wrapping_sub(number_on(sums, from, day))
+    value_at(work.rule, work.len, work.table, spot).unwrap_or(0)
 }
 
 /// What a stretch of work earns, and what is had beside it.
@@ -143,38 +147,36 @@ fn earned_and(earned: i64, other: i128) -> i128
     i128::from(earned) + other
 }
 
-/// The most that a duty is worth whose breaks are a legal list that begins with some breaks, which stand at a place of a walk:
-/// what it earns behind them, and what all cuts add.
-pub fn best_below<W: Walk>(
+/// The most that a duty is worth whose breaks are a legal list that begins with some breaks, which stand at a spot: what it earns
+/// behind them, and what all cuts add.
+pub fn best_below(
     alloc: Global,
     duties: &Duties<'_>,
     work: &Work<'_>,
-    walk: &W,
     list: &[Break],
-    place: W::Place,
+    spot: Spot,
 ) -> Result<i128, NoMemory>
     requires rule { IsRule work.now.rule.now }
-    requires day { duties.now.day < 8 }
-    requires sums { AreSums work.now.len (sums_on duties.now.day work.now.sums.now) }
+    requires sums { AreSums work.now.len work.now.sums.now }
+    requires table { AreLayers work.now.rule.now work.now.len work.now.sums.now work.now.table.now }
     requires count { length duties.now.prices.now ≡ length duties.now.cuts.now }
     requires few { length duties.now.cuts.now ≤ 2 ^ 33 }
     requires small { (k : ℕ) → slice_index duties.now.prices.now k ≤ 1000000000000 }
-    requires stands { W.stands walk.now work.now.rule.now work.now.len (sums_on duties.now.day work.now.sums.now) place list.now }
-    ensures greatest { IfOk result (λ v. IsGreatest (Completes work.now.rule.now work.now.len list.now) (whole_worth duties.now.cuts.now duties.now.prices.now duties.now.shift duties.now.day (sums_on duties.now.day work.now.sums.now) work.now.rule.now work.now.len list.now) v) }
+    requires stands { StandsAt work.now.rule.now work.now.len spot list.now }
+    ensures greatest { IfOk result (λ v. IsGreatest (Completes work.now.rule.now work.now.len list.now) (whole_worth duties.now.cuts.now duties.now.prices.now duties.now.shift duties.now.day work.now.sums.now work.now.rule.now work.now.len list.now) v) }
     ensures size { IfOk result (λ v. unsigned_abs v ≤ 2 ^ 74) }
 {
-    let day = duties.day;
-    let alone = earned_and(walk.value(place), bonuses(duties, list));
+    let alone = earned_and(rest_value(work, spot), bonuses(duties, list));
     if !goes_further(duties, list) {
         return Ok(alone);
     }
-    let from = resumption(work.rule, walk.spot(place));
-    let ways = walk.ways(alloc, place)?;
+    let from = resumption(work.rule, spot);
+    let ways = live_ways(alloc, work.rule, work.len, work.table, spot)?;
     let mut best = None;
     for way in ways.as_slice() {
-        let longer = longer(alloc, list, way.0)?;
-        let behind = best_below(alloc, duties, work, walk, &longer, way.1)?;
-        let before = stretch_on(work.sums, from, usize::from(way.0.start), day);
+        let longer = longer(alloc, list, way.stop)?;
+        let behind = best_below(alloc, duties, work, &longer, way.spot)?;
+        let before = stretch(work.sums, from, usize::from(way.stop.start));
         best = Some(greater(best, earned_and(before, behind)));
     }
     match best {

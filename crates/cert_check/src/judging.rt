@@ -10,7 +10,7 @@ ghost use Rattle.cert_check.specs.Judged.{bad_line, line_cause, IsFirstBad};
 use crate::judged::Refused;
 use crate::prices::are_prices;
 use crate::settled::settled_floor;
-use crate::terms::{WalkMemory, bound_by_walk};
+use crate::terms::{WalkMemory, bound_by_table};
 use crate::tree::Tree;
 use break_rules::NoMemory;
 use certificate::{Line, Lines};
@@ -69,7 +69,7 @@ fn price_node(
     if !are_prices(instance, &cuts, prices) {
         return Ok(false);
     }
-    let bound = bound_by_walk(alloc, memory, instance, &cuts, prices)?;
+    let bound = bound_by_table(alloc, memory, instance, &cuts, prices)?;
     tree.raise_floor(node, bound);
     Ok(true)
 }

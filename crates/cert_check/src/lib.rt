@@ -1,19 +1,15 @@
-//! The separate checker of certificates: it goes through the proof lines one after another, and evaluates each by walks and
-//! tables of its own: along the graph of a shift, and by layers where none is kept.
+//! The separate checker of certificates: it goes through the proof lines one after another, and evaluates each by a plain table
+//! of its own of what the rests of break lists earn.
 #![tactic(auto)]
 
 mod below;
 mod checking;
 mod judged;
 mod judging;
-mod layers;
-mod nodes;
 mod prices;
-mod rests;
 mod settled;
 mod terms;
 mod tree;
-mod walks;
 
 pub use checking::check;
 pub use judged::{Accepted, Refused};

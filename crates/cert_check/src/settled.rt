@@ -1,20 +1,36 @@
 //! Whether a node is settled, and its floor where it is: a plain walk over the break lists of each shift on each day.
 
-ghost use Rattle.std.specs.Prelude.{◌≡◌, ◌<◌, ◌++◌, ◌∷◌, [], length, nat_lt, not, true, IfOk, None, Some, if◌then◌else◌};
-ghost use Rattle.shift_instance.specs.Problem.{shift_list};
-ghost use Rattle.head_splits.specs.Below.{IsClear, StandsOn, duties_below, shift_duties};
+ghost use Rattle.break_rules.specs.Breaks.{is_live};
+ghost use Rattle.std.specs.Prelude.{◌≡◌, ◌||◌, ◌<◌, ◌++◌, ◌∷◌, [], length, nat_lt, not, true, IfOk, None, Some, if◌then◌else◌};
+ghost use Rattle.std.specs.List.{list_any};
+ghost use Rattle.shift_instance.specs.Problem.{below, shift_list};
+ghost use Rattle.break_rules.specs.Ranges.{IsRule};
+ghost use Rattle.head_splits.specs.Below.{IsClear, duties_below, shift_duties};
+ghost use Rattle.head_splits.specs.Cuts.{high, whole_class};
 ghost use Rattle.head_splits.specs.Nodes.{settled_floor};
 ghost use Rattle.head_splits.specs.Settled.{class_of, is_settled, settled_rows};
 ghost use Rattle.shift_instance.specs.AllDuties.{all_duties};
 ghost use Rattle.cert_check.specs.Passed.{IsPassed};
+ghost use Rattle.cert_check.specs.Walks.{AreOfShift, IsTable, StandsAt};
 
 use crate::below::longer;
-use break_rules::{Break, Breaks, NoMemory};
-use head_splits::{Class, Cuts, meets, range};
-use list_walks::{ListWalks, Standing};
+use break_rules::{Break, Breaks, NoMemory, Rule, Spot};
+use check_values::{live_ways, set_rests, value_at};
+use head_splits::{Class, Cuts, meets, range, whole_range};
 use rota_cost::{legal_rows, recount};
 use shift_instance::{Instance, Row, Rows, TOP};
 use std::alloc::Global;
+
+/// The legal lists of a shift, by a table that tells from which spots some legal list goes on.
+#[derive(Drop)]
+struct Lists<'a> {
+    /// The break rule of the shift.
+    rule: &'a Rule,
+    /// The length of the shift, in slots.
+    len: u16,
+    /// The table of what rests earn at most, at some prices.
+    table: &'a [i64],
+}
 
 /// The class of those duties of a class whose breaks go on with one more.
 fn extended(alloc: Global, class: &Class, next: Break) -> Result<Class, NoMemory>
@@ -54,12 +70,15 @@ fn pass_class(
     alloc: Global,
     instance: &Instance,
     cuts: &Cuts,
-    lists: &ListWalks<'_>,
-    at: Standing,
+    lists: &Lists<'_>,
+    spot: Spot,
     class: &Class,
     rows: &mut Vec<Row>,
 ) -> Result<bool, NoMemory>
-    requires stands { StandsOn instance.now class.now.shift lists.now at class.now.prefix }
+    requires shift { AreOfShift instance.now class.now.shift lists.now.rule.now lists.now.len }
+    requires rule { IsRule lists.now.rule.now }
+    requires table { IsTable lists.now.rule.now lists.now.len lists.now.table.now }
+    requires stands { StandsAt lists.now.rule.now lists.now.len spot class.now.prefix }
     requires clear { IsClear instance.now cuts.now class.now.shift class.now.day class.now.prefix }
     ensures { IfOk result (λ fixed. IsPassed instance.now cuts.now (duties_below instance.now class.now.shift class.now.day class.now.prefix) fixed rows.old.items rows.new.items) }
 {
@@ -67,14 +86,14 @@ fn pass_class(
     if high == 0 {
         return Ok(true);
     }
-    let onward = lists.ways(alloc, at)?;
+    let onward = live_ways(alloc, lists.rule, lists.len, lists.table, spot)?;
     let ways = onward.as_slice();
     if ways.is_empty() {
         return pass(class, low, high, rows);
     }
     for way in ways {
         let longer = extended(alloc, class, way.stop)?;
-        let fixed = pass_class(alloc, instance, cuts, lists, way.at, &longer, rows)?;
+        let fixed = pass_class(alloc, instance, cuts, lists, way.spot, &longer, rows)?;
         if !fixed {
             return Ok(false);
         }
@@ -93,23 +112,25 @@ fn whole_class(alloc: Global, shift: u16, day: u8) -> Class
     }
 }
 
-/// Whether the cuts fix the number of each legal duty of a shift, day by day from where the empty list stands. If so, the rows
-/// of those duties are added.
+/// Whether the cuts fix the number of each legal duty of a shift with some legal list, day by day. If so, the rows of those duties are
+/// added.
 fn pass_days(
     alloc: Global,
     instance: &Instance,
     cuts: &Cuts,
-    lists: &ListWalks<'_>,
-    opening: Standing,
+    lists: &Lists<'_>,
     shift: u16,
     rows: &mut Vec<Row>,
 ) -> Result<bool, NoMemory>
-    requires { StandsOn instance.now shift lists.now opening [] }
+    requires shift { AreOfShift instance.now shift lists.now.rule.now lists.now.len }
+    requires rule { IsRule lists.now.rule.now }
+    requires table { IsTable lists.now.rule.now lists.now.len lists.now.table.now }
+    requires live { is_live lists.now.rule.now lists.now.len [] ≡ true }
     ensures { IfOk result (λ fixed. IsPassed instance.now cuts.now (shift_duties instance.now shift) fixed rows.old.items rows.new.items) }
 {
     for day in 0..instance.days() {
         let class = whole_class(alloc, shift, day);
-        let fixed = pass_class(alloc, instance, cuts, lists, opening, &class, rows)?;
+        let fixed = pass_class(alloc, instance, cuts, lists, Spot::opening(), &class, rows)?;
         if !fixed {
             return Ok(false);
         }
@@ -117,22 +138,53 @@ fn pass_days(
     Ok(true)
 }
 
-/// Whether the cuts fix the number of each legal duty of a shift. If so, the rows of those duties are added.
+/// Whether some day has room, by the greatest number of duties of one more day.
+fn has_more(is_open: bool, high: u16) -> bool
+    ensures { result ≡ (is_open || nat_lt 0 high) }
+{
+    is_open || 0 < high
+}
+
+/// Whether the cuts leave room to duties of a shift on some day.
+fn has_room(instance: &Instance, cuts: &Cuts, shift: u16) -> bool
+    ensures { result ≡ list_any (λ day. nat_lt 0 (high instance.now cuts.now (whole_class shift day))) (below instance.now.days) }
+{
+    let mut is_open = false;
+    for day in 0..instance.days() {
+        is_open = has_more(is_open, whole_range(instance, cuts, shift, day).1);
+    }
+    is_open
+}
+
+/// Whether the cuts fix the number of each legal duty of a shift. If so, the rows of those duties are added. The table is made in the
+/// memory of one that is lent, whatever stood there, and only where the cuts leave room to some duty of the shift.
 fn pass_shift(
     alloc: Global,
     instance: &Instance,
     cuts: &Cuts,
     shift: u16,
+    table: &mut Vec<i64>,
     rows: &mut Vec<Row>,
 ) -> Result<bool, NoMemory>
     requires shift { shift < length (shift_list instance.now) }
     ensures { IfOk result (λ fixed. IsPassed instance.now cuts.now (shift_duties instance.now shift) fixed rows.old.items rows.new.items) }
 {
-    let lists = ListWalks::of_shift(alloc, instance, shift)?;
-    match lists.opening() {
-        Some(opening) => pass_days(alloc, instance, cuts, &lists, opening, shift, rows),
-        None => Ok(true),
+    if !has_room(instance, cuts, shift) {
+        return Ok(true);
     }
+    let rule = instance.rule_of(shift);
+    let len = instance.shift(shift).len;
+    set_rests(alloc, rule, len, &[], table)?;
+    let rests = table.as_slice();
+    if value_at(rule, len, rests, Spot::opening()).is_none() {
+        return Ok(true);
+    }
+    let lists = Lists {
+        rule,
+        len,
+        table: rests,
+    };
+    pass_days(alloc, instance, cuts, &lists, shift, rows)
 }
 
 /// Whether the cuts fix the number of each legal duty. If so, the rows of those duties are added.
@@ -144,8 +196,9 @@ fn pass_shifts(
 ) -> Result<bool, NoMemory>
     ensures { IfOk result (λ fixed. IsPassed instance.now cuts.now (all_duties instance.now) fixed rows.old.items rows.new.items) }
 {
+    let mut table = Vec::new(alloc);
     for shift in 0..instance.shifts().len() {
-        let fixed = pass_shift(alloc, instance, cuts, shift as u16, rows)?;
+        let fixed = pass_shift(alloc, instance, cuts, shift as u16, &mut table, rows)?;
         if !fixed {
             return Ok(false);
         }

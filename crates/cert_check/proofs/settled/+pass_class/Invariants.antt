@@ -1,11 +1,11 @@
 use Rattle.std.proofs.Common.{◌-◌, None, take, ◌++◌, [], ◌∷◌}
 use Rattle.std.specs.List.{flat_map}
-use Rattle.list_walks.specs.declared.steps.Way.{Way}
+use Rattle.check_values.specs.declared.ways.Way.{Way}
 use Rattle.head_splits.specs.Below.{IsWalked, duties_below}
 use Rattle.cert_check.proofs.settled.+pass_class.Given as goal
 
 abbrev pub decreases-pass_class : goal.decreases-pass_class
-decreases-pass_class l = l.lists.now.len - l.at.spot.offset
+decreases-pass_class l = l.lists.now.len - l.spot.offset
 
 abbrev pub invariant-loop-way : goal.invariant-loop-way
 invariant-loop-way l =

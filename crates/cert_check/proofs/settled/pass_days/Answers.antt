@@ -1,4 +1,4 @@
-use Rattle.std.proofs.Common.{◌≡◌, ◌+◌, [], None, ℕ, Bool, List, arith, ap, subst, ◌∙◌}
+use Rattle.std.proofs.Common.{◌≡◌, ◌+◌, [], None, ℕ, Bool, List, arith, refl, sym, ap, subst, ◌∙◌}
 use Rattle.std.specs.List.{flat_map}
 use Rattle.shift_instance.specs.declared.Duty.{Duty}
 use Rattle.shift_instance.specs.Problem.{below}
@@ -6,6 +6,7 @@ use Rattle.head_splits.specs.declared.Class.{Class}
 use Rattle.head_splits.specs.Below.{IsWalked, duties_below, shift_duties}
 use Rattle.head_splits.proofs.WholeWalk.{shift_days}
 use Rattle.cert_check.specs.Passed.{IsPassed}
+use Rattle.cert_check.specs.Walks.{AreOfShift, StandsAt}
 use Rattle.cert_check.proofs.Passing.{all_passed, none_open, next_passed, stopped_passed}
 use Rattle.cert_check.proofs.settled.pass_days.Goals as goal
 
@@ -48,3 +49,11 @@ returns c =
     all_passed i cuts (shift_duties i s) c.args.rows.now.items c.loop-day.rows.items
     (subst (λ ds. IsWalked i cuts ds None c.args.rows.now.items c.loop-day.rows.items)
     (ap (λ n. flat_map (λ day. duties_below i s day []) (below n)) all ∙ shift_days i cuts s) c.loop-day.invariant)
+
+pub pass_class-requires-clause-shift : goal.pass_class-requires-clause-shift
+pass_class-requires-clause-shift c = subst (λ (q : Class). AreOfShift c.args.instance.now q.shift c.args.lists.now.rule.now c.args.lists.now.len) (sym c.whole_class-class.ensures) c.requires.shift
+
+pub pass_class-requires-clause-stands : goal.pass_class-requires-clause-stands
+pass_class-requires-clause-stands c =
+    subst (λ (q : Class). StandsAt c.args.lists.now.rule.now c.args.lists.now.len c.opening.result q.prefix) (sym c.whole_class-class.ensures)
+    (record { walk = refl; reaches = c.opening.ensures c.args.lists.now.rule.now; live = c.requires.live })

@@ -1,0 +1,20 @@
+use Rattle.std.proofs.Common.{◌≡◌, ◌+◌, ◌*◌, ◌<◌, ◌≤◌, ℕ, length, Some}
+use Rattle.std.specs.Prelude.{slice_get}
+use Rattle.std.specs.Int.RustNames.{unsigned_abs}
+use Rattle.break_rules.specs.declared.Rule.{Rule}
+use Rattle.shift_instance.specs.declared.Shift.{Shift}
+use Rattle.shift_instance.specs.Problem.{shift_list, slot_of}
+use Rattle.shift_instance.specs.Worth.{price_of}
+use Rattle.check_values.specs.Along.{sum_at, price_in}
+use Rattle.check_values.proofs.sums.set_price_sums.Given as goal
+
+abbrev pub invariant-loop : goal.invariant-loop
+invariant-loop l = record {
+  many : length l.sums.items ≡ l.counter + 1;
+  last : l.sum ≡ sum_at l.sums.items l.counter;
+  size : unsigned_abs l.sum ≤ 10000000000 * l.counter;
+  sizes : (o : ℕ) → unsigned_abs (sum_at l.sums.items o) ≤ 10000000000 * 65536;
+  inside : l.slot < length l.prices;
+  slot : (x : Shift × Rule) → slice_get (shift_list l.instance) l.shift ≡ Some x → l.slot ≡ slot_of l.instance x.0 l.day l.counter;
+  done : (x : Shift × Rule) → slice_get (shift_list l.instance) l.shift ≡ Some x → (o : ℕ) → o < l.counter → price_in l.sums.items o ≡ price_of l.prices (slot_of l.instance x.0 l.day o);
+}

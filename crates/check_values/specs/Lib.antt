@@ -1,0 +1,5 @@
+pub mod Along
+pub mod Rests
+pub mod Rows
+pub mod Layered
+pub mod Ways
