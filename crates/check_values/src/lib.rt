@@ -3,6 +3,7 @@
 //! which a search finds its values is used here.
 #![tactic(auto)]
 
+mod fronts;
 mod layers;
 mod reaching;
 mod rows;
@@ -10,6 +11,7 @@ mod sizes;
 mod sums;
 mod ways;
 
+pub use fronts::{break_time, most_saved, set_fronts};
 pub use layers::{set_rests, value_at};
 pub use sums::{resumption, set_price_sums, sum_before};
 pub use ways::{Way, live_ways};
