@@ -15,9 +15,9 @@ ghost use Rattle.cert_check.specs.Below.{whole_worth};
 ghost use Rattle.cert_check.specs.Rests.{IsGreatest};
 
 use crate::below::{Duties, Work, best_below};
-use bound_sums::{DayValues, KeptValues};
+use bound_sums::{DayValues, KeptValues, has_prefix_cut};
 use break_rules::{NoMemory, Spot};
-use check_values::{set_price_sums, set_rests, value_at};
+use check_values::{Front, front_of, most_saved, set_front_sums, set_fronts, set_price_sums, set_rests, sum_before, value_at};
 use head_splits::{Cuts, Prices};
 use shift_instance::Instance;
 use std::alloc::Global;
@@ -112,11 +112,87 @@ fn values_by_table(
     Ok(Some(values))
 }
 
+/// The sums and the table of a day.
+#[derive(Drop)]
+struct DayTable {
+    sums: Vec<i64>,
+    table: Vec<i64>,
+}
+
+/// The tables of the days for the shifts of a type that start at one slot.
+#[derive(Drop)]
+struct Fronts {
+    kind: u16,
+    start: u16,
+    made: bool,
+    front: Front,
+    row: Vec<i64>,
+    days: Vec<DayTable>,
+}
+
+/// Makes the tables of the days for the shifts that start with a shift.
+fn make_fronts(
+    alloc: Global,
+    fronts: &mut Fronts,
+    instance: &Instance,
+    prices: &[i64],
+    shift: u16,
+) -> Result<(), NoMemory> {
+    let own = instance.shift(shift);
+    if fronts.made && fronts.kind == own.kind && fronts.start == own.start {
+        return Ok(());
+    }
+    let rule = instance.rule_of(shift);
+    let kind = &instance.parts().types[usize::from(own.kind)];
+    fronts.front = front_of(rule, kind.len_min, kind.len_max);
+    fronts.made = false;
+    fronts.kind = own.kind;
+    fronts.start = own.start;
+    for day in 0..instance.days() {
+        if fronts.days.len() <= usize::from(day) {
+            fronts.days.push(DayTable {
+                sums: Vec::new(alloc),
+                table: Vec::new(alloc),
+            })?;
+        }
+        let front = fronts.front;
+        let row = &mut fronts.row;
+        let place = &mut fronts.days[usize::from(day)];
+        set_front_sums(instance, shift, day, front.limit, prices, &mut place.sums)?;
+        set_fronts(alloc, rule, front, place.sums.as_slice(), row, &mut place.table)?;
+    }
+    fronts.made = true;
+    Ok(())
+}
+
+/// The values of a shift by the tables.
+fn values_by_fronts(
+    alloc: Global,
+    fronts: &mut Fronts,
+    instance: &Instance,
+    prices: &[i64],
+    shift: u16,
+) -> Result<Option<[i128; DAYS]>, NoMemory> {
+    make_fronts(alloc, fronts, instance, prices, shift)?;
+    let rule = instance.rule_of(shift);
+    let len = instance.shift(shift).len;
+    let mut values = [0; DAYS];
+    for day in 0..instance.days() {
+        let place = &fronts.days[usize::from(day)];
+        match most_saved(rule, fronts.front, len, place.table.as_slice()) {
+            Some(saved) => values[usize::from(day)] = i128::from(sum_before(place.sums.as_slice(), usize::from(len)).wrapping_add(saved)),
+            None => return Ok(None),
+        }
+    }
+    Ok(Some(values))
+}
+
 /// The memory in which the sums along a shift and the table of what rests earn are made, for each shift and day anew.
 #[derive(Drop)]
 struct ByTable {
     sums: Vec<i64>,
     table: Vec<i64>,
+    fronts: Fronts,
 }
 
 impl DayValues for ByTable {
@@ -128,6 +204,9 @@ impl DayValues for ByTable {
         prices: &Prices,
         shift: u16,
     ) -> Result<Option<[i128; DAYS]>, NoMemory> {
+        if !has_prefix_cut(cuts, shift) {
+            return values_by_fronts(alloc, &mut self.fronts, instance, prices.slots.as_slice(), shift);
+        }
         let sums = &mut self.sums;
         let table = &mut self.table;
         values_by_table(alloc, sums, table, instance, cuts, prices, shift)
@@ -157,6 +236,14 @@ impl WalkMemory {
         let tables = ByTable {
             sums: Vec::new(alloc),
             table: Vec::new(alloc),
+            fronts: Fronts {
+                kind: 0,
+                start: 0,
+                made: false,
+                front: Front { limit: 0, total: 0, sets: 1 },
+                row: Vec::new(alloc),
+                days: Vec::new(alloc),
+            },
         };
         WalkMemory {
             values: KeptValues::new(alloc, instance),
@@ -181,6 +268,7 @@ pub(crate) fn bound_by_table(
     ensures memory { memory.new ≡ memory.old }
 {
     let tables = &mut memory.tables;
+    tables.fronts.made = false;
     memory
         .values
         .bound_by(alloc, tables, instance, cuts, prices)

@@ -3,3 +3,4 @@ pub mod Rests
 pub mod Rows
 pub mod Layered
 pub mod Ways
+pub mod Fronts

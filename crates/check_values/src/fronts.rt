@@ -1,16 +1,34 @@
 //! The table of what break lists save at most, by the spots where they end: one for all lengths of the shifts that begin together.
 
+ghost use Rattle.std.specs.Prelude.{◌≡◌, ◌≤◌, ◌<◌, ◌+◌, ◌*◌, ◌^◌, ℕ, ℤ, false, List, IfOk, OnOk, IsTrue, MatchOption, length};
+ghost use Rattle.break_rules.specs.declared.Break.{Break};
+ghost use Rattle.break_rules.specs.Breaks.{is_legal, total_of};
+ghost use Rattle.break_rules.specs.Ranges.{IsRule};
+ghost use Rattle.check_values.specs.Along.{AreSums};
+ghost use Rattle.check_values.specs.Fronts.{AreFronts, IsMostSaved};
+
 use crate::layers::Layer;
 use crate::rows::{NOTHING, number_at, raise_at};
-use crate::sizes::{Sizes, has_time, longest_work, lunches_met, lunches_of, total_among};
+use crate::sizes::{Sizes, longest_work, lunches_met, lunches_of, total_among};
 use crate::sums::sum_before;
 use break_rules::{Break, NoMemory, Rule};
 use std::alloc::Global;
 
-/// The place of an offset in a table for shifts of at most some length, in the layer with so much break time and these lunches.
-fn front_place(limit: u16, used: u16, lunches: u8, offset: usize) -> usize {
-    let layer = usize::from(used) * 4 + usize::from(lunches);
-    layer * (usize::from(limit) + 1) + offset
+/// What a table is made for: the greatest length of the shifts, the greatest break time, and how many sets of lunches there are.
+#[derive(Clone, Copy, Drop)]
+pub struct Front {
+    /// The greatest length.
+    pub limit: u16,
+    /// The greatest break time.
+    pub total: u16,
+    /// The sets of lunches.
+    pub sets: u8,
+}
+
+/// The first place of a layer in a table.
+fn row_place(front: Front, used: u16, lunches: u8) -> usize {
+    let layer = usize::from(used) * usize::from(front.sets) + usize::from(lunches);
+    layer * (usize::from(front.limit) + 1)
 }
 
 /// The place of the greatest number of a row from one place to another, both included: the last of them.
@@ -24,7 +42,7 @@ fn greatest_in(row: &[i64], from: usize, to: usize) -> usize {
     best
 }
 
-/// The place of the greatest number of a window, by that of the window one place before, both windows ending at `to`.
+/// The place of the greatest number of a window, by that of the window one place before.
 fn next_greatest(row: &[i64], best: usize, from: usize, to: usize) -> usize {
     if best < from {
         return greatest_in(row, from, to);
@@ -36,42 +54,33 @@ fn next_greatest(row: &[i64], best: usize, from: usize, to: usize) -> usize {
     }
 }
 
-/// Sets a row to the greatest numbers of the windows of a table behind a place: at each offset that of those that stand at least and at
-/// most so many places before it.
-fn set_windows(
-    row: &mut [i64],
-    table: &[i64],
-    behind: usize,
-    least: u16,
-    longest: u16,
-) {
+/// Sets a row to the greatest numbers of the windows of another one: at each offset that of those that stand at least and at most so many
+/// places before it.
+fn set_windows(row: &mut [i64], source: &[i64], first: usize, least: usize, longest: usize) {
     let mut best = 0;
-    for at in usize::from(least)..row.len() {
-        let from = at.saturating_sub(usize::from(longest));
-        best = next_greatest(&table[behind..behind + row.len()], best, from, at - usize::from(least));
-        row[at] = table[behind + best];
+    for at in first..row.len() {
+        let from = at.saturating_sub(longest);
+        best = next_greatest(source, best, from, at - least);
+        row[at] = number_at(source, best);
     }
-}
-
-/// Raises the number at a place of a table to what a list saves with one break more.
-fn raise_by(table: &mut [i64], place: usize, before: i64, saved: i64) {
-    raise_at(table, place, before.wrapping_add(saved));
 }
 
 /// Raises the numbers of the spots behind the breaks of a length, by what lists save at most behind which such a break may start.
 fn raise_fronts(
     rule: &Rule,
-    limit: u16,
+    front: Front,
     sums: &[i64],
     layer: Layer,
     size: u16,
     row: &[i64],
+    first: usize,
     table: &mut [i64],
 ) {
     let entries = lunches_of(rule.lunches.as_slice(), size);
     let back = usize::from(size) + usize::from(rule.resettle);
-    let end = (usize::from(limit) + 1).saturating_sub(usize::from(rule.tail) + usize::from(size));
-    for start in usize::from(rule.lead)..end {
+    let end = row.len().saturating_sub(usize::from(rule.tail) + usize::from(size));
+    let behind = row_place(front, layer.used.saturating_add(size), 0);
+    for start in first..end {
         let before = number_at(row, start);
         if before != NOTHING {
             let stop = Break {
@@ -79,9 +88,9 @@ fn raise_fronts(
                 len: size,
             };
             let lunches = layer.lunches | lunches_met(entries, stop);
-            let place = front_place(limit, layer.used + size, lunches, start + usize::from(size));
+            let place = behind + usize::from(lunches) * row.len() + start + usize::from(size);
             let saved = sum_before(sums, start).wrapping_sub(sum_before(sums, start + back));
-            raise_by(table, place, before, saved);
+            raise_at(table, place, before.wrapping_add(saved));
         }
     }
 }
@@ -89,7 +98,7 @@ fn raise_fronts(
 /// The same for lengths that may follow the same work periods.
 fn raise_all(
     rule: &Rule,
-    limit: u16,
+    front: Front,
     sums: &[i64],
     layer: Layer,
     sizes: Sizes,
@@ -99,10 +108,13 @@ fn raise_all(
     if sizes.from >= sizes.to {
         return;
     }
-    let behind = front_place(limit, layer.used, layer.lunches, 0);
-    set_windows(row, table, behind, rule.work_min, longest_work(rule, sizes.from));
+    let behind = row_place(front, layer.used, layer.lunches);
+    let least = usize::from(rule.work_min);
+    let first = least.max(usize::from(rule.lead));
+    let longest = usize::from(longest_work(rule, sizes.from));
+    set_windows(row, &table[behind..behind + row.len()], first, least, longest);
     for size in sizes.from..sizes.to {
-        raise_fronts(rule, limit, sums, layer, size, row, table);
+        raise_fronts(rule, front, sums, layer, size, row, first, table);
     }
 }
 
@@ -119,32 +131,36 @@ fn is_empty(row: &[i64]) -> bool {
     row.iter().all(|number| *number == NOTHING)
 }
 
-/// Makes the table of what break lists of a rule save at most, by the spots where they end, for shifts of at most some length and so
-/// much break time.
+/// Makes the table of what break lists of a rule save at most, by the spots where they end.
 pub fn set_fronts(
     alloc: Global,
     rule: &Rule,
-    limit: u16,
-    total: u16,
+    front: Front,
     sums: &[i64],
+    row: &mut Vec<i64>,
     table: &mut Vec<i64>,
-) -> Result<(), NoMemory> {
-    let width = usize::from(limit) + 1;
-    let layers = (usize::from(total) + 1) * 4;
-    let mut row = Vec::from_elem(alloc, NOTHING, width)?;
+) -> Result<(), NoMemory>
+    requires rule { IsRule rule.now }
+    requires sets { 2 ^ length rule.now.lunches ≡ front.sets }
+    ensures fronts { OnOk result (AreSums front.limit sums.now → AreFronts rule.now front sums.now table.new.items) }
+{
+    let width = usize::from(front.limit) + 1;
+    let layers = (usize::from(front.total) + 1) * usize::from(front.sets);
+    row.clear();
+    row.resize(width, NOTHING)?;
     table.clear();
     table.resize(layers * width, NOTHING)?;
     table[0] = 0;
     for number in 0..layers {
         let layer = Layer {
-            used: (number / 4) as u16,
-            lunches: (number % 4) as u8,
+            used: (number / usize::from(front.sets)) as u16,
+            lunches: (number % usize::from(front.sets)) as u8,
         };
         let behind = number * width;
-        if !is_empty(&table[behind..behind + width]) {
-            let (short, long) = front_sizes(rule, total, layer.used);
-            raise_all(rule, limit, sums, layer, short, &mut row, table);
-            raise_all(rule, limit, sums, layer, long, &mut row, table);
+        if layer.used < front.total && !is_empty(&table[behind..behind + width]) {
+            let (short, long) = front_sizes(rule, front.total, layer.used);
+            raise_all(rule, front, sums, layer, short, row, table);
+            raise_all(rule, front, sums, layer, long, row, table);
         }
     }
     Ok(())
@@ -163,7 +179,7 @@ fn has_lunches(rule: &Rule, len: u16, bits: u8) -> bool {
 }
 
 /// What the legal lists of a length save at most whose lunches are these, and the number that stands for nothing where there are none.
-fn saved_by(rule: &Rule, limit: u16, len: u16, total: u16, lunches: u8, table: &[i64]) -> i64 {
+fn saved_by(rule: &Rule, front: Front, len: u16, total: u16, lunches: u8, table: &[i64]) -> i64 {
     if !has_lunches(rule, len, lunches) {
         return NOTHING;
     }
@@ -172,30 +188,55 @@ fn saved_by(rule: &Rule, limit: u16, len: u16, total: u16, lunches: u8, table: &
     } else {
         rule.work_min.max(rule.tail)
     };
-    if len < least {
+    let from = usize::from(len.saturating_sub(rule.work_max));
+    let to = usize::from(len.saturating_sub(least));
+    if len < least || to < from {
         return NOTHING;
     }
-    let from = len.saturating_sub(rule.work_max);
-    let behind = front_place(limit, total, lunches, 0);
-    let row = &table[behind..behind + usize::from(limit) + 1];
-    let to = usize::from(len - least);
-    if to < usize::from(from) {
-        return NOTHING;
-    }
-    number_at(row, greatest_in(row, usize::from(from), to))
+    let behind = row_place(front, total, lunches);
+    let row = &table[behind..behind + usize::from(front.limit) + 1];
+    number_at(row, greatest_in(row, from, to))
 }
 
-/// What the legal lists of a length save at most, and the number that stands for nothing where there are none.
-pub fn most_saved(rule: &Rule, limit: u16, len: u16, table: &[i64]) -> Option<i64> {
+/// What the legal lists of a length save at most, and `None` where there are none.
+pub fn most_saved(rule: &Rule, front: Front, len: u16, table: &[i64]) -> Option<i64>
+    requires rule { IsRule rule.now }
+    requires sets { 2 ^ length rule.now.lunches ≡ front.sets }
+    requires limit { len ≤ front.limit }
+    requires total { total_of rule.now len ≤ front.total }
+    ensures most { (sums : List ℤ) → AreSums front.limit sums → AreFronts rule.now front sums table.now → MatchOption result ((list : List Break) → is_legal rule.now len list ≡ false) (IsMostSaved rule.now len sums) }
+{
     let total = total_among(rule.totals.as_slice(), len);
     let mut most = NOTHING;
-    for lunches in 0..4 {
-        most = most.max(saved_by(rule, limit, len, total, lunches, table));
+    for lunches in 0..front.sets {
+        most = most.max(saved_by(rule, front, len, total, lunches, table));
     }
     if most == NOTHING { None } else { Some(most) }
 }
 
-/// The break time of a rule in shifts of some length.
-pub fn break_time(rule: &Rule, len: u16) -> u16 {
-    total_among(rule.totals.as_slice(), len)
+/// The sets of lunches of a rule.
+fn sets_of(rule: &Rule) -> u8 {
+    match rule.lunches.as_slice().len() {
+        0 => 1,
+        1 => 2,
+        _ => 4,
+    }
+}
+
+/// What a table is for that serves all shifts of a rule from one length to another.
+pub fn front_of(rule: &Rule, least: u16, limit: u16) -> Front
+    requires rule { IsRule rule.now }
+    ensures limit { result.limit ≡ limit }
+    ensures sets { 2 ^ length rule.now.lunches ≡ result.sets }
+    ensures total { (len : ℕ) → least ≤ len → len ≤ limit → total_of rule.now len ≤ result.total }
+{
+    let mut total = 0;
+    for len in least..limit + 1 {
+        total = total.max(total_among(rule.totals.as_slice(), len));
+    }
+    Front {
+        limit,
+        total,
+        sets: sets_of(rule),
+    }
 }

@@ -11,7 +11,7 @@ mod sizes;
 mod sums;
 mod ways;
 
-pub use fronts::{break_time, most_saved, set_fronts};
+pub use fronts::{Front, front_of, most_saved, set_fronts};
 pub use layers::{set_rests, value_at};
-pub use sums::{resumption, set_price_sums, sum_before};
+pub use sums::{resumption, set_front_sums, set_price_sums, sum_before};
 pub use ways::{Way, live_ways};

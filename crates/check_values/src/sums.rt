@@ -63,3 +63,25 @@ pub fn resumption(rule: &Rule, spot: Spot) -> usize
         usize::from(spot.offset) + usize::from(rule.resettle)
     }
 }
+
+/// Sets sums to those of the prices of the first offsets of shifts of at most some length that start at a slot of a day.
+pub fn set_front_sums(
+    instance: &Instance,
+    shift: u16,
+    day: u8,
+    limit: u16,
+    prices: &[i64],
+    sums: &mut Vec<i64>,
+) -> Result<(), NoMemory> {
+    sums.clear();
+    sums.reserve(usize::from(limit) + 1)?;
+    let mut sum = 0i64;
+    sums.push(0)?;
+    let mut slot = instance.slot_of(shift, day, 0);
+    for _ in 0..limit {
+        sum = sum.wrapping_add(prices[slot]);
+        sums.push(sum)?;
+        slot = next_slot(slot, prices.len());
+    }
+    Ok(())
+}
