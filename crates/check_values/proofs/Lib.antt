@@ -5,5 +5,6 @@ mod RowNumbers
 mod Table
 pub mod LiveWays
 pub mod Living
+pub mod Saved
 pub mod Stretches
 mod Prices
