@@ -1,11 +1,11 @@
 //! The page of a plan.
-ghost use Rattle.std.specs.Prelude.{◌≡◌, IsTrue};
+ghost use Rattle.std.specs.Prelude.{◌≡◌, IfOk, IsTrue, string_bytes};
 ghost use Rattle.shift_instance.specs.Rota.{are_legal_rows};
+ghost use Rattle.plan_page.specs.Page.{IsPage};
 
 use crate::days::add_days;
 use crate::head::add_head;
 use crate::overview::add_overview;
-use crate::staffing::staffed_slots;
 use break_rules::NoMemory;
 use plan_tables::{Attendance, Summary, rows_by_start};
 use shift_instance::{Instance, Rows};
@@ -24,15 +24,21 @@ pub fn plan_page(
     standing: &str,
 ) -> Result<String, NoMemory>
     requires { IsTrue (are_legal_rows instance.now rows.now) }
+    ensures { IfOk result (λ page. IsPage instance.now rows.now heading.now standing.now (string_bytes page)) }
 {
     let attendance = Attendance::new(alloc, instance, rows)?;
-    let slots = staffed_slots(alloc, instance, &attendance)?;
     let ordered = rows_by_start(alloc, instance, rows)?;
     let summary = Summary::new(alloc, instance, rows)?;
     let mut page = String::new(alloc);
     add_head(&mut page, heading)?;
     add_overview(&mut page, instance, &summary, standing)?;
-    add_days(&mut page, instance, &summary, &slots, &ordered)?;
+    add_days(
+        &mut page,
+        instance,
+        &attendance,
+        ordered.as_slice(),
+        summary.days.as_slice(),
+    )?;
     page.push_str("</body>\n</html>\n")?;
     Ok(page)
 }
