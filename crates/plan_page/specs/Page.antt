@@ -59,11 +59,10 @@ day_pictures i rota rows first = chart i rota (most_employees i rota) first ++ b
 unfoldable pub day_section : Problem → List Duty → List Row → ℕ × DaySummary → List ℕ
 day_section i rota rows (k, day) = day_title (k + 1) ++ day_hours i day ++ day_pictures i rota rows (k * day_slots i) ++ day_end
 
--- the page of rows with their summary: its heading, the summary below a line on how the plan stands, and the days from the first
-unfoldable pub page_text : Problem → List Row → List ℕ → List ℕ → Summary → List ℕ
-page_text i rows heading standing s =
-    head heading ++ overview i s standing
-    ++ flat_map (day_section i (rota_of rows) (by_start i rows)) (enumerate_from 0 s.days.items) ++ codes "</body>\n</html>\n"
+-- the page of a rota with its rows and its summary: the heading, the summary below a line on how the plan stands, and the days from the first
+unfoldable pub page_text : Problem → List Duty → List Row → List ℕ → List ℕ → Summary → List ℕ
+page_text i rota rows heading standing s =
+    head heading ++ overview i s standing ++ flat_map (day_section i rota rows) (enumerate_from 0 s.days.items) ++ codes "</body>\n</html>\n"
 
 -- this is a summary of a rota
 pub record IsSummary (i : Problem) (rota : List Duty) (s : Summary) : Type 0 where
@@ -76,8 +75,8 @@ pub record IsSummary (i : Problem) (rota : List Duty) (s : Summary) : Type 0 whe
   pub costliest : AreCostliest i rota COSTLIEST s.costliest.items
   pub days : s.days.items ≡ day_summaries i rota
 
--- this is the page of rows: it shows a summary of them
+-- this is the page of rows: it shows a summary of them, and them by their start
 pub record IsPage (i : Problem) (rows : List Row) (heading standing page : List ℕ) : Type 0 where
   pub summary : Summary
   pub sums : IsSummary i (rota_of rows) summary
-  pub bytes : page ≡ page_text i rows heading standing summary
+  pub bytes : page ≡ page_text i (rota_of rows) (by_start i rows) heading standing summary
