@@ -42,11 +42,18 @@ day_duties duties = codes "<p>" ++ decimal duties ++ codes " duties start. Hours
 unfoldable pub spans_text : Problem → ℕ → List ℕ → ℕ → List ℕ
 spans_text i slots between others = span_text i slots ++ between ++ span_text i others
 
+-- what stands before the hours too many, and behind all of them
+unfoldable pub over_begin : List ℕ
+over_begin = codes ", over "
+
+unfoldable pub hours_end : List ℕ
+hours_end = codes ".</p>\n"
+
 -- how many duties start on a day, and its hours wanted, worked, too many and too few
 unfoldable pub day_hours : Problem → DaySummary → List ℕ
 day_hours i day =
     day_duties day.duties ++ spans_text i day.totals.wanted (codes ", worked ") day.totals.worked
-    ++ codes ", over " ++ spans_text i day.totals.over (codes ", under ") day.totals.under ++ codes ".</p>\n"
+    ++ over_begin ++ spans_text i day.totals.over (codes ", under ") day.totals.under ++ hours_end
 
 unfoldable pub day_end : List ℕ
 day_end = codes "</section>\n"

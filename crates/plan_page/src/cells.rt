@@ -1,11 +1,12 @@
 //! The rows of tables in hypertext.
 ghost use Rattle.std.specs.Prelude.{◌≡◌, ◌++◌, OnOk, string_bytes};
 ghost use Rattle.std.specs.Fmt.{decimal};
+ghost use Rattle.rota_writer.specs.Table.{clock};
 ghost use Rattle.plan_tables.specs.Times.{span_text};
 ghost use Rattle.plan_page.specs.Cells.{cell, row_begin, row_end, row_head};
 
 use break_rules::NoMemory;
-use plan_tables::Hours;
+use plan_tables::{ClockTime, Hours};
 use shift_instance::Instance;
 use std::fmt::Write;
 
@@ -24,6 +25,14 @@ pub(crate) fn add_span(page: &mut String, instance: &Instance, slots: u64) -> Re
 {
     let hours = Hours::of_slots(instance, slots);
     write!(page, "<td>{hours}</td>")
+}
+
+/// Adds a field with a time of day.
+#[tactic(auto, unfolding(crate::specs::Cells::cell))]
+pub(crate) fn add_time(page: &mut String, time: ClockTime) -> Result<(), NoMemory>
+    ensures { OnOk result (string_bytes page.new ≡ string_bytes page.old ++ cell (clock time.minutes)) }
+{
+    write!(page, "<td>{time}</td>")
 }
 
 /// Adds the beginning of a row, with what the row is.

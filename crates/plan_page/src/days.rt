@@ -2,9 +2,10 @@
 ghost use Rattle.std.specs.Prelude.{◌≡◌, ◌+◌, ◌*◌, ◌^◌, ◌<◌, ◌≤◌, ◌++◌, All, OnOk, length, map, string_bytes};
 ghost use Rattle.std.specs.List.{enumerate_from, flat_map};
 ghost use Rattle.plan_tables.specs.Starting.{IsKnown};
+ghost use Rattle.plan_tables.specs.Times.{span_text};
 ghost use Rattle.shift_instance.specs.Problem.{day_slots, slots};
 ghost use Rattle.plan_page.specs.Chart.{most_employees};
-ghost use Rattle.plan_page.specs.Page.{day_duties, day_end, day_hours, day_pictures, day_section, day_title, spans_text};
+ghost use Rattle.plan_page.specs.Page.{day_duties, day_end, day_hours, day_pictures, day_section, day_title, hours_end, over_begin, spans_text};
 
 use crate::bars::add_bars;
 use crate::chart::{add_chart, most_employees};
@@ -29,6 +30,14 @@ fn add_duties(page: &mut String, duties: u64) -> Result<(), NoMemory>
     write!(page, "<p>{duties} duties start. Hours wanted ")
 }
 
+/// Adds how long so many slots are together.
+fn add_span(page: &mut String, instance: &Instance, slots: u64) -> Result<(), NoMemory>
+    ensures { OnOk result (string_bytes page.new ≡ string_bytes page.old ++ span_text instance.now slots) }
+{
+    let hours = Hours::of_slots(instance, slots);
+    write!(page, "{hours}")
+}
+
 /// Adds how long so many slots are together, a text, and how long so many others are.
 #[tactic(auto, unfolding(crate::specs::Page::spans_text))]
 fn add_spans(
@@ -40,9 +49,25 @@ fn add_spans(
 ) -> Result<(), NoMemory>
     ensures { OnOk result (string_bytes page.new ≡ string_bytes page.old ++ spans_text instance.now slots between.now others) }
 {
-    let hours = Hours::of_slots(instance, slots);
-    let other_hours = Hours::of_slots(instance, others);
-    write!(page, "{hours}{between}{other_hours}")
+    add_span(page, instance, slots)?;
+    page.push_str(between)?;
+    add_span(page, instance, others)
+}
+
+/// Adds what stands before the hours too many.
+#[tactic(auto, unfolding(crate::specs::Page::over_begin))]
+fn begin_over(page: &mut String) -> Result<(), NoMemory>
+    ensures { OnOk result (string_bytes page.new ≡ string_bytes page.old ++ over_begin) }
+{
+    page.push_str(", over ")
+}
+
+/// Ends the hours of a day.
+#[tactic(auto, unfolding(crate::specs::Page::hours_end))]
+fn end_hours(page: &mut String) -> Result<(), NoMemory>
+    ensures { OnOk result (string_bytes page.new ≡ string_bytes page.old ++ hours_end) }
+{
+    page.push_str(".</p>\n")
 }
 
 /// Adds how many duties start on a day, and its hours.
@@ -58,7 +83,7 @@ fn add_hours(page: &mut String, instance: &Instance, day: &DaySummary) -> Result
         ", worked ",
         day.totals.worked,
     )?;
-    page.push_str(", over ")?;
+    begin_over(page)?;
     add_spans(
         page,
         instance,
@@ -66,7 +91,7 @@ fn add_hours(page: &mut String, instance: &Instance, day: &DaySummary) -> Result
         ", under ",
         day.totals.under,
     )?;
-    page.push_str(".</p>\n")
+    end_hours(page)
 }
 
 /// Ends a day.

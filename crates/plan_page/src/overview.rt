@@ -3,12 +3,13 @@ ghost use Rattle.std.specs.Prelude.{◌≡◌, ◌^◌, ◌<◌, ◌++◌, OnOk,
 ghost use Rattle.std.specs.List.{enumerate_from, flat_map};
 ghost use Rattle.plan_page.specs.Overview.{all_end, all_head, cost_foot, cost_head, cost_table, costliest_end, costliest_head, costliest_table, costly_row, day_row, days_head, days_table, foot_begin, foot_end, key_text, moment_cells, overview, part_row, standing_line, tables_begin, tables_end, totals_cells};
 
-use crate::cells::{add_number, add_row_head, add_row_number, add_span, begin_row, end_row};
+use crate::cells::{
+    add_number, add_row_head, add_row_number, add_span, add_time, begin_row, end_row,
+};
 use crate::escaping::add_escaped;
 use break_rules::NoMemory;
 use plan_tables::{CostPart, CostlySlot, DaySummary, Summary, Totals};
 use shift_instance::Instance;
-use std::fmt::Write;
 
 /// What the signs in the pictures mean.
 pub(crate) const KEY: &str = "\
@@ -164,13 +165,13 @@ fn add_days_table(page: &mut String, instance: &Instance, summary: &Summary) -> 
 }
 
 /// Adds the fields of the day and the time of a slot.
-#[tactic(auto, unfolding(crate::specs::Overview::moment_cells, crate::specs::Cells::cell))]
+#[tactic(auto, unfolding(crate::specs::Overview::moment_cells))]
 fn add_moment(page: &mut String, instance: &Instance, slot: &CostlySlot) -> Result<(), NoMemory>
     ensures { OnOk result (string_bytes page.new ≡ string_bytes page.old ++ moment_cells instance.now slot.now.slot) }
 {
     let time = slot.time(instance);
     add_number(page, slot.day(instance) as u64)?;
-    write!(page, "<td>{time}</td>")
+    add_time(page, time)
 }
 
 /// Adds the row of a slot that costs something.
