@@ -71,11 +71,15 @@ breaks_begin = codes "\"/><path class=\"break\" d=\""
 unfoldable pub bar_end : List ℕ
 bar_end = codes "\"/></svg></div>\n"
 
+-- the boxes of what lies in a day of the breaks of duties that start in a slot
+unfoldable pub break_boxes : Problem → ℕ → ℕ → List Break → List ℕ
+break_boxes i day first breaks = flat_map (λ b. boxes i day 4 8 (rest_of first b)) breaks
+
 -- a row of a shift as a bar with its breaks
 unfoldable pub bar : Problem → ℕ → Bool → Shift → Row → List ℕ
 bar i day starting x r =
     label i starting x r.count ++ work_begin ++ boxes i day 2 12 (work_of i x r)
-    ++ breaks_begin ++ flat_map (λ b. boxes i day 4 8 (rest_of (first_slot i r.shift r.day) b)) r.breaks ++ bar_end
+    ++ breaks_begin ++ break_boxes i day (first_slot i r.shift r.day) r.breaks ++ bar_end
 
 -- the bar of a row of a shift, and nothing where it isn't shown on the day
 unfoldable pub shown_bar : Problem → ℕ → Bool → Shift → Row → List ℕ

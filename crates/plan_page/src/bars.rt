@@ -1,11 +1,11 @@
 //! The rows of a plan on a day, each as a bar with its breaks.
 ghost use Rattle.std.specs.Prelude.{◌≡◌, ◌^◌, ◌<◌, ◌++◌, OnOk, All, length, map, string_bytes};
-ghost use Rattle.std.specs.List.{flat_map};
 ghost use Rattle.rota_writer.specs.Table.{name_of};
 ghost use Rattle.shift_instance.specs.Problem.{shift_list};
 ghost use Rattle.shift_instance.specs.Valid.{IsShift};
 ghost use Rattle.plan_tables.specs.Starting.{IsKnown};
-ghost use Rattle.plan_page.specs.Bars.{bar, bar_end, bars, boxes, breaks_begin, is_shown, label, label_begin, label_end, part_box, rest_of, row_bar, shown_bar, start_of, work_begin, work_of};
+ghost use Rattle.plan_tables.specs.Tallies.{first_slot};
+ghost use Rattle.plan_page.specs.Bars.{bar, bar_end, bars, boxes, break_boxes, breaks_begin, is_shown, label, label_begin, label_end, part_box, rest_of, row_bar, shown_bar, work_begin, work_of};
 ghost use Rattle.plan_page.specs.Escaping.{escaped};
 
 use crate::escaping::add_escaped;
@@ -145,6 +145,7 @@ fn add_break(
 }
 
 /// Adds the boxes of the breaks of duties that start in a slot.
+#[tactic(auto, unfolding(crate::specs::Bars::break_boxes))]
 fn add_breaks(
     page: &mut String,
     instance: &Instance,
@@ -154,7 +155,7 @@ fn add_breaks(
 ) -> Result<(), NoMemory>
     requires day { day < 2 ^ 16 }
     requires first { first < 2 ^ 16 }
-    ensures { OnOk result (string_bytes page.new ≡ string_bytes page.old ++ flat_map (λ b. boxes instance.now day 4 8 (rest_of first b)) breaks.now) }
+    ensures { OnOk result (string_bytes page.new ≡ string_bytes page.old ++ break_boxes instance.now day first breaks.now) }
 {
     for rest in breaks {
         add_break(page, instance, day, first, rest)?;
@@ -166,10 +167,10 @@ fn add_breaks(
 fn work_of(instance: &Instance, shift: Shift, row: &Row) -> Stretch
     requires { row.now.shift < length (shift_list instance.now) }
     ensures work { result ≡ work_of instance.now shift row.now }
+    ensures start { result.first ≡ first_slot instance.now row.now.shift row.now.day }
     ensures first { result.first < 2 ^ 16 }
     ensures len { result.len < 2 ^ 16 }
 {
-    let _valid = instance.slots();
     Stretch {
         first: instance.slot_of(row.shift, row.day, 0) as u32,
         len: u32::from(shift.len),
@@ -188,11 +189,9 @@ fn is_shown(instance: &Instance, day: u32, starting: bool, shift: Shift, row: &R
         first: work.first,
         len: 1,
     };
-    if starting {
-        lies_in(instance, day, start)
-    } else {
-        lies_in(instance, day, work) && !lies_in(instance, day, start)
-    }
+    let works = lies_in(instance, day, work);
+    let starts = lies_in(instance, day, start);
+    if starting { starts } else { works && !starts }
 }
 
 /// Adds what a row of a shift is.

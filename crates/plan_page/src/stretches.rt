@@ -43,5 +43,7 @@ pub(crate) fn lies_in(instance: &Instance, day: u32, stretch: Stretch) -> bool
     ensures { result ≡ lies_in instance.now day stretch }
 {
     let again = day + instance.slots() as u32;
-    part_from(instance, day, stretch).is_some() || part_from(instance, again, stretch).is_some()
+    let before = part_from(instance, day, stretch).is_some();
+    let after = part_from(instance, again, stretch).is_some();
+    before || after
 }
