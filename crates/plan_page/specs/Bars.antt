@@ -49,17 +49,20 @@ unfoldable pub is_shown : Problem → ℕ → Bool → Shift → Row → Bool
 is_shown i day starting x r =
     if starting then lies_in i day (start_of i r) else lies_in i day (work_of i x r) && not (lies_in i day (start_of i r))
 
--- the time of a row, how many employees, and its type
-unfoldable pub label_begin : Problem → Shift → ℕ → List ℕ
-label_begin i x count = codes "<div class=\"row\"><span>" ++ period_text i x.start x.len ++ codes " x" ++ decimal count ++ codes " "
+-- what stands before the time of a row, how many employees, and what stands behind its type
+unfoldable pub label_begin : List ℕ
+label_begin = codes "<div class=\"row\"><span>"
+
+unfoldable pub label_count : ℕ → List ℕ
+label_count count = codes " x" ++ decimal count ++ codes " "
 
 unfoldable pub label_end : Bool → List ℕ
 label_end true = codes "</span>"
 label_end false = codes " (from the day before)</span>"
 
--- what a row of a shift is, with a note where its duties started on the day before
+-- what a row of a shift is: its time, how many employees, its type, and a note where its duties started on the day before
 unfoldable pub label : Problem → Bool → Shift → ℕ → List ℕ
-label i starting x count = label_begin i x count ++ escaped (name_of i x.kind) ++ label_end starting
+label i starting x count = label_begin ++ period_text i x.start x.len ++ label_count count ++ escaped (name_of i x.kind) ++ label_end starting
 
 -- what stands before the boxes of the duties, before those of the breaks, and behind them
 unfoldable pub work_begin : List ℕ

@@ -1,11 +1,11 @@
 //! The rows of a plan on a day, each as a bar with its breaks.
 ghost use Rattle.std.specs.Prelude.{◌≡◌, ◌^◌, ◌<◌, ◌++◌, OnOk, All, length, map, string_bytes};
-ghost use Rattle.rota_writer.specs.Table.{name_of};
+ghost use Rattle.rota_writer.specs.Table.{name_of, period_text};
 ghost use Rattle.shift_instance.specs.Problem.{shift_list};
 ghost use Rattle.shift_instance.specs.Valid.{IsShift};
 ghost use Rattle.plan_tables.specs.Starting.{IsKnown};
 ghost use Rattle.plan_tables.specs.Tallies.{first_slot};
-ghost use Rattle.plan_page.specs.Bars.{bar, bar_end, bars, boxes, break_boxes, breaks_begin, is_shown, label, label_begin, label_end, part_box, rest_of, row_bar, shown_bar, work_begin, work_of};
+ghost use Rattle.plan_page.specs.Bars.{bar, bar_end, bars, boxes, break_boxes, breaks_begin, is_shown, label, label_begin, label_count, label_end, part_box, rest_of, row_bar, shown_bar, work_begin, work_of};
 ghost use Rattle.plan_page.specs.Escaping.{escaped};
 
 use crate::escaping::add_escaped;
@@ -63,18 +63,28 @@ fn add_boxes(
     )
 }
 
-/// Adds the time of a row of a shift, and how many employees.
+/// Begins what a row is.
 #[tactic(auto, unfolding(crate::specs::Bars::label_begin))]
-fn begin_label(
-    page: &mut String,
-    instance: &Instance,
-    shift: Shift,
-    count: u16,
-) -> Result<(), NoMemory>
-    ensures { OnOk result (string_bytes page.new ≡ string_bytes page.old ++ label_begin instance.now shift count) }
+fn begin_label(page: &mut String) -> Result<(), NoMemory>
+    ensures { OnOk result (string_bytes page.new ≡ string_bytes page.old ++ label_begin) }
+{
+    page.push_str("<div class=\"row\"><span>")
+}
+
+/// Adds the time of a shift.
+fn add_period(page: &mut String, instance: &Instance, shift: Shift) -> Result<(), NoMemory>
+    ensures { OnOk result (string_bytes page.new ≡ string_bytes page.old ++ period_text instance.now shift.start shift.len) }
 {
     let period = Period::of_slots(instance, u32::from(shift.start), shift.len);
-    write!(page, "<div class=\"row\"><span>{period} x{count} ")
+    write!(page, "{period}")
+}
+
+/// Adds how many employees.
+#[tactic(auto, unfolding(crate::specs::Bars::label_count))]
+fn add_count(page: &mut String, count: u16) -> Result<(), NoMemory>
+    ensures { OnOk result (string_bytes page.new ≡ string_bytes page.old ++ label_count count) }
+{
+    write!(page, " x{count} ")
 }
 
 /// Adds the name of a type.
@@ -206,7 +216,9 @@ fn add_label(
     requires { IsShift instance.now shift }
     ensures { OnOk result (string_bytes page.new ≡ string_bytes page.old ++ label instance.now starting shift count) }
 {
-    begin_label(page, instance, shift, count)?;
+    begin_label(page)?;
+    add_period(page, instance, shift)?;
+    add_count(page, count)?;
     add_kind(page, instance, shift.kind)?;
     end_label(page, starting)
 }

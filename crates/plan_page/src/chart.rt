@@ -1,5 +1,5 @@
 //! The picture of a day's slots: the need as a line over the employees as bars.
-ghost use Rattle.std.specs.Prelude.{◌≡◌, ◌+◌, ◌*◌, ◌<◌, ◌≤◌, ◌++◌, OnOk, string_bytes};
+ghost use Rattle.std.specs.Prelude.{◌≡◌, ◌+◌, ◌*◌, ◌<◌, ◌≤◌, ◌++◌, OnOk, max, string_bytes};
 ghost use Rattle.std.specs.List.{flat_map};
 ghost use Rattle.shift_instance.specs.Problem.{below, day_slots, need_at, slots};
 ghost use Rattle.plan_page.specs.Chart.{bar_text, chart, chart_head, grid_text, hours_text, layer_ends, layer_name, layer_path, most_employees, need_begin, need_end, need_path, need_step, path_begin, path_end, slot_bar};
@@ -57,6 +57,13 @@ impl Layer {
     }
 }
 
+/// The greatest of three numbers of employees.
+fn greatest(most: u32, wanted: u32, working: u32) -> u32
+    ensures { result ≡ max most (max wanted working) }
+{
+    most.max(wanted.max(working))
+}
+
 /// The greatest number of employees that are wanted or work in any slot, and 1 where there is none.
 pub(crate) fn most_employees(instance: &Instance, attendance: &Attendance) -> u32
     requires { attendance.now.instance ≡ instance.now }
@@ -65,7 +72,7 @@ pub(crate) fn most_employees(instance: &Instance, attendance: &Attendance) -> u3
 {
     let mut most = 1;
     for t in 0..instance.slots() {
-        most = most.max(instance.need(t).max(attendance.working(t)));
+        most = greatest(most, instance.need(t), attendance.working(t));
     }
     most
 }

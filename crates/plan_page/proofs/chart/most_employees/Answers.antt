@@ -15,12 +15,11 @@ loop-t-preserved c =
     let more : fold step 1 (below (t + 1)) ≡ max before (max (need_at i t) (cover i rota t)) = ap (fold step 1) (below_next t) ∙ fold-append step 1 (below t) (t ∷ []) in
     record {
       most =
-          c.max-most.ensures
-          ∙ ap (λ (m : ℕ). max m c.max.result) c.loop-t.invariant.most
-          ∙ ap (λ (n : ℕ). max before n) c.max.ensures
+          c.greatest-most.ensures
+          ∙ ap (λ (m : ℕ). max m (max c.need.result c.working.result)) c.loop-t.invariant.most
           ∙ ap (λ (n : ℕ). max before (max n c.working.result)) c.need.ensures.need
           ∙ ap (λ (n : ℕ). max before (max (need_at i t) n)) c.working.ensures
           ∙ ap (λ (p : Problem). max before (max (need_at i t) (cover p rota t))) c.requires
           ∙ sym more;
-      some = omega (arith, c.max-most.ensures, c.loop-t.invariant.some);
+      some = omega (arith, c.greatest-most.ensures, c.loop-t.invariant.some);
     }
