@@ -1,4 +1,4 @@
-use Rattle.std.proofs.Common.{◌≡◌, ℕ, ◌++◌, ◌≤◌, Bor, List, length, map, ap, ◌∙◌, string_bytes}
+use Rattle.std.proofs.Common.{ℕ, ◌++◌, ◌≤◌, Bor, List, length, map, ap, ◌∙◌, string_bytes}
 use Rattle.std.specs.List.{flat_map}
 use Rattle.std.proofs.lemmas.List.{take_all}
 use Rattle.shift_instance.specs.declared.Row.{Row}

@@ -1,4 +1,4 @@
-use Rattle.std.proofs.Common.{◌≡◌, ◌++◌, Bor, List, ℕ, get_or, map, ap, ◌∙◌, string_bytes}
+use Rattle.std.proofs.Common.{◌++◌, Bor, List, ℕ, get_or, map, ap, ◌∙◌, string_bytes}
 use Rattle.shift_instance.specs.declared.Row.{Row}
 use Rattle.plan_tables.specs.declared.summary.DaySummary.{DaySummary}
 use Rattle.plan_tables.proofs.Numbered.{numbered_more}

@@ -1,4 +1,4 @@
-use Rattle.std.proofs.Common.{◌≡◌, ◌++◌, string_bytes}
+use Rattle.std.proofs.Common.{string_bytes}
 use Rattle.plan_tables.proofs.Appending.{joined, joined_last}
 use Rattle.plan_page.specs.Overview.{cost_table}
 use Rattle.plan_page.proofs.overview.add_cost.Goals as goal

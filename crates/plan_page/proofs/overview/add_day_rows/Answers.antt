@@ -1,4 +1,4 @@
-use Rattle.std.proofs.Common.{◌≡◌, ◌++◌, List, ℕ, get_or, ap, ◌∙◌, string_bytes}
+use Rattle.std.proofs.Common.{◌++◌, List, ℕ, get_or, ap, ◌∙◌, string_bytes}
 use Rattle.plan_tables.specs.declared.summary.DaySummary.{DaySummary}
 use Rattle.plan_tables.proofs.Numbered.{numbered_more}
 use Rattle.plan_page.specs.Overview.{day_row}
