@@ -1,7 +1,7 @@
 //! The picture of a day's slots: the need as a line over the employees as bars.
-ghost use Rattle.std.specs.Prelude.{◌≡◌, ◌+◌, ◌*◌, ◌<◌, ◌≤◌, ◌++◌, OnOk, max, string_bytes};
+ghost use Rattle.std.specs.Prelude.{◌≡◌, ◌+◌, ◌<◌, ◌≤◌, ◌++◌, OnOk, max, string_bytes};
 ghost use Rattle.std.specs.List.{flat_map};
-ghost use Rattle.shift_instance.specs.Problem.{below, day_slots, need_at, slots};
+ghost use Rattle.shift_instance.specs.Problem.{below, day_slots, slots};
 ghost use Rattle.plan_page.specs.Chart.{bar_text, chart, chart_head, grid_text, hours_text, layer_ends, layer_name, layer_path, most_employees, need_begin, need_end, need_path, need_step, path_begin, path_end, slot_bar};
 
 use crate::pictures::{add_box, depth};

@@ -1,6 +1,5 @@
 //! The head of the page: how its parts look, and the patterns by which they are told apart without colour.
 ghost use Rattle.std.specs.Prelude.{◌≡◌, ◌++◌, OnOk, string_bytes};
-ghost use Rattle.plan_page.specs.Escaping.{escaped};
 ghost use Rattle.plan_page.specs.Page.{beginning, head, looks};
 
 use crate::escaping::add_escaped;

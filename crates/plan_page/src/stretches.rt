@@ -1,5 +1,5 @@
 //! Stretches of slots, and which part of one lies in a day.
-ghost use Rattle.std.specs.Prelude.{◌≡◌, ◌+◌, ◌^◌, ◌<◌};
+ghost use Rattle.std.specs.Prelude.{◌≡◌, ◌^◌, ◌<◌};
 ghost use Rattle.plan_page.specs.Bars.{lies_in, part_from};
 
 use plan_tables::day_slots;
