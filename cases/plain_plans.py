@@ -376,6 +376,22 @@ def interrupted_while_it_writes(folder):
     return ended(folder, interrupts(folder, "week.plan/report", signal.SIGINT, seconds="2"), 0)
 
 
+def interrupted_as_it_ends(folder):
+    """At moments from the report's on, past the end of the program: each run of a search that is finished at once ends well."""
+    words, faults = starter(folder), []
+    (folder.path / "week.json").write_text((TOP / "examples" / "one_shift.json").read_text())
+    for moment in range(20):
+        report = folder.path / "week.plan" / "report"
+        if report.exists():
+            report.unlink()
+        run = folder.begun("--seconds", "5", starter=words)
+        folder.wait_for("week.plan/report")
+        time.sleep(0.004 * moment)
+        run.send_signal(signal.SIGINT)
+        faults += ended(folder, run, 0)
+    return faults
+
+
 def interrupted_twice(folder):
     run = interrupts(folder, "week.journal", signal.SIGTERM, signal.SIGINT)
     return ["it ends with %d" % run.returncode] if run.wait() not in (130, 143) else ended(folder, folder.begun("--seconds", "1"), 0)
@@ -421,8 +437,8 @@ MEETINGS = (
     lock_in_use, killed_run, search_gone_on_with, begun_anew, no_search_to_show, journal_that_is_a_folder, journal_of_another_instance, damaged_journal, torn_journal,
     journal_on_a_full_device, folder_below_a_file, folder_that_is_a_file, instance_that_isnt_there, instance_that_is_a_folder, journal_of_the_instance, bent_report,
     words_in_the_wrong_order, report_that_is_none, closed_output, short_time, line_in_mid_search, end_of_input_in_mid_search, line_before_the_search,
-    input_meant_for_others, enter_at_a_terminal, interrupted_as_it_begins, terminated_in_mid_search, interrupted_while_it_writes, interrupted_twice,
-    interrupted_with_a_word, line_given_to_run, program_killed_below_run, journal_without_room,
+    input_meant_for_others, enter_at_a_terminal, interrupted_as_it_begins, terminated_in_mid_search, interrupted_while_it_writes, interrupted_as_it_ends,
+    interrupted_twice, interrupted_with_a_word, line_given_to_run, program_killed_below_run, journal_without_room,
 )
 
 
