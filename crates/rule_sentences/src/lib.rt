@@ -14,7 +14,6 @@ mod wrapping;
 pub use kinds::{Clause, clauses};
 pub use needs::{DayNeed, day_needs};
 pub use saying::Said;
-pub use telling::{rules_text, type_sentence};
+pub use telling::{rule_lines, rules_text, type_sentence};
 pub use times::{Span, Spans, StartTime};
 pub use weights::{Ratio, weight_sentence};
-pub use wrapping::wrapped;

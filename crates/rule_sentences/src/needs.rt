@@ -1,6 +1,5 @@
 //! The need of each day.
-ghost use Rattle.std.specs.Prelude.{◌≡◌, ◌+◌, ◌*◌, ◌<◌, ◌≤◌, ℕ, length, slice_index, IfOk};
-ghost use Rattle.shift_instance.specs.Problem.{day_slots, slots};
+ghost use Rattle.std.specs.Prelude.{◌≡◌, ◌+◌, ◌*◌, ◌<◌, ◌≤◌, ◌++◌, [], ◌∷◌, ℕ, List, length, slice_get, IfOk, IsSomeAnd};
 ghost use Rattle.rule_sentences.specs.Needs.{needs_on, IsNeedOf};
 
 use break_rules::NoMemory;
@@ -32,7 +31,7 @@ impl DayNeed {
 
     /// The need with that of one more slot.
     fn with(self, need: u32) -> DayNeed
-        requires { self.wanted ≤ 2016 * 10000 }
+        requires { self.wanted + need < 4294967296 }
         ensures { (needs : List ℕ) → IsNeedOf needs self → IsNeedOf (needs ++ need ∷ []) result }
     {
         DayNeed {
@@ -41,4 +40,31 @@ impl DayNeed {
             wanted: self.wanted + u64::from(need),
         }
     }
+}
+
+/// The need of a day, counted from 0.
+fn need_on(instance: &Instance, day: u8) -> DayNeed
+    requires { day < instance.now.days }
+    ensures { IsNeedOf (needs_on instance.now day) result }
+{
+    let parts = instance.parts();
+    let day_slots = 1440 / usize::from(parts.slot_minutes);
+    let first = usize::from(day) * day_slots;
+    let mut need = DayNeed::of_slot(instance.need(first));
+    for offset in 1..day_slots {
+        need = need.with(instance.need(first + offset));
+    }
+    need
+}
+
+/// The need of each day, one after another.
+pub fn day_needs(alloc: Global, instance: &Instance) -> Result<Vec<DayNeed>, NoMemory>
+    ensures count { IfOk result (λ list. length list.items ≡ instance.now.days) }
+    ensures each { IfOk result (λ list. (day : ℕ) → day < instance.now.days → IsSomeAnd (slice_get list.items day) (IsNeedOf (needs_on instance.now day))) }
+{
+    let mut list = Vec::new(alloc);
+    for day in 0..instance.days() {
+        list.push(need_on(instance, day))?;
+    }
+    Ok(list)
 }
