@@ -6,9 +6,11 @@ ghost use Rattle.shift_instance.specs.declared.Duty.{Duty};
 ghost use Rattle.shift_instance.specs.Listing.{IsListed};
 ghost use Rattle.shift_instance.specs.Rota.{cost, is_legal_rota};
 ghost use Rattle.instance_warnings.specs.Reached.{unreached, unreached_cost};
-ghost use Rattle.instance_warnings.specs.Warnings.{greatest_need, kind_warning, slot_warnings, head_warnings, weight_warnings, warning_if, warnings_of};
+ghost use Rattle.instance_warnings.specs.Odd.{odd_kinds};
+ghost use Rattle.instance_warnings.specs.Warnings.{greatest_need, kind_warning, slot_warnings, head_warnings, weight_warnings, odd_warnings, warnings_of};
 
 use crate::breaks::{culprit, has_lists};
+use crate::oddities::{push_excess, push_few_heads, push_hours, push_if, push_odd, push_short};
 use crate::reaching::unreached;
 use crate::slots::Slots;
 use crate::telling::Warning;
@@ -61,11 +63,11 @@ fn cost_of(instance: &Instance, slots: &[u16]) -> u64
     sum
 }
 
-/// Adds the warning of slots that no duty can reach.
-fn push_slots(alloc: Global, instance: &Instance, list: &mut Vec<Warning>) -> Result<(), NoMemory>
+/// Adds the warning of slots that no duty can reach, where there are any.
+fn push_slots(instance: &Instance, slots: Vec<u16>, list: &mut Vec<Warning>) -> Result<(), NoMemory>
+    requires { slots.items ≡ unreached instance.now }
     ensures { OnOk result (list.new.items ≡ list.old.items ++ slot_warnings instance.now) }
 {
-    let slots = unreached(alloc, instance)?;
     if !slots.is_empty() {
         let least = cost_of(instance, &slots);
         let slots = Slots::new(slots);
@@ -98,16 +100,6 @@ fn push_heads(instance: &Instance, list: &mut Vec<Warning>) -> Result<(), NoMemo
     Ok(())
 }
 
-/// Adds a warning where there is cause for it.
-fn push_if(list: &mut Vec<Warning>, cause: bool, warning: Warning) -> Result<(), NoMemory>
-    ensures { OnOk result (list.new.items ≡ list.old.items ++ warning_if cause warning) }
-{
-    if cause {
-        list.push(warning)?;
-    }
-    Ok(())
-}
-
 /// Adds the warnings of weights that are 0.
 fn push_weights(instance: &Instance, list: &mut Vec<Warning>) -> Result<(), NoMemory>
     ensures { OnOk result (list.new.items ≡ list.old.items ++ weight_warnings instance.now) }
@@ -118,18 +110,51 @@ fn push_weights(instance: &Instance, list: &mut Vec<Warning>) -> Result<(), NoMe
     push_if(list, shift == 0, Warning::NoShift)
 }
 
+/// Adds the warnings of what is odd in types.
+fn push_odd_kinds(instance: &Instance, list: &mut Vec<Warning>) -> Result<(), NoMemory>
+    ensures { OnOk result (list.new.items ≡ list.old.items ++ odd_kinds instance.now) }
+{
+    let parts = instance.parts();
+    let per_day = 1440 / parts.slot_minutes;
+    for (k, kind) in parts.types.as_slice().iter().enumerate() {
+        push_odd(per_day, k as u16, kind, list)?;
+    }
+    Ok(())
+}
+
+/// Adds the warnings of what is legal and odd, where these are the slots with a need that no duty can reach.
+fn push_odd_warnings(
+    instance: &Instance,
+    unreached: &[u16],
+    list: &mut Vec<Warning>,
+) -> Result<(), NoMemory>
+    requires { unreached.now ≡ unreached instance.now }
+    ensures { OnOk result (list.new.items ≡ list.old.items ++ odd_warnings instance.now) }
+{
+    push_excess(instance, list)?;
+    push_few_heads(instance, greatest_need(instance), list)?;
+    push_short(instance, list)?;
+    push_hours(instance, unreached, list)?;
+    push_odd_kinds(instance, list)
+}
+
 /// What a planner should know of an instance before it is searched: the types without a legal break list, in their order;
-/// the slots with a need that no duty can reach; a greatest number of duties that is more than twice the greatest need; and
-/// weights of 0. The list is empty where there is nothing to say. Running out of memory is the one refusal.
+/// the slots with a need that no duty can reach; a greatest number of duties that is more than twice the greatest need;
+/// weights of 0; and what is legal and odd. The list is empty where there is nothing to say. Running out of memory is the one
+/// refusal.
 pub fn warnings(alloc: Global, instance: &Instance) -> Result<Vec<Warning>, NoMemory>
     ensures { IfOk result (λ list. list.items ≡ warnings_of instance.now) }
 {
     let mut list = Vec::new(alloc);
     let parts = instance.parts();
     push_kinds(alloc, parts.types.as_slice(), &mut list)?;
-    push_slots(alloc, instance, &mut list)?;
+    let slots = unreached(alloc, instance)?;
+    let mut odd = Vec::new(alloc);
+    push_odd_warnings(instance, &slots, &mut odd)?;
+    push_slots(instance, slots, &mut list)?;
     push_heads(instance, &mut list)?;
     push_weights(instance, &mut list)?;
+    list.append(&mut odd)?;
     Ok(list)
 }
 

@@ -56,8 +56,8 @@ pub enum Clause {
     Resettling { slots: u16 },
 }
 
-/// The break time by a table of totals at a length.
-fn total_among(totals: &[(u16, u16)], len: u16) -> u16
+/// The break time by a table of totals at a length: that of the last entry from a length on that it reaches, and else 0.
+pub fn total_among(totals: &[(u16, u16)], len: u16) -> u16
     ensures { result ≡ total_in totals.now len }
 {
     let mut total = 0;
@@ -83,16 +83,19 @@ fn is_later(kind: &TypeParts, entry: (u16, u16)) -> bool
     kind.len_min < entry.0 && entry.0 <= kind.len_max
 }
 
+/// Whether an entry of totals begins to hold at a length of the type but its least one, with more than so much break time.
+fn is_later_above(kind: &TypeParts, above: u16, entry: (u16, u16)) -> bool
+    ensures { result ≡ (is_later kind.now entry && nat_lt above entry.1) }
+{
+    is_later(kind, entry) && above < entry.1
+}
+
 /// Whether some length of the type but its least one begins to have more than so much break time.
 fn has_later_total(kind: &TypeParts, above: u16) -> bool
     ensures { result ≡ list_any (λ e. is_later kind.now e && nat_lt above e.1) kind.now.rule.totals }
 {
-    for entry in kind.rule.totals.as_slice() {
-        if is_later(kind, *entry) && above < entry.1 {
-            return true;
-        }
-    }
-    false
+    let totals = kind.rule.totals.as_slice();
+    totals.iter().any(|entry| is_later_above(kind, above, *entry))
 }
 
 /// Whether no shift of a type has a break.
@@ -130,6 +133,13 @@ fn sizes(kind: &TypeParts) -> Clause
     }
 }
 
+/// Whether a lunch entry applies to shifts of a type.
+fn applies(kind: &TypeParts, lunch: &Lunch) -> bool
+    ensures { result ≡ applies kind.now lunch.now }
+{
+    lunch.from_len <= kind.len_max
+}
+
 /// A lunch of a type.
 fn lunch_clause(kind: &TypeParts, lunch: &Lunch) -> Clause
     ensures { result ≡ lunch_clause kind.now lunch.now }
@@ -157,7 +167,7 @@ fn push_lunches(kind: &TypeParts, list: &mut Vec<Clause>) -> Result<(), NoMemory
     ensures { OnOk result (list.new.items ≡ list.old.items ++ flat_map (lunch_clauses kind.now) kind.now.rule.lunches) }
 {
     for lunch in kind.rule.lunches.as_slice() {
-        if lunch.from_len <= kind.len_max {
+        if applies(kind, lunch) {
             list.push(lunch_clause(kind, lunch))?;
         }
     }
@@ -168,12 +178,8 @@ fn push_lunches(kind: &TypeParts, list: &mut Vec<Clause>) -> Result<(), NoMemory
 fn has_lunch(kind: &TypeParts) -> bool
     ensures { result ≡ list_any (applies kind.now) kind.now.rule.lunches }
 {
-    for lunch in kind.rule.lunches.as_slice() {
-        if lunch.from_len <= kind.len_max {
-            return true;
-        }
-    }
-    false
+    let lunches = kind.rule.lunches.as_slice();
+    lunches.iter().any(|lunch| applies(kind, lunch))
 }
 
 /// Adds that no lunch is asked for, where none is.
