@@ -1,4 +1,5 @@
 //! Why a text isn't JSON: its bytes, and the place where it departs from JSON, with what stands there.
+use crate::texts::Within;
 use serde_json::{Error, Value};
 use std::alloc::{AllocError, Global};
 use std::str::from_utf8;
@@ -22,7 +23,7 @@ fn encoding_of(document: &[u8]) -> Option<&'static str> {
 }
 
 /// The line and the column of a byte, both from 1 on; a column is a character.
-fn line_and_column(document: &[u8], at: usize) -> (u64, u64) {
+pub(crate) fn line_and_column(document: &[u8], at: usize) -> (u64, u64) {
     let mut line = 1u64;
     let mut column = 1u64;
     for byte in document.iter().take(at) {
@@ -105,27 +106,6 @@ fn cause(before: Option<u8>, byte: u8) -> &'static str {
             "a name or a value is missing before it, or it closes another kind than was opened"
         }
         _ => "a value is missing, or a comma, a colon or a bracket is one too many",
-    }
-}
-
-/// Where a walk over the bytes of a document is: in a text, behind a backslash in a text, or outside of texts.
-#[derive(Clone, Copy, PartialEq, Eq)]
-enum Within {
-    Text,
-    Escape,
-    Rest,
-}
-
-impl Within {
-    /// Where the walk is behind one more byte.
-    fn behind(self, byte: u8) -> Within {
-        match (self, byte) {
-            (Within::Text, b'\\') => Within::Escape,
-            (Within::Text, b'"') => Within::Rest,
-            (Within::Rest, b'"') => Within::Text,
-            (Within::Escape, _) => Within::Text,
-            (within, _) => within,
-        }
     }
 }
 

@@ -4,10 +4,10 @@ ghost use Rattle.std.specs.Prelude.{◌<◌, ◌^◌};
 
 use crate::journals::locked_journal;
 use crate::listening::{listen, stop_of};
-use crate::telling::{Beginning, shown_on, tell_end, warn};
+use crate::telling::{Beginning, say_rules, shown_on, tell_end, warn};
 use advice::Adviser;
 use planning_files::LockedJournal;
-use planning_progress::{Progress, Until, Watched};
+use planning_progress::{Limits, Progress, Until, Watched};
 use planning_refusals::{Cause, Refusal, read_document};
 use planning_runs::{Plan, Planned, search_plan};
 use planning_sheets::{ready_folder, show_plan};
@@ -39,7 +39,7 @@ pub(crate) fn folder_of(
 }
 
 /// The instance of a document.
-fn instance_in(alloc: Global, document: &[u8]) -> Result<Instance, Refusal> {
+pub(crate) fn instance_in(alloc: Global, document: &[u8]) -> Result<Instance, Refusal> {
     match instance_json::read(alloc, document) {
         Ok(instance) => Ok(instance),
         Err(why) => Err(Refusal::document(alloc, document, &why)),
@@ -55,8 +55,11 @@ fn progress_of(rt: HostRuntime, words: &PlanWords) -> Result<Arc<Progress>, Refu
             String::from_str(alloc, "the system doesn't tell the time"),
         ));
     };
-    let limit = u64::from(words.seconds) * SECOND;
-    let progress = Progress::new(alloc, began, limit, words.workers)?;
+    let limits = Limits {
+        whole: u64::from(words.seconds) * SECOND,
+        quiet: words.until_quiet.map(|quiet| u64::from(quiet) * SECOND),
+    };
+    let progress = Progress::new(alloc, began, limits, words.workers)?;
     Ok(Arc::new(alloc, progress)?)
 }
 
@@ -139,7 +142,8 @@ pub(crate) fn plan<R: Threads + Wait + Sync>(
     let folder = folder_of(alloc, words.out, words.instance)?;
     let document = read_document(host, words.instance)?;
     let instance = instance_in(alloc, document.as_slice())?;
-    warn(host, &instance)?;
+    say_rules(host, &instance)?;
+    warn(host, document.as_slice(), &instance)?;
     let journals = locked_journal(host, words)?;
     ready_folder(host, folder.as_str())?;
     let plan = searched(host, rt, words, instance, &journals.now)?;
