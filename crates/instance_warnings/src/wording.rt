@@ -243,8 +243,9 @@ impl<'a> Told<'a> {
             ),
             Warning::Short { longest } => write!(
                 f,
-                "no shift is as long as two hours: the longest has {longest} slots of {minutes} minutes, {}. If hours are meant, write each as many slots",
-                self.span(*longest)
+                "no shift is as long as two hours: the longest has {longest} slots of {minutes} minutes, {}; an hour is {} of them",
+                self.span(*longest),
+                60 / minutes.max(1)
             ),
             Warning::LikeHours => write!(
                 f,

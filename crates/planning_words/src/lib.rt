@@ -5,5 +5,5 @@ mod names;
 mod numbers;
 mod wanted;
 
-pub use names::{folder_beside, is_same_file, journal_beside};
+pub use names::{document_beside, folder_beside, is_same_file, journal_beside};
 pub use wanted::{PlanWords, RulesWords, ShowWords, StopOn, Wanted, wanted_by};

@@ -71,10 +71,10 @@ fn need_sentence(
         wanted: _,
     } = need;
     if least == greatest {
-        format!(in alloc; "Need on day {day}: {least} employees at each time, {hours} hours in all")
+        format!(in alloc; "Need on day {day}: {least} at each time, {hours} hours in all")
     } else {
         format!(in alloc;
-            "Need on day {day}: {least} to {greatest} employees at a time, {hours} hours in all"
+            "Need on day {day}: {least} to {greatest} at a time, {hours} hours in all"
         )
     }
 }
@@ -87,7 +87,7 @@ fn heads_sentence(alloc: Global, instance: &Instance, needs: &[DayNeed]) -> Resu
     }
     let heads = instance.heads();
     format!(in alloc;
-        "Heads: at most {heads} employees work one shift on one day; the greatest need is {greatest}"
+        "Heads: at most {heads} in one shift on one day; the greatest need is {greatest}"
     )
 }
 

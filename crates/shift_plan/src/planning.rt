@@ -2,18 +2,21 @@
 
 ghost use Rattle.std.specs.Prelude.{◌<◌, ◌^◌};
 
-use crate::journals::locked_journal;
+use crate::journals::{journal_head, journal_of, locked_journal};
 use crate::listening::{listen, stop_of};
 use crate::telling::{Beginning, say_rules, shown_on, tell_end, warn};
 use advice::Adviser;
+use instance_json::canonical;
+use journal_texts::difference;
 use planning_files::LockedJournal;
 use planning_progress::{Limits, Progress, Until, Watched};
 use planning_refusals::{Cause, Refusal, read_document};
 use planning_runs::{Plan, Planned, search_plan};
 use planning_sheets::{ready_folder, show_plan};
 use planning_words::{PlanWords, StopOn, folder_beside};
+use search_book::OpenFault;
 use shift_instance::Instance;
-use solve_runs::Request;
+use solve_runs::{Request, SearchEnd};
 use std::alloc::{AllocError, Global};
 use std::sync::{Arc, Wait};
 use std::thread::Threads;
@@ -70,6 +73,24 @@ fn steps_of(seconds: u32) -> u64
     if seconds == 0 { 0 } else { STEPS_MOST }
 }
 
+/// Says where a document and the instance of its journal differ first, where a search was refused since they do.
+fn tell_difference(rt: HostRuntime, words: &PlanWords, end: &SearchEnd) -> Result<(), Refusal> {
+    let alloc = rt.alloc();
+    let SearchEnd::Refused(OpenFault::OtherInstance { at }) = end else {
+        return Ok(());
+    };
+    let document = read_document(rt, words.instance)?;
+    let instance = instance_in(alloc, document.as_slice())?;
+    let ours = canonical(alloc, &instance)?;
+    let journal = journal_of(alloc, words)?;
+    let Some(theirs) = journal_head(rt, journal.as_str()) else {
+        return Ok(());
+    };
+    let sentence = difference(alloc, ours.as_slice(), theirs.as_slice(), *at)?;
+    let _ = eprintln!(rt; "shift_plan: note that the journal belongs to another instance: {sentence}");
+    Ok(())
+}
+
 /// The plan of a search by so many workers as the words say, each with an adviser of the instance that searches thoroughly with a seed of
 /// its own, until the search is finished, its time is over, or it is asked to end.
 fn search_by<R: Threads + Wait + Sync>(
@@ -107,6 +128,7 @@ fn search_by<R: Threads + Wait + Sync>(
         rt, alloc, instance, request, disk, advisers, &gate, &until,
     );
     let Some(plan) = plan else {
+        tell_difference(host, words, &searched.end)?;
         return Err(Refusal::of_end(alloc, &searched.end).unwrap_or(Refusal::from(AllocError)));
     };
     tell_end(host, progress, &searched.end);

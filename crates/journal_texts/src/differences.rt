@@ -1,0 +1,162 @@
+//! Where the canonical texts of two instances differ first, as a place in their documents with both values.
+
+use std::alloc::{AllocError, Global};
+use std::str::from_utf8;
+
+/// What a walk over a canonical text has entered and not left.
+#[derive(Clone, Copy, Drop)]
+enum Open {
+    /// An object, at the member whose name stands from one byte to another.
+    Object { first: usize, end: usize },
+    /// A list, at an entry, counted from 0.
+    List { entry: u64 },
+}
+
+/// Where a walk over the bytes of a canonical text is.
+#[derive(Drop)]
+struct Walk {
+    open: Vec<Open>,
+    /// Whether the next byte is in a text.
+    is_in_text: bool,
+    /// Whether the last byte of a text was a backslash that isn't itself escaped.
+    is_escaped: bool,
+    /// Where the last text begins, and where it ends.
+    text: (usize, usize),
+    /// Where the value begins at which the walk is.
+    value: usize,
+}
+
+impl Walk {
+    /// A walk that begins.
+    fn new(alloc: Global) -> Walk {
+        Walk {
+            open: Vec::new(alloc),
+            is_in_text: false,
+            is_escaped: false,
+            text: (0, 0),
+            value: 0,
+        }
+    }
+
+    /// Goes on by a byte of a text.
+    fn go_on_in_text(&mut self, at: usize, byte: u8) {
+        let ends = byte == b'"' && !self.is_escaped;
+        self.is_escaped = byte == b'\\' && !self.is_escaped;
+        if ends {
+            self.is_in_text = false;
+            self.text.1 = at;
+        }
+    }
+
+    /// Goes on by a sign outside of texts, behind which stands a byte.
+    fn go_on_outside(&mut self, next: usize, byte: u8) -> Result<(), AllocError> {
+        match byte {
+            b'"' => {
+                self.is_in_text = true;
+                self.text.0 = next;
+            }
+            b'{' => self.open.push(Open::Object {
+                first: next,
+                end: next,
+            })?,
+            b'[' => self.open.push(Open::List { entry: 0 })?,
+            b'}' | b']' => {
+                let _ = self.open.pop();
+            }
+            b':' => self.begin_member(),
+            b',' => self.begin_entry(),
+            _ => return Ok(()),
+        }
+        if byte != b'"' {
+            self.value = next;
+        }
+        Ok(())
+    }
+
+    /// Begins the value of a member whose name was read last.
+    fn begin_member(&mut self) {
+        let (first, end) = self.text;
+        if let Some(open) = self.open.last_mut() {
+            *open = Open::Object { first, end };
+        }
+    }
+
+    /// Begins the next entry, where the walk is in a list.
+    fn begin_entry(&mut self) {
+        if let Some(open) = self.open.last_mut() {
+            if let Open::List { entry } = *open {
+                *open = Open::List {
+                    entry: entry.saturating_add(1),
+                };
+            }
+        }
+    }
+
+    /// Goes on by one byte.
+    fn go_on(&mut self, at: usize, byte: u8) -> Result<(), AllocError> {
+        if self.is_in_text {
+            self.go_on_in_text(at, byte);
+            return Ok(());
+        }
+        self.go_on_outside(at.saturating_add(1), byte)
+    }
+
+    /// The place of the value at which the walk is, as a person writes it.
+    fn place(&self, alloc: Global, text: &[u8]) -> Result<String, AllocError> {
+        let mut place = String::new(alloc);
+        for open in &self.open {
+            match *open {
+                Open::Object { first, end } => {
+                    if !place.is_empty() {
+                        place.push_str(".")?;
+                    }
+                    place.push_str(shown(text, first, end))?;
+                }
+                Open::List { entry } => {
+                    let entry = format!(in alloc; "[{entry}]")?;
+                    place.push_str(entry.as_str())?;
+                }
+            }
+        }
+        Ok(place)
+    }
+}
+
+/// The bytes of a text from one place to another, where they are a text of themselves.
+fn shown(text: &[u8], first: usize, end: usize) -> &str {
+    from_utf8(text.get(first..end).unwrap_or(&[])).unwrap_or("?")
+}
+
+/// The value that begins at a place, up to the sign behind it. Of a list or an object that isn't empty it is nothing.
+fn value_at(text: &[u8], from: usize) -> &str {
+    let mut is_in_text = false;
+    for (at, byte) in text.iter().enumerate().skip(from) {
+        match *byte {
+            b'"' => is_in_text = !is_in_text,
+            b',' | b'[' | b'{' | b']' | b'}' if !is_in_text => return shown(text, from, at),
+            _ => {}
+        }
+    }
+    ""
+}
+
+/// Where two canonical texts that differ first at a byte differ, with both values: the place in their documents, and what stands there in
+/// the one and in the other. The only error is running out of memory.
+pub fn difference(
+    alloc: Global,
+    ours: &[u8],
+    theirs: &[u8],
+    at: u64,
+) -> Result<String, AllocError> {
+    let mut walk = Walk::new(alloc);
+    for (k, byte) in ours.iter().enumerate().take(at as usize) {
+        walk.go_on(k, *byte)?;
+    }
+    let place = walk.place(alloc, ours)?;
+    let here = value_at(ours, walk.value);
+    let there = value_at(theirs, walk.value);
+    if here == there {
+        return format!(in alloc; "the two differ first in the list at {place}, which has more entries in one of them");
+    }
+    format!(in alloc; "the two differ first at {place}: it is {here} in the document, and {there} in the journal's instance")
+}
