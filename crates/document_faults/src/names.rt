@@ -91,7 +91,11 @@ impl<'a> Walk<'a> {
         };
         open.awaits_name = false;
         let bytes = name.bytes(document);
-        let Some(at) = open.names.iter().position(|other| other.bytes(document) == bytes) else {
+        let Some(at) = open
+            .names
+            .iter()
+            .position(|other| other.bytes(document) == bytes)
+        else {
             return open.names.push(name);
         };
         let before = open.names[at];

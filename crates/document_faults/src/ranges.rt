@@ -71,12 +71,7 @@ fn weight(alloc: Global, document: Option<&Value>) -> Result<String, AllocError>
 }
 
 /// A hint that a start before the first one was meant on the next day, where it has room there.
-fn next_day_hint(
-    alloc: Global,
-    minutes: u64,
-    low: u64,
-    high: u64,
-) -> Result<String, AllocError>
+fn next_day_hint(alloc: Global, minutes: u64, low: u64, high: u64) -> Result<String, AllocError>
     requires { 0 < minutes }
 {
     let day = DAY / minutes;
@@ -88,7 +83,10 @@ fn next_day_hint(
     let next = high.saturating_add(day);
     format!(in alloc;
         ". Starts on the next day go on behind the slots of a day: {}{}:{}{} on the next day is {next}",
-        hour / 10, hour % 10, minute / 10, minute % 10
+        hour / 10,
+        hour % 10,
+        minute / 10,
+        minute % 10
     )
 }
 

@@ -68,8 +68,8 @@ going_round per_day k = warning_if (nat_lt per_day (k.1.start_max + k.1.len_max)
 -- what is odd in a type, by its number, where a day has that many slots
 abbrev pub odd_kind : ℕ → ℕ × Kind → List Warning
 odd_kind per_day k =
-    beyond k WorkMax k.1.rule.work_max ++ beyond k LongWork k.1.rule.long_work ++ flat_map (parted k) k.1.rule.totals
-    ++ flat_map (lunch_parted k) k.1.rule.lunches ++ going_round per_day k
+    beyond k WorkMax k.1.rule.work_max ++ (beyond k LongWork k.1.rule.long_work ++ (flat_map (parted k) k.1.rule.totals
+    ++ (flat_map (lunch_parted k) k.1.rule.lunches ++ going_round per_day k)))
 
 -- all that is odd in types
 abbrev pub odd_kinds : Problem → List Warning

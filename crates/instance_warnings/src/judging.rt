@@ -6,7 +6,7 @@ ghost use Rattle.shift_instance.specs.declared.Duty.{Duty};
 ghost use Rattle.shift_instance.specs.Listing.{IsListed};
 ghost use Rattle.shift_instance.specs.Rota.{cost, is_legal_rota};
 ghost use Rattle.instance_warnings.specs.Reached.{unreached, unreached_cost};
-ghost use Rattle.instance_warnings.specs.Odd.{odd_kinds};
+ghost use Rattle.instance_warnings.specs.Odd.{odd_kind};
 ghost use Rattle.instance_warnings.specs.Warnings.{greatest_need, kind_warning, slot_warnings, head_warnings, weight_warnings, odd_warnings, warnings_of};
 
 use crate::breaks::{culprit, has_lists};
@@ -110,13 +110,16 @@ fn push_weights(instance: &Instance, list: &mut Vec<Warning>) -> Result<(), NoMe
     push_if(list, shift == 0, Warning::NoShift)
 }
 
-/// Adds the warnings of what is odd in types.
-fn push_odd_kinds(instance: &Instance, list: &mut Vec<Warning>) -> Result<(), NoMemory>
-    ensures { OnOk result (list.new.items ≡ list.old.items ++ odd_kinds instance.now) }
+/// Adds the warnings of what is odd in types, where a day has so many slots.
+fn push_odd_kinds(
+    per_day: u16,
+    kinds: &[TypeParts],
+    list: &mut Vec<Warning>,
+) -> Result<(), NoMemory>
+    requires { length kinds.now ≤ 16 }
+    ensures { OnOk result (list.new.items ≡ list.old.items ++ flat_map (odd_kind per_day) (enumerate_from 0 kinds.now)) }
 {
-    let parts = instance.parts();
-    let per_day = 1440 / parts.slot_minutes;
-    for (k, kind) in parts.types.as_slice().iter().enumerate() {
+    for (k, kind) in kinds.iter().enumerate() {
         push_odd(per_day, k as u16, kind, list)?;
     }
     Ok(())
@@ -135,7 +138,8 @@ fn push_odd_warnings(
     push_few_heads(instance, greatest_need(instance), list)?;
     push_short(instance, list)?;
     push_hours(instance, unreached, list)?;
-    push_odd_kinds(instance, list)
+    let parts = instance.parts();
+    push_odd_kinds(1440 / parts.slot_minutes, parts.types.as_slice(), list)
 }
 
 /// What a planner should know of an instance before it is searched: the types without a legal break list, in their order;

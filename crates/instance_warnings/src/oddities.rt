@@ -12,7 +12,11 @@ use shift_instance::{Instance, TypeParts};
 const NO_LIMIT: u16 = 288;
 
 /// Adds a warning where there is cause for it.
-pub(crate) fn push_if(list: &mut Vec<Warning>, cause: bool, warning: Warning) -> Result<(), NoMemory>
+pub(crate) fn push_if(
+    list: &mut Vec<Warning>,
+    cause: bool,
+    warning: Warning,
+) -> Result<(), NoMemory>
     ensures { OnOk result (list.new.items ≡ list.old.items ++ warning_if cause warning) }
 {
     if cause {
@@ -39,7 +43,11 @@ pub(crate) fn push_few_heads(
     ensures { OnOk result (list.new.items ≡ list.old.items ++ few_heads_warnings instance.now need) }
 {
     let most = instance.heads();
-    push_if(list, u32::from(most) < need, Warning::HeadsBelow { most, need })
+    push_if(
+        list,
+        u32::from(most) < need,
+        Warning::HeadsBelow { most, need },
+    )
 }
 
 /// The length of the longest shift of some types.
@@ -141,10 +149,15 @@ fn push_part(
 }
 
 /// Adds the warnings of totals between lengths of their type.
-fn push_parts(number: u16, kind: &TypeParts, list: &mut Vec<Warning>) -> Result<(), NoMemory>
-    ensures { OnOk result (list.new.items ≡ list.old.items ++ flat_map (parted (number, kind.now)) kind.now.rule.totals) }
+fn push_parts(
+    number: u16,
+    kind: &TypeParts,
+    totals: &[(u16, u16)],
+    list: &mut Vec<Warning>,
+) -> Result<(), NoMemory>
+    ensures { OnOk result (list.new.items ≡ list.old.items ++ flat_map (parted (number, kind.now)) totals.now) }
 {
-    for entry in kind.rule.totals.as_slice() {
+    for entry in totals {
         push_part(number, kind, *entry, list)?;
     }
     Ok(())
@@ -173,10 +186,15 @@ fn push_lunch(
 }
 
 /// Adds the warnings of lunches between lengths of their type.
-fn push_lunches(number: u16, kind: &TypeParts, list: &mut Vec<Warning>) -> Result<(), NoMemory>
-    ensures { OnOk result (list.new.items ≡ list.old.items ++ flat_map (lunch_parted (number, kind.now)) kind.now.rule.lunches) }
+fn push_lunches(
+    number: u16,
+    kind: &TypeParts,
+    lunches: &[Lunch],
+    list: &mut Vec<Warning>,
+) -> Result<(), NoMemory>
+    ensures { OnOk result (list.new.items ≡ list.old.items ++ flat_map (lunch_parted (number, kind.now)) lunches.now) }
 {
-    for lunch in kind.rule.lunches.as_slice() {
+    for lunch in lunches {
         push_lunch(number, kind, *lunch, list)?;
     }
     Ok(())
@@ -207,7 +225,7 @@ pub(crate) fn push_odd(
 {
     push_beyond(number, kind, Limit::WorkMax, kind.rule.work_max, list)?;
     push_beyond(number, kind, Limit::LongWork, kind.rule.long_work, list)?;
-    push_parts(number, kind, list)?;
-    push_lunches(number, kind, list)?;
+    push_parts(number, kind, kind.rule.totals.as_slice(), list)?;
+    push_lunches(number, kind, kind.rule.lunches.as_slice(), list)?;
     push_going_round(per_day, number, kind, list)
 }

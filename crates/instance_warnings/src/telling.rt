@@ -7,11 +7,20 @@ use crate::slots::Slots;
 pub enum Warning {
     /// No length of a type has a legal break list, so no duty is of that type. `part` is the first part of its rule without
     /// which some length has one, if one part alone forbids them all.
-    NoBreaks { kind: u16, part: Option<Part> },
+    NoBreaks {
+        kind: u16,
+        part: Option<Part>,
+    },
     /// No legal duty works in these slots, though they have a need: every plan costs at least `least` for them.
-    Unreached { slots: Slots, least: u64 },
+    Unreached {
+        slots: Slots,
+        least: u64,
+    },
     /// The most duties of one shift on one day are more than twice the greatest need.
-    Heads { most: u16, need: u32 },
+    Heads {
+        most: u16,
+        need: u32,
+    },
     /// An employee too many in a slot costs nothing.
     NoExcess,
     /// An employee too few in a slot costs nothing.
@@ -19,11 +28,19 @@ pub enum Warning {
     /// A shift that is used costs nothing.
     NoShift,
     /// An employee too many costs more than one too few.
-    ExcessAbove { excess: u32, shortage: u32 },
+    ExcessAbove {
+        excess: u32,
+        shortage: u32,
+    },
     /// The most duties of one shift on one day are fewer than the greatest need.
-    HeadsBelow { most: u16, need: u32 },
+    HeadsBelow {
+        most: u16,
+        need: u32,
+    },
     /// No shift is as long as two hours: the longest has so many slots.
-    Short { longest: u16 },
+    Short {
+        longest: u16,
+    },
     /// Starts and lengths are such as hours have, where slots are shorter, and some needs can't be met.
     LikeHours,
     /// A limit of a type is above the length of its longest shift, so it limits nothing.
@@ -41,9 +58,16 @@ pub enum Warning {
         from: u16,
     },
     /// Shifts of a type from a length on have a lunch of that size, and shorter ones don't.
-    LunchParted { kind: u16, len: u16, size: u16 },
+    LunchParted {
+        kind: u16,
+        len: u16,
+        size: u16,
+    },
     /// Shifts of a type on the last day go on into the first, by so many slots at most.
-    GoesRound { kind: u16, end: u32 },
+    GoesRound {
+        kind: u16,
+        end: u32,
+    },
 }
 
 /// A limit of work in a break rule.

@@ -156,7 +156,11 @@ pub fn difference(
     let here = value_at(ours, walk.value);
     let there = value_at(theirs, walk.value);
     if here == there {
-        return format!(in alloc; "the two differ first in the list at {place}, which has more entries in one of them");
+        return format!(in alloc;
+            "the two differ first in the list at {place}, which has more entries in one of them"
+        );
     }
-    format!(in alloc; "the two differ first at {place}: it is {here} in the document, and {there} in the journal's instance")
+    format!(in alloc;
+        "the two differ first at {place}: it is {here} in the document, and {there} in the journal's instance"
+    )
 }

@@ -68,8 +68,9 @@ work_clauses k = most_work k ∷ rest k ∷ least_work k ∷ ends k ∷ []
 
 -- what is said of breaks, where some shift of the type has one
 abbrev pub break_clauses : Kind → List Clause
-break_clauses k = Total (total_of k.rule k.len_min) ∷ [] ++ flat_map (later_total k) k.rule.totals ++ sizes k ∷ [] ++ flat_map (lunch_clauses k) k.rule.lunches ++ lunchless k ++ work_clauses k ++ resettling k
+break_clauses k =
+    Total (total_of k.rule k.len_min) ∷ (flat_map (later_total k) k.rule.totals ++ (sizes k ∷ (flat_map (lunch_clauses k) k.rule.lunches ++ (lunchless k ++ (work_clauses k ++ resettling k)))))
 
 -- all that is said of a type
 abbrev pub clauses_of : Kind → List Clause
-clauses_of k = Starts k.start_min k.start_max ∷ Lengths k.len_min k.len_max ∷ [] ++ (if has_no_break k then NoBreaks ∷ [] else break_clauses k)
+clauses_of k = Starts k.start_min k.start_max ∷ (Lengths k.len_min k.len_max ∷ (if has_no_break k then NoBreaks ∷ [] else break_clauses k))

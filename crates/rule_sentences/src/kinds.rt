@@ -12,21 +12,39 @@ use std::alloc::Global;
 #[derive(Clone, Copy, PartialEq, Eq, Drop)]
 pub enum Clause {
     /// The first and the last slot at which shifts start, counted from the midnight of their day.
-    Starts { first: u16, last: u16 },
+    Starts {
+        first: u16,
+        last: u16,
+    },
     /// The lengths of shifts.
-    Lengths { least: u16, greatest: u16 },
+    Lengths {
+        least: u16,
+        greatest: u16,
+    },
     /// No shift has a break.
     NoBreaks,
     /// The break time of the shortest shifts.
-    Total { total: u16 },
+    Total {
+        total: u16,
+    },
     /// The break time of shifts from a length on.
-    TotalFrom { from: u16, total: u16 },
+    TotalFrom {
+        from: u16,
+        total: u16,
+    },
     /// The lengths of breaks.
-    Sizes { least: u16, greatest: u16 },
+    Sizes {
+        least: u16,
+        greatest: u16,
+    },
     /// A break may have every length.
     AnySize,
     /// A lunch of that length that begins and ends between two offsets.
-    LunchBreak { size: u16, first: u16, last: u16 },
+    LunchBreak {
+        size: u16,
+        first: u16,
+        last: u16,
+    },
     /// The same, in shifts from a length on.
     LunchBreakFrom {
         from: u16,
@@ -37,23 +55,35 @@ pub enum Clause {
     /// No lunch is asked for.
     NoLunch,
     /// The longest work without a break.
-    MostWork { most: u16 },
+    MostWork {
+        most: u16,
+    },
     /// Work without a break may last as long as a shift.
     AnyMostWork,
     /// The shortest work before, between and after breaks.
-    LeastWork { least: u16 },
+    LeastWork {
+        least: u16,
+    },
     /// Work may be as short as a slot.
     AnyLeastWork,
     /// After longer work than that a break has that length at least.
-    Rest { work: u16, rest: u16 },
+    Rest {
+        work: u16,
+        rest: u16,
+    },
     /// Any break may follow any work.
     NoRest,
     /// How long there is no break behind the start and before the end.
-    Ends { lead: u16, tail: u16 },
+    Ends {
+        lead: u16,
+        tail: u16,
+    },
     /// A break may lie at either end.
     AnyEnds,
     /// How long whoever comes back from a break doesn't count yet.
-    Resettling { slots: u16 },
+    Resettling {
+        slots: u16,
+    },
 }
 
 /// The break time by a table of totals at a length: that of the last entry from a length on that it reaches, and else 0.
@@ -95,7 +125,9 @@ fn has_later_total(kind: &TypeParts, above: u16) -> bool
     ensures { result ≡ list_any (λ e. is_later kind.now e && nat_lt above e.1) kind.now.rule.totals }
 {
     let totals = kind.rule.totals.as_slice();
-    totals.iter().any(|entry| is_later_above(kind, above, *entry))
+    totals
+        .iter()
+        .any(|entry| is_later_above(kind, above, *entry))
 }
 
 /// Whether no shift of a type has a break.
@@ -106,10 +138,14 @@ fn has_no_break(kind: &TypeParts) -> bool
 }
 
 /// Adds the break times of shifts that are longer than the shortest.
-fn push_totals(kind: &TypeParts, list: &mut Vec<Clause>) -> Result<(), NoMemory>
-    ensures { OnOk result (list.new.items ≡ list.old.items ++ flat_map (later_total kind.now) kind.now.rule.totals) }
+fn push_totals(
+    kind: &TypeParts,
+    totals: &[(u16, u16)],
+    list: &mut Vec<Clause>,
+) -> Result<(), NoMemory>
+    ensures { OnOk result (list.new.items ≡ list.old.items ++ flat_map (later_total kind.now) totals.now) }
 {
-    for entry in kind.rule.totals.as_slice() {
+    for entry in totals {
         if is_later(kind, *entry) {
             list.push(Clause::TotalFrom {
                 from: entry.0,
@@ -163,10 +199,10 @@ fn lunch_clause(kind: &TypeParts, lunch: &Lunch) -> Clause
 }
 
 /// Adds the lunches of a type.
-fn push_lunches(kind: &TypeParts, list: &mut Vec<Clause>) -> Result<(), NoMemory>
-    ensures { OnOk result (list.new.items ≡ list.old.items ++ flat_map (lunch_clauses kind.now) kind.now.rule.lunches) }
+fn push_lunches(kind: &TypeParts, lunches: &[Lunch], list: &mut Vec<Clause>) -> Result<(), NoMemory>
+    ensures { OnOk result (list.new.items ≡ list.old.items ++ flat_map (lunch_clauses kind.now) lunches.now) }
 {
-    for lunch in kind.rule.lunches.as_slice() {
+    for lunch in lunches {
         if applies(kind, lunch) {
             list.push(lunch_clause(kind, lunch))?;
         }
@@ -271,9 +307,9 @@ fn push_breaks(kind: &TypeParts, list: &mut Vec<Clause>) -> Result<(), NoMemory>
     list.push(Clause::Total {
         total: first_total(kind),
     })?;
-    push_totals(kind, list)?;
+    push_totals(kind, kind.rule.totals.as_slice(), list)?;
     list.push(sizes(kind))?;
-    push_lunches(kind, list)?;
+    push_lunches(kind, kind.rule.lunches.as_slice(), list)?;
     push_lunchless(kind, list)?;
     push_work(kind, list)?;
     push_resettling(kind, list)

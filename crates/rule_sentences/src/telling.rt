@@ -80,7 +80,11 @@ fn need_sentence(
 }
 
 /// The most employees of one shift in words, beside the greatest need.
-fn heads_sentence(alloc: Global, instance: &Instance, needs: &[DayNeed]) -> Result<String, NoMemory> {
+fn heads_sentence(
+    alloc: Global,
+    instance: &Instance,
+    needs: &[DayNeed],
+) -> Result<String, NoMemory> {
     let mut greatest = 0;
     for need in needs {
         greatest = need.greatest.max(greatest);
@@ -122,7 +126,7 @@ pub fn rule_lines(alloc: Global, instance: &Instance) -> Result<Vec<String>, NoM
     }
     let needs = day_needs(alloc, instance)?;
     for (k, need) in needs.iter().enumerate() {
-        lines.push(need_sentence(alloc, instance, k + 1, *need)?)?;
+        lines.push(need_sentence(alloc, instance, k.saturating_add(1), *need)?)?;
     }
     let weights = weight_sentence(alloc, instance)?;
     lines.push(format!(in alloc; "Weights: {}", weights.as_str())?)?;

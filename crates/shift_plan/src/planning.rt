@@ -87,7 +87,9 @@ fn tell_difference(rt: HostRuntime, words: &PlanWords, end: &SearchEnd) -> Resul
         return Ok(());
     };
     let sentence = difference(alloc, ours.as_slice(), theirs.as_slice(), *at)?;
-    let _ = eprintln!(rt; "shift_plan: note that the journal belongs to another instance: {sentence}");
+    let _ = eprintln!(rt;
+        "shift_plan: note that the journal belongs to another instance: {sentence}"
+    );
     Ok(())
 }
 

@@ -66,18 +66,18 @@ pub most_of_values : (i : Problem) (s most : ℕ) (values : List ℤ) → AreMos
     → IsMostOf i s most
 most_of_values i s most values by each least = record {
   each = λ d legal of. let l = legal_duty_parts i d legal in
-    let m : IsMostOn i s d.day (ones i) (get_or values d.day (pos 0)) = by.each d.day l.day in
-    let listed : is_list_of i s d.breaks ≡ true = subst (λ (k : ℕ). is_list_of i k d.breaks ≡ true) of l.breaks in
-    let most_on : worked_slots i (with s d.day d.breaks) ≤ unsigned_abs (get_or values d.day (pos 0)) = best_most i s d.day m.0 d.breaks (get_or values d.day (pos 0)) m.1 listed in
-    let here : worked_slots i (with s d.day d.breaks) ≡ worked_slots i d = ap (λ (k : ℕ). worked_slots i (with k d.day d.breaks)) (sym of) in
-    let up : unsigned_abs (get_or values d.day (pos 0)) ≤ most = each d.day l.day in
-    chained (worked_slots i d) (worked_slots i (with s d.day d.breaks)) (unsigned_abs (get_or values d.day (pos 0))) most here most_on up;
+      let m : IsMostOn i s d.day (ones i) (get_or values d.day (pos 0)) = by.each d.day l.day in
+      let listed : is_list_of i s d.breaks ≡ true = subst (λ (k : ℕ). is_list_of i k d.breaks ≡ true) of l.breaks in
+      let most_on : worked_slots i (with s d.day d.breaks) ≤ unsigned_abs (get_or values d.day (pos 0)) = best_most i s d.day m.0 d.breaks (get_or values d.day (pos 0)) m.1 listed in
+      let here : worked_slots i (with s d.day d.breaks) ≡ worked_slots i d = ap (λ (k : ℕ). worked_slots i (with k d.day d.breaks)) (sym of) in
+      let up : unsigned_abs (get_or values d.day (pos 0)) ≤ most = each d.day l.day in
+      chained (worked_slots i d) (worked_slots i (with s d.day d.breaks)) (unsigned_abs (get_or values d.day (pos 0))) most here most_on up;
   least = λ n above. least n (λ day h.
-    let m : IsMostOn i s day (ones i) (get_or values day (pos 0)) = by.each day h in
-    let is : unsigned_abs (get_or values day (pos 0)) ≡ worked_slots i (with s day m.0) = best_is i s day m.0 (get_or values day (pos 0)) m.1 in
-    let b : IsBest i s day (ones i) [] m.0 (get_or values day (pos 0)) = m.1 in
-    let own : worked_slots i (with s day m.0) ≤ n = above (with s day m.0) (and_from (nat_lt day i.days) (is_list_of i s m.0) (lt-ltb day i.days h) b.legal) refl in
-    under (unsigned_abs (get_or values day (pos 0))) (worked_slots i (with s day m.0)) n is own);
+      let m : IsMostOn i s day (ones i) (get_or values day (pos 0)) = by.each day h in
+      let is : unsigned_abs (get_or values day (pos 0)) ≡ worked_slots i (with s day m.0) = best_is i s day m.0 (get_or values day (pos 0)) m.1 in
+      let b : IsBest i s day (ones i) [] m.0 (get_or values day (pos 0)) = m.1 in
+      let own : worked_slots i (with s day m.0) ≤ n = above (with s day m.0) (and_from (nat_lt day i.days) (is_list_of i s m.0) (lt-ltb day i.days h) b.legal) refl in
+      under (unsigned_abs (get_or values day (pos 0))) (worked_slots i (with s day m.0)) n is own);
 }
   where
     chained : (a b c d : ℕ) → b ≡ a → b ≤ c → c ≤ d → a ≤ d
@@ -90,8 +90,8 @@ most_of_values i s most values by each least = record {
 pub most_of_none : (i : Problem) (s : ℕ) → ((list : List Break) → is_list_of i s list ≡ false) → IsMostOf i s 0
 most_of_none i s none = record {
   each = λ d legal of.
-    let l = legal_duty_parts i d legal in
-    absurd (false≢true (sym (none d.breaks) ∙ subst (λ (k : ℕ). is_list_of i k d.breaks ≡ true) of l.breaks));
+      let l = legal_duty_parts i d legal in
+      absurd (false≢true (sym (none d.breaks) ∙ subst (λ (k : ℕ). is_list_of i k d.breaks ≡ true) of l.breaks));
   least = λ n above. omega arith;
 }
 

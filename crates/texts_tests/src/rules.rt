@@ -11,8 +11,7 @@ const MORNING: &str =
     "{\"slot_minutes\":60,\"days\":1,\"need\":[0,0,0,0,0,0,0,0,1,1,1,1,0,0,0,0,0,0,0,0,0,0,0,0],\"max_heads\":1,\"weights\":{\"excess\":1,\"shortage\":2,\"shift\":3},\"types\":[{\"name\":\"M\",\"start_min\":8,\"start_max\":8,\"len_min\":4,\"len_max\":4,\"breaks\":null}]}";
 
 /// Its rules.
-const OF_MORNING: &str =
-    "Period: a day in slots of 60 minutes; what passes its end works at its
+const OF_MORNING: &str = "Period: a day in slots of 60 minutes; what passes its end works at its
     beginning
 M: starts 08:00, 4:00 long, no breaks
 Need on day 1: 0 to 1 at a time, 4:00 hours in all
