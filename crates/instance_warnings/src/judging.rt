@@ -64,13 +64,18 @@ fn cost_of(instance: &Instance, slots: &[u16]) -> u64
 }
 
 /// Adds the warning of slots that no duty can reach, where there are any.
-fn push_slots(instance: &Instance, slots: Vec<u16>, list: &mut Vec<Warning>) -> Result<(), NoMemory>
-    requires { slots.items ≡ unreached instance.now }
+fn push_slots(
+    alloc: Global,
+    instance: &Instance,
+    slots: &[u16],
+    list: &mut Vec<Warning>,
+) -> Result<(), NoMemory>
+    requires { slots.now ≡ unreached instance.now }
     ensures { OnOk result (list.new.items ≡ list.old.items ++ slot_warnings instance.now) }
 {
     if !slots.is_empty() {
-        let least = cost_of(instance, &slots);
-        let slots = Slots::new(slots);
+        let least = cost_of(instance, slots);
+        let slots = Slots::new(slots.to_vec(alloc)?);
         list.push(Warning::Unreached { slots, least })?;
     }
     Ok(())
@@ -153,12 +158,10 @@ pub fn warnings(alloc: Global, instance: &Instance) -> Result<Vec<Warning>, NoMe
     let parts = instance.parts();
     push_kinds(alloc, parts.types.as_slice(), &mut list)?;
     let slots = unreached(alloc, instance)?;
-    let mut odd = Vec::new(alloc);
-    push_odd_warnings(instance, &slots, &mut odd)?;
-    push_slots(instance, slots, &mut list)?;
+    push_slots(alloc, instance, &slots, &mut list)?;
     push_heads(instance, &mut list)?;
     push_weights(instance, &mut list)?;
-    list.append(&mut odd)?;
+    push_odd_warnings(instance, &slots, &mut list)?;
     Ok(list)
 }
 
