@@ -1,2 +1,2 @@
 mod OneMore
-mod Ones
+pub mod Ones

@@ -1,9 +1,10 @@
 -- What duties are worth at prices of 1 for all slots.
-use Rattle.std.proofs.Common.{◌≡◌, ℕ, ◌+◌, ◌<◌, ◌≤◌, ℤ, pos, ◌+ℤ◌, ◌≤ℤ◌, Bool, true, false, cond, nat_lt, List, [], ◌∷◌, length, Option, Some, None, All, get_or, refl, sym, ap, ◌∙◌, subst, arith, sum_by, count_by}
+use Rattle.std.proofs.Common.{◌≡◌, ◌⊎◌, inl, inr, max, ◌^◌, to_z, of_z, w64, ℕ, ◌+◌, ◌<◌, ◌≤◌, ℤ, pos, ◌+ℤ◌, ◌≤ℤ◌, Bool, true, false, cond, nat_lt, List, [], ◌∷◌, length, Option, Some, None, All, get_or, refl, sym, ap, ◌∙◌, subst, arith, sum_by, count_by}
 use Rattle.std.specs.Prelude.{unsigned_abs, MatchOption}
-use Rattle.std.proofs.lemmas.Bool.{cases_Bool, false≢true, and_parts, and_from, lt-ltb}
-use Rattle.std.proofs.lemmas.Int.{ints}
-use Rattle.std.proofs.lemmas.List.{get_or-replicate, length-range_with_len}
+use Rattle.std.proofs.lemmas.Bool.{cases_lt, false≢true, and_from, lt-ltb}
+use Rattle.std.proofs.lemmas.Int.{ints, fits_signed_from_abs, to_z-of_z}
+use Rattle.std.proofs.lemmas.List.{get_or-replicate}
+use Rattle.std.proofs.lemmas.List.FromFn.{length-range_with_len}
 use Rattle.std.proofs.lemmas.List.Elements.{All-replicate}
 use Rattle.std.proofs.lemmas.List.Sums.{sum_by-cons}
 use Rattle.break_rules.specs.declared.Break.{Break}
@@ -12,8 +13,9 @@ use Rattle.break_rules.proofs.Lists.{from_below}
 use Rattle.break_rules.proofs.Sums.{int_sum_by-same, int_sum_by-cons}
 use Rattle.price_sums.specs.Along.{AreSmallPrices}
 use Rattle.shift_instance.specs.declared.Duty.{Duty}
-use Rattle.shift_instance.specs.Problem.{Problem, slots, below}
+use Rattle.shift_instance.specs.Problem.{Problem, slots, shift_list, below}
 use Rattle.shift_instance.specs.Rota.{works, is_list_of, is_legal_duty}
+use Rattle.shift_instance.specs.Valid.{IsValid}
 use Rattle.shift_instance.specs.Worth.{price_of, earned, worth, IsBest}
 use Rattle.shift_instance.proofs.Rotas.{legal_duty_parts}
 use Rattle.pricing.specs.Days.{AreMostByDay, IsMostOn}
@@ -99,8 +101,9 @@ most_of_none i s none = record {
 few_worked : (i : Problem) (d : Duty) → worked_slots i d ≤ slots i
 few_worked i d = few (λ t. works i d t) (below (slots i)) (slots i) (length-range_with_len 0 (slots i))
   where
-    few : (p : ℕ → Bool) (xs : List ℕ) (n : ℕ) → length xs ≡ n → count_by p xs ≤ n
-    few p xs n e = let h : count_by p xs ≤ length xs = at_most p xs in omega arith
+    bit : (b : Bool) → cond b 1 0 ≤ 1
+    bit true = omega arith
+    bit false = omega arith
 
     at_most : (p : ℕ → Bool) (xs : List ℕ) → count_by p xs ≤ length xs
     at_most p [] = omega arith
@@ -110,9 +113,61 @@ few_worked i d = few (λ t. works i d t) (below (slots i)) (slots i) (length-ran
         let small : cond (p x) 1 0 ≤ 1 = bit (p x) in
         omega arith
 
-    bit : (b : Bool) → cond b 1 0 ≤ 1
-    bit true = omega arith
-    bit false = omega arith
+    few : (p : ℕ → Bool) (xs : List ℕ) (n : ℕ) → length xs ≡ n → count_by p xs ≤ n
+    few p xs n e = let h : count_by p xs ≤ length xs = at_most p xs in omega arith
 
 pub few_most : (i : Problem) (most : ℕ) → IsMostWorked i most → most ≤ slots i
 few_most i most m = m.least (slots i) (λ d legal. few_worked i d)
+
+-- so the values of a shift are small, and are read as they are
+pub small_values : (i : Problem) (s : ℕ) (values : List ℤ) → IsValid i → AreMostByDay i s (ones i) i.days values → (day : ℕ) → day < i.days → unsigned_abs (get_or values day (pos 0)) ≤ 2016
+small_values i s values valid by day h =
+    let m : IsMostOn i s day (ones i) (get_or values day (pos 0)) = by.each day h in
+    few (unsigned_abs (get_or values day (pos 0))) (worked_slots i (with s day m.0)) (slots i) (best_is i s day m.0 (get_or values day (pos 0)) m.1) (few_worked i (with s day m.0)) valid.few_slots
+  where
+    few : (a b n : ℕ) → a ≡ b → b ≤ n → n ≤ 2016 → a ≤ 2016
+    few a b n e h g = omega arith
+
+pub narrow : (z : ℤ) → unsigned_abs z ≤ 2016 → to_z w64 (of_z w64 z) ≡ z
+narrow z small = to_z-of_z w64 z (fits_signed_from_abs w64 z (omega arith))
+
+-- the greatest of some numbers, with one more
+pub greatest_each : (f : ℕ → ℕ) (k most value next : ℕ) → next ≡ max most value → value ≡ f k → ((n : ℕ) → n < k → f n ≤ most) → (n : ℕ) → n < k + 1 → f n ≤ next
+greatest_each f k most value next e is each n h =
+    elim (cases_lt n k) [
+      | inl old ↦ let z : f n ≤ most = each n old in omega arith
+      | inr new ↦ let z : f k ≡ f n = ap f (omega arith) in omega arith
+    ]
+
+-- the most slots in which duties of the first shifts work
+pub record IsMostBelow (i : Problem) (shifts most : ℕ) : Type 0 where
+  pub each : (d : Duty) → is_legal_duty i d ≡ true → d.shift < shifts → worked_slots i d ≤ most
+  pub least : (n : ℕ) → ((d : Duty) → is_legal_duty i d ≡ true → d.shift < shifts → worked_slots i d ≤ n) → most ≤ n
+
+pub none_below : (i : Problem) → IsMostBelow i 0 0
+none_below i = record { each = λ d legal h. absurd (omega arith); least = λ n above. omega arith }
+
+pub one_below : (i : Problem) (s most of next : ℕ) → IsMostBelow i s most → IsMostOf i s of → next ≡ max most of → IsMostBelow i (s + 1) next
+one_below i s most of next before here e = record {
+  each = λ d legal h. elim (cases_lt d.shift s) [
+    | inl old ↦ let z : worked_slots i d ≤ most = before.each d legal old in above (worked_slots i d) most of next e (inl z)
+    | inr new ↦ let same : d.shift ≡ s = omega arith in let z : worked_slots i d ≤ of = here.each d legal same in above (worked_slots i d) most of next e (inr z)
+  ];
+  least = λ n all.
+    let a : most ≤ n = before.least n (λ d legal h. all d legal (omega arith)) in
+    let b : of ≤ n = here.least n (λ d legal same. all d legal (omega arith)) in
+    both most of next n e a b;
+}
+  where
+    above : (a b c d : ℕ) → d ≡ max b c → (a ≤ b) ⊎ (a ≤ c) → a ≤ d
+    above a b c d e (inl h) = omega arith
+    above a b c d e (inr h) = omega arith
+
+    both : (b c d n : ℕ) → d ≡ max b c → b ≤ n → c ≤ n → d ≤ n
+    both b c d n e h g = omega arith
+
+pub all_below : (i : Problem) (shifts most : ℕ) → shifts ≡ length (shift_list i) → IsMostBelow i shifts most → IsMostWorked i most
+all_below i shifts most e m = record {
+  each = λ d legal. m.each d legal (subst (λ (n : ℕ). d.shift < n) (sym e) (legal_duty_parts i d legal).shift);
+  least = λ n above. m.least n (λ d legal h. above d legal);
+}

@@ -11,11 +11,12 @@ use std::alloc::Global;
 
 /// The greatest of the first numbers of a lane by its size, and 0 where there is none.
 fn greatest_of(lane: &Lane, days: u8) -> u64
-    requires { days ≤ 8 }
+    requires days { days ≤ 8 }
+    requires small { (day : ℕ) → day < days → unsigned_abs (slice_index_or lane.now day (pos 0)) ≤ 2016 }
     ensures each { (day : ℕ) → day < days → unsigned_abs (slice_index_or lane.now day (pos 0)) ≤ result }
     ensures least { (n : ℕ) → ((day : ℕ) → day < days → unsigned_abs (slice_index_or lane.now day (pos 0)) ≤ n) → result ≤ n }
 {
-    let mut greatest = 0;
+    let mut greatest = 0u64;
     for day in 0..days {
         let value = lane[usize::from(day)].unsigned_abs();
         greatest = greatest.max(value);
@@ -50,7 +51,7 @@ pub fn most_worked(alloc: Global, instance: &Instance) -> Result<u64, NoMemory>
     let prices: Vec<i64> = vec![in alloc; 1; instance.slots()]?;
     let sums = DaySums::new(alloc, instance, &prices)?;
     let mut lanes = Vec::new(alloc);
-    let mut most = 0;
+    let mut most = 0u64;
     let shifts = instance.shifts().len() as u16;
     for shift in 0..shifts {
         let of_shift = most_of_shift(alloc, instance, shift, &sums, &mut lanes)?;
