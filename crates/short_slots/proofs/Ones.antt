@@ -1,6 +1,6 @@
 -- What duties are worth at prices of 1 for all slots.
-use Rattle.std.proofs.Common.{◌≡◌, ◌⊎◌, inl, inr, max, ◌^◌, to_z, of_z, w64, ℕ, ◌+◌, ◌<◌, ◌≤◌, ℤ, pos, ◌+ℤ◌, ◌≤ℤ◌, Bool, true, false, cond, nat_lt, List, [], ◌∷◌, length, Option, Some, None, All, get_or, refl, sym, ap, ◌∙◌, subst, arith, sum_by, count_by}
-use Rattle.std.specs.Prelude.{unsigned_abs, MatchOption}
+use Rattle.std.proofs.Common.{◌≡◌, ◌⊎◌, inl, inr, max, to_z, of_z, w64, ℕ, ◌+◌, ◌<◌, ◌≤◌, ℤ, pos, ◌+ℤ◌, ◌≤ℤ◌, Bool, true, false, cond, nat_lt, List, [], ◌∷◌, length, get_or, refl, sym, ap, ◌∙◌, subst, arith, count_by}
+use Rattle.std.specs.Prelude.{unsigned_abs}
 use Rattle.std.proofs.lemmas.Bool.{cases_lt, false≢true, and_from, lt-ltb}
 use Rattle.std.proofs.lemmas.Int.{ints, fits_signed_from_abs, to_z-of_z}
 use Rattle.std.proofs.lemmas.List.{get_or-replicate}

@@ -1,4 +1,4 @@
-use Rattle.std.proofs.Common.{◌≡◌, ◌+◌, ◌*◌, ◌<◌, ◌≤◌, Fits, w64, arith}
+use Rattle.std.proofs.Common.{◌≡◌, ◌*◌, ◌≤◌, arith}
 use Rattle.std.proofs.Math.Nat.{mul-le-mul_left}
 use Rattle.shift_instance.specs.Problem.{slots}
 use Rattle.short_slots.proofs.Ones.{few_most}
