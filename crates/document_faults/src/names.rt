@@ -80,7 +80,8 @@ impl<'a> Walk<'a> {
         let (again, _) = line_and_column(self.document, again.first);
         let text = from_utf8(name.bytes(self.document)).unwrap_or("");
         let name = String::from_str(self.alloc, text)?;
-        self.found.push(RepeatedName { name, line, again })
+        self.found.push(RepeatedName { name, line, again })?;
+        Ok(())
     }
 
     /// Goes on behind a name. It is told once for an object that it is repeated.
@@ -96,7 +97,8 @@ impl<'a> Walk<'a> {
             .iter()
             .position(|other| other.bytes(document) == bytes)
         else {
-            return open.names.push(name);
+            open.names.push(name)?;
+            return Ok(());
         };
         let before = open.names[at];
         open.names[at].is_told = true;
@@ -109,20 +111,19 @@ impl<'a> Walk<'a> {
     /// Goes on behind a sign outside of texts.
     fn go_on(&mut self, byte: u8) -> Result<(), AllocError> {
         match byte {
-            b'{' => self.open.push(Open::new(self.alloc, true)),
-            b'[' => self.open.push(Open::new(self.alloc, false)),
+            b'{' => self.open.push(Open::new(self.alloc, true))?,
+            b'[' => self.open.push(Open::new(self.alloc, false))?,
             b'}' | b']' => {
                 let _ = self.open.pop();
-                Ok(())
             }
             b',' => {
                 if let Some(open) = self.open.last_mut() {
                     open.awaits_name = open.is_object;
                 }
-                Ok(())
             }
-            _ => Ok(()),
+            _ => {}
         }
+        Ok(())
     }
 
     /// Goes on behind one more byte.
@@ -164,6 +165,5 @@ pub fn repeated_names(alloc: Global, document: &[u8]) -> Result<Vec<RepeatedName
     for (at, byte) in document.iter().enumerate() {
         walk.step(at, *byte)?;
     }
-    let Walk { found, .. } = walk;
-    Ok(found)
+    Ok(walk.found)
 }

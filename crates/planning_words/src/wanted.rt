@@ -264,7 +264,8 @@ fn rules_words<'a>(matches: &ArgMatches<'a>) -> RulesWords<'a> {
 /// What is said where a word has a number that it doesn't take, as clap says what is wrong with words.
 fn no_number(alloc: Global, matches: &ArgMatches, word: NumberWord) -> Result<Error, AllocError> {
     let sentence = word.refusal(alloc, matches)?;
-    command(alloc)?.error(ErrorKind::ValueValidation, sentence.as_str())
+    let mut whole = command(alloc)?;
+    whole.error(ErrorKind::ValueValidation, sentence.as_str())
 }
 
 /// What the words of a command line ask for, the program's name first among them. The error is what clap says of other words, and the help

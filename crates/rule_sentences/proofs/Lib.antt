@@ -1,1 +1,1 @@
-mod Needs
+mod DayNeeds

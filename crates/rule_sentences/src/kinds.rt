@@ -286,7 +286,8 @@ fn push_work(kind: &TypeParts, list: &mut Vec<Clause>) -> Result<(), NoMemory>
     list.push(most_work(kind))?;
     list.push(rest(kind))?;
     list.push(least_work(kind))?;
-    list.push(ends(kind))
+    list.push(ends(kind))?;
+    Ok(())
 }
 
 /// Adds how long whoever comes back from a break doesn't count, if at all.
