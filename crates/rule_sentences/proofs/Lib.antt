@@ -1,1 +1,1 @@
-mod DayNeeds
+pub mod DayNeeds
