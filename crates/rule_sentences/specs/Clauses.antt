@@ -1,6 +1,6 @@
 -- What is said of a shift type, part by part. Source: this project's profile.
 use Rattle.std.specs.Prelude.{ℕ, Bool, not, ◌&&◌, ◌||◌, ◌==◌, nat_lt, nat_le, min, List, [], ◌∷◌, ◌++◌, if◌then◌else◌}
-use Rattle.std.specs.List.{list_all, list_any, flat_map}
+use Rattle.std.specs.List.{list_any, flat_map}
 use Rattle.break_rules.specs.declared.Lunch.{Lunch}
 use Rattle.break_rules.specs.Breaks.{total_of}
 use Rattle.shift_instance.specs.Kind.{Kind}
