@@ -268,6 +268,16 @@ fn no_number(alloc: Global, matches: &ArgMatches, word: NumberWord) -> Result<Er
     whole.error(ErrorKind::ValueValidation, sentence.as_str())
 }
 
+/// What the words behind `plan` ask for, or what is said of the first number that its word doesn't take.
+fn wanted_plan<'a>(alloc: Global, behind: &ArgMatches<'a>) -> Result<Wanted<'a>, Error>
+    ensures { IfOk result IsWithin }
+{
+    match plan_words(behind) {
+        Ok(words) => Ok(Wanted::Plan(words)),
+        Err(word) => Err(no_number(alloc, behind, word)?),
+    }
+}
+
 /// What the words of a command line ask for, the program's name first among them. The error is what clap says of other words, and the help
 /// where that is asked for.
 ///
@@ -278,15 +288,11 @@ pub fn wanted_by<'a>(alloc: Global, words: &'a [String]) -> Result<Wanted<'a>, E
     ensures { IfOk result IsWithin }
 {
     let matches = command(alloc)?.try_get_matches_from(words)?;
-    let behind = match matches.subcommand() {
-        Some(("show", behind)) => return Ok(Wanted::Show(show_words(behind))),
-        Some(("rules", behind)) => return Ok(Wanted::Rules(rules_words(behind))),
-        Some((_, behind)) => behind,
+    match matches.subcommand() {
+        Some(("show", behind)) => Ok(Wanted::Show(show_words(behind))),
+        Some(("rules", behind)) => Ok(Wanted::Rules(rules_words(behind))),
+        Some((_, behind)) => wanted_plan(alloc, behind),
         // one of the three is required
-        None => &matches,
-    };
-    match plan_words(behind) {
-        Ok(words) => Ok(Wanted::Plan(words)),
-        Err(word) => Err(no_number(alloc, behind, word)?),
+        None => wanted_plan(alloc, &matches),
     }
 }
