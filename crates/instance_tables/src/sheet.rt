@@ -141,6 +141,9 @@ impl Sheet {
         };
         let mut lines = text.lines();
         let first = lines.next().unwrap_or("");
+        if is_cut(first) {
+            return Err(ImportRefusal::Table(TableRefusal::of_row(table, 1, Why::Quotes)));
+        }
         let separator = if first.contains(';') { b';' } else { b',' };
         let Some(names) = cells_of(alloc, separator, first)? else {
             return Err(ImportRefusal::Table(TableRefusal::of_table(table, Why::NoColumns)));
