@@ -1,5 +1,5 @@
 -- The shift types of an instance as a table.
-use Rattle.std.specs.Prelude.{ℕ, Bool, ◌&&◌, ◌==◌, List, [], ◌∷◌, ◌++◌, codes, is_nil, if◌then◌else◌}
+use Rattle.std.specs.Prelude.{ℕ, Bool, ◌&&◌, ◌==◌, List, [], ◌∷◌, ◌++◌, codes, length, if◌then◌else◌}
 use Rattle.std.specs.List.{flat_map}
 use Rattle.csv.specs.Writing.{default_writer, row_text}
 use Rattle.table_records.specs.Guarding.{guarded}
@@ -12,7 +12,7 @@ use Rattle.instance_tables.specs.Times.{slots_text}
 abbrev pub is_plain : Rule → Bool
 is_plain r =
     (r.lead == 0) && (r.tail == 0) && (r.work_min == 1) && (r.work_max == 288) && (r.long_work == 288) && (r.long_rest == 1)
-    && (r.size_min == 1) && (r.size_max == 48) && (r.resettle == 0) && is_nil r.totals && is_nil r.lunches
+    && (r.size_min == 1) && (r.size_max == 48) && (r.resettle == 0) && (length r.totals == 0) && (length r.lunches == 0)
 
 -- the names of the columns of the types
 abbrev pub type_columns : List (List ℕ)

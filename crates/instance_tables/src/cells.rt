@@ -4,7 +4,7 @@ ghost use Rattle.std.specs.Prelude.{◌≤◌, IfOk};
 
 use crate::columns::{Column, Table};
 use crate::refusal::{ImportRefusal, TableRefusal, shown};
-use crate::spans::{digits, spelled};
+use crate::spans::{digits, span_in};
 use crate::why::Why;
 use std::alloc::Global;
 use table_records::unguarded;
@@ -65,16 +65,16 @@ impl<'a> Cell<'a> {
 
     /// The minutes that it spells as a time or a span.
     pub(crate) fn minutes(self, alloc: Global) -> Result<u64, ImportRefusal> {
-        match spelled(self.text) {
-            Some(spelled) => Ok(spelled.minutes),
+        match span_in(self.text) {
+            Some(span) => Ok(span.minutes),
             None => Err(self.refused(alloc, Why::Span)),
         }
     }
 
     /// The minutes of a part of a break rule, which are spelled with a colon, a decimal point or comma, or are 0.
     pub(crate) fn break_minutes(self, alloc: Global) -> Result<u64, ImportRefusal> {
-        match spelled(self.text) {
-            Some(spelled) if !spelled.is_bare => Ok(spelled.minutes),
+        match span_in(self.text) {
+            Some(span) if !span.is_bare => Ok(span.minutes),
             Some(_) => Err(self.refused(alloc, Why::Bare)),
             None => Err(self.refused(alloc, Why::Span)),
         }

@@ -1,9 +1,10 @@
 //! From tables to an instance.
 
-use crate::need::need;
+use crate::cells::Grid;
+use crate::need::read_need;
 use crate::refusal::ImportRefusal;
 use crate::rules::RuleTable;
-use crate::settings::settings;
+use crate::settings::read_settings;
 use crate::types::TypeTable;
 use shift_instance::{Instance, Parts};
 use std::alloc::Global;
@@ -24,7 +25,7 @@ pub struct Tables<'a> {
 /// The break rules of a table, if there is one.
 fn rules_of(
     alloc: Global,
-    grid: crate::cells::Grid,
+    grid: Grid,
     bytes: Option<&[u8]>,
 ) -> Result<Option<RuleTable>, ImportRefusal> {
     match bytes {
@@ -39,8 +40,8 @@ fn rules_of(
 /// line in turn whether it is a row, and then each row, cell by cell. The first refusal is answered, with the table, the row, the column,
 /// what stands there and what may stand there.
 pub fn imported(alloc: Global, tables: &Tables) -> Result<Instance, ImportRefusal> {
-    let settings = settings(alloc, tables.settings)?;
-    let need = need(alloc, &settings, tables.need)?;
+    let settings = read_settings(alloc, tables.settings)?;
+    let need = read_need(alloc, &settings, tables.need)?;
     let rules = rules_of(alloc, settings.grid, tables.rules)?;
     let types = TypeTable::read(alloc, tables.types)?;
     let parts = Parts {

@@ -54,7 +54,7 @@ fn note_row(
             Ok(())
         }
         // days and slots are within the period
-        None => Err(ImportRefusal::NoMemory),
+        None => Err(time.refused(alloc, Why::Instance)),
     }
 }
 
@@ -140,7 +140,7 @@ fn said_by(
 ///
 /// A row holds from its time on for a step, the same for all rows of a day: a slot, or several where rows are farther apart. A day has a
 /// row at every step, so that what was forgotten isn't filled in silence. Rows stand in any order.
-pub(crate) fn need(
+pub(crate) fn read_need(
     alloc: Global,
     settings: &Settings,
     bytes: &[u8],

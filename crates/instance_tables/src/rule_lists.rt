@@ -2,7 +2,7 @@
 
 use crate::cells::{Cell, Grid};
 use crate::refusal::ImportRefusal;
-use crate::spans::spelled;
+use crate::spans::span_in;
 use crate::why::Why;
 use break_rules::{Lunch, Lunches, Totals};
 use std::alloc::Global;
@@ -20,7 +20,7 @@ const TOTALS_MOST: usize = 16;
 const LUNCHES_MOST: usize = 2;
 
 /// The slots that a part of an entry spells, at most so many. The cell is refused where it spells none.
-fn part(
+fn part_in(
     alloc: Global,
     cell: Cell,
     grid: Grid,
@@ -28,36 +28,41 @@ fn part(
     most: u16,
     why: Why,
 ) -> Result<u16, ImportRefusal> {
-    match spelled(text) {
-        Some(spelled) if !spelled.is_bare => cell.slots(alloc, grid, spelled.minutes, 0, most),
+    match span_in(text) {
+        Some(span) if !span.is_bare => cell.slots(alloc, grid, span.minutes, 0, most),
         _ => Err(cell.refused(alloc, why)),
     }
 }
 
 /// An entry of break times: `8:00=1:00`.
-fn total(alloc: Global, cell: Cell, grid: Grid, entry: &str) -> Result<(u16, u16), ImportRefusal> {
+fn total_in(
+    alloc: Global,
+    cell: Cell,
+    grid: Grid,
+    entry: &str,
+) -> Result<(u16, u16), ImportRefusal> {
     let Some((from, breaks)) = entry.split_once('=') else {
         return Err(cell.refused(alloc, Why::Totals));
     };
-    let from = part(alloc, cell, grid, from, LENGTH_MOST, Why::Totals)?;
-    let breaks = part(alloc, cell, grid, breaks, BREAK_MOST, Why::Totals)?;
+    let from = part_in(alloc, cell, grid, from, LENGTH_MOST, Why::Totals)?;
+    let breaks = part_in(alloc, cell, grid, breaks, BREAK_MOST, Why::Totals)?;
     Ok((from, breaks))
 }
 
 /// The break times by length that a cell lists.
-pub(crate) fn totals(alloc: Global, cell: Cell, grid: Grid) -> Result<Totals, ImportRefusal> {
+pub(crate) fn totals_in(alloc: Global, cell: Cell, grid: Grid) -> Result<Totals, ImportRefusal> {
     let mut totals = Vec::new(alloc);
     for entry in cell.text.split_whitespace() {
         if TOTALS_MOST <= totals.len() {
             return Err(cell.refused(alloc, Why::Totals));
         }
-        totals.push(total(alloc, cell, grid, entry)?)?;
+        totals.push(total_in(alloc, cell, grid, entry)?)?;
     }
     Ok(Totals::new(totals))
 }
 
 /// An entry of lunches: `8:00=0:30@3:00-5:30`.
-fn lunch(alloc: Global, cell: Cell, grid: Grid, entry: &str) -> Result<Lunch, ImportRefusal> {
+fn lunch_in(alloc: Global, cell: Cell, grid: Grid, entry: &str) -> Result<Lunch, ImportRefusal> {
     let Some((from, behind)) = entry.split_once('=') else {
         return Err(cell.refused(alloc, Why::Lunches));
     };
@@ -68,21 +73,21 @@ fn lunch(alloc: Global, cell: Cell, grid: Grid, entry: &str) -> Result<Lunch, Im
         return Err(cell.refused(alloc, Why::Lunches));
     };
     Ok(Lunch {
-        from_len: part(alloc, cell, grid, from, LENGTH_MOST, Why::Lunches)?,
-        size: part(alloc, cell, grid, size, BREAK_MOST, Why::Lunches)?,
-        first: part(alloc, cell, grid, first, LENGTH_MOST, Why::Lunches)?,
-        last: part(alloc, cell, grid, last, LENGTH_MOST, Why::Lunches)?,
+        from_len: part_in(alloc, cell, grid, from, LENGTH_MOST, Why::Lunches)?,
+        size: part_in(alloc, cell, grid, size, BREAK_MOST, Why::Lunches)?,
+        first: part_in(alloc, cell, grid, first, LENGTH_MOST, Why::Lunches)?,
+        last: part_in(alloc, cell, grid, last, LENGTH_MOST, Why::Lunches)?,
     })
 }
 
 /// The lunches by length that a cell lists.
-pub(crate) fn lunches(alloc: Global, cell: Cell, grid: Grid) -> Result<Lunches, ImportRefusal> {
+pub(crate) fn lunches_in(alloc: Global, cell: Cell, grid: Grid) -> Result<Lunches, ImportRefusal> {
     let mut lunches = Vec::new(alloc);
     for entry in cell.text.split_whitespace() {
         if LUNCHES_MOST <= lunches.len() {
             return Err(cell.refused(alloc, Why::Lunches));
         }
-        lunches.push(lunch(alloc, cell, grid, entry)?)?;
+        lunches.push(lunch_in(alloc, cell, grid, entry)?)?;
     }
     Ok(Lunches::new(lunches))
 }

@@ -3,7 +3,7 @@
 use crate::cells::{Cell, Grid};
 use crate::columns::{Column, Table};
 use crate::refusal::ImportRefusal;
-use crate::rule_lists::{lunches, totals};
+use crate::rule_lists::{lunches_in, totals_in};
 use crate::sheet::{Sheet, SheetRow};
 use crate::why::Why;
 use break_rules::{Rule, RuleFault};
@@ -152,8 +152,8 @@ impl RuleTable {
             long_rest: self.part(alloc, row, Column::LongRest)?,
             size_min: self.part(alloc, row, Column::SizeMin)?,
             size_max: self.part(alloc, row, Column::SizeMax)?,
-            totals: totals(alloc, self.sheet.cell(row, Column::Totals), self.grid)?,
-            lunches: lunches(alloc, self.sheet.cell(row, Column::Lunches), self.grid)?,
+            totals: totals_in(alloc, self.sheet.cell(row, Column::Totals), self.grid)?,
+            lunches: lunches_in(alloc, self.sheet.cell(row, Column::Lunches), self.grid)?,
             resettle: self.part(alloc, row, Column::Resettle)?,
         })
     }

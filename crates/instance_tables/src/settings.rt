@@ -1,10 +1,8 @@
 //! The settings of an instance, as a table has them.
 
-ghost use Rattle.std.specs.Prelude.{◌≤◌, IfOk};
-
 use crate::cells::{Cell, Grid};
 use crate::columns::{Column, Table};
-use crate::refusal::ImportRefusal;
+use crate::refusal::{ImportRefusal, TableRefusal};
 use crate::sheet::Sheet;
 use crate::why::Why;
 use std::alloc::Global;
@@ -31,27 +29,27 @@ pub(crate) struct Settings {
 
 /// The slots that a cell says how long they are.
 fn grid_in(alloc: Global, cell: Cell) -> Result<Grid, ImportRefusal> {
-    let day_slots = match cell.text {
-        "5" => 288,
-        "10" => 144,
-        "15" => 96,
-        "20" => 72,
-        "30" => 48,
-        "60" => 24,
+    let (slot_minutes, day_slots) = match cell.text {
+        "5" => (5, 288),
+        "10" => (10, 144),
+        "15" => (15, 96),
+        "20" => (20, 72),
+        "30" => (30, 48),
+        "60" => (60, 24),
         _ => return Err(cell.refused(alloc, Why::SlotMinutes)),
     };
     Ok(Grid {
-        slot_minutes: 1440 / day_slots,
+        slot_minutes,
         day_slots,
     })
 }
 
 /// The settings that a table states in its one row.
-pub(crate) fn settings(alloc: Global, bytes: &[u8]) -> Result<Settings, ImportRefusal> {
+pub(crate) fn read_settings(alloc: Global, bytes: &[u8]) -> Result<Settings, ImportRefusal> {
     let sheet = Sheet::read(alloc, Table::Settings, bytes)?;
     let rows = sheet.rows(1)?;
     let Some(row) = rows.first() else {
-        return Err(ImportRefusal::NoMemory);
+        return Err(ImportRefusal::Table(TableRefusal::of_table(Table::Settings, Why::NoRows)));
     };
     let grid = grid_in(alloc, sheet.cell(row, Column::SlotMinutes))?;
     let days = sheet.cell(row, Column::Days).number(alloc, 1, 7)?;

@@ -4,7 +4,7 @@ ghost use Rattle.std.specs.Prelude.{◌<◌};
 
 /// A span of time as it is spelled.
 #[derive(Clone, Copy, PartialEq, Eq, Drop)]
-pub(crate) struct Spelled {
+pub(crate) struct Span {
     /// Its minutes.
     pub(crate) minutes: u64,
     /// Whether it is a whole number of hours without a colon, a point or a comma.
@@ -67,7 +67,7 @@ fn decimal_minutes(hours: &str, behind: &str) -> Option<u64> {
 }
 
 /// The span of time that a text spells: `6:30`, `06:30`, `06:30:00`, `6.5`, `6,5` or `6`.
-pub(crate) fn spelled(text: &str) -> Option<Spelled> {
+pub(crate) fn span_in(text: &str) -> Option<Span> {
     let minutes = if let Some((hours, behind)) = text.split_once(':') {
         clock_minutes(hours, behind)?
     } else if let Some((hours, behind)) = text.split_once('.') {
@@ -76,12 +76,12 @@ pub(crate) fn spelled(text: &str) -> Option<Spelled> {
         decimal_minutes(hours, behind)?
     } else {
         let hours = digits(text, DIGITS_MOST)?;
-        return Some(Spelled {
+        return Some(Span {
             minutes: u64::from(hours) * 60,
             is_bare: hours != 0,
         });
     };
-    Some(Spelled {
+    Some(Span {
         minutes,
         is_bare: false,
     })

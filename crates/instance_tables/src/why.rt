@@ -95,6 +95,7 @@ fn write_of_file<W: fmt::Write>(why: Why, f: &mut fmt::Formatter<W>) -> fmt::Res
         ),
         Why::Beyond => f.write_str("it stands in a column that the first line doesn't name"),
         Why::NoRows => f.write_str("there is no row below the names of the columns"),
+        Why::TooManyRows { most: 1 } => f.write_str("the table has one row below the names"),
         Why::TooManyRows { most } => write!(f, "the table has at most {most} rows below the names"),
         _ => f.write_str("the numbers make no instance"),
     }

@@ -44,7 +44,10 @@ fn instance_of(rt: HostRuntime, folder: &str) -> Result<Instance, Refusal> {
         settings: settings.as_slice(),
         need: need.as_slice(),
         types: types.as_slice(),
-        rules: rules.as_ref().map(|bytes| bytes.as_slice()),
+        rules: match &rules {
+            Some(bytes) => Some(bytes.as_slice()),
+            None => None,
+        },
     };
     match imported(alloc, &tables) {
         Ok(instance) => Ok(instance),
