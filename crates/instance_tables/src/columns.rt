@@ -3,7 +3,7 @@
 use std::fmt;
 
 /// A table of an instance.
-#[derive(Clone, Copy, Debug, PartialEq, Eq, Drop)]
+#[derive(Clone, Copy, Debug, PartialEq, Drop)]
 pub enum Table {
     /// The length of a slot, the days, the weights and the greatest heads: one row.
     Settings,
@@ -16,7 +16,7 @@ pub enum Table {
 }
 
 /// A column of a table.
-#[derive(Clone, Copy, Debug, PartialEq, Eq, Drop)]
+#[derive(Clone, Copy, Debug, PartialEq, Drop)]
 pub enum Column {
     /// The minutes of a slot.
     SlotMinutes,
@@ -135,10 +135,12 @@ impl Table {
 
     /// The column of it that has a name, if one has.
     pub(crate) fn column_named(self, name: &str) -> Option<Column> {
-        self.columns()
-            .iter()
-            .find(|column| column.is_named(name))
-            .copied()
+        for column in self.columns() {
+            if column.is_named(name) {
+                return Some(*column);
+            }
+        }
+        None
     }
 }
 

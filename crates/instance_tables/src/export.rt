@@ -1,5 +1,5 @@
 //! From an instance to its tables.
-ghost use Rattle.std.specs.Prelude.{◌≡◌, ◌<◌, ◌++◌, ◌*◌, IfOk, string_bytes};
+ghost use Rattle.std.specs.Prelude.{◌≡◌, ◌<◌, ◌≤◌, ◌++◌, IfOk, string_bytes};
 ghost use Rattle.std.specs.List.{flat_map};
 ghost use Rattle.csv.specs.Writing.{default_writer, row_text};
 ghost use Rattle.shift_instance.specs.Problem.{day_slots, slots};
@@ -69,11 +69,23 @@ fn settings_table(alloc: Global, parts: &Parts) -> Result<Vec<u8>, NoMemory>
 }
 
 /// How many slots a day has.
-fn day_slots(parts: &Parts) -> usize
-    requires { 0 < parts.now.slot_minutes }
-    ensures { result ≡ day_slots parts.now }
+fn day_slots(instance: &Instance) -> usize
+    ensures slots { result ≡ day_slots instance.now }
+    ensures few { result ≤ 288 }
 {
+    let parts = instance.parts();
     1440 / usize::from(parts.slot_minutes)
+}
+
+/// When a slot begins, counted from the beginning of its day.
+fn time_of_slot(alloc: Global, instance: &Instance, slot: u32) -> Result<String, NoMemory>
+    ensures { IfOk result (λ text. string_bytes text ≡ slots_text instance.now.slot_minutes slot) }
+{
+    let parts = instance.parts();
+    let time = HoursMinutes {
+        minutes: u64::from(slot) * u64::from(parts.slot_minutes),
+    };
+    time.to_string(alloc)
 }
 
 /// Adds the row of a slot.
@@ -86,14 +98,10 @@ fn with_slot(
     requires { t < slots instance.now }
     ensures { IfOk result (λ r. r ≡ records ++ row_text default_writer (need_fields instance.now t)) }
 {
-    let parts = instance.parts();
     let wanted = instance.need(t);
-    let per_day = day_slots(parts);
+    let per_day = day_slots(instance);
     let day = (t / per_day + 1).to_string(alloc)?;
-    let time = HoursMinutes {
-        minutes: (t % per_day) as u64 * u64::from(parts.slot_minutes),
-    };
-    let time = time.to_string(alloc)?;
+    let time = time_of_slot(alloc, instance, (t % per_day) as u32)?;
     let need = wanted.to_string(alloc)?;
     records.with(&[day.as_bytes(), time.as_bytes(), need.as_bytes()])
 }

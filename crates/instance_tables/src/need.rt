@@ -12,7 +12,7 @@ use std::alloc::Global;
 const NEED_MOST: u32 = 10_000;
 
 /// What a row says of the slot from which on it holds.
-#[derive(Clone, Copy, PartialEq, Eq, Drop)]
+#[derive(Clone, Copy, Drop)]
 struct Said {
     /// The number of the row.
     row: u64,
@@ -43,7 +43,7 @@ fn note_row(
     let at = u64::from(day - 1) * u64::from(settings.grid.day_slots) + u64::from(slot);
     match said.get_mut(at as usize) {
         Some(place) => {
-            if let Some(before) = place {
+            if let Some(before) = *place {
                 let why = Why::Twice { row: before.row };
                 return Err(time.refused(alloc, why));
             }
@@ -130,7 +130,7 @@ fn said_by(
 ) -> Result<Vec<Option<Said>>, ImportRefusal> {
     let slots = u64::from(settings.days) * u64::from(settings.grid.day_slots);
     let mut said = vec![in alloc; None; slots as usize]?;
-    for row in sheet.rows(u64::MAX)? {
+    for row in sheet.rows(usize::MAX)? {
         note_row(alloc, said.as_mut_slice(), settings, sheet, row)?;
     }
     Ok(said)

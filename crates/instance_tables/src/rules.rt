@@ -16,6 +16,9 @@ const LENGTH_MOST: u16 = 288;
 /// The greatest length of a break, in slots.
 const BREAK_MOST: u16 = 48;
 
+/// The most break rules of a table.
+const RULES_MOST: usize = 256;
+
 /// The break rules that a table states.
 #[derive(Drop)]
 pub(crate) struct RuleTable {
@@ -53,7 +56,7 @@ fn part_of(column: Column) -> Part {
 }
 
 /// The column of a rule in which a fault of it stands, and why it is refused.
-pub(crate) fn place_of(fault: RuleFault) -> (Column, Why) {
+fn place_of(fault: RuleFault) -> (Column, Why) {
     match fault {
         RuleFault::WorkRange => (
             Column::WorkMin,
@@ -85,6 +88,7 @@ impl RuleTable {
             sheet: Sheet::read(alloc, Table::Rules, bytes)?,
             grid,
         };
+        table.sheet.see_most(RULES_MOST)?;
         for row in table.sheet.every_row() {
             table.see_name(alloc, row)?;
             let _rule = table.rule(alloc, row)?;

@@ -172,14 +172,14 @@ impl Sheet {
         if is_cut(line) {
             return Err(ImportRefusal::Table(TableRefusal::of_row(self.table, number, Why::Quotes)));
         }
-        match cells_of(alloc, separator, line)? {
-            Some(cells) if has_text(&cells) => {
-                self.see_places(alloc, number, &cells)?;
-                self.rows.push(SheetRow { number, cells })?;
-                Ok(())
-            }
-            _ => Ok(()),
+        let Some(cells) = cells_of(alloc, separator, line)? else {
+            return Ok(());
+        };
+        if has_text(&cells) {
+            self.see_places(alloc, number, &cells)?;
+            self.rows.push(SheetRow { number, cells })?;
         }
+        Ok(())
     }
 
     /// Refuses a row with a text in a place that no column has.
@@ -208,16 +208,21 @@ impl Sheet {
         Ok(())
     }
 
-    /// Its rows, from the first; there is one at least, and there are at most so many.
-    pub(crate) fn rows(&self, most: u64) -> Result<&[SheetRow], ImportRefusal> {
-        let mut left = most;
-        for row in &self.rows {
-            if left == 0 {
-                let why = Why::TooManyRows { most };
-                return Err(ImportRefusal::Table(TableRefusal::of_row(self.table, row.number, why)));
-            }
-            left -= 1;
+    /// Refuses the first row behind so many, if there is one.
+    pub(crate) fn see_most(&self, most: usize) -> Result<(), ImportRefusal> {
+        match self.rows.as_slice().get(most) {
+            Some(row) => Err(ImportRefusal::Table(TableRefusal::of_row(
+                self.table,
+                row.number,
+                Why::TooManyRows { most: most as u64 },
+            ))),
+            None => Ok(()),
         }
+    }
+
+    /// Its rows, from the first; there is one at least, and there are at most so many.
+    pub(crate) fn rows(&self, most: usize) -> Result<&[SheetRow], ImportRefusal> {
+        self.see_most(most)?;
         if self.rows.is_empty() {
             return Err(ImportRefusal::Table(TableRefusal::of_table(self.table, Why::NoRows)));
         }

@@ -11,7 +11,7 @@ use std::alloc::{AllocError, Global};
 use std::str::from_utf8;
 
 /// The most types.
-const TYPES_MOST: u64 = 16;
+const TYPES_MOST: usize = 16;
 
 /// The shift types that a table states.
 #[derive(Drop)]
@@ -42,7 +42,7 @@ impl TypeTable {
     /// The shift types that a table states.
     pub(crate) fn read(alloc: Global, bytes: &[u8]) -> Result<TypeTable, ImportRefusal> {
         let sheet = Sheet::read(alloc, Table::Types, bytes)?;
-        sheet.rows(TYPES_MOST)?;
+        let _rows = sheet.rows(TYPES_MOST)?;
         Ok(TypeTable { sheet })
     }
 

@@ -5,7 +5,7 @@ use crate::hours::HoursMinutes;
 use std::fmt;
 
 /// Why a table is refused where it is. Times and spans are minutes.
-#[derive(Clone, Copy, Debug, PartialEq, Eq, Drop)]
+#[derive(Clone, Copy, Debug, Drop)]
 pub enum Why {
     /// The file is no text in UTF-8.
     Encoding,
