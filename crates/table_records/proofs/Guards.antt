@@ -1,5 +1,5 @@
 -- A guarded text is read as the text that was guarded.
-use Rattle.std.proofs.Common.{◌≡◌, ℕ, Bool, true, false, ◌==◌, ◌&&◌, List, [], ◌∷◌, refl, sym, ap, ◌∙◌, if◌then◌else◌}
+use Rattle.std.proofs.Common.{◌≡◌, ℕ, Bool, true, false, List, [], ◌∷◌, refl, ap, arith, if◌then◌else◌}
 use Rattle.table_records.specs.Guarding.{begins_guarded, guarded, unguarded}
 
 -- a text that is guarded
@@ -9,7 +9,7 @@ comes_off first rest e = ap (λ (b : Bool). if b then first ∷ rest else 39 ∷
 -- a text that isn't, since it begins with no guard either
 stays : (first : ℕ) (rest : List ℕ) → begins_guarded first ≡ false → unguarded (first ∷ rest) ≡ first ∷ rest
 stays first [] e = refl
-stays first (second ∷ rest) e = grind e
+stays first (second ∷ rest) e = grind arith
 
 pub come_off : (text : List ℕ) → unguarded (guarded text) ≡ text
 come_off [] = refl

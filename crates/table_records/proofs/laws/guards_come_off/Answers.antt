@@ -1,5 +1,3 @@
-use Rattle.std.proofs.Common.{◌≡◌, ℕ, Bool, true, false, List, [], ◌∷◌, refl, ap, ◌∙◌, if◌then◌else◌}
-use Rattle.table_records.specs.Guarding.{begins_guarded, guarded, unguarded}
 use Rattle.table_records.proofs.Guards.{come_off}
 use Rattle.table_records.proofs.laws.guards_come_off.Goals as goal
 
