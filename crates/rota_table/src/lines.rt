@@ -1,8 +1,8 @@
 //! The rota of a plan as a table.
 ghost use Rattle.std.specs.Prelude.{◌≡◌, ◌<◌, ◌++◌, IfOk, IsTrue, length};
 ghost use Rattle.shift_instance.specs.Problem.{shift_list};
-ghost use Rattle.shift_instance.specs.Rota.{are_legal_rows};
-ghost use Rattle.rota_table.specs.Lines.{most_breaks, rota_text, row_records};
+ghost use Rattle.shift_instance.specs.Rota.{are_legal_rows, duty_of};
+ghost use Rattle.rota_table.specs.Lines.{duty_record, most_breaks, rota_text, row_records};
 
 use crate::fields::{duty_fields, rota_columns};
 use break_rules::NoMemory;
@@ -22,6 +22,22 @@ fn most_breaks(rows: &Rows) -> usize
     most
 }
 
+/// Adds the record of one duty of a row, with columns for so many breaks.
+fn with_duty(
+    alloc: Global,
+    records: Records,
+    instance: &Instance,
+    most: usize,
+    row: &Row,
+) -> Result<Records, NoMemory>
+    requires { row.now.shift < length (shift_list instance.now) }
+    ensures { IfOk result (λ r. r ≡ records ++ duty_record instance.now most (duty_of row.now)) }
+{
+    let shift = instance.shift(row.shift);
+    let fields = duty_fields(alloc, instance, most, shift, row)?;
+    records.with_texts(alloc, fields.as_slice())
+}
+
 /// Adds the records of the duties of a row, with columns for so many breaks.
 fn with_row(
     alloc: Global,
@@ -33,11 +49,9 @@ fn with_row(
     requires { row.now.shift < length (shift_list instance.now) }
     ensures { IfOk result (λ r. r ≡ records ++ row_records instance.now most row.now) }
 {
-    let shift = instance.shift(row.shift);
-    let fields = duty_fields(alloc, instance, most, shift, row)?;
     let mut records = records;
     for _ in 0..row.count {
-        records = records.with_texts(alloc, fields.as_slice())?;
+        records = with_duty(alloc, records, instance, most, row)?;
     }
     Ok(records)
 }
