@@ -102,8 +102,8 @@ impl<'a> Cell<'a> {
             Ok(slots) if least <= slots && slots <= most => Ok(slots),
             _ => {
                 let why = Why::Within {
-                    least: u64::from(least) * slot_minutes,
-                    most: u64::from(most) * slot_minutes,
+                    least: u64::from(least).saturating_mul(slot_minutes),
+                    most: u64::from(most).saturating_mul(slot_minutes),
                 };
                 Err(self.refused(alloc, why))
             }

@@ -40,7 +40,10 @@ fn note_row(
     let time = sheet.cell(row, Column::Time);
     let slot = slot_in(alloc, settings.grid, time)?;
     let need = sheet.cell(row, Column::Need).number(alloc, 0, NEED_MOST)?;
-    let at = u64::from(day - 1) * u64::from(settings.grid.day_slots) + u64::from(slot);
+    let days = u64::from(day - 1);
+    let at = days
+        .saturating_mul(u64::from(settings.grid.day_slots))
+        .saturating_add(u64::from(slot));
     match said.get_mut(at as usize) {
         Some(place) => {
             if let Some(before) = *place {

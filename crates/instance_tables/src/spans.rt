@@ -63,7 +63,8 @@ fn decimal_minutes(hours: &str, behind: &str) -> Option<u64> {
     if parts % one != 0 {
         return None;
     }
-    Some(u64::from(hours) * 60 + parts / one)
+    let whole = u64::from(hours) * 60;
+    Some(whole.saturating_add(parts / one))
 }
 
 /// The span of time that a text spells: `6:30`, `06:30`, `06:30:00`, `6.5`, `6,5` or `6`.
