@@ -25,7 +25,7 @@ pub(crate) fn minutes_hint(
     )
 }
 
-/// What is said of a list of needs that isn't as long as the planning period.
+/// What is said of a list of needs, or of their greatest numbers, that isn't as long as the planning period.
 fn need_length(
     alloc: Global,
     document: Option<&Value>,
@@ -174,6 +174,19 @@ fn need(alloc: Global, document: Option<&Value>, slot: u64) -> Result<String, Al
     format!(in alloc; " is {found}, and a slot needs from 0 to 10,000 employees")
 }
 
+/// What is said of a band that ends below its need, or is too large.
+fn band(alloc: Global, document: Option<&Value>, slot: u64) -> Result<String, AllocError> {
+    let least = number(entries(member(document, "need")).get(slot as usize));
+    let most = number(entries(member(document, "need_max")).get(slot as usize));
+    let minute = slot.saturating_mul(minutes_of(document));
+    let day = (minute / DAY).saturating_add(1);
+    let (hour, rest) = (minute % DAY / 60, minute % 60);
+    let zero = if rest < 10 { "0" } else { "" };
+    format!(in alloc;
+        " is {most} and need[{slot}] is {least}, for the slot of day {day} that begins at {hour}:{zero}{rest}; the most wanted employees are from the need to 10,000"
+    )
+}
+
 /// What is said of numbers that make no instance, behind their place.
 pub(crate) fn invalid(
     alloc: Global,
@@ -193,6 +206,10 @@ pub(crate) fn invalid(
             need_length(alloc, document, *found, *wanted)
         }
         InstanceFault::NeedTooLarge { slot } => need(alloc, document, *slot),
+        InstanceFault::BandLength { found, wanted } => {
+            need_length(alloc, document, *found, *wanted)
+        }
+        InstanceFault::Band { slot } => band(alloc, document, *slot),
         InstanceFault::Weight => weight(alloc, document),
         InstanceFault::Heads => {
             let found = number_of(document, "max_heads");

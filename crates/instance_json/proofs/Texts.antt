@@ -1,13 +1,14 @@
 -- The canonical text's value, and that it has no float.
-use Rattle.std.proofs.Common.{◌≡◌, false, List, [], ◌∷◌, map, refl, ap}
+use Rattle.std.specs.Prelude.{if◌then◌else◌}
+use Rattle.std.proofs.Common.{◌≡◌, Bool, true, false, codes, List, [], ◌∷◌, map, refl, ap}
 use Rattle.break_rules.specs.declared.Rule.{Rule}
 use Rattle.shift_instance.specs.Kind.{Kind}
 use Rattle.shift_instance.specs.Problem.{Problem}
-use Rattle.serde_json.specs.Data.{Data, item}
+use Rattle.serde_json.specs.Data.{Data, object, item, Members, no_members, put}
 use Rattle.serde_json.specs.View.{view, items_view}
 use Rattle.serde_json.specs.Written.{has_float, items_have_float}
 use Rattle.serde_json.specs.declared.value.Value.{Value}
-use Rattle.instance_json.specs.Canonical.{items_data, number_data, total_data, lunch_data, rule_data, kind_data, weights_data, document_data}
+use Rattle.instance_json.specs.Canonical.{items_data, number_data, list_data, total_data, lunch_data, rule_data, kind_data, weights_data, is_banded, document_stating, document_data}
 
 -- the items of a list of values
 pub items_of_values : (vs : List Value) → items_view vs ≡ items_data (map view vs)
@@ -26,7 +27,32 @@ has_float-kind : (k : Kind) → has_float (kind_data k) ≡ false
 unfolding kind_data
 has_float-kind k = rw (has_float-rule k.rule)
 
+-- the members of a document, put one after another: those up to the needs, and those behind the bands
+abbrev pub front_put : Problem → Members
+front_put p = put (codes "need") (list_data (map number_data p.need)) (put (codes "max_heads") (number_data p.heads) (put (codes "days") (number_data p.days) no_members))
+
+abbrev pub rest_put : Problem → Members → Members
+rest_put p ms =
+    put (codes "weights") (weights_data p) (put (codes "types") (list_data (map kind_data p.kinds)) (put (codes "slot_minutes") (number_data p.slot_minutes) ms))
+
+abbrev pub bands_put : Bool → Problem → Members → Members
+bands_put stated p ms = if stated then put (codes "need_max") (list_data (map number_data p.need_max)) ms else ms
+
+stating_put : (stated : Bool) (p : Problem) → object (rest_put p (bands_put stated p (front_put p))) ≡ document_stating stated p
+stating_put true p = refl
+stating_put false p = refl
+
+pub document_put : (p : Problem) → object (rest_put p (bands_put (is_banded p) p (front_put p))) ≡ document_data p
+unfolding document_data
+document_put p = stating_put (is_banded p) p
+
+has_float-stating : (stated : Bool) (p : Problem) → has_float (document_stating stated p) ≡ false
+unfolding weights_data
+has_float-stating true p =
+    rw (no_floats number_data (λ x. refl) p.need, no_floats number_data (λ x. refl) p.need_max, no_floats kind_data has_float-kind p.kinds)
+has_float-stating false p = rw (no_floats number_data (λ x. refl) p.need, no_floats kind_data has_float-kind p.kinds)
+
 -- no document has a float
 pub has_float-document : (p : Problem) → has_float (document_data p) ≡ false
-unfolding document_data weights_data
-has_float-document p = rw (no_floats number_data (λ x. refl) p.need, no_floats kind_data has_float-kind p.kinds)
+unfolding document_data
+has_float-document p = has_float-stating (is_banded p) p
