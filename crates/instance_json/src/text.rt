@@ -146,7 +146,7 @@ fn put_bands(
     put(object, alloc, "need_max", most)
 }
 
-#[tactic(auto, unfolding(crate::specs::Canonical::document_data))]
+#[tactic(auto, using(crate::proofs::Texts::document_put))]
 fn document_value(alloc: Global, parts: &Parts) -> Result<Value, AllocError>
     ensures { IfOk result (λ v. view v ≡ document_data parts.now) }
 {

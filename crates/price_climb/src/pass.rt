@@ -88,10 +88,13 @@ fn wanted(price: f64, need: i32, most: i32) -> f64 {
 /// The number of a slot's band that its price moves towards where so many work: the one that the price counts for, and for price 0
 /// the one that is nearest to how many work.
 fn target(price: f64, need: i32, most: i32, working: f64) -> f64 {
-    if price == 0.0 {
-        working.max(f64::from(need)).min(f64::from(most))
+    let (need, most) = (f64::from(need), f64::from(most));
+    if 0.0 < price {
+        need
+    } else if price < 0.0 {
+        most
     } else {
-        wanted(price, need, most)
+        working.max(need).min(most)
     }
 }
 

@@ -235,10 +235,13 @@ impl Tables {
 
     /// Whether the bands of all slots are those of an instance with as many slots.
     fn has_bands(&self, instance: &Instance) -> bool {
-        for (t, (need, most)) in self.need.iter().zip(&self.need_max).enumerate() {
+        if self.need.len() != self.need_max.len() {
+            return false;
+        }
+        for (t, need) in self.need.iter().enumerate() {
             if instance.slots() <= t
                 || *need != instance.need(t) as i32
-                || *most != instance.need_max(t) as i32
+                || self.need_max[t] != instance.need_max(t) as i32
             {
                 return false;
             }

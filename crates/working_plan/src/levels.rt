@@ -147,7 +147,8 @@ impl Levels {
             widths: Vec::new(alloc),
             bytes: vec![in alloc; SHORT; twice]?,
         };
-        for (slot, (need, most)) in tables.need.iter().zip(&tables.need_max).enumerate() {
+        for (slot, need) in tables.need.iter().enumerate() {
+            let most = tables.need_max.get(slot).copied().unwrap_or(*need);
             let off = need.wrapping_neg();
             let width = most.wrapping_sub(*need);
             levels.off.push(off)?;
