@@ -1,13 +1,13 @@
 #!/usr/bin/env python3
-"""Prints `call_bands_week.json`: a call centre's week whose needs are the fewest employees with whom 80 of 100 callers are answered within
-20 seconds, and whose `need_max` the fewest with whom they are answered within 10. Rules and weights are those of `call_week.json`.
+"""Prints `call_bands_week.json`: a call centre's week whose needs are the fewest employees with whom callers are answered within 20 seconds
+on average, and whose `need_max` the fewest with whom they are answered within 10. Rules and weights are those of `call_week.json`.
 
 The formula is Erlang's for a queue with N employees, calls at random and calls of random length (Erlang C): with a load of A, the calls of a
 second times the seconds of a call, a caller waits with the probability
 
     C(N, A) = B / (1 - A / N * (1 - B)), where B = B(N, A) and B(0, A) = 1, B(n, A) = A * B(n - 1, A) / (n + A * B(n - 1, A)),
 
-and longer than t seconds with C(N, A) * exp(-(N - A) * t / length)."""
+and waits C(N, A) * length / (N - A) seconds on average."""
 import json
 import math
 import pathlib
@@ -16,7 +16,6 @@ OPENS, CLOSES = 7, 22  # o'clock
 CALLS = (9, 22, 40, 52, 54, 46, 36, 35, 40, 43, 38, 31, 28, 26, 20, 10)  # of a weekday, in a quarter of an hour, at each full hour from 07:00 to 22:00
 DAYS = (1.15, 1.0, 0.95, 0.95, 1.05, 0.55, 0.35)  # Monday has most calls, Sunday fewest
 LENGTH = 180  # seconds of a call, with what is written down behind it
-ANSWERED = 0.8
 
 
 def waiting(employees, load):
@@ -28,9 +27,9 @@ def waiting(employees, load):
 
 
 def fewest(load, seconds):
-    """The fewest employees with whom enough callers wait no longer."""
+    """The fewest employees with whom callers wait no longer on average."""
     employees = math.floor(load) + 1
-    while 1 - waiting(employees, load) * math.exp(-(employees - load) * seconds / LENGTH) < ANSWERED:
+    while waiting(employees, load) * LENGTH / (employees - load) > seconds:
         employees += 1
     return employees
 
