@@ -1,6 +1,6 @@
 -- The canonical text's value, and that it has no float.
 use Rattle.std.specs.Prelude.{if◌then◌else◌}
-use Rattle.std.proofs.Common.{◌≡◌, Bool, true, false, codes, List, [], ◌∷◌, map, refl, ap}
+use Rattle.std.proofs.Common.{◌≡◌, Bool, true, false, codes, List, [], ◌∷◌, map, refl, ap, ◌∙◌}
 use Rattle.break_rules.specs.declared.Rule.{Rule}
 use Rattle.shift_instance.specs.Kind.{Kind}
 use Rattle.shift_instance.specs.Problem.{Problem}
@@ -45,6 +45,20 @@ stating_put false p = refl
 pub document_put : (p : Problem) → object (rest_put p (bands_put (is_banded p) p (front_put p))) ≡ document_data p
 unfolding document_data
 document_put p = stating_put (is_banded p) p
+
+-- the same, one put after another
+pub document_joined : (p : Problem) (nv tv wv : Data) (m0 m1 m2 m3 m4 m5 m6 m7 : Members) → nv ≡ list_data (map number_data p.need) → tv ≡ list_data (map kind_data p.kinds) → wv ≡ weights_data p → m0 ≡ no_members
+    → m1 ≡ put (codes "days") (number_data p.days) m0 → m2 ≡ put (codes "max_heads") (number_data p.heads) m1 → m3 ≡ put (codes "need") nv m2 → m4 ≡ bands_put (is_banded p) p m3
+    → m5 ≡ put (codes "slot_minutes") (number_data p.slot_minutes) m4 → m6 ≡ put (codes "types") tv m5 → m7 ≡ put (codes "weights") wv m6 → object m7 ≡ document_data p
+document_joined p nv tv wv m0 m1 m2 m3 m4 m5 m6 m7 n t w e0 e1 e2 e3 e4 e5 e6 e7 =
+    let front : m3 ≡ front_put p =
+    e3 ∙ ap (λ (v : Data). put (codes "need") v m2) n
+    ∙ ap (put (codes "need") (list_data (map number_data p.need))) (e2 ∙ ap (put (codes "max_heads") (number_data p.heads)) (e1 ∙ ap (put (codes "days") (number_data p.days)) e0)) in
+    let later : m6 ≡ put (codes "types") (list_data (map kind_data p.kinds)) m5 = e6 ∙ ap (λ (v : Data). put (codes "types") v m5) t in
+    let all : m7 ≡ rest_put p m4 =
+    e7 ∙ ap (λ (v : Data). put (codes "weights") v m6) w
+    ∙ ap (put (codes "weights") (weights_data p)) (later ∙ ap (put (codes "types") (list_data (map kind_data p.kinds))) e5) in
+    ap object (all ∙ ap (rest_put p) (e4 ∙ ap (bands_put (is_banded p) p) front)) ∙ document_put p
 
 has_float-stating : (stated : Bool) (p : Problem) → has_float (document_stating stated p) ≡ false
 unfolding weights_data
