@@ -146,7 +146,6 @@ fn put_bands(
     put(object, alloc, "need_max", most)
 }
 
-#[tactic(auto, using(crate::proofs::Texts::document_put))]
 fn document_value(alloc: Global, parts: &Parts) -> Result<Value, AllocError>
     ensures { IfOk result (λ v. view v ≡ document_data parts.now) }
 {
