@@ -288,6 +288,12 @@ pub fn summary_text(
     add_cost(&mut text, summary)?;
     add_days(alloc, &mut text, instance, summary)?;
     let width = employees_width(summary);
-    add_costliest(alloc, &mut text, instance, width, summary.costliest.as_slice())?;
+    add_costliest(
+        alloc,
+        &mut text,
+        instance,
+        width,
+        summary.costliest.as_slice(),
+    )?;
     Ok(text)
 }

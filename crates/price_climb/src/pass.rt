@@ -221,7 +221,10 @@ impl Climb {
         let bands = tables.need.iter().zip(&tables.need_max);
         let counted = self.cover.iter().zip(bands).zip(&self.reached);
         let priced = counted.zip(&self.point);
-        for (place, (((x, (need, most)), reached), price)) in self.violations.iter_mut().zip(priced)
+        for (place, (((x, (need, most)), reached), price)) in self
+            .violations
+            .iter_mut()
+            .zip(priced)
         {
             *place = if *reached {
                 target(*price, *need, *most, *x) - *x

@@ -1,6 +1,7 @@
 use Rattle.std.proofs.Common.{◌∙◌, map, codes, ap}
 use Rattle.serde_json.specs.Data.{put}
 use Rattle.serde_json.specs.View.{view, members_view}
+use Rattle.serde_json.proofs.Views.{view-Object}
 use Rattle.shift_instance.specs.Problem.{Problem}
 use Rattle.instance_json.specs.Canonical.{number_data, list_data, kind_data}
 use Rattle.instance_json.proofs.Texts.{document_joined}
@@ -13,7 +14,8 @@ returns c =
     let m0 = members_view c.new-object.result.entries in
     let m1 = members_view c.put_number.new.object.entries in
     let m4 = members_view c.put_bands.new.object.entries in
-    document_joined i (view c.list_value-need.result) (view c.list_value-types.result) (view c.in_ok-weights_value.field-0) m0 m1 (members_view c.put_number-2.new.object.entries) (members_view c.put.new.map.entries) m4
+    view-Object c.put-3.new.map
+    ∙ document_joined i (view c.list_value-need.result) (view c.list_value-types.result) (view c.in_ok-weights_value.field-0) m0 m1 (members_view c.put_number-2.new.object.entries) (members_view c.put.new.map.entries) m4
     (members_view c.put_number-3.new.object.entries) (members_view c.put-2.new.map.entries) (members_view c.put-3.new.map.entries)
     (c.list_value-need.ensures ∙ ap list_data (c.in_ok-number_values.ensures ∙ ap (map number_data) (c.as_slice.ensures.value ∙ ap (λ (q : Problem). q.need) same)))
     (c.list_value-types.ensures ∙ ap list_data (c.in_ok-type_values.ensures ∙ ap (map kind_data) (c.as_slice-2.ensures.value ∙ ap (λ (q : Problem). q.kinds) same)))
