@@ -4,7 +4,7 @@ use Rattle.std.specs.Prelude.{int_le, sum_by}
 use Rattle.std.specs.Int.{int_min}
 use Rattle.std.specs.List.{list_all, zip}
 use Rattle.std.proofs.lemmas.Int.{ints, clamps}
-use Rattle.std.proofs.lemmas.Bool.{and_parts, leb-true, ltb-true, eqb-true, false≢true, cases_Bool, cond_both, cases_lt, and_left}
+use Rattle.std.proofs.lemmas.Bool.{and_parts, leb-true, ltb-true, eqb-true, false≢true, cases_Bool, cond_both, cases_lt, and_left, le-ltb}
 use Rattle.std.proofs.lemmas.List.Sums.{AllPass-from_list_all}
 use Rattle.std.proofs.Math.Nat.{mul-le-mul_left, mul-le-mul_right, mul_assoc, mul_comm}
 use Rattle.break_rules.specs.declared.Break.{Break}
@@ -28,7 +28,7 @@ use Rattle.head_splits.specs.declared.Prices.{Prices}
 use Rattle.head_splits.specs.Cuts.{holds, class_count, same_class, keeps_to, meets_cut, meets, raised, lowered, low, high, whole_class}
 use Rattle.head_splits.proofs.Priced.{le_from_test, priced as price_parts}
 use Rattle.break_rules.specs.Sums.{int_sum_by, rounded_up}
-use Rattle.head_splits.specs.Bound.{is_nil, signed_price, bonus, reduced, best_value, is_forced, day_value, free_day_value, term, worth_at, slot_worth, cut_worth, total, bound_of, is_slot_price, is_cut_price, are_prices}
+use Rattle.head_splits.specs.Bound.{is_nil, signed_price, bonus, reduced, best_value, is_forced, day_value, free_day_value, term, wanted_at, worth_at, slot_worth, cut_worth, total, bound_of, is_slot_price, is_cut_price, are_prices}
 use Rattle.break_rules.proofs.Sums.{int_sum_by-le, int_sum_by-same, int_sum_by-add, int_sum_by_zero, int_sum_by_swap, int_sum_by_if, int_sum_by_pick_below, int_sum_by_pos, within_range, within_free_range, greatest_bounds, rounded_up_least}
 
 -- ---- a slot: its price pays no more than excess above the band and shortage below it cost
@@ -56,6 +56,7 @@ slot_law i t q c (pos k) lower upper =
     let b = i.shortage * (need_at i t - c) in
     let few : k ≤ q * i.shortage = omega (arith, ints) in
     let law : k * need_at i t ≤ q * (a + b) + k * c = nat_slot_law q i.shortage (need_at i t) c k a few in
+    let counts : k * wanted_at i t (pos k) ≡ k * need_at i t = ap (λ (n : ℕ). k * n) (ap (λ (less : Bool). cond less (need_max_at i t) (need_at i t)) (le-ltb k 0 (omega arith))) in
     omega (arith, ints)
 slot_law i t q c (negsuc k) lower upper =
     let a = i.excess * (c - need_max_at i t) in
