@@ -25,6 +25,16 @@ fn wanted(instance: &Instance, t: usize, price: i64) -> u32
     }
 }
 
+/// What a price is worth at a number of employees.
+fn worth_of(price: i64, number: u32) -> i128
+    requires price { unsigned_abs price ≤ 10000000000 }
+    requires number { number ≤ 10000 }
+    ensures worth { result ≡ price *ℤ pos number }
+    ensures small { unsigned_abs result ≤ 10 ^ 14 }
+{
+    i128::from(price) * i128::from(number)
+}
+
 /// What a price is worth at a slot.
 fn slot_worth(instance: &Instance, t: usize, price: i64) -> i128
     requires slot { t < slots instance.now }
@@ -32,7 +42,7 @@ fn slot_worth(instance: &Instance, t: usize, price: i64) -> i128
     ensures worth { result ≡ worth_at instance.now t price }
     ensures small { unsigned_abs result ≤ 10 ^ 14 }
 {
-    i128::from(price) * i128::from(wanted(instance, t, price))
+    worth_of(price, wanted(instance, t, price))
 }
 
 /// What the slots' prices are worth.
