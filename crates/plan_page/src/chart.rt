@@ -1,23 +1,30 @@
 //! The picture of a day's slots: the need as a line over the employees as bars.
-use crate::frame::DayFrame;
-use crate::staffing::Staffing;
+ghost use Rattle.std.specs.Prelude.{◌≡◌, ◌+◌, ◌<◌, ◌≤◌, ◌++◌, OnOk, max, string_bytes};
+ghost use Rattle.std.specs.List.{flat_map};
+ghost use Rattle.shift_instance.specs.Problem.{below, day_slots, slots};
+ghost use Rattle.plan_page.specs.Chart.{bar_text, chart, chart_head, grid_text, hours_text, layer_ends, layer_name, layer_path, most_employees, need_begin, need_end, need_path, need_step, path_begin, path_end, slot_bar};
+
+use crate::pictures::{add_box, depth};
 use break_rules::NoMemory;
+use plan_tables::{Attendance, ClockTime, day_slots};
+use shift_instance::Instance;
 use std::fmt::Write;
 
-/// The height of the picture, in its own units.
-const HEIGHT: u64 = 240;
+/// The picture of a day, without its bars, and the lines at every third hour.
+pub(crate) const GRID: &str = "\
+<svg class=\"chart\" viewBox=\"0 0 1440 240\" preserveAspectRatio=\"none\" role=\"img\" aria-label=\"the need of each slot over the employees at work\">
+<path class=\"grid\" d=\"M180 0V240M360 0V240M540 0V240M720 0V240M900 0V240M1080 0V240M1260 0V240\"/>
+";
 
-/// The lines at every third hour.
-const GRID: &str =
-    "<path class=\"grid\" d=\"M180 0V240M360 0V240M540 0V240M720 0V240M900 0V240M1080 0V240M1260 0V240\"/>\n";
-
-/// The hours below a picture.
-pub(crate) const HOURS: &str =
-    "<div class=\"row\"><span></span><div class=\"hours\"><span>00:00</span><span>03:00</span><span>06:00</span><span>09:00</span><span>12:00</span><span>15:00</span><span>18:00</span><span>21:00</span></div></div>\n";
+/// The end of a picture, and the hours below it.
+pub(crate) const HOURS: &str = "\
+</svg></div>
+<div class=\"row\"><span></span><div class=\"hours\"><span>00:00</span><span>03:00</span><span>06:00</span><span>09:00</span><span>12:00</span><span>15:00</span><span>18:00</span><span>21:00</span></div></div>
+";
 
 /// A layer of bars.
 #[derive(Clone, Copy, Drop)]
-enum Layer {
+pub(crate) enum Layer {
     /// The employees that work as wanted.
     Covered,
     /// The employees that work beyond the need.
@@ -28,7 +35,9 @@ enum Layer {
 
 impl Layer {
     /// What the layer is called in the page's style.
-    fn name(self) -> &'static str {
+    fn name(self) -> &'static str
+        ensures { result.now ≡ layer_name self }
+    {
         match self {
             Layer::Covered => "covered",
             Layer::Over => "over",
@@ -36,82 +45,249 @@ impl Layer {
         }
     }
 
-    /// From which number of employees on up to which the layer's bar of a slot stands.
-    fn ends(self, slot: Staffing) -> (u32, u32) {
+    /// From which number of employees on up to which the layer's bar of a slot stands, where so many are wanted and so many work.
+    fn ends(self, wanted: u32, working: u32) -> (u32, u32)
+        ensures { result ≡ layer_ends self wanted working }
+    {
         match self {
-            Layer::Covered => (0, slot.working.min(slot.wanted)),
-            Layer::Over => (slot.wanted, slot.working),
-            Layer::Under => (slot.working, slot.wanted),
+            Layer::Covered => (0, working.min(wanted)),
+            Layer::Over => (wanted, working),
+            Layer::Under => (working, wanted),
         }
     }
 }
 
-/// How far below the top of the picture a number of employees stands.
-fn depth(employees: u32, greatest: u32) -> u64 {
-    let height = u64::from(employees)
-        .saturating_mul(HEIGHT)
-        .checked_div(u64::from(greatest))
-        .unwrap_or(0);
-    HEIGHT.saturating_sub(height)
+/// The greatest of three numbers of employees.
+fn greatest(most: u32, wanted: u32, working: u32) -> u32
+    ensures { result ≡ max most (max wanted working) }
+{
+    most.max(wanted.max(working))
+}
+
+/// The greatest number of employees that are wanted or work in any slot, and 1 where there is none.
+pub(crate) fn most_employees(instance: &Instance, attendance: &Attendance) -> u32
+    requires { attendance.now.instance ≡ instance.now }
+    ensures most { result ≡ most_employees instance.now attendance.now.duties }
+    ensures some { 0 < result }
+{
+    let mut most = 1;
+    for t in 0..instance.slots() {
+        most = greatest(most, instance.need(t), attendance.working(t));
+    }
+    most
+}
+
+/// Adds a bar from its left end on, between two numbers of employees.
+#[tactic(auto, unfolding(crate::specs::Chart::bar_text))]
+fn add_bar(
+    page: &mut String,
+    most: u32,
+    left: u64,
+    width: u64,
+    ends: (u32, u32),
+) -> Result<(), NoMemory>
+    requires { 0 < most }
+    ensures { OnOk result (string_bytes page.new ≡ string_bytes page.old ++ bar_text most left width ends) }
+{
+    if ends.0 < ends.1 {
+        let top = depth(ends.1, most);
+        let bottom = depth(ends.0, most);
+        add_box(page, left, top, width, bottom.saturating_sub(top))
+    } else {
+        Ok(())
+    }
+}
+
+/// Adds the bar of a layer for a slot of the day, counted from 0.
+#[tactic(auto, unfolding(crate::specs::Chart::slot_bar))]
+fn add_slot_bar(
+    page: &mut String,
+    instance: &Instance,
+    attendance: &Attendance,
+    most: u32,
+    first: usize,
+    layer: Layer,
+    n: usize,
+) -> Result<(), NoMemory>
+    requires instance { attendance.now.instance ≡ instance.now }
+    requires most { 0 < most }
+    requires within { first + n < slots instance.now }
+    ensures { OnOk result (string_bytes page.new ≡ string_bytes page.old ++ slot_bar instance.now attendance.now.duties most first layer n) }
+{
+    let _valid = instance.slots();
+    let parts = instance.parts();
+    let t = first + n;
+    let ends = layer.ends(instance.need(t), attendance.working(t));
+    let left = ClockTime::of_slot(instance, n as u32).minutes;
+    add_bar(page, most, left, u64::from(parts.slot_minutes), ends)
 }
 
 /// Adds the bars of a layer.
-fn add_layer(
+fn add_slot_bars(
     page: &mut String,
-    frame: &DayFrame,
-    slots: &[Staffing],
-    greatest: u32,
+    instance: &Instance,
+    attendance: &Attendance,
+    most: u32,
+    first: usize,
     layer: Layer,
-) -> Result<(), NoMemory> {
-    let name = layer.name();
-    let width = frame.slot_minutes();
-    write!(page, "<path class=\"{name}\" d=\"")?;
-    let mut left = 0u64;
-    for slot in slots {
-        let (low, high) = layer.ends(*slot);
-        if low < high {
-            let top = depth(high, greatest);
-            let tall = depth(low, greatest).saturating_sub(top);
-            write!(page, "M{left} {top}h{width}v{tall}h-{width}z")?;
-        }
-        left = left.saturating_add(width);
+) -> Result<(), NoMemory>
+    requires instance { attendance.now.instance ≡ instance.now }
+    requires most { 0 < most }
+    requires within { first + day_slots instance.now ≤ slots instance.now }
+    ensures { OnOk result (string_bytes page.new ≡ string_bytes page.old ++ flat_map (slot_bar instance.now attendance.now.duties most first layer) (below (day_slots instance.now))) }
+{
+    for n in 0..day_slots(instance) {
+        add_slot_bar(page, instance, attendance, most, first, layer, n)?;
     }
+    Ok(())
+}
+
+/// Begins a path.
+#[tactic(auto, unfolding(crate::specs::Chart::path_begin))]
+pub(crate) fn begin_path(page: &mut String, name: &str) -> Result<(), NoMemory>
+    ensures { OnOk result (string_bytes page.new ≡ string_bytes page.old ++ path_begin name.now) }
+{
+    write!(page, "<path class=\"{name}\" d=\"")
+}
+
+/// Ends a path.
+#[tactic(auto, unfolding(crate::specs::Chart::path_end))]
+pub(crate) fn end_path(page: &mut String) -> Result<(), NoMemory>
+    ensures { OnOk result (string_bytes page.new ≡ string_bytes page.old ++ path_end) }
+{
     page.push_str("\"/>\n")
 }
 
-/// Adds the need as a line.
-fn add_need(
+/// Adds a layer of bars.
+#[tactic(auto, unfolding(crate::specs::Chart::layer_path))]
+fn add_layer(
     page: &mut String,
-    frame: &DayFrame,
-    slots: &[Staffing],
-    greatest: u32,
-) -> Result<(), NoMemory> {
-    page.push_str("<path class=\"need\" d=\"M0 240")?;
-    let mut right = 0u64;
-    for slot in slots {
-        let top = depth(slot.wanted, greatest);
-        right = right.saturating_add(frame.slot_minutes());
-        write!(page, "V{top}H{right}")?;
+    instance: &Instance,
+    attendance: &Attendance,
+    most: u32,
+    first: usize,
+    layer: Layer,
+) -> Result<(), NoMemory>
+    requires instance { attendance.now.instance ≡ instance.now }
+    requires most { 0 < most }
+    requires within { first + day_slots instance.now ≤ slots instance.now }
+    ensures { OnOk result (string_bytes page.new ≡ string_bytes page.old ++ layer_path instance.now attendance.now.duties most first layer) }
+{
+    begin_path(page, layer.name())?;
+    add_slot_bars(page, instance, attendance, most, first, layer)?;
+    end_path(page)
+}
+
+/// Adds the need of a slot of the day, counted from 0, to the line of the need.
+#[tactic(auto, unfolding(crate::specs::Chart::need_step))]
+fn add_need_step(
+    page: &mut String,
+    instance: &Instance,
+    most: u32,
+    first: usize,
+    n: usize,
+) -> Result<(), NoMemory>
+    requires most { 0 < most }
+    requires within { first + n < slots instance.now }
+    ensures { OnOk result (string_bytes page.new ≡ string_bytes page.old ++ need_step instance.now most first n) }
+{
+    let _valid = instance.slots();
+    let top = depth(instance.need(first + n), most);
+    let right = ClockTime::of_slot(instance, n as u32 + 1).minutes;
+    write!(page, "V{top}H{right}")
+}
+
+/// Adds the steps of the line of the need.
+fn add_need_steps(
+    page: &mut String,
+    instance: &Instance,
+    most: u32,
+    first: usize,
+) -> Result<(), NoMemory>
+    requires most { 0 < most }
+    requires within { first + day_slots instance.now ≤ slots instance.now }
+    ensures { OnOk result (string_bytes page.new ≡ string_bytes page.old ++ flat_map (need_step instance.now most first) (below (day_slots instance.now))) }
+{
+    for n in 0..day_slots(instance) {
+        add_need_step(page, instance, most, first, n)?;
     }
+    Ok(())
+}
+
+/// Begins the line of the need.
+#[tactic(auto, unfolding(crate::specs::Chart::need_begin))]
+fn begin_need(page: &mut String) -> Result<(), NoMemory>
+    ensures { OnOk result (string_bytes page.new ≡ string_bytes page.old ++ need_begin) }
+{
+    page.push_str("<path class=\"need\" d=\"M0 240")
+}
+
+/// Ends the line of the need.
+#[tactic(auto, unfolding(crate::specs::Chart::need_end))]
+fn end_need(page: &mut String) -> Result<(), NoMemory>
+    ensures { OnOk result (string_bytes page.new ≡ string_bytes page.old ++ need_end) }
+{
     page.push_str("V240\"/>\n")
 }
 
-/// Adds the picture of a day's slots, where the greatest number of employees reaches to the top.
-pub(crate) fn add_chart(
-    page: &mut String,
-    frame: &DayFrame,
-    slots: &[Staffing],
-    greatest: u32,
-) -> Result<(), NoMemory> {
+/// Adds the need as a line.
+#[tactic(auto, unfolding(crate::specs::Chart::need_path))]
+fn add_need(page: &mut String, instance: &Instance, most: u32, first: usize) -> Result<(), NoMemory>
+    requires most { 0 < most }
+    requires within { first + day_slots instance.now ≤ slots instance.now }
+    ensures { OnOk result (string_bytes page.new ≡ string_bytes page.old ++ need_path instance.now most first) }
+{
+    begin_need(page)?;
+    add_need_steps(page, instance, most, first)?;
+    end_need(page)
+}
+
+/// Adds up to how many employees a picture shows.
+#[tactic(auto, unfolding(crate::specs::Chart::chart_head))]
+fn add_chart_head(page: &mut String, most: u32) -> Result<(), NoMemory>
+    ensures { OnOk result (string_bytes page.new ≡ string_bytes page.old ++ chart_head most) }
+{
     write!(
         page,
-        "<div class=\"row\"><span>up to {greatest} employees</span><svg class=\"chart\" viewBox=\"0 0 1440 240\" preserveAspectRatio=\"none\" role=\"img\" aria-label=\"the need of each slot over the employees at work\">\n"
-    )?;
-    page.push_str(GRID)?;
-    for layer in [Layer::Covered, Layer::Over, Layer::Under] {
-        add_layer(page, frame, slots, greatest, layer)?;
-    }
-    add_need(page, frame, slots, greatest)?;
-    page.push_str("</svg></div>\n")?;
+        "<div class=\"row\"><span>up to {most} employees</span>"
+    )
+}
+
+/// Begins the picture, with the lines at every third hour.
+#[tactic(auto, unfolding(crate::specs::Chart::grid_text))]
+fn add_grid(page: &mut String) -> Result<(), NoMemory>
+    ensures { OnOk result (string_bytes page.new ≡ string_bytes page.old ++ grid_text) }
+{
+    page.push_str(GRID)
+}
+
+/// Ends the picture, with the hours below it.
+#[tactic(auto, unfolding(crate::specs::Chart::hours_text))]
+fn add_hours(page: &mut String) -> Result<(), NoMemory>
+    ensures { OnOk result (string_bytes page.new ≡ string_bytes page.old ++ hours_text) }
+{
     page.push_str(HOURS)
+}
+
+/// Adds the picture of the day that begins at a slot, where so many employees reach to the top.
+#[tactic(auto, unfolding(crate::specs::Chart::chart))]
+pub(crate) fn add_chart(
+    page: &mut String,
+    instance: &Instance,
+    attendance: &Attendance,
+    most: u32,
+    first: usize,
+) -> Result<(), NoMemory>
+    requires instance { attendance.now.instance ≡ instance.now }
+    requires most { 0 < most }
+    requires within { first + day_slots instance.now ≤ slots instance.now }
+    ensures { OnOk result (string_bytes page.new ≡ string_bytes page.old ++ chart instance.now attendance.now.duties most first) }
+{
+    add_chart_head(page, most)?;
+    add_grid(page)?;
+    add_layer(page, instance, attendance, most, first, Layer::Covered)?;
+    add_layer(page, instance, attendance, most, first, Layer::Over)?;
+    add_layer(page, instance, attendance, most, first, Layer::Under)?;
+    add_need(page, instance, most, first)?;
+    add_hours(page)
 }

@@ -1,50 +1,184 @@
 //! The days of a plan, each with its picture and its rows.
+ghost use Rattle.std.specs.Prelude.{◌≡◌, ◌+◌, ◌*◌, ◌^◌, ◌<◌, ◌≤◌, ◌++◌, All, OnOk, length, map, string_bytes};
+ghost use Rattle.std.specs.List.{enumerate_from, flat_map};
+ghost use Rattle.plan_tables.specs.Starting.{IsKnown};
+ghost use Rattle.plan_tables.specs.Times.{span_text};
+ghost use Rattle.shift_instance.specs.Problem.{day_slots, slots};
+ghost use Rattle.plan_page.specs.Chart.{most_employees};
+ghost use Rattle.plan_page.specs.Page.{day_duties, day_end, day_hours, day_pictures, day_section, day_title, hours_end, over_begin, spans_text};
+
 use crate::bars::add_bars;
-use crate::chart::add_chart;
-use crate::frame::DayFrame;
-use crate::staffing::{Staffing, greatest};
+use crate::chart::{add_chart, most_employees};
 use break_rules::NoMemory;
-use plan_tables::{DaySummary, Hours, Summary, day_slots};
+use plan_tables::{Attendance, DaySummary, Hours, day_slots};
 use shift_instance::{Instance, Row};
 use std::fmt::Write;
 
-/// Adds a day's number and what it adds up to.
-fn add_day_head(
+/// Adds the number of a day, counted from 1.
+#[tactic(auto, unfolding(crate::specs::Page::day_title))]
+fn add_title(page: &mut String, number: usize) -> Result<(), NoMemory>
+    ensures { OnOk result (string_bytes page.new ≡ string_bytes page.old ++ day_title number) }
+{
+    write!(page, "<section class=\"day\">\n<h2>Day {number}</h2>\n")
+}
+
+/// Adds how many duties start on a day.
+#[tactic(auto, unfolding(crate::specs::Page::day_duties))]
+fn add_duties(page: &mut String, duties: u64) -> Result<(), NoMemory>
+    ensures { OnOk result (string_bytes page.new ≡ string_bytes page.old ++ day_duties duties) }
+{
+    write!(page, "<p>{duties} duties start. Hours wanted ")
+}
+
+/// Adds how long so many slots are together.
+fn add_span(page: &mut String, instance: &Instance, slots: u64) -> Result<(), NoMemory>
+    ensures { OnOk result (string_bytes page.new ≡ string_bytes page.old ++ span_text instance.now slots) }
+{
+    let hours = Hours::of_slots(instance, slots);
+    write!(page, "{hours}")
+}
+
+/// Adds how long so many slots are together, a text, and how long so many others are.
+#[tactic(auto, unfolding(crate::specs::Page::spans_text))]
+fn add_spans(
     page: &mut String,
     instance: &Instance,
-    number: usize,
-    day: &DaySummary,
-) -> Result<(), NoMemory> {
-    let duties = day.duties;
-    let wanted = Hours::of_slots(instance, day.totals.wanted);
-    let worked = Hours::of_slots(instance, day.totals.worked);
-    let over = Hours::of_slots(instance, day.totals.over);
-    let under = Hours::of_slots(instance, day.totals.under);
-    write!(page, "<section class=\"day\">\n<h2>Day {number}</h2>\n")?;
-    write!(
+    slots: u64,
+    between: &str,
+    others: u64,
+) -> Result<(), NoMemory>
+    ensures { OnOk result (string_bytes page.new ≡ string_bytes page.old ++ spans_text instance.now slots between.now others) }
+{
+    add_span(page, instance, slots)?;
+    page.push_str(between)?;
+    add_span(page, instance, others)
+}
+
+/// Adds what stands before the hours too many.
+#[tactic(auto, unfolding(crate::specs::Page::over_begin))]
+fn begin_over(page: &mut String) -> Result<(), NoMemory>
+    ensures { OnOk result (string_bytes page.new ≡ string_bytes page.old ++ over_begin) }
+{
+    page.push_str(", over ")
+}
+
+/// Ends the hours of a day.
+#[tactic(auto, unfolding(crate::specs::Page::hours_end))]
+fn end_hours(page: &mut String) -> Result<(), NoMemory>
+    ensures { OnOk result (string_bytes page.new ≡ string_bytes page.old ++ hours_end) }
+{
+    page.push_str(".</p>\n")
+}
+
+/// Adds how many duties start on a day, and its hours.
+#[tactic(auto, unfolding(crate::specs::Page::day_hours))]
+fn add_hours(page: &mut String, instance: &Instance, day: &DaySummary) -> Result<(), NoMemory>
+    ensures { OnOk result (string_bytes page.new ≡ string_bytes page.old ++ day_hours instance.now day.now) }
+{
+    add_duties(page, day.duties)?;
+    add_spans(
         page,
-        "<p>{duties} duties start. Hours wanted {wanted}, worked {worked}, over {over}, under {under}.</p>\n"
-    )
+        instance,
+        day.totals.wanted,
+        ", worked ",
+        day.totals.worked,
+    )?;
+    begin_over(page)?;
+    add_spans(
+        page,
+        instance,
+        day.totals.over,
+        ", under ",
+        day.totals.under,
+    )?;
+    end_hours(page)
+}
+
+/// Ends a day.
+#[tactic(auto, unfolding(crate::specs::Page::day_end))]
+fn end_day(page: &mut String) -> Result<(), NoMemory>
+    ensures { OnOk result (string_bytes page.new ≡ string_bytes page.old ++ day_end) }
+{
+    page.push_str("</section>\n")
+}
+
+/// The slot in which a day begins, counted from 0.
+fn first_slot(instance: &Instance, day: u8) -> usize
+    requires { day < instance.now.days }
+    ensures first { result ≡ day * day_slots instance.now }
+    ensures within { result + day_slots instance.now ≤ slots instance.now }
+    ensures few { result < 2 ^ 16 }
+{
+    let _valid = instance.slots();
+    usize::from(day) * day_slots(instance)
+}
+
+/// Adds the picture and the rows of the day that begins at a slot.
+#[tactic(auto, unfolding(crate::specs::Page::day_pictures))]
+fn add_pictures(
+    page: &mut String,
+    instance: &Instance,
+    attendance: &Attendance,
+    most: u32,
+    rows: &[&Row],
+    first: usize,
+) -> Result<(), NoMemory>
+    requires instance { attendance.now.instance ≡ instance.now }
+    requires most { most ≡ most_employees instance.now attendance.now.duties }
+    requires some { 0 < most }
+    requires listed { All (IsKnown instance.now) (map (λ r. r.now) rows.now) }
+    requires within { first + day_slots instance.now ≤ slots instance.now }
+    requires few { first < 2 ^ 16 }
+    ensures { OnOk result (string_bytes page.new ≡ string_bytes page.old ++ day_pictures instance.now attendance.now.duties (map (λ r. r.now) rows.now) first) }
+{
+    let day = first as u32;
+    add_chart(page, instance, attendance, most, first)?;
+    add_bars(page, instance, day, false, rows)?;
+    add_bars(page, instance, day, true, rows)
+}
+
+/// Adds a day, counted from 0.
+#[tactic(auto, unfolding(crate::specs::Page::day_section))]
+fn add_day(
+    page: &mut String,
+    instance: &Instance,
+    attendance: &Attendance,
+    most: u32,
+    rows: &[&Row],
+    k: usize,
+    day: &DaySummary,
+) -> Result<(), NoMemory>
+    requires instance { attendance.now.instance ≡ instance.now }
+    requires most { most ≡ most_employees instance.now attendance.now.duties }
+    requires some { 0 < most }
+    requires listed { All (IsKnown instance.now) (map (λ r. r.now) rows.now) }
+    requires day { k < instance.now.days }
+    ensures { OnOk result (string_bytes page.new ≡ string_bytes page.old ++ day_section instance.now attendance.now.duties (map (λ r. r.now) rows.now) (k, day.now)) }
+{
+    let _valid = instance.slots();
+    let first = first_slot(instance, k as u8);
+    add_title(page, k + 1)?;
+    add_hours(page, instance, day)?;
+    add_pictures(page, instance, attendance, most, rows, first)?;
+    end_day(page)
 }
 
 /// Adds the days, with one scale for the pictures of all.
 pub(crate) fn add_days(
     page: &mut String,
     instance: &Instance,
-    summary: &Summary,
-    slots: &[Staffing],
+    attendance: &Attendance,
     rows: &[&Row],
-) -> Result<(), NoMemory> {
-    let most = greatest(slots);
-    let per_day = day_slots(instance).max(1);
-    let of_days = summary.days.iter().zip(slots.chunks(per_day));
-    for (k, (day, of_day)) in of_days.enumerate() {
-        let frame = DayFrame::new(instance, k);
-        add_day_head(page, instance, k.saturating_add(1), day)?;
-        add_chart(page, &frame, of_day, most)?;
-        add_bars(page, instance, &frame, rows, false)?;
-        add_bars(page, instance, &frame, rows, true)?;
-        page.push_str("</section>\n")?;
+    days: &[DaySummary],
+) -> Result<(), NoMemory>
+    requires instance { attendance.now.instance ≡ instance.now }
+    requires listed { All (IsKnown instance.now) (map (λ r. r.now) rows.now) }
+    requires days { length days.now ≡ instance.now.days }
+    ensures { OnOk result (string_bytes page.new ≡ string_bytes page.old ++ flat_map (day_section instance.now attendance.now.duties (map (λ r. r.now) rows.now)) (enumerate_from 0 days.now)) }
+{
+    let most = most_employees(instance, attendance);
+    for (k, day) in days.iter().enumerate() {
+        add_day(page, instance, attendance, most, rows, k, day)?;
     }
     Ok(())
 }

@@ -1,9 +1,24 @@
 //! The head of the page: how its parts look, and the patterns by which they are told apart without colour.
+ghost use Rattle.std.specs.Prelude.{◌≡◌, ◌++◌, OnOk, string_bytes};
+ghost use Rattle.plan_page.specs.Page.{beginning, head, looks};
+
 use crate::escaping::add_escaped;
 use break_rules::NoMemory;
 
-/// How the page looks, on wide screens, on narrow ones and on paper.
-const STYLE: &str = "\
+/// What stands before the title.
+pub(crate) const BEGINNING: &str = "\
+<!DOCTYPE html>
+<html lang=\"en\">
+<head>
+<meta charset=\"utf-8\">
+<meta name=\"viewport\" content=\"width=device-width,initial-scale=1\">
+<title>";
+
+/// How the page looks, on wide screens, on narrow ones and on paper, with stripes for employees too many and a lattice for
+/// employees too few. It stands between the title and the heading.
+pub(crate) const LOOKS: &str = "\
+</title>
+<style>
 body{font:15px/1.4 sans-serif;color:#111;background:#fff;max-width:70em;margin:0 auto;padding:0 .8em}
 h1{font-size:1.5em;margin:.6em 0 .2em}h2{font-size:1.15em;margin:1.4em 0 .2em}
 p{margin:.3em 0}
@@ -28,28 +43,39 @@ svg{display:block;width:100%;overflow:hidden}
 .day{break-inside:avoid-page}
 @media(max-width:640px){body{font-size:14px}.row{grid-template-columns:1fr}.tables{gap:.3em}th,td{padding:.1em .3em}.chart{height:150px}.bar{height:12px}}
 @media print{body{max-width:none}.covered,.over,.under,.work,.break{print-color-adjust:exact;-webkit-print-color-adjust:exact}}
-";
-
-/// Stripes for employees too many and a lattice for employees too few.
-const PATTERNS: &str = "\
+</style>
+</head>
+<body>
 <svg width=\"0\" height=\"0\" style=\"position:absolute;width:0\" aria-hidden=\"true\"><defs>
 <pattern id=\"over\" width=\"10\" height=\"10\" patternUnits=\"userSpaceOnUse\" patternTransform=\"rotate(45)\"><rect width=\"10\" height=\"10\" fill=\"#ffe3b8\"/><rect width=\"4\" height=\"10\" fill=\"#d07a00\"/></pattern>
 <pattern id=\"under\" width=\"12\" height=\"12\" patternUnits=\"userSpaceOnUse\"><rect width=\"12\" height=\"12\" fill=\"#fff\"/><path d=\"M0 0L12 12M12 0L0 12\" stroke=\"#b00020\" stroke-width=\"2.5\"/></pattern>
 </defs></svg>
-";
+<h1>";
+
+/// Adds what stands before the title.
+#[tactic(auto, unfolding(crate::specs::Page::beginning))]
+fn add_beginning(page: &mut String) -> Result<(), NoMemory>
+    ensures { OnOk result (string_bytes page.new ≡ string_bytes page.old ++ beginning) }
+{
+    page.push_str(BEGINNING)
+}
+
+/// Adds how the page looks.
+#[tactic(auto, unfolding(crate::specs::Page::looks))]
+fn add_looks(page: &mut String) -> Result<(), NoMemory>
+    ensures { OnOk result (string_bytes page.new ≡ string_bytes page.old ++ looks) }
+{
+    page.push_str(LOOKS)
+}
 
 /// Adds the beginning of the page, up to its heading.
-pub(crate) fn add_head(page: &mut String, heading: &str) -> Result<(), NoMemory> {
-    page.push_str("<!DOCTYPE html>\n<html lang=\"en\">\n<head>\n<meta charset=\"utf-8\">\n")?;
-    page.push_str(
-        "<meta name=\"viewport\" content=\"width=device-width,initial-scale=1\">\n<title>",
-    )?;
+#[tactic(auto, unfolding(crate::specs::Page::head))]
+pub(crate) fn add_head(page: &mut String, heading: &str) -> Result<(), NoMemory>
+    ensures { OnOk result (string_bytes page.new ≡ string_bytes page.old ++ head heading.now) }
+{
+    add_beginning(page)?;
     add_escaped(page, heading)?;
-    page.push_str("</title>\n<style>\n")?;
-    page.push_str(STYLE)?;
-    page.push_str("</style>\n</head>\n<body>\n")?;
-    page.push_str(PATTERNS)?;
-    page.push_str("<h1>")?;
+    add_looks(page)?;
     add_escaped(page, heading)?;
     page.push_str("</h1>\n")
 }

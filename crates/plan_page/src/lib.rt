@@ -2,13 +2,14 @@
 #![tactic(auto)]
 
 mod bars;
+mod cells;
 mod chart;
 mod days;
 mod escaping;
-mod frame;
 mod head;
 mod overview;
 mod page;
-mod staffing;
+mod pictures;
+mod stretches;
 
 pub use page::plan_page;

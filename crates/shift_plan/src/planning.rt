@@ -7,7 +7,7 @@ use crate::listening::{listen, stop_of};
 use crate::telling::{Beginning, shown_on, tell_end, warn};
 use advice::Adviser;
 use planning_files::LockedJournal;
-use planning_progress::{Progress, Until, Watched};
+use planning_progress::{Progress, Shown, Until, Watched};
 use planning_refusals::{Cause, Refusal, read_document};
 use planning_runs::{Plan, Planned, search_plan};
 use planning_sheets::{ready_folder, show_plan};
@@ -67,29 +67,34 @@ fn steps_of(seconds: u32) -> u64
     if seconds == 0 { 0 } else { STEPS_MOST }
 }
 
-/// The plan of a search by so many workers as the words say, each with an adviser of the instance that searches thoroughly with a seed of
-/// its own, until the search is finished, its time is over, or it is asked to end.
-fn search_by<R: Threads + Wait + Sync>(
+/// The adviser of a worker, which searches thoroughly for plans of the instance with a seed of its own and tells how far the search has come.
+fn watched(
+    host: HostRuntime,
+    instance: &Instance,
+    progress: &Arc<Progress>,
+    worker: u16,
+    shown: Shown,
+) -> Result<Watched<Thorough<Until<HostRuntime>>, HostRuntime>, Refusal> {
+    let alloc = host.alloc();
+    let until = Until::new(Arc::try_clone(progress)?, host);
+    let thorough = Thorough::of(alloc, instance, u64::from(worker) + 1, until)?;
+    let seen = Arc::try_clone(progress)?;
+    Ok(Watched::new(alloc, thorough, worker, seen, host, shown))
+}
+
+/// The plan of a search by these advisers until the search is finished, its time is over, or it is asked to end.
+fn advised<R: Threads + Wait + Sync>(
     host: HostRuntime,
     rt: &R,
     words: &PlanWords,
     instance: Instance,
     journal: &LockedJournal<HostRuntime>,
     progress: &Arc<Progress>,
-    enter_ends: bool,
+    advisers: Vec<Box<dyn Adviser + Send>>,
 ) -> Result<Plan, Refusal>
     requires some { 0 < words.now.workers }
 {
     let alloc = host.alloc();
-    let shown = shown_on(host, enter_ends);
-    let mut advisers: Vec<Box<dyn Adviser + Send>> = Vec::new(alloc);
-    for worker in 0..words.workers {
-        let until = Until::new(Arc::try_clone(progress)?, host);
-        let thorough = Thorough::of(alloc, &instance, u64::from(worker) + 1, until)?;
-        let seen = Arc::try_clone(progress)?;
-        let watched = Watched::new(alloc, thorough, worker, seen, host, shown);
-        advisers.push(Box::new(alloc, watched)?)?;
-    }
     let until = Until::new(Arc::try_clone(progress)?, host);
     let gate = Beginning {
         rt: host,
@@ -108,6 +113,28 @@ fn search_by<R: Threads + Wait + Sync>(
     };
     tell_end(host, progress, &searched.end);
     Ok(plan)
+}
+
+/// The plan of a search by so many workers as the words say, each with an adviser of its own.
+fn search_by<R: Threads + Wait + Sync>(
+    host: HostRuntime,
+    rt: &R,
+    words: &PlanWords,
+    instance: Instance,
+    journal: &LockedJournal<HostRuntime>,
+    progress: &Arc<Progress>,
+    enter_ends: bool,
+) -> Result<Plan, Refusal>
+    requires some { 0 < words.now.workers }
+{
+    let alloc = host.alloc();
+    let shown = shown_on(host, enter_ends);
+    let mut advisers: Vec<Box<dyn Adviser + Send>> = Vec::new(alloc);
+    for worker in 0..words.workers {
+        let adviser = watched(host, &instance, progress, worker, shown)?;
+        advisers.push(Box::new(alloc, adviser)?)?;
+    }
+    advised(host, rt, words, instance, journal, progress, advisers)
 }
 
 /// The plan of a search as the words say, which a line or the end of standard input ends where the words ask for that.

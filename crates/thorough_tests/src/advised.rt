@@ -2,7 +2,6 @@
 ghost use Rattle.std.specs.Prelude.{◌≡◌, [], true};
 
 use advice::{Advice, Adviser, Ask, Never, Splitting, Stop};
-use break_rules::NoMemory;
 use dual_bound::prove;
 use head_splits::{Cuts, Hint, Prices};
 use instance_json::read;
@@ -70,29 +69,34 @@ fn number_of(split: Option<Splitting>) -> Option<u16> {
 /// What is looked at of an advice for the node without cuts: the bound that its prices give, what its plan costs, and the number of its split.
 type Seen = (Option<u64>, Option<u64>, Option<u16>);
 
-/// What is seen of an adviser's advice, where the plan without duties costs so much.
-fn seen<S: Stop + Clone>(
-    alloc: Global,
-    adviser: &mut Thorough<S>,
-    instance: &Instance,
-    best: u64,
-) -> Result<Seen, NoMemory> {
+/// What is seen of an advice for the instance.
+fn seen(alloc: Global, instance: &Instance, advice: Advice) -> Seen {
     let Advice {
         prices,
         plan,
         split,
-    } = adviser.advise(instance, &asked(alloc, best))?;
+    } = advice;
     let bound = bound_of(alloc, instance, prices);
-    Ok((bound, cost_of(instance, plan), number_of(split)))
+    (bound, cost_of(instance, plan), number_of(split))
+}
+
+/// What is seen of an adviser's advice for a day, on which the plan without duties costs so much.
+fn seen_on<S: Stop + Clone>(
+    alloc: Global,
+    day: &str,
+    best: u64,
+    mut adviser: Thorough<S>,
+) -> Result<Seen, Fail> {
+    let instance = read(alloc, day.as_bytes())?;
+    let advice = adviser.advise(&instance, &asked(alloc, best))?;
+    Ok(seen(alloc, &instance, advice))
 }
 
 // The best prices earn what the shift costs, which its plan costs too. The adviser makes itself of the day at its first advice.
 #[test]
 fn an_adviser_closes_its_day(rt: HostRuntime) -> Result<(), Fail> {
     let alloc = rt.alloc();
-    let instance = read(alloc, MORNING.as_bytes())?;
-    let mut adviser = Thorough::new(alloc, 1, Never);
-    let found = seen(alloc, &mut adviser, &instance, 8)?;
+    let found = seen_on(alloc, MORNING, 8, Thorough::new(alloc, 1, Never))?;
     assert_eq!(rt; found, (Some(3), Some(3), None));
     Ok(())
 }
@@ -108,9 +112,7 @@ fn adviser_of(alloc: Global, day: &str) -> Result<Thorough<Never>, Fail> {
 #[test]
 fn the_adviser_of_a_day_splits_it(rt: HostRuntime) -> Result<(), Fail> {
     let alloc = rt.alloc();
-    let instance = read(alloc, TWO.as_bytes())?;
-    let mut adviser = adviser_of(alloc, TWO)?;
-    let found = seen(alloc, &mut adviser, &instance, 8)?;
+    let found = seen_on(alloc, TWO, 8, adviser_of(alloc, TWO)?)?;
     assert_eq!(rt; found, (Some(2), Some(3), Some(1)));
     Ok(())
 }
@@ -120,9 +122,7 @@ fn the_adviser_of_a_day_splits_it(rt: HostRuntime) -> Result<(), Fail> {
 #[test]
 fn an_adviser_of_another_day_advises_nothing_unlawful(rt: HostRuntime) -> Result<(), Fail> {
     let alloc = rt.alloc();
-    let instance = read(alloc, MANY_BREAKS.as_bytes())?;
-    let mut adviser = adviser_of(alloc, MORNING)?;
-    let found = seen(alloc, &mut adviser, &instance, 52)?;
+    let found = seen_on(alloc, MANY_BREAKS, 52, adviser_of(alloc, MORNING)?)?;
     assert_eq!(rt; (found.0, found.1), (None, Some(3)));
     Ok(())
 }
@@ -144,9 +144,7 @@ impl Stop for Stopping {
 #[test]
 fn what_is_known_is_advised_once_a_stop_asks(rt: HostRuntime) -> Result<(), Fail> {
     let alloc = rt.alloc();
-    let instance = read(alloc, MORNING.as_bytes())?;
-    let mut adviser = Thorough::new(alloc, 1, Stopping);
-    let found = seen(alloc, &mut adviser, &instance, 8)?;
+    let found = seen_on(alloc, MORNING, 8, Thorough::new(alloc, 1, Stopping))?;
     assert_eq!(rt; (found.0, found.1), (Some(3), None));
     Ok(())
 }

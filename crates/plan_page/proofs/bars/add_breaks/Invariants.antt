@@ -1,0 +1,8 @@
+use Rattle.std.proofs.Common.{◌≡◌, ◌++◌, take, string_bytes}
+use Rattle.std.specs.List.{flat_map}
+use Rattle.plan_page.specs.Bars.{boxes, rest_of}
+use Rattle.plan_page.proofs.bars.add_breaks.Given as goal
+
+abbrev pub invariant-loop-rest : goal.invariant-loop-rest
+invariant-loop-rest l =
+    string_bytes l.page ≡ string_bytes l.fn.page ++ flat_map (λ b. boxes l.instance l.day 4 8 (rest_of l.first b)) (take l.rest-index l.breaks)

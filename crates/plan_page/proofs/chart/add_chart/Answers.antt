@@ -1,0 +1,15 @@
+use Rattle.std.proofs.Common.{string_bytes}
+use Rattle.plan_tables.proofs.Appending.{joined, joined_last}
+use Rattle.plan_page.specs.Chart.{chart}
+use Rattle.plan_page.proofs.chart.add_chart.Goals as goal
+
+pub returns : goal.returns
+unfolding chart
+returns c =
+    let old = string_bytes c.args.page.now in
+    let one = joined old _ _ c.in_ok-add_chart_head.ensures c.in_ok-add_grid.ensures in
+    let two = joined old _ _ one c.in_ok-add_layer.ensures in
+    let three = joined old _ _ two c.in_ok-add_layer-2.ensures in
+    let four = joined old _ _ three c.in_ok-add_layer-3.ensures in
+    let five = joined old _ _ four c.in_ok-add_need.ensures in
+    joined_last c.add_hours.result old _ _ (string_bytes c.add_hours.new.page) five c.add_hours.ensures

@@ -1,0 +1,24 @@
+use Rattle.std.proofs.Common.{◌≡◌, ℕ, ◌++◌, List, sym, ap, ◌∙◌, arith, string_bytes}
+use Rattle.std.specs.List.{flat_map}
+use Rattle.std.proofs.lemmas.List.{flat_map_more}
+use Rattle.shift_instance.specs.Problem.{below, day_slots}
+use Rattle.shift_instance.proofs.Ranges.{below_next}
+use Rattle.plan_page.specs.Chart.{slot_bar}
+use Rattle.plan_page.proofs.chart.add_slot_bars.Goals as goal
+
+pub loop-n-preserved : goal.loop-n-preserved
+loop-n-preserved c =
+    let i = c.args.instance.now in
+    let old = string_bytes c.args.page.now in
+    let piece : ℕ → List ℕ = slot_bar i c.args.attendance.now.duties c.args.most c.args.first c.args.layer in
+    c.in_ok-add_slot_bar.ensures
+    ∙ ap (λ (page : List ℕ). page ++ piece c.loop-n.n) c.loop-n.invariant
+    ∙ flat_map_more piece old (below c.loop-n.n) c.loop-n.n
+    ∙ ap (λ (ns : List ℕ). old ++ flat_map piece ns) (sym (below_next c.loop-n.n))
+
+pub returns : goal.returns
+returns c =
+    let i = c.args.instance.now in
+    let piece : ℕ → List ℕ = slot_bar i c.args.attendance.now.duties c.args.most c.args.first c.args.layer in
+    let last : c.loop-n.n ≡ day_slots i = omega arith in
+    c.loop-n.invariant ∙ ap (λ (n : ℕ). string_bytes c.args.page.now ++ flat_map piece (below n)) last

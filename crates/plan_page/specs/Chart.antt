@@ -1,0 +1,79 @@
+-- The picture of a day's slots: the need as a line over the employees as bars. A day is given by its first slot.
+use Rattle.std.specs.Prelude.{ℕ, ◌+◌, ◌-◌, ◌*◌, nat_lt, if◌then◌else◌, List, [], ◌++◌, codes, fold, max, min}
+use Rattle.std.specs.List.{flat_map}
+use Rattle.std.specs.Fmt.{decimal}
+use Rattle.shift_instance.specs.declared.Duty.{Duty}
+use Rattle.shift_instance.specs.Problem.{Problem, below, day_slots, need_at, slots}
+use Rattle.shift_instance.specs.Rota.{cover}
+use Rattle.plan_page.specs.declared.chart.Layer.{Layer}
+use Rattle.plan_page.specs.declared.chart.Layer.TheVariants.{Covered, Over, Under}
+use Rattle.plan_page.specs.declared.chart.TheConstants.{GRID, HOURS}
+use Rattle.plan_page.specs.Pictures.{box_text, depth}
+
+-- the greatest number of employees that are wanted or work in any slot, and 1 where there is none
+abbrev pub most_employees : Problem → List Duty → ℕ
+most_employees i rota = fold (λ most t. max most (max (need_at i t) (cover i rota t))) 1 (below (slots i))
+
+-- what a layer of bars is called in the page's style
+abbrev pub layer_name : Layer → List ℕ
+layer_name Covered = codes "covered"
+layer_name Over = codes "over"
+layer_name Under = codes "under"
+
+-- from which number of employees on up to which the bar of a slot stands, where so many are wanted and so many work
+abbrev pub layer_ends : Layer → ℕ → ℕ → ℕ × ℕ
+layer_ends Covered wanted working = (0, min working wanted)
+layer_ends Over wanted working = (wanted, working)
+layer_ends Under wanted working = (working, wanted)
+
+-- a bar from its left end on, between two numbers of employees, and nothing where the first isn't below the second
+unfoldable pub bar_text : ℕ → ℕ → ℕ → ℕ × ℕ → List ℕ
+bar_text most left width ends =
+    if nat_lt ends.0 ends.1 then box_text left (depth most ends.1) width (depth most ends.0 - depth most ends.1) else []
+
+-- the bar of a layer for a slot of the day, counted from 0
+unfoldable pub slot_bar : Problem → List Duty → ℕ → ℕ → Layer → ℕ → List ℕ
+slot_bar i rota most first layer n =
+    bar_text most (n * i.slot_minutes) i.slot_minutes (layer_ends layer (need_at i (first + n)) (cover i rota (first + n)))
+
+-- the bars of a layer
+unfoldable pub path_begin : List ℕ → List ℕ
+path_begin name = codes "<path class=\"" ++ name ++ codes "\" d=\""
+
+unfoldable pub path_end : List ℕ
+path_end = codes "\"/>\n"
+
+unfoldable pub layer_path : Problem → List Duty → ℕ → ℕ → Layer → List ℕ
+layer_path i rota most first layer =
+    path_begin (layer_name layer) ++ flat_map (slot_bar i rota most first layer) (below (day_slots i)) ++ path_end
+
+-- the line of the need: up or down to the need of a slot of the day, counted from 0, and on to its end
+unfoldable pub need_step : Problem → ℕ → ℕ → ℕ → List ℕ
+need_step i most first n = codes "V" ++ decimal (depth most (need_at i (first + n))) ++ codes "H" ++ decimal ((n + 1) * i.slot_minutes)
+
+unfoldable pub need_begin : List ℕ
+need_begin = codes "<path class=\"need\" d=\"M0 240"
+
+unfoldable pub need_end : List ℕ
+need_end = codes "V240\"/>\n"
+
+unfoldable pub need_path : Problem → ℕ → ℕ → List ℕ
+need_path i most first = need_begin ++ flat_map (need_step i most first) (below (day_slots i)) ++ need_end
+
+-- up to how many employees the picture shows, and the lines at every third hour
+unfoldable pub chart_head : ℕ → List ℕ
+chart_head most = codes "<div class=\"row\"><span>up to " ++ decimal most ++ codes " employees</span>"
+
+unfoldable pub grid_text : List ℕ
+grid_text = GRID.now
+
+-- the hours below the picture
+unfoldable pub hours_text : List ℕ
+hours_text = HOURS.now
+
+-- the picture of a day, which shows up to so many employees
+unfoldable pub chart : Problem → List Duty → ℕ → ℕ → List ℕ
+chart i rota most first =
+    chart_head most ++ grid_text
+    ++ layer_path i rota most first Covered ++ layer_path i rota most first Over ++ layer_path i rota most first Under
+    ++ need_path i most first ++ hours_text
