@@ -54,9 +54,16 @@ totals_columns i width t =
 unfoldable pub day_line : Problem → ℕ → ℕ × DaySummary → List ℕ
 day_line i width (k, day) = at_right 3 (decimal (k + 1)) ++ at_right 9 (decimal day.duties) ++ totals_columns i width day.totals ++ codes "\n"
 
+-- what the columns of the days are before that of the wanted hours, and behind it
+unfoldable pub days_head_begin : List ℕ
+days_head_begin = codes "\nday   duties"
+
+unfoldable pub days_head_end : List ℕ
+days_head_end = codes "      worked        over       under\n"
+
 -- what the columns of the days are
 unfoldable pub days_head : ℕ → List ℕ
-days_head width = codes "\nday   duties" ++ at_right width (codes "wanted") ++ codes "      worked        over       under\n"
+days_head width = days_head_begin ++ at_right width (codes "wanted") ++ days_head_end
 
 -- the days from the first, and all of them together
 unfoldable pub days_lines : Problem → Summary → List ℕ

@@ -2,7 +2,7 @@
 ghost use Rattle.std.specs.Prelude.{◌≡◌, ◌^◌, ◌<◌, ◌++◌, IfOk, OnOk, string_bytes};
 ghost use Rattle.std.specs.List.{enumerate_from, flat_map};
 ghost use Rattle.plan_tables.specs.Columns.{at_right};
-ghost use Rattle.plan_tables.specs.SummaryLines.{cost_head, cost_line, cost_lines, costliest_head, costliest_lines, costly_line, day_line, days_head, days_lines, employees_width, hours_width, moment_columns, part_line, summary_lines, totals_columns, wanted_employees, wanted_hours};
+ghost use Rattle.plan_tables.specs.SummaryLines.{cost_head, cost_line, cost_lines, costliest_head, costliest_lines, costly_line, day_line, days_head, days_head_begin, days_head_end, days_lines, employees_width, hours_width, moment_columns, part_line, summary_lines, totals_columns, wanted_employees, wanted_hours};
 ghost use Rattle.plan_tables.specs.Times.{span_text};
 
 use crate::columns::{add_left, add_number, add_right};
@@ -156,14 +156,30 @@ fn add_each_day(
     Ok(())
 }
 
+/// Adds what the columns of the days are before that of the wanted hours.
+#[tactic(auto, unfolding(crate::specs::SummaryLines::days_head_begin))]
+fn begin_days_head(text: &mut String) -> Result<(), NoMemory>
+    ensures { OnOk result (string_bytes text.new ≡ string_bytes text.old ++ days_head_begin) }
+{
+    text.push_str("\nday   duties")
+}
+
+/// Adds what the columns of the days are behind that of the wanted hours.
+#[tactic(auto, unfolding(crate::specs::SummaryLines::days_head_end))]
+fn end_days_head(text: &mut String) -> Result<(), NoMemory>
+    ensures { OnOk result (string_bytes text.new ≡ string_bytes text.old ++ days_head_end) }
+{
+    text.push_str("      worked        over       under\n")
+}
+
 /// Adds what the columns of the days are.
 #[tactic(auto, unfolding(crate::specs::SummaryLines::days_head))]
 fn add_days_head(text: &mut String, width: usize) -> Result<(), NoMemory>
     ensures { OnOk result (string_bytes text.new ≡ string_bytes text.old ++ days_head width) }
 {
-    text.push_str("\nday   duties")?;
+    begin_days_head(text)?;
     add_right(text, "wanted", width)?;
-    text.push_str("      worked        over       under\n")
+    end_days_head(text)
 }
 
 /// Adds a line for each day, and one for all.

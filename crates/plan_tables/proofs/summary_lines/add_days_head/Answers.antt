@@ -7,5 +7,5 @@ pub returns : goal.returns
 unfolding days_head
 returns c =
     let old = string_bytes c.args.text.now in
-    let one = joined old _ _ c.in_ok-push_str.ensures.bytes c.in_ok-add_right.ensures in
-    joined_last c.push_str-2.result old _ _ (string_bytes c.push_str-2.new.self) one c.push_str-2.ensures.bytes
+    let one = joined old _ _ c.in_ok-begin_days_head.ensures c.in_ok-add_right.ensures in
+    joined_last c.end_days_head.result old _ _ (string_bytes c.end_days_head.new.text) one c.end_days_head.ensures
