@@ -1,4 +1,4 @@
-use Rattle.std.proofs.Common.{◌==◌, List, ℕ, codes, ◌++◌, cond, ap, sym, ◌∙◌}
+use Rattle.std.proofs.Common.{List, ℕ, codes, ◌++◌, cond, ap, sym, ◌∙◌, append_assoc}
 use Rattle.std.specs.Fmt.{decimal}
 use Rattle.std.proofs.lemmas.Bool.{ne_eqb}
 use Rattle.std.proofs.lemmas.Result.{IfOk-weaker}
@@ -11,4 +11,5 @@ returns-else-least-most c =
     let s = c.args.slot.now in
     let one : List ℕ = decimal s.wanted in
     let two : List ℕ = decimal s.wanted ++ codes "-" ++ decimal s.wanted_max in
-    IfOk-weaker c.format-else-least-most.result _ _ (λ text e. e ∙ sym (ap (λ (same : _). cond same one two) (ne_eqb s.wanted s.wanted_max c.if-least-most.false))) c.format-else-least-most.ensures.ok
+    let range = append_assoc (decimal s.wanted) (codes "-") (decimal s.wanted_max) in
+    IfOk-weaker c.format-else-least-most.result _ _ (λ text e. e ∙ sym range ∙ sym (ap (λ (same : _). cond same one two) (ne_eqb s.wanted s.wanted_max c.if-least-most.false))) c.format-else-least-most.ensures.ok
