@@ -30,12 +30,7 @@ pub(crate) fn add_span(page: &mut String, instance: &Instance, slots: u64) -> Re
 
 /// Adds a field with how long so many slots are together at least and at most.
 #[tactic(auto, unfolding(crate::specs::Cells::cell))]
-fn add_spans(
-    page: &mut String,
-    instance: &Instance,
-    least: u64,
-    most: u64,
-) -> Result<(), NoMemory>
+fn add_spans(page: &mut String, instance: &Instance, least: u64, most: u64) -> Result<(), NoMemory>
     ensures { OnOk result (string_bytes page.new ≡ string_bytes page.old ++ cell (span_text instance.now least ++ codes "-" ++ span_text instance.now most)) }
 {
     let shorter = Hours::of_slots(instance, least);

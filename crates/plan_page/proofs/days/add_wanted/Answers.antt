@@ -18,7 +18,7 @@ returns-then-totals c =
     (sym (ap (λ (same : _). cond same one two) (eq-eqb x.wanted x.wanted_max c.if-totals.true))) c.add_span.ensures
 
 pub returns-else-totals : goal.returns-else-totals
-unfolding wanted_hours, spans_text
+unfolding wanted_hours spans_text
 returns-else-totals c =
     let i = c.args.instance.now in
     let x = c.args.totals.now in
