@@ -238,8 +238,8 @@ impl Climb {
         }
     }
 
-    /// The chosen duties, their cover, and how many of them are of each cut on duties of certain breaks.
-    fn choose_all(&mut self, tables: &Tables, ranges: &Ranges) -> Result<(), NoMemory> {
+    /// The chosen duties, and how they fail the bands and the cuts.
+    fn find_violations(&mut self, tables: &Tables, ranges: &Ranges) -> Result<(), NoMemory> {
         self.chosen.clear();
         clear(&mut self.cover);
         clear(&mut self.front_counts);
@@ -248,6 +248,7 @@ impl Climb {
                 self.choose_share(tables, ranges, share)?;
             }
         }
+        self.lay_violations(tables, ranges);
         Ok(())
     }
 
@@ -310,9 +311,8 @@ impl Climb {
         let most = edge(tables, &self.point, &self.reached);
         let factor = top(&mut self.corners, &mut self.shares, slope, most)?;
         let value = fixed + factor * slope - self.surplus(tables, factor);
-        self.choose_all(tables, ranges)?;
+        self.find_violations(tables, ranges)?;
         self.scale(tables, factor);
-        self.lay_violations(tables, ranges);
         if all {
             self.factor = factor;
         }
