@@ -7,7 +7,7 @@ use std::alloc::Global;
 /// The byte of a slot with as many employees as are wanted at most, or more.
 pub const FULL: u8 = 1;
 
-/// The byte of a slot with as many employees as are needed, where more are wanted.
+/// The byte of a slot with as many employees as are needed or more, but fewer than are wanted at most.
 pub const FREE: u8 = 2;
 
 /// The byte of a slot with fewer employees than are needed.
