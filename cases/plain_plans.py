@@ -1,6 +1,6 @@
 #!/usr/bin/env python3
 """Reads what `shift_plan` writes and says, by docs/DEFINITIONS.md alone: of some examples and of random small instances the report is accepted,
-`duties.csv` and `cover.csv` hold its rows, the need and the cover, and the cost that they add up to is the one that is printed; `show` writes
+`duties.csv` and `cover.csv` hold its rows, the bands and the cover, and the cost that they add up to is the one that is printed; `show` writes
 the same files once more. Then runs that meet something in their way: another run's lock, a killed run, journals of all kinds, folders. Prints
 what is wrong, and last `N passed, M failed`, counted in instances and runs. Build the programs first."""
 import collections
@@ -27,7 +27,7 @@ TOP = pathlib.Path(__file__).resolve().parent.parent
 EXAMPLES = ("ward_week", "call_day", "airport_day")
 FILES = ("report", "duties.csv", "cover.csv", "plan.html")
 INSTANCES = 10
-DUTY_COLUMNS, SLOT_COLUMNS = "day start end type employees breaks", "day time need working on_break over under"
+DUTY_COLUMNS, SLOT_COLUMNS = "day start end type employees breaks", "day time need need_max working on_break over under"
 
 
 def program(name):
@@ -93,15 +93,15 @@ class Folder:
             working.update(self.reading.slots_worked(row.shift, row.day, row.breaks) * row.count)
             length, start = self.reading.shifts[row.shift][1:]
             present.update([(row.day * self.reading.day_slots + start + offset) % len(self.reading.need) for offset in range(length)] * row.count)
-        for slot, need in enumerate(self.reading.need):
+        for slot, (need, most) in enumerate(self.reading.bands):
             day, at = divmod(slot, self.reading.day_slots)
             works = working[slot]
-            yield list(map(str, [day + 1, clock(at * self.minutes), need, works, present[slot] - works, max(0, works - need), max(0, need - works)]))
+            yield list(map(str, [day + 1, clock(at * self.minutes), need, most, works, present[slot] - works, max(0, works - most), max(0, need - works)]))
 
     def added_up(self):
         """What the tables cost: over and under of the slots, and the kinds of duties, each at its weight."""
         slots, duties = self.table("cover.csv", SLOT_COLUMNS), self.table("duties.csv", DUTY_COLUMNS)
-        over, under = (sum(int(slot[place]) for slot in slots) for place in (5, 6))
+        over, under = (sum(int(slot[place]) for slot in slots) for place in (6, 7))
         shifts = {(duty[3], duty[1], duty[2]) for duty in duties}
         return self.reading.excess * over + self.reading.shortage * under + self.reading.shift * len(shifts)
 

@@ -51,6 +51,7 @@ class Reading:
     """What the definitions say of the instance of a document."""
     def __init__(self, document):
         self.days, self.need, self.heads = (document[name] for name in ("days", "need", "max_heads"))
+        self.bands = list(zip(self.need, document.get("need_max", self.need)))  # of each slot the least and the most wanted employees
         self.excess, self.shortage, self.shift = (document["weights"][name] for name in ("excess", "shortage", "shift"))
         self.day_slots = 1440 // document["slot_minutes"]
         to, kinds = (lambda kind, name: range(kind[name + "_min"], kind[name + "_max"] + 1)), document["types"]
@@ -74,7 +75,7 @@ class Reading:
 
     def cost(self, rows):
         cover = collections.Counter(slot for row in rows for slot in self.slots_worked(row.shift, row.day, row.breaks) * row.count)
-        slots = [self.excess * max(0, cover[slot] - need) + self.shortage * max(0, need - cover[slot]) for slot, need in enumerate(self.need)]
+        slots = [self.excess * max(0, cover[slot] - most) + self.shortage * max(0, least - cover[slot]) for slot, (least, most) in enumerate(self.bands)]
         return sum(slots) + self.shift * len({row.shift for row in rows})
 
     def least_cost(self):
@@ -145,7 +146,7 @@ class Reading:
 
     def bound(self, cuts, scale, prices, cut_prices):
         """The bound of a price set."""
-        total = sum(price * need for price, need in zip(prices, self.need))
+        total = sum(price * (most if price < 0 else least) for price, (least, most) in zip(prices, self.bands))
         total += sum(price * (cut.number if cut.at_least else -cut.number) for cut, price in zip(cuts, cut_prices))
         total += sum(self.term(cuts, scale, prices, cut_prices, shift) for shift in range(len(self.shifts)))
         return min(MOST_COST, max(0, -(-total // scale)))
@@ -235,7 +236,7 @@ class Trial:
         (folder / "instance").write_text(self.text)
 
     def document(self):
-        """A random instance, often a tiny one."""
+        """A random instance, often a tiny one, half of the time with bands."""
         draw, types, tiny = self.draw, [], self.draw.random() < 0.5
         minutes, much, peak = 60 if tiny else draw.choice((60, 60, 30, 20)), draw.choice((5, 5, 10**6)), draw.choice((1, 2, 3, 6, 6000))
         day_slots, days = 1440 // minutes, draw.choice((1, 1, 2) if tiny else (1, 2, 3, 2 if minutes < 60 else 7))
@@ -245,7 +246,8 @@ class Trial:
             types[-1].update(len_max=length + draw.choice((0, 0, 1)), **draw.choice([{}, {"breaks": None}] + [{"breaks": self.rule(length)}] * 10))
         weights = {"excess": draw.randint(0, 3), "shortage": draw.randint(0, much), "shift": draw.choice((0, draw.randint(0, min(3 * much, 10**6))))}
         need, heads = [draw.choice((0, draw.randint(0, peak))) for _ in range(days * day_slots)], draw.choice((1, 1, 2, 3) if tiny else (1, 2, 3, 200))
-        return {"slot_minutes": minutes, "days": days, "need": need, "max_heads": heads, "weights": weights, "types": types}
+        most = {"need_max": [min(10000, least + draw.choice((0, draw.randint(0, peak)))) for least in need]} if draw.random() < 0.5 else {}
+        return {"slot_minutes": minutes, "days": days, "need": need, **most, "max_heads": heads, "weights": weights, "types": types}
 
     def rule(self, length):
         """A random rule that mostly has a legal list at that length."""

@@ -9,7 +9,7 @@ use Rattle.std.proofs.lemmas.List.FromFn.{length-range_with_len}
 use Rattle.break_rules.specs.Lists.{Has}
 use Rattle.break_rules.proofs.Lists.{all_from, from_map}
 use Rattle.shift_instance.specs.declared.Duty.{Duty}
-use Rattle.shift_instance.specs.Problem.{Problem, slots, need_at, below}
+use Rattle.shift_instance.specs.Problem.{Problem, slots, need_at, need_max_at, below}
 use Rattle.shift_instance.specs.Rota.{cover}
 use Rattle.shift_instance.specs.Worth.{price_of}
 use Rattle.head_splits.specs.declared.TheConstants.{CUT_PRICE_MAX}
@@ -21,7 +21,7 @@ use Rattle.head_splits.proofs.Priced.{priced}
 use Rattle.advisers.proofs.PriceSizes.{neg_times}
 use Rattle.advisers.specs.Forced.{balance_price, forced_prices, forced_rota}
 use Rattle.advisers.specs.Solutions.{solution}
-use Rattle.advisers.specs.Subgradient.{brought_into, first_prices, next_cut_price, next_prices, next_slot_price, stepped}
+use Rattle.advisers.specs.Subgradient.{brought_into, first_prices, next_cut_price, next_prices, next_slot_price, stepped, target_at}
 
 le_test : (a b : ℤ) → a ≤ℤ b → int_le a b ≡ true
 le_test a b h = grind (arith, ints)
@@ -48,7 +48,7 @@ most_test a b h = grind arith
 
 -- ---- the first prices
 scaled_in_range : (i : Problem) (q : ℕ) (t working : ℕ) → is_slot_price i q (balance_price i t working *ℤ pos q) ≡ true
-scaled_in_range i q t working = go (nat_lt working (need_at i t)) (nat_lt (need_at i t) working)
+scaled_in_range i q t working = go (nat_lt working (need_at i t)) (nat_lt (need_max_at i t) working)
   where
     go : (few many : Bool) → is_slot_price i q (cond few (pos i.shortage) (cond many (neg_ℤ (pos i.excess)) (pos 0)) *ℤ pos q) ≡ true
     go true many =
@@ -130,6 +130,6 @@ next_passes i cuts step prices h =
     (length-map (below (slots i)) f ∙ length-range_with_len 0 (slots i))
     (all_from (is_slot_price i prices.q) (map f (below (slots i))) (λ z m.
     let t = from_map f (below (slots i)) z m in
-    subst (λ (y : ℤ). is_slot_price i prices.q y ≡ true) t.2 (brought_in_range i prices.q (price_of prices.slots t.0 +ℤ pos step *ℤ (pos (need_at i t.0) -ℤ pos (cover i rota t.0))))))
+    subst (λ (y : ℤ). is_slot_price i prices.q y ≡ true) t.2 (brought_in_range i prices.q (price_of prices.slots t.0 +ℤ pos step *ℤ (pos (target_at i t.0 (price_of prices.slots t.0) (cover i rota t.0)) -ℤ pos (cover i rota t.0))))))
     (length-map (zip cuts prices.cuts) (next_cut_price step rota) ∙ zip_length cuts prices.cuts p.cut_count)
     (next_cuts_in_range step rota cuts prices.cuts p.cut_prices)

@@ -3,7 +3,7 @@ use Rattle.std.specs.Prelude.{ℕ, ℤ, pos, neg_ℤ, nat_lt, List, [], map, len
 use Rattle.std.specs.Option.{option_map_or}
 use Rattle.std.specs.List.{flat_map}
 use Rattle.shift_instance.specs.declared.Duty.{Duty}
-use Rattle.shift_instance.specs.Problem.{Problem, slots, need_at, shift_list, below}
+use Rattle.shift_instance.specs.Problem.{Problem, slots, need_at, need_max_at, shift_list, below}
 use Rattle.shift_instance.specs.Rota.{lists_of, cover}
 use Rattle.head_splits.specs.declared.Cut.{Cut}
 use Rattle.head_splits.specs.Cuts.{low, whole_class}
@@ -21,12 +21,12 @@ forced_of i cuts s = flat_map (forced_on i cuts s) (below i.days)
 unfoldable pub forced_rota : Problem → List Cut → List Duty
 forced_rota i cuts = flat_map (forced_of i cuts) (below (length (shift_list i)))
 
--- the price of a slot where that many duties work: the shortage weight below the need, minus the excess weight above it, and
--- 0 where they are equal
+-- the price of a slot where that many duties work: the shortage weight below its band, minus the excess weight above it, and
+-- 0 within it
 abbrev pub balance_price : Problem → ℕ → ℕ → ℤ
 balance_price i t working =
     if nat_lt working (need_at i t) then pos i.shortage
-    else if nat_lt (need_at i t) working then neg_ℤ (pos i.excess)
+    else if nat_lt (need_max_at i t) working then neg_ℤ (pos i.excess)
     else pos 0
 
 -- the prices of all slots, where the forced duties work

@@ -1,11 +1,11 @@
 -- Prices by the subgradient method, and what its adviser advises. Source: Held, Wolfe and Crowder 1974 for the method; the first prices, the steps
 -- and the number of rounds are this project's profile.
 use Rattle.std.specs.Prelude.{ℕ, zero, suc, ◌+◌, ◌-◌, ◌*◌, ◌/◌, ℤ, pos, neg_ℤ, ◌+ℤ◌, ◌-ℤ◌, ◌*ℤ◌, not, nat_lt, nat_le, min, max, List, map, length, replicate, None, unwrap_or, if◌then◌else◌}
-use Rattle.std.specs.Int.{int_max, int_min}
+use Rattle.std.specs.Int.{int_max, int_min, is_negative, is_positive}
 use Rattle.std.specs.Option.{option_map_or}
 use Rattle.std.specs.List.{list_any, find, zip}
 use Rattle.shift_instance.specs.declared.Duty.{Duty}
-use Rattle.shift_instance.specs.Problem.{Problem, slots, need_at, below}
+use Rattle.shift_instance.specs.Problem.{Problem, slots, need_at, need_max_at, below}
 use Rattle.shift_instance.specs.Rota.{cover}
 use Rattle.shift_instance.specs.Worth.{price_of}
 use Rattle.head_splits.specs.declared.TheConstants.{CUT_PRICE_MAX}
@@ -30,11 +30,19 @@ step_in q round = max 1 (q / (round + 1))
 abbrev pub brought_into : ℤ → ℤ → ℤ → ℤ
 brought_into least most z = int_max least (int_min z most)
 
+-- the number of a slot's band that its price moves towards where that many duties work: the need for a price above 0, the most wanted employees for one
+-- below 0, and for price 0 the number that is nearest to how many work
+abbrev pub target_at : Problem → ℕ → ℤ → ℕ → ℕ
+target_at i t price working =
+    if is_positive price then need_at i t
+    else if is_negative price then need_max_at i t
+    else min (max working (need_at i t)) (need_max_at i t)
+
 -- the next price of a slot: it grows by the step for each employee too few that the solution leaves, falls by the step for each one too many, and is
 -- brought into its range
 abbrev pub next_slot_price : Problem → ℕ → ℕ → List Duty → ℕ → ℤ → ℤ
 next_slot_price i q step rota t price =
-    brought_into (neg_ℤ (pos (q * i.excess))) (pos (q * i.shortage)) (price +ℤ pos step *ℤ (pos (need_at i t) -ℤ pos (cover i rota t)))
+    brought_into (neg_ℤ (pos (q * i.excess))) (pos (q * i.shortage)) (price +ℤ pos step *ℤ (pos (target_at i t price (cover i rota t)) -ℤ pos (cover i rota t)))
 
 -- a price that grows by the step for each duty by which the solution departs from a cut, and falls by it for each one in the other direction, but not
 -- below 0

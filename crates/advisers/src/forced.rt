@@ -103,10 +103,9 @@ fn balance_price(instance: &Instance, t: usize, working: u32) -> i64
     ensures { result ≡ balance_price instance.now t working }
 {
     let (excess, shortage, _) = instance.weights();
-    let need = instance.need(t);
-    if working < need {
+    if working < instance.need(t) {
         i64::from(shortage)
-    } else if need < working {
+    } else if instance.need_max(t) < working {
         -i64::from(excess)
     } else {
         0

@@ -7,7 +7,7 @@ ghost use Rattle.shift_instance.specs.Problem.{below, shift_list, slots};
 ghost use Rattle.shift_instance.specs.Rota.{cover, duty_of, rota_of, works};
 ghost use Rattle.shift_instance.specs.Worth.{price_of};
 ghost use Rattle.advisers.specs.Chosen.{AreRows, IsFor};
-ghost use Rattle.advisers.specs.Subgradient.{brought_into, next_cut_price, next_prices, next_slot_price, stepped};
+ghost use Rattle.advisers.specs.Subgradient.{brought_into, next_cut_price, next_prices, next_slot_price, stepped, target_at};
 
 use crate::choosing::solution;
 use break_rules::NoMemory;
@@ -58,12 +58,28 @@ fn covers(alloc: Global, instance: &Instance, rows: &[Row]) -> Result<Vec<u32>, 
     Ok(counts)
 }
 
-/// A price that grew by the step for each employee too few, or fell by it for each one too many.
-fn moved(price: i64, step: u16, need: u32, working: u32) -> i64
-    requires { unsigned_abs price ≤ 10000000000 }
-    ensures { result ≡ price +ℤ pos step *ℤ (pos need -ℤ pos working) }
+/// The number of a slot's band that its price moves towards, where that many duties of the solution work: the need for a price
+/// above 0, the most wanted employees for one below 0, and for price 0 the number that is nearest to how many work.
+fn target(instance: &Instance, t: usize, price: i64, working: u32) -> u32
+    requires { t < slots instance.now }
+    ensures { result ≡ target_at instance.now t price working }
 {
-    price + i64::from(step) * (i64::from(need) - i64::from(working))
+    let (least, most) = (instance.need(t), instance.need_max(t));
+    if 0 < price {
+        least
+    } else if price < 0 {
+        most
+    } else {
+        working.max(least).min(most)
+    }
+}
+
+/// A price that grew by the step for each employee too few, or fell by it for each one too many.
+fn moved(price: i64, step: u16, target: u32, working: u32) -> i64
+    requires { unsigned_abs price ≤ 10000000000 }
+    ensures { result ≡ price +ℤ pos step *ℤ (pos target -ℤ pos working) }
+{
+    price + i64::from(step) * (i64::from(target) - i64::from(working))
 }
 
 /// A price brought into the range of a slot's prices, by a scale and the costs of an employee too many and too few.
@@ -88,7 +104,8 @@ fn next_slot_price(
     ensures { (rota : List Duty) → working ≡ cover instance.now rota t → result ≡ next_slot_price instance.now q step rota t price }
 {
     let (excess, shortage, _) = instance.weights();
-    let price = moved(price, step, instance.need(t), working);
+    let target = target(instance, t, price, working);
+    let price = moved(price, step, target, working);
     in_range(price, q, excess, shortage)
 }
 

@@ -3,31 +3,54 @@ ghost use Rattle.std.specs.Prelude.{◌≡◌, ℕ, ◌≤◌, ◌<◌, ◌^◌,
 ghost use Rattle.std.specs.List.{zip};
 ghost use Rattle.std.specs.Int.RustNames.{unsigned_abs};
 ghost use Rattle.break_rules.specs.Sums.{int_sum_by, rounded_up};
-ghost use Rattle.shift_instance.specs.Problem.{below, need_at, shift_list, slots};
+ghost use Rattle.shift_instance.specs.Problem.{below, shift_list, slots};
 ghost use Rattle.shift_instance.specs.Worth.{price_of};
 ghost use Rattle.shift_instance.specs.Valid.{IsValid};
-ghost use Rattle.head_splits.specs.Bound.{are_prices, bound_of, cut_worth, term, total};
+ghost use Rattle.head_splits.specs.Bound.{are_prices, bound_of, cut_worth, term, total, wanted_at, worth_at};
 
 use crate::prices::signed_price;
 use head_splits::{Cut, Cuts, Prices};
 use shift_instance::{Instance, TOP};
 
-/// What a slot's price is worth at the slot's need.
+/// The wanted employees of a slot for which a price counts: the most of them where it is below 0, and else the need.
+fn wanted(instance: &Instance, t: usize, price: i64) -> u32
+    requires { t < slots instance.now }
+    ensures wanted { result ≡ wanted_at instance.now t price }
+    ensures limit { result ≤ 10000 }
+{
+    if price < 0 {
+        instance.need_max(t)
+    } else {
+        instance.need(t)
+    }
+}
+
+/// What a price is worth at a number of employees.
+fn worth_of(price: i64, number: u32) -> i128
+    requires price { unsigned_abs price ≤ 10000000000 }
+    requires number { number ≤ 10000 }
+    ensures worth { result ≡ price *ℤ pos number }
+    ensures small { unsigned_abs result ≤ 10 ^ 14 }
+{
+    i128::from(price) * i128::from(number)
+}
+
+/// What a price is worth at a slot.
 fn slot_worth(instance: &Instance, t: usize, price: i64) -> i128
     requires slot { t < slots instance.now }
     requires price { unsigned_abs price ≤ 10000000000 }
-    ensures worth { result ≡ price *ℤ pos (need_at instance.now t) }
+    ensures worth { result ≡ worth_at instance.now t price }
     ensures small { unsigned_abs result ≤ 10 ^ 14 }
 {
-    i128::from(price) * i128::from(instance.need(t))
+    worth_of(price, wanted(instance, t, price))
 }
 
-/// What the slots' prices are worth at the slots' needs.
+/// What the slots' prices are worth.
 fn slots_worth(instance: &Instance, prices: &[i64]) -> i128
     requires valid { IsValid instance.now }
     requires count { length prices.now ≡ slots instance.now }
     requires small { (t : ℕ) → unsigned_abs (price_of prices.now t) ≤ 10000000000 }
-    ensures worth { result ≡ int_sum_by (λ t. price_of prices.now t *ℤ pos (need_at instance.now t)) (below (slots instance.now)) }
+    ensures worth { result ≡ int_sum_by (λ t. worth_at instance.now t (price_of prices.now t)) (below (slots instance.now)) }
     ensures small { unsigned_abs result ≤ 2 ^ 60 }
 {
     let mut sum = 0;

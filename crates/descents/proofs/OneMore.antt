@@ -22,9 +22,9 @@ use Rattle.local_moves.specs.Moves.{fee}
 use Rattle.local_moves.proofs.Reshifts.{used_by_count, unused_by_count}
 
 -- a slot in a plan with one duty more
-slot_with : (i : Problem) (rota : List Duty) (d : Duty) (t : ℕ) → t < slots i
+slot_with : (i : Problem) (rota : List Duty) (d : Duty) (t : ℕ) → IsValid i → t < slots i
     → pos (slot_cost i t (cover i (rota ++ d ∷ []) t)) +ℤ cond (works i d t) (price_of (marginal_prices i rota) t) (pos 0) ≡ pos (slot_cost i t (cover i rota t))
-slot_with i rota d t h =
+slot_with i rota d t valid h =
     let c = cover i rota t in
     let more : cover i (rota ++ d ∷ []) t ≡ c + cond (works i d t) 1 0 = (with_pushed rota d).each (λ x. works i x t) in
     let price : price_of (marginal_prices i rota) t ≡ marginal_price i t c = price_at i rota t h in
@@ -32,34 +32,34 @@ slot_with i rota d t h =
       | inl y ↦
           ap (λ z. pos (slot_cost i t (cover i (rota ++ d ∷ []) t)) +ℤ z) (ap (λ b. cond b (price_of (marginal_prices i rota) t) (pos 0)) y ∙ price ∙ sym (times_one (marginal_price i t c)))
           ∙ ap (λ n. pos (slot_cost i t n) +ℤ marginal_price i t c *ℤ pos 1) (more ∙ ap (λ b. c + cond b 1 0) y)
-          ∙ slot_falls i t c 1 (omega arith)
+          ∙ slot_falls i t c 1 (valid.bands t h) (omega arith)
       | inr n ↦
           ap (λ z. pos (slot_cost i t (cover i (rota ++ d ∷ []) t)) +ℤ z) (ap (λ b. cond b (price_of (marginal_prices i rota) t) (pos 0)) n ∙ sym (mul-zero (marginal_price i t c)))
           ∙ ap (λ n. pos (slot_cost i t n) +ℤ marginal_price i t c *ℤ pos 0) (more ∙ ap (λ b. c + cond b 1 0) n)
-          ∙ slot_falls i t c 0 (omega arith)
+          ∙ slot_falls i t c 0 (valid.bands t h) (omega arith)
     ]
 
-slots_with : (i : Problem) (rota : List Duty) (d : Duty)
+slots_with : (i : Problem) (rota : List Duty) (d : Duty) → IsValid i
     → pos (sum_by (λ t. slot_cost i t (cover i (rota ++ d ∷ []) t)) (below (slots i))) +ℤ earned i (marginal_prices i rota) d ≡ pos (sum_by (λ t. slot_cost i t (cover i rota t)) (below (slots i)))
-slots_with i rota d =
+slots_with i rota d valid =
     let after : ℕ → ℕ = λ t. slot_cost i t (cover i (rota ++ d ∷ []) t) in
     let worth : ℕ → ℤ = λ t. cond (works i d t) (price_of (marginal_prices i rota) t) (pos 0) in
     let xs = below (slots i) in
     ap (λ z. z +ℤ int_sum_by worth xs) (sym (pos_sum after xs))
     ∙ sym (int_sum_by-add (λ t. pos (after t)) worth xs)
-    ∙ int_sum_by-same (λ t. pos (after t) +ℤ worth t) (λ t. pos (slot_cost i t (cover i rota t))) xs (λ t m. slot_with i rota d t (from_below (slots i) t m))
+    ∙ int_sum_by-same (λ t. pos (after t) +ℤ worth t) (λ t. pos (slot_cost i t (cover i rota t))) xs (λ t m. slot_with i rota d t valid (from_below (slots i) t m))
     ∙ pos_sum (λ t. slot_cost i t (cover i rota t)) xs
 
 weighed : (a b g u v : ℕ) (z : ℤ) (f : ℕ) → pos a +ℤ z ≡ pos b → g * v ≡ g * u + f → pos (a + g * v) +ℤ z ≡ pos (b + g * u + f)
 weighed a b g u v z f e h = omega (arith, ints)
 
 -- a plan with one duty more costs its fee more and its marginal prices less
-pub cost_with : (i : Problem) (rota : List Duty) (d : Duty) → d.shift < length (shift_list i) → pos (cost i (rota ++ d ∷ [])) +ℤ earned i (marginal_prices i rota) d ≡ pos (cost i rota + fee i rota d.shift)
-cost_with i rota d hs =
+pub cost_with : (i : Problem) (rota : List Duty) (d : Duty) → IsValid i → d.shift < length (shift_list i) → pos (cost i (rota ++ d ∷ [])) +ℤ earned i (marginal_prices i rota) d ≡ pos (cost i rota + fee i rota d.shift)
+cost_with i rota d valid hs =
     let next = rota ++ d ∷ [] in
     let used = is_used rota d.shift in
     weighed (sum_by (λ t. slot_cost i t (cover i next t)) (below (slots i))) (sum_by (λ t. slot_cost i t (cover i rota t)) (below (slots i)))
-    i.shift (shifts_used i rota) (shifts_used i next) (earned i (marginal_prices i rota) d) (fee i rota d.shift) (slots_with i rota d)
+    i.shift (shifts_used i rota) (shifts_used i next) (earned i (marginal_prices i rota) d) (fee i rota d.shift) (slots_with i rota d valid)
     (elim (cases_zero (duties_of rota d.shift)) [
       | inl none ↦
           let more : shifts_used i next ≡ shifts_used i rota + 1 = used_more i rota d next (with_pushed rota d) hs none in
@@ -82,24 +82,24 @@ cost_with i rota d hs =
     above (suc n) h = omega arith
 
 -- the cost with a list that earns most is the least
-pub least_with : (i : Problem) (rota : List Duty) (s day : ℕ) (list other : List Break) (value : ℤ) → s < length (shift_list i) → IsBest i s day (marginal_prices i rota) [] list value → is_list_of i s other ≡ true
+pub least_with : (i : Problem) (rota : List Duty) (s day : ℕ) (list other : List Break) (value : ℤ) → IsValid i → s < length (shift_list i) → IsBest i s day (marginal_prices i rota) [] list value → is_list_of i s other ≡ true
     → cost i (rota ++ duty s day list ∷ []) ≤ cost i (rota ++ duty s day other ∷ [])
-least_with i rota s day list other value hs b legal =
+least_with i rota s day list other value valid hs b legal =
     let own : value ≡ earned_with i (marginal_prices i rota) s day list = b.is_worth ∙ worth_none i (marginal_prices i rota) (duty s day list) in
     let most : worth i (marginal_prices i rota) [] (duty s day other) ≤ℤ value = b.greatest other legal in
     let e : worth i (marginal_prices i rota) [] (duty s day other) ≡ earned_with i (marginal_prices i rota) s day other = worth_none i (marginal_prices i rota) (duty s day other) in
     less (cost i (rota ++ duty s day list ∷ [])) (cost i (rota ++ duty s day other ∷ [])) (cost i rota + fee i rota s) (earned_with i (marginal_prices i rota) s day list) (earned_with i (marginal_prices i rota) s day other) (worth i (marginal_prices i rota) [] (duty s day other)) value
-    (cost_with i rota (duty s day list) hs) (cost_with i rota (duty s day other) hs) own most e
+    (cost_with i rota (duty s day list) valid hs) (cost_with i rota (duty s day other) valid hs) own most e
   where
     less : (a b c : ℕ) (v w x y : ℤ) → pos a +ℤ v ≡ pos c → pos b +ℤ w ≡ pos c → y ≡ v → x ≤ℤ y → x ≡ w → a ≤ b
     less a b c v w x y p q e h f = omega (arith, ints)
 
 -- the cost by the value of its list
-pub cost_of_value : (i : Problem) (rota : List Duty) (s day : ℕ) (list : List Break) (value : ℤ) → s < length (shift_list i) → IsBest i s day (marginal_prices i rota) [] list value
+pub cost_of_value : (i : Problem) (rota : List Duty) (s day : ℕ) (list : List Break) (value : ℤ) → IsValid i → s < length (shift_list i) → IsBest i s day (marginal_prices i rota) [] list value
     → pos (cost i (rota ++ duty s day list ∷ [])) +ℤ value ≡ pos (cost i rota + fee i rota s)
-cost_of_value i rota s day list value hs b =
+cost_of_value i rota s day list value valid hs b =
     ap (λ z. pos (cost i (rota ++ duty s day list ∷ [])) +ℤ z) (b.is_worth ∙ worth_none i (marginal_prices i rota) (duty s day list))
-    ∙ cost_with i rota (duty s day list) hs
+    ∙ cost_with i rota (duty s day list) valid hs
 
 -- all that is known of a best list at marginal prices
 pub record IsBestDuty (i : Problem) (rota : List Duty) (s day : ℕ) (list : List Break) (value : ℤ) : Type 0 where
@@ -113,14 +113,14 @@ pub record IsBestDuty (i : Problem) (rota : List Duty) (s day : ℕ) (list : Lis
 pub best_duty_is : (i : Problem) (rota : List Duty) (s day : ℕ) (prices : List ℤ) (list : List Break) (value : ℤ) → IsValid i → s < length (shift_list i) → prices ≡ marginal_prices i rota → IsBest i s day prices [] list value → IsBestDuty i rota s day list value
 best_duty_is i rota s day prices list value valid hs e h =
     let b : IsBest i s day (marginal_prices i rota) [] list value = subst (λ (ps : List ℤ). IsBest i s day ps [] list value) e h in
-    let exact : pos (cost i (rota ++ duty s day list ∷ [])) +ℤ value ≡ pos (cost i rota + fee i rota s) = cost_of_value i rota s day list value hs b in
+    let exact : pos (cost i (rota ++ duty s day list ∷ [])) +ℤ value ≡ pos (cost i rota + fee i rota s) = cost_of_value i rota s day list value valid hs b in
     record {
       first = (best_found i (marginal_prices i rota) s day list value b).0;
       legal = b.legal;
       small = subst (IsWithin (2016 * 1000000)) (sym (best_found i (marginal_prices i rota) s day list value b).1) (earned_small i (marginal_prices i rota) (duty s day list) (prices_small i rota (marginal_prices i rota) valid refl));
       most = at_most (cost i (rota ++ duty s day list ∷ [])) (cost i rota + fee i rota s) value exact;
       exact = exact;
-      least = λ other legal. least_with i rota s day list other value hs b legal;
+      least = λ other legal. least_with i rota s day list other value valid hs b legal;
     }
   where
     at_most : (a c : ℕ) (v : ℤ) → pos a +ℤ v ≡ pos c → v ≤ℤ pos c

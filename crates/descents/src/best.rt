@@ -22,6 +22,8 @@ pub(crate) fn marginal_price(instance: &Instance, t: usize, working: u32) -> i64
     let (excess, shortage, _) = instance.weights();
     if working < instance.need(t) {
         i64::from(shortage)
+    } else if working < instance.need_max(t) {
+        0
     } else {
         -i64::from(excess)
     }

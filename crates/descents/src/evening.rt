@@ -2,7 +2,7 @@
 ghost use Rattle.std.specs.Prelude.{◌≡◌, ◌+◌, ◌<◌, ◌≤◌, ℕ, All, IfOk, IsTrue, MatchBool, OnOk, length, unsigned_abs};
 ghost use Rattle.shift_instance.specs.Problem.{shift_list, slots};
 ghost use Rattle.shift_instance.specs.Rota.{are_legal_rows, cost, heads_on, rota_of};
-ghost use Rattle.descents.specs.Evening.{IsEvenedBy, IsEvener, squared_distance, unevenness};
+ghost use Rattle.descents.specs.Evening.{IsEvenedBy, IsEvener, distance_from_band, squared_distance, unevenness};
 
 use crate::best::marginal_price;
 use crate::descending::{copy_of, duty_of, refused};
@@ -19,24 +19,37 @@ const MOST_PRICE: i64 = 10_000_000_000;
 /// The part of it that stands for costs; the rest is for evenness.
 const COST_PART: i64 = 9_000_000_000;
 
-/// The square of how far apart two numbers are.
-fn squared_distance(a: u32, b: u32) -> u128
-    ensures square { result ≡ squared_distance a b }
+/// How far a number of duties is from the band of a slot.
+fn distance_from_band(instance: &Instance, t: usize, working: u32) -> u32
+    requires { t < slots instance.now }
+    ensures { result ≡ distance_from_band instance.now t working }
+{
+    let (least, most) = (instance.need(t), instance.need_max(t));
+    if working < least {
+        least - working
+    } else {
+        working.saturating_sub(most)
+    }
+}
+
+/// The square of how far a number of duties is from the band of a slot.
+fn squared_distance(instance: &Instance, t: usize, working: u32) -> u128
+    requires { t < slots instance.now }
+    ensures square { result ≡ squared_distance instance.now t working }
     ensures small { result ≤ 18446744073709551616 }
 {
-    let distance = u64::from(a.abs_diff(b));
+    let distance = u64::from(distance_from_band(instance, t, working));
     u128::from(distance * distance)
 }
 
-/// How uneven a plan is: over all slots, the square of how far the duties that work in a slot are from the employees wanted there.
-/// It takes no memory.
+/// How uneven a plan is: over all slots, the square of how far the duties that work in a slot are from its band. It takes no memory.
 pub fn unevenness(instance: &Instance, draft: &Draft) -> u128
     requires { draft.now.instance ≡ instance.now }
     ensures { result ≡ unevenness instance.now (rota_of draft.now.rows) }
 {
     let mut sum = 0;
     for t in 0..instance.slots() {
-        sum += squared_distance(draft.working(t), instance.need(t));
+        sum += squared_distance(instance, t, draft.working(t));
     }
     sum
 }
@@ -47,15 +60,27 @@ fn factor(instance: &Instance) -> i64 {
     COST_PART / i64::from(excess.max(shortage).max(1))
 }
 
+/// How much nearer one duty more brings a slot to its band where that many work, in squares of the distance.
+fn nearer(instance: &Instance, t: usize, working: u32) -> i64
+    requires { t < slots instance.now }
+{
+    let (least, most) = (instance.need(t), instance.need_max(t));
+    if least <= working && working < most {
+        return 0;
+    }
+    let end = if working < least { least } else { most };
+    let missing = i64::from(end) - i64::from(working);
+    2 * missing - 1
+}
+
 /// The price of a slot where that many duties work: what one more saves there, by the factor, and how much more even it makes the
 /// slot.
 fn even_price(instance: &Instance, t: usize, working: u32, factor: i64) -> i64
     requires { t < slots instance.now }
     ensures { unsigned_abs result ≤ 10000000000 }
 {
-    let missing = i64::from(instance.need(t)) - i64::from(working);
     let saved = marginal_price(instance, t, working).saturating_mul(factor);
-    let price = saved.saturating_add(2 * missing - 1);
+    let price = saved.saturating_add(nearer(instance, t, working));
     price.clamp(-MOST_PRICE, MOST_PRICE)
 }
 

@@ -8,6 +8,9 @@ fn meaning_in_document(field: &str) -> Option<&'static str> {
         "need" => {
             "the wanted employees of each slot: a list of whole numbers from 0 to 10,000, one for each slot of the planning period"
         }
+        "need_max" => {
+            "the most wanted employees of each slot, where more than the need will do as well: a list of whole numbers from the need to 10,000, one for each slot of the planning period"
+        }
         "max_heads" => { "the most employees who may work one shift on one day, from 1 to 200" }
         "weights" => "the costs, as {\"excess\": 1, \"shortage\": 4, \"shift\": 25}",
         "types" => "a list of 1 to 16 shift types, each an object",

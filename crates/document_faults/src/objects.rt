@@ -6,10 +6,11 @@ use std::alloc::{AllocError, Global};
 use strsim::levenshtein;
 
 /// The fields of a document.
-const OF_DOCUMENT: [&str; 6] = [
+const OF_DOCUMENT: [&str; 7] = [
     "slot_minutes",
     "days",
     "need",
+    "need_max",
     "max_heads",
     "weights",
     "types",
@@ -265,7 +266,7 @@ pub(crate) fn misshapen(
                 " is {found}, and must be an object with name, start_min, start_max, len_min, len_max and breaks"
             )
         }
-        "need" => no_numbers(alloc, value, field),
+        "need" | "need_max" => no_numbers(alloc, value, field),
         "totals" => no_rows(alloc, value, field, 2),
         "lunches" => no_rows(alloc, value, field, 4),
         "name" | "types" | "weights" | "breaks" => other_kind(alloc, "", value, field),

@@ -25,7 +25,7 @@ pub(crate) fn minutes_hint(
     )
 }
 
-/// What is said of a list of needs that isn't as long as the planning period.
+/// What is said of a list of needs, or of their greatest numbers, that isn't as long as the planning period.
 fn need_length(
     alloc: Global,
     document: Option<&Value>,
@@ -174,6 +174,26 @@ fn need(alloc: Global, document: Option<&Value>, slot: u64) -> Result<String, Al
     format!(in alloc; " is {found}, and a slot needs from 0 to 10,000 employees")
 }
 
+/// A time of the clock, with two digits for the hour and for the minute.
+fn clock(alloc: Global, minute: u64) -> Result<String, AllocError> {
+    let (hour, rest) = (minute / 60, minute % 60);
+    let early = if hour < 10 { "0" } else { "" };
+    let zero = if rest < 10 { "0" } else { "" };
+    format!(in alloc; "{early}{hour}:{zero}{rest}")
+}
+
+/// What is said of a band that ends below its need, or is too large.
+fn band(alloc: Global, document: Option<&Value>, slot: u64) -> Result<String, AllocError> {
+    let least = number(entries(member(document, "need")).get(slot as usize));
+    let most = number(entries(member(document, "need_max")).get(slot as usize));
+    let minute = slot.saturating_mul(minutes_of(document));
+    let day = (minute / DAY).saturating_add(1);
+    let time = clock(alloc, minute % DAY)?;
+    format!(in alloc;
+        " is {most} and need[{slot}] is {least}, for the slot of day {day} that begins at {time}; the most wanted employees are from the need to 10,000"
+    )
+}
+
 /// What is said of numbers that make no instance, behind their place.
 pub(crate) fn invalid(
     alloc: Global,
@@ -193,6 +213,10 @@ pub(crate) fn invalid(
             need_length(alloc, document, *found, *wanted)
         }
         InstanceFault::NeedTooLarge { slot } => need(alloc, document, *slot),
+        InstanceFault::BandLength { found, wanted } => {
+            need_length(alloc, document, *found, *wanted)
+        }
+        InstanceFault::Band { slot } => band(alloc, document, *slot),
         InstanceFault::Weight => weight(alloc, document),
         InstanceFault::Heads => {
             let found = number_of(document, "max_heads");

@@ -20,7 +20,7 @@ use Rattle.break_rules.proofs.Counts.{count_by-append, count_by_same, count_by_n
 use Rattle.break_rules.proofs.Sums.{int_sum_by-cons, int_sum_by-same, int_sum_by-add, int_sum_by_swap, int_sum_by_if, int_sum_by_zero, mul-suc, mul-zero}
 use Rattle.shift_instance.specs.declared.Shift.{Shift}
 use Rattle.shift_instance.specs.declared.Duty.{Duty}
-use Rattle.shift_instance.specs.Problem.{Problem, slots, day_slots, need_at, shift_list, slot_of, below}
+use Rattle.shift_instance.specs.Problem.{Problem, slots, day_slots, need_at, need_max_at, shift_list, slot_of, below}
 use Rattle.shift_instance.specs.Rota.{works, cover, slot_cost, is_used, shifts_used, cost}
 use Rattle.shift_instance.specs.Valid.{IsValid}
 use Rattle.shift_instance.specs.Worth.{price_of, earned}
@@ -32,26 +32,47 @@ use Rattle.greedy.proofs.Rounds.{best_earns, counts_parts, count_new, count_one,
 pub times_one : (v : ℤ) → v *ℤ pos 1 ≡ v
 times_one v = mul-suc v 0 ∙ ap (λ z. v +ℤ z) (mul-zero v) ∙ omega (arith, ints)
 
+-- the marginal price below a band, within it and above it
+pub price_below : (i : Problem) (t c : ℕ) → c < need_at i t → marginal_price i t c ≡ pos i.shortage
+price_below i t c l = ap (λ b. cond b (pos i.shortage) (cond (nat_lt c (need_max_at i t)) (pos 0) (neg_ℤ (pos i.excess)))) (lt-ltb c (need_at i t) l)
+
+pub price_beyond : (i : Problem) (t c : ℕ) → need_at i t ≤ c → marginal_price i t c ≡ cond (nat_lt c (need_max_at i t)) (pos 0) (neg_ℤ (pos i.excess))
+price_beyond i t c g = ap (λ b. cond b (pos i.shortage) (cond (nat_lt c (need_max_at i t)) (pos 0) (neg_ℤ (pos i.excess)))) (le-ltb c (need_at i t) g)
+
+pub price_within : (i : Problem) (t c : ℕ) → need_at i t ≤ c → c < need_max_at i t → marginal_price i t c ≡ pos 0
+price_within i t c g l = price_beyond i t c g ∙ ap (λ b. cond b (pos 0) (neg_ℤ (pos i.excess))) (lt-ltb c (need_max_at i t) l)
+
+pub price_above : (i : Problem) (t c : ℕ) → need_at i t ≤ c → need_max_at i t ≤ c → marginal_price i t c ≡ neg_ℤ (pos i.excess)
+price_above i t c g n = price_beyond i t c g ∙ ap (λ b. cond b (pos 0) (neg_ℤ (pos i.excess))) (le-ltb c (need_max_at i t) n)
+
 -- what one duty more in a slot, or none, costs less is the slot's marginal price
-pub slot_falls : (i : Problem) (t c k : ℕ) → k ≤ 1 → pos (slot_cost i t (c + k)) +ℤ marginal_price i t c *ℤ pos k ≡ pos (slot_cost i t c)
-slot_falls i t c zero h = let e : c + 0 ≡ c = omega arith in ap (λ n. pos (slot_cost i t n) +ℤ marginal_price i t c *ℤ pos 0) e ∙ none (marginal_price i t c) (slot_cost i t c)
+pub slot_falls : (i : Problem) (t c k : ℕ) → need_at i t ≤ need_max_at i t → k ≤ 1 → pos (slot_cost i t (c + k)) +ℤ marginal_price i t c *ℤ pos k ≡ pos (slot_cost i t c)
+slot_falls i t c zero band h = let e : c + 0 ≡ c = omega arith in ap (λ n. pos (slot_cost i t n) +ℤ marginal_price i t c *ℤ pos 0) e ∙ none (marginal_price i t c) (slot_cost i t c)
   where
     none : (p : ℤ) (n : ℕ) → pos n +ℤ p *ℤ pos 0 ≡ pos n
     none p n = ap (λ z. pos n +ℤ z) (mul-zero p) ∙ omega (arith, ints)
-slot_falls i t c (suc zero) h =
-    elim (cases_lt c (need_at i t)) [
+slot_falls i t c (suc zero) band h =
+    let need = need_at i t in
+    let most = need_max_at i t in
+    let before = pos (slot_cost i t (c + 1)) in
+    elim (cases_lt c need) [
       | inl l ↦
-          let a : c + 1 - need_at i t ≡ 0 = omega arith in
-          let b : c - need_at i t ≡ 0 = omega arith in
-          let d : need_at i t - c ≡ need_at i t - (c + 1) + 1 = omega arith in
-          ap (λ b. pos (slot_cost i t (c + 1)) +ℤ cond b (pos i.shortage) (neg_ℤ (pos i.excess)) *ℤ pos 1) (lt-ltb c (need_at i t) l)
-          ∙ short i.excess i.shortage (c + 1 - need_at i t) (c - need_at i t) (need_at i t - (c + 1)) (need_at i t - c) a b d
+          let a : c + 1 - most ≡ 0 = omega arith in
+          let b : c - most ≡ 0 = omega arith in
+          let d : need - c ≡ need - (c + 1) + 1 = omega arith in
+          ap (λ p. before +ℤ p *ℤ pos 1) (price_below i t c l) ∙ short i.excess i.shortage (c + 1 - most) (c - most) (need - (c + 1)) (need - c) a b d
       | inr g ↦
-          let a : c + 1 - need_at i t ≡ c - need_at i t + 1 = omega arith in
-          let b : need_at i t - (c + 1) ≡ 0 = omega arith in
-          let d : need_at i t - c ≡ 0 = omega arith in
-          ap (λ b. pos (slot_cost i t (c + 1)) +ℤ cond b (pos i.shortage) (neg_ℤ (pos i.excess)) *ℤ pos 1) (le-ltb c (need_at i t) g)
-          ∙ long i.excess i.shortage (c + 1 - need_at i t) (c - need_at i t) (need_at i t - (c + 1)) (need_at i t - c) a b d
+          let u : need - (c + 1) ≡ 0 = omega arith in
+          let v : need - c ≡ 0 = omega arith in
+          elim (cases_lt c most) [
+            | inl m ↦
+                let a : c + 1 - most ≡ 0 = omega arith in
+                let b : c - most ≡ 0 = omega arith in
+                ap (λ p. before +ℤ p *ℤ pos 1) (price_within i t c g m) ∙ level i.excess i.shortage (c + 1 - most) (c - most) (need - (c + 1)) (need - c) a b u v
+            | inr n ↦
+                let a : c + 1 - most ≡ c - most + 1 = omega arith in
+                ap (λ p. before +ℤ p *ℤ pos 1) (price_above i t c g n) ∙ long i.excess i.shortage (c + 1 - most) (c - most) (need - (c + 1)) (need - c) a u v
+          ]
     ]
   where
     short : (e s x y u v : ℕ) → x ≡ 0 → y ≡ 0 → v ≡ u + 1 → pos (e * x + s * u) +ℤ pos s *ℤ pos 1 ≡ pos (e * y + s * v)
@@ -61,13 +82,18 @@ slot_falls i t c (suc zero) h =
         let d : s * v ≡ s * u + s = ap (λ n. s * n) r ∙ omega arith in
         ap (λ z. pos (e * x + s * u) +ℤ z) (times_one (pos s)) ∙ omega (arith, ints)
 
+    level : (e s x y u v : ℕ) → x ≡ 0 → y ≡ 0 → u ≡ 0 → v ≡ 0 → pos (e * x + s * u) +ℤ pos 0 *ℤ pos 1 ≡ pos (e * y + s * v)
+    level e s x y u v p q r t =
+        let same : e * x + s * u ≡ e * y + s * v = ap (λ n. e * n + s * u) (p ∙ sym q) ∙ ap (λ n. e * y + s * n) (r ∙ sym t) in
+        ap (λ z. pos (e * x + s * u) +ℤ z) (times_one (pos 0)) ∙ omega (arith, ints)
+
     long : (e s x y u v : ℕ) → x ≡ y + 1 → u ≡ 0 → v ≡ 0 → pos (e * x + s * u) +ℤ neg_ℤ (pos e) *ℤ pos 1 ≡ pos (e * y + s * v)
     long e s x y u v p q r =
         let a : e * x ≡ e * y + e = ap (λ n. e * n) p ∙ omega arith in
         let b : s * u ≡ 0 = ap (λ n. s * n) q ∙ omega arith in
         let d : s * v ≡ 0 = ap (λ n. s * n) r ∙ omega arith in
         ap (λ z. pos (e * x + s * u) +ℤ z) (times_one (neg_ℤ (pos e))) ∙ omega (arith, ints)
-slot_falls i t c (suc (suc k)) h = absurd (omega arith)
+slot_falls i t c (suc (suc k)) band h = absurd (omega arith)
 
 -- the slots of a shift on two days are apart
 works_offset : (i : Problem) (s day t : ℕ) (list : List Break) (x : Shift × Rule) → slice_get (shift_list i) s ≡ Some x → works i (duty s day list) t ≡ true → (o : ℕ) × (o < x.0.len) × ((day * day_slots i + x.0.start + o) % slots i ≡ t)
@@ -153,7 +179,7 @@ slots_fall i rota s valid hs =
     ∙ int_sum_by-same (λ t. pos (slot_cost i t (cover i (rota ++ new) t)) +ℤ price t *ℤ pos (k t)) (λ t. pos (slot_cost i t (cover i rota t))) (below n) (λ t m.
     ap (λ c. pos (slot_cost i t c) +ℤ price t *ℤ pos (k t))
     (count_by-append (λ d. works i d t) rota new ∙ ap (λ c. cover i rota t + c) (count_new i rota s (λ d. works i d t)))
-    ∙ slot_falls i t (cover i rota t) (k t)
+    ∙ slot_falls i t (cover i rota t) (k t) (valid.bands t (from_below n t m))
     (at_most_one (newly i rota s t) days (λ a b ha hb p q.
     one_day i s a b t (used_list i prices s a) (used_list i prices s b) x.0 valid x.1 ha hb (and_parts (counts i rota s a) (w a t) p).1 (and_parts (counts i rota s b) (w b t) q).1)))
     ∙ pos_sum (λ t. slot_cost i t (cover i rota t)) (below n)

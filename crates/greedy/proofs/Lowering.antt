@@ -4,7 +4,7 @@ use Rattle.std.specs.Prelude.{int_lt}
 use Rattle.std.specs.Option.{option_map_or}
 use Rattle.std.specs.List.{list_any, find}
 use Rattle.std.proofs.lemmas.Int.{ints}
-use Rattle.std.proofs.lemmas.Bool.{and_parts, and_from, cases_Bool, cases_lt, lt-ltb, le-ltb, ltb-true, ne_eqb}
+use Rattle.std.proofs.lemmas.Bool.{and_parts, and_from, cases_Bool, cases_lt, lt-ltb, ltb-true, ne_eqb}
 use Rattle.std.proofs.lemmas.List.Folds.{list_any-append}
 use Rattle.break_rules.specs.declared.Break.{Break}
 use Rattle.break_rules.specs.Sums.{int_sum_by}
@@ -13,12 +13,12 @@ use Rattle.break_rules.specs.Lists.{Has}
 use Rattle.break_rules.proofs.Lists.{any_none, any_some, from_below}
 use Rattle.break_rules.proofs.Sums.{int_sum_by-le}
 use Rattle.shift_instance.specs.declared.Duty.{Duty}
-use Rattle.shift_instance.specs.Problem.{Problem, slots, need_at, below}
+use Rattle.shift_instance.specs.Problem.{Problem, slots, need_at, need_max_at, below}
 use Rattle.shift_instance.specs.Rota.{lists_of, works, cover, heads_on, is_on, is_used}
 use Rattle.shift_instance.specs.Worth.{price_of, earned}
 use Rattle.greedy.specs.Greedy.{duty, marginal_price, marginal_prices, earned_with, is_greatest, best_list, day_value, value_on, counts, gain, next_shift, new_duties}
 use Rattle.greedy.proofs.BestLists.{not_true}
-use Rattle.greedy.proofs.Falls.{price_at, new_used}
+use Rattle.greedy.proofs.Falls.{price_below, price_within, price_above, price_at, new_used}
 use Rattle.greedy.proofs.Leading.{lt_from}
 use Rattle.greedy.proofs.Rounds.{find_some, find_has, listed, lt_true, lt_false, round_grows}
 
@@ -32,14 +32,29 @@ beyond : (a b : ℤ) → a <ℤ b → b ≤ℤ a → ⊥
 beyond a b h g = omega (arith, ints)
 
 -- ---- prices
+-- no marginal price is below minus the excess weight
+least_price : (i : Problem) (t c : ℕ) → neg_ℤ (pos i.excess) ≤ℤ marginal_price i t c
+least_price i t c =
+    elim (nat_lt c (need_at i t)) as (λ b. neg_ℤ (pos i.excess) ≤ℤ cond b (pos i.shortage) (cond (nat_lt c (need_max_at i t)) (pos 0) (neg_ℤ (pos i.excess)))) [
+      | true ↦ omega (arith, ints)
+      | false ↦ elim (nat_lt c (need_max_at i t)) as (λ b. neg_ℤ (pos i.excess) ≤ℤ cond b (pos 0) (neg_ℤ (pos i.excess))) [
+        | true ↦ omega (arith, ints)
+        | false ↦ omega (arith, ints)
+      ]
+    ]
+
 marginal_falls : (i : Problem) (t c d : ℕ) → c ≤ d → marginal_price i t d ≤ℤ marginal_price i t c
 marginal_falls i t c d h =
-    let of : Bool → ℤ = λ b. cond b (pos i.shortage) (neg_ℤ (pos i.excess)) in
+    let new = marginal_price i t d in
+    let old = marginal_price i t c in
     elim (cases_lt d (need_at i t)) [
-      | inl l ↦ no_more (marginal_price i t d) (marginal_price i t c) (ap of (lt-ltb d (need_at i t) l) ∙ sym (ap of (lt-ltb c (need_at i t) (omega arith))))
-      | inr g ↦ elim (cases_lt c (need_at i t)) [
-        | inl l ↦ between (marginal_price i t d) (neg_ℤ (pos i.excess)) (marginal_price i t c) (pos i.shortage) (ap of (le-ltb d (need_at i t) g)) (ap of (lt-ltb c (need_at i t) l)) (omega (arith, ints))
-        | inr n ↦ no_more (marginal_price i t d) (marginal_price i t c) (ap of (le-ltb d (need_at i t) g) ∙ sym (ap of (le-ltb c (need_at i t) n)))
+      | inl l ↦ no_more new old (price_below i t d l ∙ sym (price_below i t c (omega arith)))
+      | inr g ↦ elim (cases_lt d (need_max_at i t)) [
+        | inl m ↦ elim (cases_lt c (need_at i t)) [
+          | inl l ↦ between new (pos 0) old (pos i.shortage) (price_within i t d g m) (price_below i t c l) (omega (arith, ints))
+          | inr n ↦ no_more new old (price_within i t d g m ∙ sym (price_within i t c n (omega arith)))
+        ]
+        | inr n ↦ between new (neg_ℤ (pos i.excess)) old old (price_above i t d g n) refl (least_price i t c)
       ]
     ]
 

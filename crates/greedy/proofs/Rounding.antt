@@ -11,7 +11,7 @@ use Rattle.break_rules.specs.Sums.{int_sum_by}
 use Rattle.break_rules.proofs.Lists.{from_below}
 use Rattle.shift_instance.specs.declared.Duty.{Duty}
 use Rattle.shift_instance.specs.declared.Row.{Row}
-use Rattle.shift_instance.specs.Problem.{Problem, slots, need_at, shift_list, below}
+use Rattle.shift_instance.specs.Problem.{Problem, slots, need_at, need_max_at, shift_list, below}
 use Rattle.shift_instance.specs.Rota.{cover, heads_on, is_used, are_legal_rows, cost, rota_of}
 use Rattle.shift_instance.specs.Valid.{IsValid}
 use Rattle.greedy.specs.Drafts.{Leads, LeadsToGreedy}
@@ -31,9 +31,12 @@ price_small : (i : Problem) (t c : ℕ) → IsValid i → IsWithin 1000000 (marg
 price_small i t c valid =
     let a : i.excess ≤ 1000000 = valid.excess in
     let b : i.shortage ≤ 1000000 = valid.shortage in
-    elim (nat_lt c (need_at i t)) as (λ b. IsWithin 1000000 (cond b (pos i.shortage) (neg_ℤ (pos i.excess)))) [
+    elim (nat_lt c (need_at i t)) as (λ b. IsWithin 1000000 (cond b (pos i.shortage) (cond (nat_lt c (need_max_at i t)) (pos 0) (neg_ℤ (pos i.excess))))) [
       | true ↦ record { above = omega (arith, ints); below = omega (arith, ints) }
-      | false ↦ record { above = omega (arith, ints); below = omega (arith, ints) }
+      | false ↦ elim (nat_lt c (need_max_at i t)) as (λ b. IsWithin 1000000 (cond b (pos 0) (neg_ℤ (pos i.excess)))) [
+        | true ↦ record { above = omega (arith, ints); below = omega (arith, ints) }
+        | false ↦ record { above = omega (arith, ints); below = omega (arith, ints) }
+      ]
     ]
 
 pub prices_small : (i : Problem) (rota : List Duty) (prices : List ℤ) → IsValid i → prices ≡ marginal_prices i rota → ArePrices i prices

@@ -6,7 +6,7 @@ use Rattle.break_rules.specs.declared.Break.{Break}
 use Rattle.break_rules.specs.Sums.{int_sum_by}
 use Rattle.shift_instance.specs.declared.Duty.{Duty}
 use Rattle.shift_instance.specs.declared.Row.{Row}
-use Rattle.shift_instance.specs.Problem.{Problem, slots, need_at, shift_list, below}
+use Rattle.shift_instance.specs.Problem.{Problem, slots, need_at, need_max_at, shift_list, below}
 use Rattle.shift_instance.specs.AllDuties.{all_duties, row_of}
 use Rattle.shift_instance.specs.Rota.{lists_of, heads_on, count_of, cover, is_used}
 use Rattle.shift_instance.specs.Worth.{earned}
@@ -15,9 +15,13 @@ use Rattle.shift_instance.specs.Worth.{earned}
 abbrev pub duty : ℕ → ℕ → List Break → Duty
 duty s day list = record { shift = s; day = day; breaks = list }
 
--- the marginal price of a slot where that many duties work: the shortage weight below the need, else minus the excess weight
+-- the marginal price of a slot where that many duties work: the shortage weight below its band, 0 from the need to below the most wanted
+-- employees, and else minus the excess weight
 abbrev pub marginal_price : Problem → ℕ → ℕ → ℤ
-marginal_price i t c = if nat_lt c (need_at i t) then pos i.shortage else neg_ℤ (pos i.excess)
+marginal_price i t c =
+    if nat_lt c (need_at i t) then pos i.shortage
+    else if nat_lt c (need_max_at i t) then pos 0
+    else neg_ℤ (pos i.excess)
 
 -- the marginal prices of all slots under a plan
 unfoldable pub marginal_prices : Problem → List Duty → List ℤ

@@ -4,7 +4,7 @@ use Rattle.std.specs.Prelude.{int_le, sum_by}
 use Rattle.std.specs.Int.{int_min}
 use Rattle.std.specs.List.{list_all, zip}
 use Rattle.std.proofs.lemmas.Int.{ints, clamps}
-use Rattle.std.proofs.lemmas.Bool.{and_parts, leb-true, ltb-true, eqb-true, false≢true, cases_Bool, cond_both, cases_lt, and_left}
+use Rattle.std.proofs.lemmas.Bool.{and_parts, leb-true, ltb-true, eqb-true, false≢true, cases_Bool, cond_both, cases_lt, and_left, le-ltb}
 use Rattle.std.proofs.lemmas.List.Sums.{AllPass-from_list_all}
 use Rattle.std.proofs.Math.Nat.{mul-le-mul_left, mul-le-mul_right, mul_assoc, mul_comm}
 use Rattle.break_rules.specs.declared.Break.{Break}
@@ -14,7 +14,7 @@ use Rattle.break_rules.specs.Lists.{Has}
 use Rattle.break_rules.proofs.Lists.{Has-map, all_at, any_some, any_none, from_below}
 use Rattle.break_rules.proofs.LegalLists.{same_list_decides}
 use Rattle.shift_instance.specs.declared.Duty.{Duty}
-use Rattle.shift_instance.specs.Problem.{Problem, slots, need_at, shift_list, below}
+use Rattle.shift_instance.specs.Problem.{Problem, slots, need_at, need_max_at, shift_list, below}
 use Rattle.shift_instance.specs.Rota.{works, lists_of, is_on, heads_on, is_legal_rota, cover, slot_cost, is_used, shifts_used, cost}
 use Rattle.shift_instance.specs.Worth.{price_of, earned}
 use Rattle.shift_instance.proofs.Rotas.{legal_duties, heads_within}
@@ -28,10 +28,10 @@ use Rattle.head_splits.specs.declared.Prices.{Prices}
 use Rattle.head_splits.specs.Cuts.{holds, class_count, same_class, keeps_to, meets_cut, meets, raised, lowered, low, high, whole_class}
 use Rattle.head_splits.proofs.Priced.{le_from_test, priced as price_parts}
 use Rattle.break_rules.specs.Sums.{int_sum_by, rounded_up}
-use Rattle.head_splits.specs.Bound.{is_nil, signed_price, bonus, reduced, best_value, is_forced, day_value, free_day_value, term, slot_worth, cut_worth, total, bound_of, is_slot_price, is_cut_price, are_prices}
+use Rattle.head_splits.specs.Bound.{is_nil, signed_price, bonus, reduced, best_value, is_forced, day_value, free_day_value, term, wanted_at, worth_at, slot_worth, cut_worth, total, bound_of, is_slot_price, is_cut_price, are_prices}
 use Rattle.break_rules.proofs.Sums.{int_sum_by-le, int_sum_by-same, int_sum_by-add, int_sum_by_zero, int_sum_by_swap, int_sum_by_if, int_sum_by_pick_below, int_sum_by_pos, within_range, within_free_range, greatest_bounds, rounded_up_least}
 
--- ---- a slot: its price pays no more than excess and shortage cost
+-- ---- a slot: its price pays no more than excess above the band and shortage below it cost
 
 -- where n more, at a cost of a each, are worth at most k each
 step_law : (q a w n k x y : ℕ) → k ≤ q * a → y ≡ a * n + x → k * (w + n) ≤ q * y + k * w
@@ -50,15 +50,20 @@ nat_slot_law q b w c k x h =
       | inr g ↦ let m : k * w ≤ k * c = mul-le-mul_left k g in omega arith
     ]
 
-slot_law : (q a b need c : ℕ) (p : ℤ) → neg_ℤ (pos (q * a)) ≤ℤ p → p ≤ℤ pos (q * b) → (p *ℤ pos need) ≤ℤ (pos (q * (a * (c - need) + b * (need - c))) +ℤ p *ℤ pos c)
-slot_law q a b need c (pos k) lower upper =
-    let few : k ≤ q * b = omega (arith, ints) in
-    let law : k * need ≤ q * (a * (c - need) + b * (need - c)) + k * c = nat_slot_law q b need c k (a * (c - need)) few in
+slot_law : (i : Problem) (t q c : ℕ) (p : ℤ) → neg_ℤ (pos (q * i.excess)) ≤ℤ p → p ≤ℤ pos (q * i.shortage) → worth_at i t p ≤ℤ (pos (q * slot_cost i t c) +ℤ p *ℤ pos c)
+slot_law i t q c (pos k) lower upper =
+    let a = i.excess * (c - need_max_at i t) in
+    let b = i.shortage * (need_at i t - c) in
+    let few : k ≤ q * i.shortage = omega (arith, ints) in
+    let law : k * need_at i t ≤ q * (a + b) + k * c = nat_slot_law q i.shortage (need_at i t) c k a few in
+    let counts : k * wanted_at i t (pos k) ≡ k * need_at i t = ap (λ (n : ℕ). k * n) (ap (λ (less : Bool). cond less (need_max_at i t) (need_at i t)) (le-ltb k 0 (omega arith))) in
     omega (arith, ints)
-slot_law q a b need c (negsuc k) lower upper =
-    let few : suc k ≤ q * a = omega (arith, ints) in
-    let law : suc k * c ≤ q * (b * (need - c) + a * (c - need)) + suc k * need = nat_slot_law q a c need (suc k) (b * (need - c)) few in
-    let e : q * (b * (need - c) + a * (c - need)) ≡ q * (a * (c - need) + b * (need - c)) = ap (λ n. q * n) (omega arith) in
+slot_law i t q c (negsuc k) lower upper =
+    let a = i.excess * (c - need_max_at i t) in
+    let b = i.shortage * (need_at i t - c) in
+    let few : suc k ≤ q * i.excess = omega (arith, ints) in
+    let law : suc k * c ≤ q * (b + a) + suc k * need_max_at i t = nat_slot_law q i.excess c (need_max_at i t) (suc k) b few in
+    let e : q * (b + a) ≡ q * (a + b) = ap (λ n. q * n) (omega arith) in
     omega (arith, ints)
 
 or_second : (x y : Bool) → x ≡ true → (not x || y) ≡ true → y ≡ true
@@ -157,7 +162,7 @@ module _ (i : Problem) (cuts : List Cut) (prices : Prices) (rota : List Duty) (p
       let each : int_sum_by (slot_worth i prices) (below (slots i)) ≤ℤ int_sum_by (λ t. f t +ℤ g t) (below (slots i)) =
       int_sum_by-le _ _ (below (slots i)) (λ t m.
       let r = p.slot_price t (from_below (slots i) t m) in
-      slot_law prices.q i.excess i.shortage (need_at i t) (cover i rota t) (price_of prices.slots t) r.0 r.1) in
+      slot_law i t prices.q (cover i rota t) (price_of prices.slots t) r.0 r.1) in
       let split : int_sum_by (λ t. f t +ℤ g t) (below (slots i)) ≡ int_sum_by f (below (slots i)) +ℤ int_sum_by g (below (slots i)) = int_sum_by-add f g (below (slots i)) in
       let costs : int_sum_by f (below (slots i)) ≡ pos (prices.q * sum_by (λ t. slot_cost i t (cover i rota t)) (below (slots i))) = int_sum_by_pos prices.q (λ t. slot_cost i t (cover i rota t)) (below (slots i)) in
       omega (arith, ints)

@@ -2,11 +2,11 @@
 -- Source: weak duality of linear programming, in whole numbers, for the model with a number of duties for each shift, day and break list; such
 -- models of shifts with breaks go back to Dantzig 1954. The scale and the cuts' prices are this project's profile.
 use Rattle.std.specs.Prelude.{ℕ, ◌*◌, ℤ, pos, neg_ℤ, ◌+ℤ◌, ◌-ℤ◌, ◌*ℤ◌, int_le, Bool, true, false, ◌&&◌, ◌||◌, not, ◌==◌, nat_lt, nat_le, List, [], ◌∷◌, min, map, length, if◌then◌else◌}
-use Rattle.std.specs.Int.{int_max, int_min}
+use Rattle.std.specs.Int.{int_max, int_min, is_negative}
 use Rattle.std.specs.List.{list_all, list_any, zip, filter}
 use Rattle.break_rules.specs.declared.Break.{Break}
 use Rattle.shift_instance.specs.declared.Duty.{Duty}
-use Rattle.shift_instance.specs.Problem.{Problem, slots, need_at, shift_list, below}
+use Rattle.shift_instance.specs.Problem.{Problem, slots, need_at, need_max_at, shift_list, below}
 use Rattle.shift_instance.specs.Rota.{lists_of}
 use Rattle.shift_instance.specs.Worth.{price_of, earned}
 use Rattle.shift_instance.specs.declared.TheConstants.{TOP}
@@ -69,9 +69,17 @@ term i cuts prices s =
     else if is_forced i cuts s then pos (prices.q * i.shift) -ℤ int_sum_by (day_value i cuts prices s) (below i.days)
     else int_min (pos 0) (pos (prices.q * i.shift) -ℤ int_sum_by (free_day_value i cuts prices s) (below i.days))
 
--- what a slot's price is worth at its need, and a cut's price at its number
+-- the wanted employees of a slot for which a price counts: the most of them where it is below 0, and else the need
+abbrev pub wanted_at : Problem → ℕ → ℤ → ℕ
+wanted_at i t p = if is_negative p then need_max_at i t else need_at i t
+
+-- what a price is worth at a slot
+abbrev pub worth_at : Problem → ℕ → ℤ → ℤ
+worth_at i t p = p *ℤ pos (wanted_at i t p)
+
+-- what a slot's price is worth, and a cut's price at its number
 abbrev pub slot_worth : Problem → Prices → ℕ → ℤ
-slot_worth i prices t = price_of prices.slots t *ℤ pos (need_at i t)
+slot_worth i prices t = worth_at i t (price_of prices.slots t)
 
 abbrev pub cut_worth : Cut × ℕ → ℤ
 cut_worth c = signed_price c.0.side c.1 *ℤ pos c.0.m

@@ -1,7 +1,7 @@
 -- Instances made from a number: their needs as they are made one by one, and that nothing keeps them from being instances.
-use Rattle.std.proofs.Common.{◌≡◌, ℕ, ◌+◌, ◌%◌, ◌≤◌, Bool, true, false, not, ◌==◌, cond, List, [], ◌∷◌, ◌++◌, map, length, refl, sym, ap, ◌∙◌, arith, None}
+use Rattle.std.proofs.Common.{◌≡◌, ℕ, ◌+◌, ◌%◌, ◌≤◌, Bool, true, false, not, ◌||◌, ◌==◌, nat_lt, cond, List, [], ◌∷◌, ◌++◌, map, length, refl, sym, ap, ◌∙◌, arith, None}
 use Rattle.std.specs.Prelude.{All, if◌then◌else◌, count_by}
-use Rattle.std.specs.List.{enumerate_from}
+use Rattle.std.specs.List.{enumerate_from, zip}
 use Rattle.std.proofs.Math.Numerals.{add-one}
 use Rattle.std.proofs.lemmas.Bool.{le-ltb}
 use Rattle.std.proofs.lemmas.List.Elements.{All-from_recursion}
@@ -11,9 +11,9 @@ use Rattle.break_rules.specs.declared.Rule.{Rule}
 use Rattle.break_rules.specs.Breaks.{legal_lists}
 use Rattle.break_rules.specs.Causes.{first_cause}
 use Rattle.break_rules.specs.RuleFaults.{rule_causes}
-use Rattle.break_rules.proofs.Causes.{NoCause, none_from_no_cause}
+use Rattle.break_rules.proofs.Causes.{NoCause, none_from_no_cause, first_right}
 use Rattle.shift_instance.specs.declared.Shift.{Shift}
-use Rattle.shift_instance.specs.Faults.{period_causes, need_cause, size_causes, types_causes, part_causes, instance_causes}
+use Rattle.shift_instance.specs.Faults.{period_causes, need_cause, band_cause, band_causes, wanted_causes, size_causes, types_causes, part_causes, instance_causes}
 use Rattle.shift_instance.specs.Problem.{below, day_slots, shift_list}
 use Rattle.shift_instance.proofs.Judged.{causes_of_kinds, causes_last}
 use Rattle.shift_instance.proofs.Ranges.{range_next}
@@ -81,6 +81,29 @@ no_need_is_large : (number count : ℕ) → first_cause (map need_cause (enumera
 unfolding needs_of
 no_need_is_large number count = none_from_no_cause _ (needs_pass number 0 (below count))
 
+-- and no band is faulty whose end is its need
+no_band_fault : (need : ℕ) → need ≤ 4 → (nat_lt need need || nat_lt 10000 need) ≡ false
+no_band_fault need small = ap (λ (b : Bool). b || nat_lt 10000 need) (le-ltb need need (omega arith)) ∙ le-ltb 10000 need (omega arith)
+
+bands_pass : (number from : ℕ) (slots : List ℕ) → NoCause (map band_cause (enumerate_from from (zip (map (need_of number) slots) (map (need_of number) slots))))
+bands_pass number from [] = tt
+bands_pass number from (slot ∷ slots) = (no_band_fault (need_of number slot) (small_need (is_busy slot) (draw number (draws_before slot + 1))), bands_pass number (from + 1) slots)
+
+all_bands_pass : (number count : ℕ) → NoCause (map band_cause (enumerate_from 0 (zip (needs_of number count) (needs_of number count))))
+unfolding needs_of
+all_bands_pass number count = bands_pass number 0 (below count)
+
+no_band_is_faulty : (number : ℕ) → first_cause (band_causes (generated number)) ≡ None
+unfolding generated
+no_band_is_faulty number =
+    let count : not (length (needs_of number 168) == 168) ≡ false = ap (λ (n : ℕ). not (n == 168)) (needs_length number 168) in
+    none_from_no_cause (band_causes (generated number)) (count, all_bands_pass number 168)
+
+all_are_wanted : (number : ℕ) → first_cause (wanted_causes (generated number)) ≡ None
+unfolding generated
+all_are_wanted number =
+    first_right (map need_cause (enumerate_from 0 (generated number).need)) (band_causes (generated number)) (no_need_is_large number 168) ∙ no_band_is_faulty number
+
 -- six shifts
 pub six_shifts : (number : ℕ) → length (shift_list (generated number)) ≡ 6
 unfolding generated
@@ -111,7 +134,7 @@ parts_pass : (number : ℕ) → first_cause (part_causes (generated number)) ≡
 unfolding generated
 parts_pass number =
     let i = generated number in
-    causes_of_kinds (period_causes i) (map need_cause (enumerate_from 0 i.need)) (size_causes i) (types_causes (day_slots i) i.kinds) (whole_week number) (no_need_is_large number 168) refl
+    causes_of_kinds (period_causes i) (wanted_causes i) (size_causes i) (types_causes (day_slots i) i.kinds) (whole_week number) (all_are_wanted number) refl
     ∙ types_pass number
 
 -- nothing keeps the numbers from being an instance

@@ -56,6 +56,8 @@ problem_reading-fault (fault.LengthRange kind) p h = faulty p _ h
 problem_reading-fault (fault.Rule kind why) p h = faulty p _ h
 problem_reading-fault (fault.TooManyShifts found) p h = faulty p _ h
 problem_reading-fault (fault.Name kind) p h = faulty p _ h
+problem_reading-fault (fault.BandLength found wanted) p h = faulty p _ h
+problem_reading-fault (fault.Band slot) p h = faulty p _ h
 
 -- a value that departs from a document is refused, with its departure
 pub value_reading-refused : (d : Data) (e : ReadRefusal) → Some e ≡ document_departure d → value_reading d ≡ Err e

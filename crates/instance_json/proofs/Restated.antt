@@ -1,5 +1,7 @@
 -- The document of a valid problem departs nowhere, and states that problem.
-use Rattle.std.proofs.Common.{◌≡◌, ℕ, ◌+◌, ◌≤◌, min, Bool, true, List, [], ◌∷◌, map, All, None, is_some, refl, ap, arith}
+use Rattle.std.proofs.Common.{◌≡◌, ℕ, ◌+◌, ◌≤◌, min, Bool, true, false, List, [], ◌∷◌, map, All, None, is_some, refl, ap, ◌∙◌, arith}
+use Rattle.std.specs.Cmp.Lexicographic.{bytes_decides}
+use Rattle.std.proofs.lemmas.Bool.{not-false}
 use Rattle.std.proofs.lemmas.List.Elements.{All-head, All-tail}
 use Rattle.std.specs.List.{list_all, enumerate_from}
 use Rattle.serde_json.specs.Data.{Data}
@@ -10,7 +12,7 @@ use Rattle.break_rules.proofs.Ranges.{ranges_from_none}
 use Rattle.shift_instance.specs.Kind.{Kind}
 use Rattle.shift_instance.specs.Problem.{Problem}
 use Rattle.shift_instance.specs.Valid.{IsValid, IsKind}
-use Rattle.instance_json.specs.Canonical.{number_data, items_data, total_data, lunch_data, rule_data, kind_data, weights_data, document_data}
+use Rattle.instance_json.specs.Canonical.{number_data, items_data, total_data, lunch_data, rule_data, kind_data, weights_data, is_banded, document_stating, document_data}
 use Rattle.instance_json.specs.Departures.{first_some, object_departure, type_departure, document_departure}
 use Rattle.instance_json.specs.Document.{document_fields, weights_fields, type_fields, breaks_fields, number_up_to, total_of, lunch_of, rule_of, kind_of, problem_of}
 use Rattle.instance_json.specs.Fields.{data_list, is_row, whole}
@@ -99,28 +101,85 @@ kinds_fit at (k ∷ kinds) = rw (kind_fits at k) (kinds_fit (at + 1) kinds)
 number_restated : (n : ℕ) → n ≤ 10000 → min n 4294967295 ≡ n
 number_restated n h = omega arith
 
--- the problem that its document states
-pub problem_restated : (i : Problem) → IsValid i → problem_of (document_data i) ≡ i
-unfolding problem_of document_data weights_data
-problem_restated i v =
+wanted_restated : (ns : List ℕ) → All (λ n. n ≤ 10000) ns → map (number_up_to 4294967295) (data_list (items_data (map number_data ns))) ≡ ns
+wanted_restated ns h = restated number_data (number_up_to 4294967295) (λ n. n ≤ 10000) number_restated ns h
+
+-- the numbers of a valid problem are no greater than those that are told apart
+record HasCapped (i : Problem) : Type 0 where
+  minutes : min i.slot_minutes 65535 ≡ i.slot_minutes
+  days : min i.days 65535 ≡ i.days
+  heads : min i.heads 65535 ≡ i.heads
+  excess : min i.excess 4294967295 ≡ i.excess
+  shortage : min i.shortage 4294967295 ≡ i.shortage
+  shift : min i.shift 4294967295 ≡ i.shift
+
+capped_numbers : (i : Problem) → IsValid i → HasCapped i
+capped_numbers i v =
     let minutes : i.slot_minutes ≤ 65535 = omega (arith, slot_minutes_limit i v) in
     let days : i.days ≤ 65535 = omega (arith, v.days) in
     let heads : i.heads ≤ 65535 = omega (arith, v.heads) in
     let excess : i.excess ≤ 4294967295 = omega (arith, v.excess) in
     let shortage : i.shortage ≤ 4294967295 = omega (arith, v.shortage) in
     let shift : i.shift ≤ 4294967295 = omega (arith, v.shift) in
+    record {
+      minutes = capped i.slot_minutes 65535 minutes;
+      days = capped i.days 65535 days;
+      heads = capped i.heads 65535 heads;
+      excess = capped i.excess 4294967295 excess;
+      shortage = capped i.shortage 4294967295 shortage;
+      shift = capped i.shift 4294967295 shift;
+    }
+
+-- the problem that its document states, with the bands stated, and where they are left out
+stating_restated : (i : Problem) → IsValid i → problem_of (document_stating true i) ≡ i
+unfolding problem_of weights_data
+stating_restated i v =
+    let c = capped_numbers i v in
     rw (
-      capped i.slot_minutes 65535 minutes,
-      capped i.days 65535 days,
-      capped i.heads 65535 heads,
-      capped i.excess 4294967295 excess,
-      capped i.shortage 4294967295 shortage,
-      capped i.shift 4294967295 shift,
-      restated number_data (number_up_to 4294967295) (λ n. n ≤ 10000) number_restated i.need v.need_limit,
+      c.minutes,
+      c.days,
+      c.heads,
+      c.excess,
+      c.shortage,
+      c.shift,
+      wanted_restated i.need v.need_limit,
+      wanted_restated i.need_max v.band_limit,
       restated kind_data kind_of (IsKind i) (kind_restated i v) i.kinds v.kinds,
     ) refl
 
+leaving_restated : (i : Problem) → IsValid i → problem_of (document_stating false i) ≡ record i { need_max = i.need }
+unfolding problem_of weights_data
+leaving_restated i v =
+    let c = capped_numbers i v in
+    rw (
+      c.minutes,
+      c.days,
+      c.heads,
+      c.excess,
+      c.shortage,
+      c.shift,
+      wanted_restated i.need v.need_limit,
+      restated kind_data kind_of (IsKind i) (kind_restated i v) i.kinds v.kinds,
+    ) refl
+
+restated_as : (stated : Bool) (i : Problem) → IsValid i → is_banded i ≡ stated → problem_of (document_stating stated i) ≡ i
+restated_as true i v e = stating_restated i v
+restated_as false i v e =
+    let same : i.need ≡ i.need_max = (bytes_decides i.need i.need_max).0 (not-false _ e) in
+    leaving_restated i v ∙ ap (λ (most : List ℕ). record i { need_max = most }) same
+
+-- the problem that its document states
+pub problem_restated : (i : Problem) → IsValid i → problem_of (document_data i) ≡ i
+unfolding document_data
+problem_restated i v = restated_as (is_banded i) i v refl
+
+stating_fits : (stated : Bool) (i : Problem) → document_departure (document_stating stated i) ≡ None
+unfolding document_departure document_fields weights_fields object_departure weights_data
+stating_fits true i =
+    rw (all_pass number_data (λ x. is_some (whole x)) (λ n. refl) i.need, all_pass number_data (λ x. is_some (whole x)) (λ n. refl) i.need_max, kinds_fit 1 i.kinds) refl
+stating_fits false i = rw (all_pass number_data (λ x. is_some (whole x)) (λ n. refl) i.need, kinds_fit 1 i.kinds) refl
+
 -- its document departs nowhere
 pub document_fits : (i : Problem) → document_departure (document_data i) ≡ None
-unfolding document_departure document_fields weights_fields object_departure document_data weights_data
-document_fits i = rw (all_pass number_data (λ x. is_some (whole x)) (λ n. refl) i.need, kinds_fit 1 i.kinds) refl
+unfolding document_data
+document_fits i = stating_fits (is_banded i) i

@@ -1,11 +1,12 @@
 -- The canonical text of a valid problem is read as that problem.
-use Rattle.std.proofs.Common.{◌≡◌, ℕ, ◌≤◌, true, nat_lt, List, [], ◌∷◌, IsTrue, None, Some, Ok, Err, refl, sym, ap, ◌∙◌, arith}
+use Rattle.std.proofs.Common.{◌≡◌, ℕ, ◌≤◌, Bool, true, false, nat_lt, List, [], ◌∷◌, map, All, codes, IsTrue, None, Some, Ok, Err, refl, sym, ap, ◌∙◌, arith}
 use Rattle.std.proofs.lemmas.Bool.{and_parts}
 use Rattle.std.proofs.lemmas.Bool.Decides.{nat_tests}
 use Rattle.std.specs.List.{list_all}
 use Rattle.std.specs.Option.{option_map_or}
 use Rattle.json.specs.Tree as tree
 use Rattle.json.proofs.Printed.Utf8.{are_ascii}
+use Rattle.serde_json.specs.Data.{Members, no_members, member}
 use Rattle.serde_json.specs.Read.{max_depth}
 use Rattle.serde_json.specs.Written.{compact_text, outline}
 use Rattle.break_rules.specs.Causes.{first_cause}
@@ -19,9 +20,9 @@ use Rattle.shift_instance.specs.Names.{is_name, is_name_byte}
 use Rattle.shift_instance.specs.Problem.{Problem}
 use Rattle.shift_instance.specs.Valid.{IsValid, IsKind}
 use Rattle.instance_json.specs.declared.ReadRefusal.TheVariants.{NotJson}
-use Rattle.instance_json.specs.Canonical.{number_data, total_data, lunch_data, rule_data, kind_data, weights_data, document_data, canonical_text}
+use Rattle.instance_json.specs.Canonical.{number_data, list_data, total_data, lunch_data, rule_data, kind_data, weights_data, is_banded, document_stating, document_data, canonical_text}
 use Rattle.instance_json.specs.Reading.{reading_of, value_of, value_reading, problem_reading}
-use Rattle.instance_json.proofs.ReadBack.{IsSound, text_utf8, text_read, sound_items, items_depth}
+use Rattle.instance_json.proofs.ReadBack.{IsSound, AreSoundMembers, text_utf8, text_read, sound_items, items_depth}
 use Rattle.instance_json.proofs.Readings.{reading_of-short, value_of-text, value_reading-document, problem_reading-ok}
 use Rattle.instance_json.proofs.Restated.{document_fits, problem_restated}
 use Rattle.instance_json.proofs.Sizes.{canonical_length, slot_minutes_limit}
@@ -127,9 +128,36 @@ kind_sound i v k h = (
 number_sound : (n : ℕ) → n ≤ 10000 → IsSound (number_data n)
 number_sound n h = omega arith
 
-document_sound : (i : Problem) → IsValid i → IsSound (document_data i)
-unfolding document_data weights_data
-document_sound i v = (
+wanted_sound : (ns : List ℕ) → All (λ n. n ≤ 10000) ns → IsSound (list_data (map number_data ns))
+wanted_sound ns h = sound_items number_data (λ n. n ≤ 10000) number_sound ns h
+
+-- the members of a document from the slots' length on
+rest_data : Problem → Members
+rest_data i =
+    member (codes "slot_minutes") (number_data i.slot_minutes)
+    (member (codes "types") (list_data (map kind_data i.kinds))
+    (member (codes "weights") (weights_data i)
+    no_members))
+
+rest_sound : (i : Problem) → IsValid i → AreSoundMembers (rest_data i)
+unfolding rest_data weights_data
+rest_sound i v = (
+  refl,
+  omega (arith, slot_minutes_limit i v),
+  (
+    refl,
+    sound_items kind_data (IsKind i) (kind_sound i v) i.kinds v.kinds,
+    (
+      refl,
+      (refl, (refl, omega (arith, v.excess), (refl, omega (arith, v.shift), (refl, omega (arith, v.shortage), tt)))),
+      tt,
+    ),
+  ),
+)
+
+stating_sound : (stated : Bool) (i : Problem) → IsValid i → IsSound (document_stating stated i)
+unfolding rest_data
+stating_sound true i v = (
   refl,
   (
     refl,
@@ -139,20 +167,28 @@ document_sound i v = (
       omega (arith, v.heads),
       (
         refl,
-        sound_items number_data (λ n. n ≤ 10000) number_sound i.need v.need_limit,
+        wanted_sound i.need v.need_limit,
         (
           refl,
-          omega (arith, slot_minutes_limit i v),
-          (
-            refl,
-            sound_items kind_data (IsKind i) (kind_sound i v) i.kinds v.kinds,
-            (
-              refl,
-              (refl, (refl, omega (arith, v.excess), (refl, omega (arith, v.shift), (refl, omega (arith, v.shortage), tt)))),
-              tt,
-            ),
-          ),
+          wanted_sound i.need_max v.band_limit,
+          rest_sound i v,
         ),
+      ),
+    ),
+  ),
+)
+stating_sound false i v = (
+  refl,
+  (
+    refl,
+    omega (arith, v.days),
+    (
+      refl,
+      omega (arith, v.heads),
+      (
+        refl,
+        wanted_sound i.need v.need_limit,
+        rest_sound i v,
       ),
     ),
   ),
@@ -163,9 +199,19 @@ unfolding kind_data rule_data
 kind_depth k =
     omega (arith, items_depth lunch_data 1 (λ l. omega arith) k.rule.lunches, items_depth total_data 1 (λ t. omega arith) k.rule.totals)
 
+stating_depth : (stated : Bool) (i : Problem) → tree.depth (outline (document_stating stated i)) ≤ max_depth
+unfolding weights_data
+stating_depth true i =
+    omega (arith, items_depth number_data 0 (λ n. omega arith) i.need, items_depth number_data 0 (λ n. omega arith) i.need_max, items_depth kind_data 4 kind_depth i.kinds)
+stating_depth false i = omega (arith, items_depth number_data 0 (λ n. omega arith) i.need, items_depth kind_data 4 kind_depth i.kinds)
+
+document_sound : (i : Problem) → IsValid i → IsSound (document_data i)
+unfolding document_data
+document_sound i v = stating_sound (is_banded i) i v
+
 document_depth : (i : Problem) → tree.depth (outline (document_data i)) ≤ max_depth
-unfolding document_data weights_data
-document_depth i = omega (arith, items_depth number_data 0 (λ n. omega arith) i.need, items_depth kind_data 4 kind_depth i.kinds)
+unfolding document_data
+document_depth i = stating_depth (is_banded i) i
 
 pub canonical_read : (i : Problem) → IsValid i → first_cause (instance_causes i) ≡ None → reading_of (canonical_text i) ≡ Ok i
 unfolding canonical_text

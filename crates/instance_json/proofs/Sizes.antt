@@ -16,7 +16,7 @@ use Rattle.shift_instance.specs.Kind.{Kind}
 use Rattle.shift_instance.specs.Names.{is_name}
 use Rattle.shift_instance.specs.Problem.{Problem, day_slots}
 use Rattle.shift_instance.specs.Valid.{IsValid, IsKind}
-use Rattle.instance_json.specs.Canonical.{number_data, items_data, list_data, total_data, lunch_data, rule_data, kind_data, weights_data, document_data, canonical_text}
+use Rattle.instance_json.specs.Canonical.{number_data, items_data, list_data, total_data, lunch_data, rule_data, kind_data, weights_data, is_banded, with_bands, document_stating, document_data, canonical_text}
 
 escape_byte_length : (b : ℕ) → length (escape_byte b) ≤ 6
 unfolding escape_byte
@@ -179,24 +179,33 @@ slot_minutes_limit i v =
     let more : i.slot_minutes * 24 ≤ i.slot_minutes * day_slots i = mul-le-mul_left i.slot_minutes v.some_day_slots in
     omega (arith, fits, more)
 
-document_length : (i : Problem) → IsValid i → length (compact_text (document_data i)) ≤ 60000
-unfolding document_data
-document_length i v =
+wanted_length : (ns : List ℕ) → All (λ n. n ≤ 10000) ns → length (compact_text (list_data (map number_data ns))) ≤ length ns * 8 + 2
+wanted_length ns h = list_length number_data 7 ns (λ k d q. long_number _ (omega (arith, h k d q)))
+
+bands_length : (stated : Bool) (most : List ℕ) (later : Members) → All (λ n. n ≤ 10000) most → length (members_text true (with_bands stated most later)) ≤ length most * 8 + 60 + length (members_text true later)
+bands_length true most later h =
+    omega (arith, member_length true (codes "need_max") (list_data (map number_data most)) later, wanted_length most h)
+bands_length false most later h = omega arith
+
+stating_length : (stated : Bool) (i : Problem) → IsValid i → length (compact_text (document_stating stated i)) ≤ 80000
+stating_length stated i v =
     let end = no_members in
     let m6 = member (codes "weights") (weights_data i) end in
     let types = list_data (map kind_data i.kinds) in
     let m5 = member (codes "types") types m6 in
     let m4 = member (codes "slot_minutes") (number_data i.slot_minutes) m5 in
+    let bands = with_bands stated i.need_max m4 in
     let need = list_data (map number_data i.need) in
-    let m3 = member (codes "need") need m4 in
+    let m3 = member (codes "need") need bands in
     let m2 = member (codes "max_heads") (number_data i.heads) m3 in
-    let needs : length (compact_text need) ≤ length i.need * 8 + 2 = list_length number_data 7 i.need (λ k d q. long_number _ (omega (arith, v.need_limit k d q))) in
     let kinds : length (compact_text types) ≤ length i.kinds * 2001 + 2 = list_length kind_data 2000 i.kinds (λ k d q. kind_length i _ v (v.kinds k d q)) in
     omega (
       arith,
-      needs,
+      wanted_length i.need v.need_limit,
+      bands_length stated i.need_max m4 v.band_limit,
       kinds,
       v.need_length,
+      v.band_length,
       v.few_slots,
       v.types,
       weights_length i v,
@@ -204,12 +213,16 @@ document_length i v =
       member_length true (codes "types") types m6,
       member_length true (codes "slot_minutes") (number_data i.slot_minutes) m5,
       short_number i.slot_minutes (slot_minutes_limit i v),
-      member_length true (codes "need") need m4,
+      member_length true (codes "need") need bands,
       member_length true (codes "max_heads") (number_data i.heads) m3,
       short_number i.heads (omega (arith, v.heads)),
       member_length false (codes "days") (number_data i.days) m2,
       short_number i.days (omega (arith, v.days)),
     )
+
+document_length : (i : Problem) → IsValid i → length (compact_text (document_data i)) ≤ 80000
+unfolding document_data
+document_length i v = stating_length (is_banded i) i v
 
 -- the canonical text of a valid problem is short
 pub canonical_length : (i : Problem) → IsValid i → length (canonical_text i) ≤ 2 ^ 20

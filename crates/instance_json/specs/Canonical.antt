@@ -1,6 +1,7 @@
 -- The canonical text of a problem.
-use Rattle.std.specs.Prelude.{ℕ, codes, List, [], ◌∷◌, map}
-use Rattle.serde_json.specs.Data.{Data, number, unsigned, string, array, object, Items, no_items, item, no_members, member}
+use Rattle.std.specs.Prelude.{ℕ, Bool, not, ◌==◌, codes, List, [], ◌∷◌, map, if◌then◌else◌}
+use Rattle.std.specs.Cmp.Lexicographic.{pointwise}
+use Rattle.serde_json.specs.Data.{Data, number, unsigned, string, array, object, Items, no_items, item, Members, no_members, member}
 use Rattle.serde_json.specs.Written.{compact_text}
 use Rattle.break_rules.specs.declared.Lunch.{Lunch}
 use Rattle.break_rules.specs.declared.Rule.{Rule}
@@ -62,16 +63,29 @@ weights_data p =
     (member (codes "shortage") (number_data p.shortage)
     no_members)))
 
--- a problem as a document
-unfoldable pub document_data : Problem → Data
-document_data p =
+-- whether the most wanted employees differ from the need in some slot
+abbrev pub is_banded : Problem → Bool
+is_banded p = not (pointwise ◌==◌ p.need p.need_max)
+
+-- the most wanted employees as a member before others, where they are stated
+abbrev pub with_bands : Bool → List ℕ → Members → Members
+with_bands stated most later = if stated then member (codes "need_max") (list_data (map number_data most)) later else later
+
+-- a problem as a document, with its bands stated or left out
+abbrev pub document_stating : Bool → Problem → Data
+document_stating stated p =
     object (member (codes "days") (number_data p.days)
     (member (codes "max_heads") (number_data p.heads)
     (member (codes "need") (list_data (map number_data p.need))
+    (with_bands stated p.need_max
     (member (codes "slot_minutes") (number_data p.slot_minutes)
     (member (codes "types") (list_data (map kind_data p.kinds))
     (member (codes "weights") (weights_data p)
-    no_members))))))
+    no_members)))))))
+
+-- a problem as a document: its bands are stated exactly where some slot has more than one wanted number
+unfoldable pub document_data : Problem → Data
+document_data p = document_stating (is_banded p) p
 
 -- the compact text of a problem's document
 unfoldable pub canonical_text : Problem → List ℕ

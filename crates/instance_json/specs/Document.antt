@@ -25,6 +25,7 @@ document_fields =
     required (codes "slot_minutes") Number
     ∷ required (codes "days") Number
     ∷ required (codes "need") Numbers
+    ∷ optional (codes "need_max") Numbers
     ∷ required (codes "max_heads") Number
     ∷ required (codes "weights") Object
     ∷ required (codes "types") Array
@@ -75,6 +76,14 @@ short_at name d = option_map_or (number_up_to 65535) (get name d) 0
 
 abbrev pub long_at : List ℕ → Data → ℕ
 long_at name d = option_map_or (number_up_to 4294967295) (get name d) 0
+
+-- the numbers of an object's field, each up to that of 32 bits
+abbrev pub longs_at : List ℕ → Data → List ℕ
+longs_at name d = map (number_up_to 4294967295) (items_at name d)
+
+-- the most wanted employees of each slot: those that the document states, and else its needs
+abbrev pub stated_need_max : Data → List ℕ
+stated_need_max d = if is_some (get (codes "need_max") d) then longs_at (codes "need_max") d else longs_at (codes "need") d
 
 -- the number at a place of a list, up to that of 16 bits
 abbrev pub short_in : ℕ → Data → ℕ
@@ -131,7 +140,8 @@ unfoldable pub problem_of : Data → Problem
 problem_of d = record {
   slot_minutes = short_at (codes "slot_minutes") d;
   days = short_at (codes "days") d;
-  need = map (number_up_to 4294967295) (items_at (codes "need") d);
+  need = longs_at (codes "need") d;
+  need_max = stated_need_max d;
   heads = short_at (codes "max_heads") d;
   excess = weight_of (codes "excess") d;
   shortage = weight_of (codes "shortage") d;

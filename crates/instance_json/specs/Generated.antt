@@ -56,6 +56,7 @@ generated number = record {
   slot_minutes = 60;
   days = 7;
   need = needs_of number 168;
+  need_max = needs_of number 168;
   heads = 12;
   excess = 1;
   shortage = 2;

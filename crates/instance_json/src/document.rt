@@ -4,7 +4,7 @@ ghost use Rattle.std.specs.Option.{option_map_or};
 ghost use Rattle.break_rules.specs.Plain.{plain_rule};
 ghost use Rattle.serde_json.specs.Find.{get, as_array};
 ghost use Rattle.serde_json.specs.View.{view, items_view};
-ghost use Rattle.instance_json.specs.Document.{document_fields, weights_fields, type_fields, breaks_fields, items_at, number_up_to, short_at, short_in, long_at, text_at, weight_of, total_of, lunch_of, rule_of, stated_rule, kind_of, problem_of};
+ghost use Rattle.instance_json.specs.Document.{document_fields, weights_fields, type_fields, breaks_fields, items_at, number_up_to, short_at, short_in, long_at, longs_at, stated_need_max, text_at, weight_of, total_of, lunch_of, rule_of, stated_rule, kind_of, problem_of};
 
 use crate::fields::{Field, Shape};
 use break_rules::{Lunch, Lunches, Rule, Totals};
@@ -13,13 +13,14 @@ use shift_instance::{Parts, TypeParts};
 use std::alloc::{AllocError, Global};
 
 #[tactic(auto, unfolding(crate::specs::Document::document_fields))]
-pub fn of_document() -> [Field; 6]
+pub fn of_document() -> [Field; 7]
     ensures { result ≡ document_fields }
 {
     [
         Field::required("slot_minutes", Shape::Number),
         Field::required("days", Shape::Number),
         Field::required("need", Shape::Numbers),
+        Field::optional("need_max", Shape::Numbers),
         Field::required("max_heads", Shape::Number),
         Field::required("weights", Shape::Object),
         Field::required("types", Shape::Array),
@@ -139,11 +140,21 @@ fn longs(alloc: Global, list: &[Value]) -> Result<Vec<u32>, AllocError>
 }
 
 fn longs_of(alloc: Global, value: &Value, name: &str) -> Result<Vec<u32>, AllocError>
-    ensures { IfOk result (λ v. v.items ≡ map (number_up_to 4294967295) (items_at name.now (view value.now))) }
+    ensures { IfOk result (λ v. v.items ≡ longs_at name.now (view value.now)) }
 {
     match items_of(value, name) {
         Some(list) => longs(alloc, list),
         None => Ok(Vec::new(alloc)),
+    }
+}
+
+/// The most wanted employees of each slot: those that a document states, and else its needs.
+fn need_max_of(alloc: Global, value: &Value) -> Result<Vec<u32>, AllocError>
+    ensures { IfOk result (λ v. v.items ≡ stated_need_max (view value.now)) }
+{
+    match value.get("need_max") {
+        Some(_) => longs_of(alloc, value, "need_max"),
+        None => longs_of(alloc, value, "need"),
     }
 }
 
@@ -277,6 +288,7 @@ pub fn parts_of(alloc: Global, value: &Value) -> Result<Parts, AllocError>
         slot_minutes: short_of(value, "slot_minutes"),
         days: short_of(value, "days"),
         need: longs_of(alloc, value, "need")?,
+        need_max: need_max_of(alloc, value)?,
         max_heads: short_of(value, "max_heads"),
         excess: weight(value, "excess"),
         shortage: weight(value, "shortage"),

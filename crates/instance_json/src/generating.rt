@@ -104,10 +104,13 @@ fn parts(alloc: Global, number: u32) -> Result<Parts, NoMemory>
     ensures { IfOk result (λ p. p ≡ generated number) }
 {
     let types = types(alloc)?;
+    let need = needs(alloc, number, 168)?;
+    let need_max = need.clone()?;
     Ok(Parts {
         slot_minutes: 60,
         days: 7,
-        need: needs(alloc, number, 168)?,
+        need,
+        need_max,
         max_heads: 12,
         excess: 1,
         shortage: 2,
@@ -121,8 +124,8 @@ fn parts(alloc: Global, number: u32) -> Result<Parts, NoMemory>
 /// It is a week of hours, with at most 12 duties of one shift on one day, and with the weights 1 for excess, 2 for
 /// shortage and 20 for a shift. It has 6 shifts of 8 hours, which start at 6 or 7 (type `M`), at 13 or 14 (`A`) and at
 /// 21 or 22 (`N`), each with a break of one hour, at least 2 hours from both ends. The needs of the hours 6 to 21 are
-/// drawn, from 2 to 4, by a linear congruential generator that starts with the number; the other hours need 1. Want of
-/// memory is the one refusal.
+/// drawn, from 2 to 4, by a linear congruential generator that starts with the number; the other hours need 1. No slot has
+/// more than one wanted number. Want of memory is the one refusal.
 pub fn generate(alloc: Global, number: u32) -> Result<Instance, NoMemory>
     ensures generated { IfOk result (λ i. i ≡ generated number) }
     ensures valid { IfOk result (λ i. IsValid i) }

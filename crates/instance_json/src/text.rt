@@ -1,8 +1,8 @@
 //! The canonical text of an instance.
-ghost use Rattle.std.specs.Prelude.{◌≡◌, map, IfOk, OnOk};
+ghost use Rattle.std.specs.Prelude.{◌≡◌, codes, map, IfOk, OnOk, if◌then◌else◌};
 ghost use Rattle.serde_json.specs.Data.{put as with_member};
 ghost use Rattle.serde_json.specs.View.{view, members_view};
-ghost use Rattle.instance_json.specs.Canonical.{number_data, list_data, total_data, lunch_data, rule_data, kind_data, weights_data, document_data, canonical_text};
+ghost use Rattle.instance_json.specs.Canonical.{number_data, list_data, total_data, lunch_data, rule_data, kind_data, weights_data, is_banded, document_data, canonical_text};
 
 use break_rules::{Lunch, Rule};
 use serde_json::{Map, Value, json, put};
@@ -129,7 +129,23 @@ fn weights_value(alloc: Global, parts: &Parts) -> Result<Value, AllocError>
     })
 }
 
-#[tactic(auto, unfolding(crate::specs::Canonical::document_data))]
+/// Puts the most wanted employees into a document's object, where they differ from the need in some slot.
+fn put_bands(
+    alloc: Global,
+    object: &mut Map<String, Value>,
+    parts: &Parts,
+) -> Result<(), AllocError>
+    ensures { OnOk result (members_view object.new.entries ≡
+        (if is_banded parts.now then with_member (codes "need_max") (list_data (map number_data parts.now.need_max)) (members_view object.old.entries)
+        else members_view object.old.entries)) }
+{
+    if parts.need.as_slice() == parts.need_max.as_slice() {
+        return Ok(());
+    }
+    let most = list_value(number_values(alloc, parts.need_max.as_slice())?);
+    put(object, alloc, "need_max", most)
+}
+
 fn document_value(alloc: Global, parts: &Parts) -> Result<Value, AllocError>
     ensures { IfOk result (λ v. view v ≡ document_data parts.now) }
 {
@@ -138,6 +154,7 @@ fn document_value(alloc: Global, parts: &Parts) -> Result<Value, AllocError>
     put_number(alloc, &mut object, "max_heads", parts.max_heads)?;
     let need = list_value(number_values(alloc, parts.need.as_slice())?);
     put(&mut object, alloc, "need", need)?;
+    put_bands(alloc, &mut object, parts)?;
     put_number(alloc, &mut object, "slot_minutes", parts.slot_minutes)?;
     let types = list_value(type_values(alloc, parts.types.as_slice())?);
     put(&mut object, alloc, "types", types)?;
@@ -146,7 +163,8 @@ fn document_value(alloc: Global, parts: &Parts) -> Result<Value, AllocError>
 }
 
 /// The one text that an instance is written as: its document without spaces or a line end, the names of each object in
-/// byte order, and the break rule of each type as an object with all its fields.
+/// byte order, the break rule of each type as an object with all its fields, and `need_max` exactly where it differs from
+/// `need` in some slot.
 pub fn canonical(alloc: Global, instance: &Instance) -> Result<Vec<u8>, AllocError>
     ensures { IfOk result (λ v. v.items ≡ canonical_text instance.now) }
 {

@@ -2,7 +2,7 @@
 use Rattle.std.specs.Prelude.{ℕ, ◌*◌, ◌==◌, Bool, nat_lt, max, List, [], ◌∷◌, ◌++◌, fold, if◌then◌else◌}
 use Rattle.std.specs.List.{flat_map, enumerate_from}
 use Rattle.shift_instance.specs.Kind.{Kind}
-use Rattle.shift_instance.specs.Problem.{Problem, slots, need_at, below}
+use Rattle.shift_instance.specs.Problem.{Problem, slots, need_max_at, below}
 use Rattle.instance_warnings.specs.declared.telling.Warning.{Warning}
 use Rattle.instance_warnings.specs.declared.telling.Warning.TheVariants.{NoBreaks, Unreached, Heads, NoExcess, NoShortage, NoShift}
 use Rattle.instance_warnings.specs.Breaks.{has_lists, culprit}
@@ -23,13 +23,13 @@ slot_warning least (t ∷ ts) = Unreached (t ∷ ts) least ∷ []
 abbrev pub slot_warnings : Problem → List Warning
 slot_warnings i = slot_warning (unreached_cost i) (unreached i)
 
--- the greatest need of a slot
-abbrev pub greatest_need : Problem → ℕ
-greatest_need i = fold (λ most t. max most (need_at i t)) 0 (below (slots i))
+-- the greatest number of wanted employees of a slot
+abbrev pub most_wanted : Problem → ℕ
+most_wanted i = fold (λ most t. max most (need_max_at i t)) 0 (below (slots i))
 
--- the warning of a greatest number of duties that is more than twice the greatest need
+-- the warning of a greatest number of duties that is more than twice the greatest number of wanted employees
 abbrev pub head_warnings : Problem → List Warning
-head_warnings i = if nat_lt (2 * greatest_need i) i.heads then Heads i.heads (greatest_need i) ∷ [] else []
+head_warnings i = if nat_lt (2 * most_wanted i) i.heads then Heads i.heads (most_wanted i) ∷ [] else []
 
 -- a warning where there is cause for it
 abbrev pub warning_if : Bool → Warning → List Warning

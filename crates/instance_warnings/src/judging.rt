@@ -6,7 +6,7 @@ ghost use Rattle.shift_instance.specs.declared.Duty.{Duty};
 ghost use Rattle.shift_instance.specs.Listing.{IsListed};
 ghost use Rattle.shift_instance.specs.Rota.{cost, is_legal_rota};
 ghost use Rattle.instance_warnings.specs.Reached.{unreached, unreached_cost};
-ghost use Rattle.instance_warnings.specs.Warnings.{greatest_need, kind_warning, slot_warnings, head_warnings, weight_warnings, warning_if, warnings_of};
+ghost use Rattle.instance_warnings.specs.Warnings.{most_wanted, kind_warning, slot_warnings, head_warnings, weight_warnings, warning_if, warnings_of};
 
 use crate::breaks::{culprit, has_lists};
 use crate::reaching::unreached;
@@ -74,24 +74,24 @@ fn push_slots(alloc: Global, instance: &Instance, list: &mut Vec<Warning>) -> Re
     Ok(())
 }
 
-/// The greatest need of a slot.
-fn greatest_need(instance: &Instance) -> u32
-    ensures need { result ≡ greatest_need instance.now }
+/// The greatest number of wanted employees of a slot.
+fn most_wanted(instance: &Instance) -> u32
+    ensures wanted { result ≡ most_wanted instance.now }
     ensures limit { result ≤ 10000 }
 {
     let mut greatest = 0u32;
     for t in 0..instance.slots() {
-        greatest = greatest.max(instance.need(t));
+        greatest = greatest.max(instance.need_max(t));
     }
     greatest
 }
 
-/// Adds the warning of a greatest number of duties that is far above every need.
+/// Adds the warning of a greatest number of duties that is far above all wanted employees.
 fn push_heads(instance: &Instance, list: &mut Vec<Warning>) -> Result<(), NoMemory>
     ensures { OnOk result (list.new.items ≡ list.old.items ++ head_warnings instance.now) }
 {
     let most = instance.heads();
-    let need = greatest_need(instance);
+    let need = most_wanted(instance);
     if 2 * need < u32::from(most) {
         list.push(Warning::Heads { most, need })?;
     }
@@ -119,8 +119,8 @@ fn push_weights(instance: &Instance, list: &mut Vec<Warning>) -> Result<(), NoMe
 }
 
 /// What a planner should know of an instance before it is searched: the types without a legal break list, in their order;
-/// the slots with a need that no duty can reach; a greatest number of duties that is more than twice the greatest need; and
-/// weights of 0. The list is empty where there is nothing to say. Running out of memory is the one refusal.
+/// the slots with a need that no duty can reach; a greatest number of duties that is more than twice the greatest number of wanted
+/// employees; and weights of 0. The list is empty where there is nothing to say. Running out of memory is the one refusal.
 pub fn warnings(alloc: Global, instance: &Instance) -> Result<Vec<Warning>, NoMemory>
     ensures { IfOk result (λ list. list.items ≡ warnings_of instance.now) }
 {

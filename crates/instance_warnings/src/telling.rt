@@ -11,7 +11,7 @@ pub enum Warning {
     NoBreaks { kind: u16, part: Option<Part> },
     /// No legal duty works in these slots, though they have a need: every plan costs at least `least` for them.
     Unreached { slots: Slots, least: u64 },
-    /// The most duties of one shift on one day are more than twice the greatest need.
+    /// The most duties of one shift on one day are more than twice `need`, the greatest number of wanted employees of a slot.
     Heads { most: u16, need: u32 },
     /// An employee too many in a slot costs nothing.
     NoExcess,

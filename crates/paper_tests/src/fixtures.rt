@@ -14,6 +14,10 @@ use std::test::Fail;
 const DOCUMENT: &str =
     "{\"slot_minutes\":60,\"days\":2,\"need\":[1,0,0,0,0,0,0,0,2,2,2,2,0,0,0,0,0,0,0,0,0,0,0,0,0,0,0,0,0,0,0,0,2,2,2,2,0,0,0,0,0,0,0,0,0,0,0,0],\"max_heads\":5,\"weights\":{\"excess\":1,\"shortage\":2,\"shift\":3},\"types\":[{\"name\":\"M<&>\",\"start_min\":8,\"start_max\":8,\"len_min\":4,\"len_max\":5,\"breaks\":{\"lead\":0,\"tail\":0,\"work_min\":2,\"work_max\":288,\"long_work\":288,\"long_rest\":1,\"size_min\":1,\"size_max\":48,\"totals\":[[5,1]],\"lunches\":[],\"resettle\":0}},{\"name\":\"N,\\\"x\\\"\",\"start_min\":22,\"start_max\":22,\"len_min\":4,\"len_max\":4,\"breaks\":null}]}";
 
+/// The same, but for from 8 to 12 on the first day: there two or three are wanted.
+const BANDED: &str =
+    "{\"slot_minutes\":60,\"days\":2,\"need\":[1,0,0,0,0,0,0,0,2,2,2,2,0,0,0,0,0,0,0,0,0,0,0,0,0,0,0,0,0,0,0,0,2,2,2,2,0,0,0,0,0,0,0,0,0,0,0,0],\"need_max\":[1,0,0,0,0,0,0,0,3,3,3,3,0,0,0,0,0,0,0,0,0,0,0,0,0,0,0,0,0,0,0,0,2,2,2,2,0,0,0,0,0,0,0,0,0,0,0,0],\"max_heads\":5,\"weights\":{\"excess\":1,\"shortage\":2,\"shift\":3},\"types\":[{\"name\":\"M<&>\",\"start_min\":8,\"start_max\":8,\"len_min\":4,\"len_max\":5,\"breaks\":{\"lead\":0,\"tail\":0,\"work_min\":2,\"work_max\":288,\"long_work\":288,\"long_rest\":1,\"size_min\":1,\"size_max\":48,\"totals\":[[5,1]],\"lunches\":[],\"resettle\":0}},{\"name\":\"N,\\\"x\\\"\",\"start_min\":22,\"start_max\":22,\"len_min\":4,\"len_max\":4,\"breaks\":null}]}";
+
 /// On the first day one from 8 to 12, two from 8 to 13 with a break from 10 to 11, and one from 22 to 2; on the second day one from
 /// 22 to 2, the first two hours of the planning period.
 const REPORT: &str =
@@ -22,6 +26,11 @@ const REPORT: &str =
 /// The instance.
 pub fn instance(alloc: Global) -> Result<Instance, Fail> {
     Ok(instance_json::read(alloc, DOCUMENT.as_bytes())?)
+}
+
+/// The instance with bands.
+pub fn banded(alloc: Global) -> Result<Instance, Fail> {
+    Ok(instance_json::read(alloc, BANDED.as_bytes())?)
 }
 
 /// The rows of the plan.

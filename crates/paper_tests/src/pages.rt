@@ -1,5 +1,5 @@
 //! The page of the plan.
-use crate::fixtures::{instance, judge, rows};
+use crate::fixtures::{banded, instance, judge, rows};
 use plan_page::plan_page;
 use std::alloc::Global;
 use std::process::Abort;
@@ -56,5 +56,34 @@ fn a_duty_over_midnight_stands_on_both_days(rt: HostRuntime) -> Result<(), Fail>
             .count(),
         2
     );
+    Ok(())
+}
+
+#[test]
+fn bands_are_shown_as_ranges_and_as_a_strip(rt: HostRuntime) -> Result<(), Fail> {
+    let alloc = rt.alloc();
+    let instance = banded(alloc)?;
+    let rows = rows(alloc)?;
+    judge(&rt, &instance, &rows);
+    let page = plan_page(alloc, &instance, &rows, "ward", "no bound")?;
+    for line in [
+        "<th scope=\"row\">Excess</th><td>9</td><td>1</td><td>9</td>",
+        "<td>5</td><td>17:00-21:00</td><td>20:00</td><td>9:00</td><td>9:00</td>",
+        "<tr><td>1</td><td>10:00</td><td>2-3</td><td>1</td><td>2</td></tr>",
+        "Hours wanted 9:00-13:00, worked 16:00, over 5:00, under 1:00.",
+        "Hours wanted 8:00, worked 4:00, over 4:00, under 8:00.",
+        "\"band\" d=\"M480 0h60v80h-60zM540 0h60v80h-60zM600 0h60v80h-60zM660 0h60v80h-60z\"",
+    ] {
+        assert!(rt; page.as_str().contains(line));
+    }
+    // What the strip means, and the strip of the first day.
+    assert_eq!(rt; page.as_str().matches("\"band\"").count(), 2);
+    Ok(())
+}
+
+#[test]
+fn a_page_without_bands_has_no_strip(rt: HostRuntime) -> Result<(), Fail> {
+    let page = page(&rt, rt.alloc())?;
+    assert!(rt; !page.as_str().contains("band"));
     Ok(())
 }

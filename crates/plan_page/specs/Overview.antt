@@ -1,5 +1,5 @@
 -- The top of the page: what the plan adds up to.
-use Rattle.std.specs.Prelude.{ℕ, ◌+◌, List, [], ◌∷◌, ◌++◌, codes}
+use Rattle.std.specs.Prelude.{ℕ, ◌+◌, nat_lt, Bool, true, false, List, [], ◌∷◌, ◌++◌, codes}
 use Rattle.std.specs.List.{enumerate_from, flat_map}
 use Rattle.std.specs.Fmt.{decimal}
 use Rattle.shift_instance.specs.Problem.{Problem}
@@ -8,8 +8,9 @@ use Rattle.plan_tables.specs.declared.summary.CostPart.{CostPart}
 use Rattle.plan_tables.specs.declared.summary.DaySummary.{DaySummary}
 use Rattle.plan_tables.specs.declared.summary.Summary.{Summary}
 use Rattle.plan_tables.specs.declared.tallies.Totals.{Totals}
+use Rattle.plan_tables.specs.SummaryLines.{wanted_employees, wanted_hours}
 use Rattle.plan_tables.specs.Times.{day_of_slot, span_text, time_of_slot}
-use Rattle.plan_page.specs.declared.overview.TheConstants.{KEY}
+use Rattle.plan_page.specs.declared.overview.TheConstants.{BAND_SIGN, NEED_SIGN, OTHER_SIGNS}
 use Rattle.plan_page.specs.Cells.{cell, row_begin, row_end, row_head}
 use Rattle.plan_page.specs.Escaping.{escaped}
 
@@ -38,10 +39,10 @@ cost_table s =
     cost_head ++ part_row (codes "Excess") s.excess ++ part_row (codes "Shortage") s.shortage ++ part_row (codes "Shifts used") s.shifts
     ++ cost_foot s.cost
 
--- how many duties start, and the hours wanted, worked, too many and too few
+-- how many duties start, and the hours wanted, as a range where the least and the most differ, worked, too many and too few
 unfoldable pub totals_cells : Problem → ℕ → Totals → List ℕ
 totals_cells i duties t =
-    cell (decimal duties) ++ cell (span_text i t.wanted) ++ cell (span_text i t.worked) ++ cell (span_text i t.over) ++ cell (span_text i t.under)
+    cell (decimal duties) ++ cell (wanted_hours i t) ++ cell (span_text i t.worked) ++ cell (span_text i t.over) ++ cell (span_text i t.under)
     ++ row_end
 
 -- a day, counted from 0: its number, counted from 1, how many duties start on it, and its hours
@@ -68,9 +69,11 @@ days_table i s = days_head ++ flat_map (day_row i) (enumerate_from 0 s.days.item
 unfoldable pub moment_cells : Problem → ℕ → List ℕ
 moment_cells i t = cell (decimal (day_of_slot i t)) ++ cell (time_of_slot i t)
 
--- a slot that costs something: its day and time, the employees wanted and at work, and its cost
+-- a slot that costs something: its day and time, the employees wanted, as a range where the least and the most differ, and at work, and
+-- its cost
 unfoldable pub costly_row : Problem → CostlySlot → List ℕ
-costly_row i s = row_begin ++ moment_cells i s.slot ++ cell (decimal s.wanted) ++ cell (decimal s.working) ++ cell (decimal s.cost) ++ row_end
+costly_row i s =
+    row_begin ++ moment_cells i s.slot ++ cell (wanted_employees s) ++ cell (decimal s.working) ++ cell (decimal s.cost) ++ row_end
 
 -- the beginning of the table of the slots that cost most, with its columns, and its end
 unfoldable pub costliest_head : List ℕ
@@ -97,10 +100,27 @@ standing_line standing = codes "<p>" ++ escaped standing ++ tables_begin
 unfoldable pub tables_end : List ℕ
 tables_end = codes "</div>\n"
 
+-- whether some of the slots that were added up have more than one wanted number
+abbrev pub has_bands : Totals → Bool
+has_bands t = nat_lt t.wanted t.wanted_max
+
+-- what the line of the need means, what the strip of the bands means, where there is one, and what the other signs mean
+unfoldable pub need_sign : List ℕ
+need_sign = NEED_SIGN.now
+
+unfoldable pub band_sign : Bool → List ℕ
+band_sign true = BAND_SIGN.now
+band_sign false = []
+
+unfoldable pub other_signs : List ℕ
+other_signs = OTHER_SIGNS.now
+
 -- what the signs in the pictures mean
-unfoldable pub key_text : List ℕ
-key_text = KEY.now
+unfoldable pub key_text : Bool → List ℕ
+key_text banded = need_sign ++ band_sign banded ++ other_signs
 
 -- the line on how the plan stands, the three tables, and what the signs in the pictures mean
 unfoldable pub overview : Problem → Summary → List ℕ → List ℕ
-overview i s standing = standing_line standing ++ cost_table s ++ days_table i s ++ costliest_table i s.costliest.items ++ tables_end ++ key_text
+overview i s standing =
+    standing_line standing ++ cost_table s ++ days_table i s ++ costliest_table i s.costliest.items ++ tables_end
+    ++ key_text (has_bands s.totals)

@@ -1,8 +1,8 @@
-//! The picture of a day's slots: the need as a line over the employees as bars.
+//! The picture of a day's slots: the need as a line over the employees as bars, with the bands where they differ from the need.
 ghost use Rattle.std.specs.Prelude.{◌≡◌, ◌+◌, ◌<◌, ◌≤◌, ◌++◌, OnOk, max, string_bytes};
 ghost use Rattle.std.specs.List.{flat_map};
 ghost use Rattle.shift_instance.specs.Problem.{below, day_slots, slots};
-ghost use Rattle.plan_page.specs.Chart.{bar_text, chart, chart_head, grid_text, hours_text, layer_ends, layer_name, layer_path, most_employees, need_begin, need_end, need_path, need_step, path_begin, path_end, slot_bar};
+ghost use Rattle.plan_page.specs.Chart.{band_path, bar_text, chart, chart_head, edge_at, grid_text, hours_text, layer_ends, layer_name, layer_path, most_employees, need_begin, need_end, need_path, need_step, path_begin, path_end, slot_bar};
 
 use crate::pictures::{add_box, depth};
 use break_rules::NoMemory;
@@ -27,10 +27,12 @@ pub(crate) const HOURS: &str = "\
 pub(crate) enum Layer {
     /// The employees that work as wanted.
     Covered,
-    /// The employees that work beyond the need.
+    /// The employees that work beyond the band.
     Over,
-    /// The employees that lack.
+    /// The employees that lack to the need.
     Under,
+    /// The numbers of employees in the band, whoever works.
+    Band,
 }
 
 impl Layer {
@@ -42,17 +44,42 @@ impl Layer {
             Layer::Covered => "covered",
             Layer::Over => "over",
             Layer::Under => "under",
+            Layer::Band => "band",
         }
     }
 
-    /// From which number of employees on up to which the layer's bar of a slot stands, where so many are wanted and so many work.
-    fn ends(self, wanted: u32, working: u32) -> (u32, u32)
-        ensures { result ≡ layer_ends self wanted working }
+    /// From which number of employees on up to which the layer's bar of a slot stands, where so many are wanted at least and at
+    /// most, and so many work.
+    fn ends(self, least: u32, most: u32, working: u32) -> (u32, u32)
+        ensures { result ≡ layer_ends self least most working }
     {
         match self {
-            Layer::Covered => (0, working.min(wanted)),
-            Layer::Over => (wanted, working),
-            Layer::Under => (working, wanted),
+            Layer::Covered => (0, working.min(most)),
+            Layer::Over => (most, working),
+            Layer::Under => (working, least),
+            Layer::Band => (least, most),
+        }
+    }
+}
+
+/// An edge of the bands.
+#[derive(Clone, Copy, Drop)]
+pub(crate) enum Edge {
+    /// The least wanted employees.
+    Least,
+    /// The most wanted employees.
+    Most,
+}
+
+impl Edge {
+    /// Where the edge of the band of a slot is.
+    fn at(self, instance: &Instance, t: usize) -> u32
+        requires { t < slots instance.now }
+        ensures { result ≡ edge_at instance.now self t }
+    {
+        match self {
+            Edge::Least => instance.need(t),
+            Edge::Most => instance.need_max(t),
         }
     }
 }
@@ -72,7 +99,7 @@ pub(crate) fn most_employees(instance: &Instance, attendance: &Attendance) -> u3
 {
     let mut most = 1;
     for t in 0..instance.slots() {
-        most = greatest(most, instance.need(t), attendance.working(t));
+        most = greatest(most, instance.need_max(t), attendance.working(t));
     }
     most
 }
@@ -117,7 +144,11 @@ fn add_slot_bar(
     let _valid = instance.slots();
     let parts = instance.parts();
     let t = first + n;
-    let ends = layer.ends(instance.need(t), attendance.working(t));
+    let ends = layer.ends(
+        instance.need(t),
+        instance.need_max(t),
+        attendance.working(t),
+    );
     let left = ClockTime::of_slot(instance, n as u32).minutes;
     add_bar(page, most, left, u64::from(parts.slot_minutes), ends)
 }
@@ -178,43 +209,45 @@ fn add_layer(
     end_path(page)
 }
 
-/// Adds the need of a slot of the day, counted from 0, to the line of the need.
+/// Adds an edge of the band of a slot of the day, counted from 0, to the line of that edge.
 #[tactic(auto, unfolding(crate::specs::Chart::need_step))]
 fn add_need_step(
     page: &mut String,
     instance: &Instance,
     most: u32,
     first: usize,
+    edge: Edge,
     n: usize,
 ) -> Result<(), NoMemory>
     requires most { 0 < most }
     requires within { first + n < slots instance.now }
-    ensures { OnOk result (string_bytes page.new ≡ string_bytes page.old ++ need_step instance.now most first n) }
+    ensures { OnOk result (string_bytes page.new ≡ string_bytes page.old ++ need_step instance.now most first edge n) }
 {
     let _valid = instance.slots();
-    let top = depth(instance.need(first + n), most);
+    let top = depth(edge.at(instance, first + n), most);
     let right = ClockTime::of_slot(instance, n as u32 + 1).minutes;
     write!(page, "V{top}H{right}")
 }
 
-/// Adds the steps of the line of the need.
+/// Adds the steps of the line of an edge of the bands.
 fn add_need_steps(
     page: &mut String,
     instance: &Instance,
     most: u32,
     first: usize,
+    edge: Edge,
 ) -> Result<(), NoMemory>
     requires most { 0 < most }
     requires within { first + day_slots instance.now ≤ slots instance.now }
-    ensures { OnOk result (string_bytes page.new ≡ string_bytes page.old ++ flat_map (need_step instance.now most first) (below (day_slots instance.now))) }
+    ensures { OnOk result (string_bytes page.new ≡ string_bytes page.old ++ flat_map (need_step instance.now most first edge) (below (day_slots instance.now))) }
 {
     for n in 0..day_slots(instance) {
-        add_need_step(page, instance, most, first, n)?;
+        add_need_step(page, instance, most, first, edge, n)?;
     }
     Ok(())
 }
 
-/// Begins the line of the need.
+/// Begins the line of an edge of the bands.
 #[tactic(auto, unfolding(crate::specs::Chart::need_begin))]
 fn begin_need(page: &mut String) -> Result<(), NoMemory>
     ensures { OnOk result (string_bytes page.new ≡ string_bytes page.old ++ need_begin) }
@@ -222,7 +255,7 @@ fn begin_need(page: &mut String) -> Result<(), NoMemory>
     page.push_str("<path class=\"need\" d=\"M0 240")
 }
 
-/// Ends the line of the need.
+/// Ends the line of an edge of the bands.
 #[tactic(auto, unfolding(crate::specs::Chart::need_end))]
 fn end_need(page: &mut String) -> Result<(), NoMemory>
     ensures { OnOk result (string_bytes page.new ≡ string_bytes page.old ++ need_end) }
@@ -230,16 +263,45 @@ fn end_need(page: &mut String) -> Result<(), NoMemory>
     page.push_str("V240\"/>\n")
 }
 
-/// Adds the need as a line.
+/// Adds an edge of the bands as a line.
 #[tactic(auto, unfolding(crate::specs::Chart::need_path))]
-fn add_need(page: &mut String, instance: &Instance, most: u32, first: usize) -> Result<(), NoMemory>
+fn add_need(
+    page: &mut String,
+    instance: &Instance,
+    most: u32,
+    first: usize,
+    edge: Edge,
+) -> Result<(), NoMemory>
     requires most { 0 < most }
     requires within { first + day_slots instance.now ≤ slots instance.now }
-    ensures { OnOk result (string_bytes page.new ≡ string_bytes page.old ++ need_path instance.now most first) }
+    ensures { OnOk result (string_bytes page.new ≡ string_bytes page.old ++ need_path instance.now most first edge) }
 {
     begin_need(page)?;
-    add_need_steps(page, instance, most, first)?;
+    add_need_steps(page, instance, most, first, edge)?;
     end_need(page)
+}
+
+/// Adds the bands as a strip with a line above it, where the day has some.
+#[tactic(auto, unfolding(crate::specs::Chart::band_path))]
+fn add_bands(
+    page: &mut String,
+    instance: &Instance,
+    attendance: &Attendance,
+    most: u32,
+    first: usize,
+    banded: bool,
+) -> Result<(), NoMemory>
+    requires instance { attendance.now.instance ≡ instance.now }
+    requires most { 0 < most }
+    requires within { first + day_slots instance.now ≤ slots instance.now }
+    ensures { OnOk result (string_bytes page.new ≡ string_bytes page.old ++ band_path instance.now attendance.now.duties most first banded) }
+{
+    if banded {
+        add_layer(page, instance, attendance, most, first, Layer::Band)?;
+        add_need(page, instance, most, first, Edge::Most)
+    } else {
+        Ok(())
+    }
 }
 
 /// Adds up to how many employees a picture shows.
@@ -269,7 +331,7 @@ fn add_hours(page: &mut String) -> Result<(), NoMemory>
     page.push_str(HOURS)
 }
 
-/// Adds the picture of the day that begins at a slot, where so many employees reach to the top.
+/// Adds the picture of the day that begins at a slot, where so many employees reach to the top, with the bands where the day has some.
 #[tactic(auto, unfolding(crate::specs::Chart::chart))]
 pub(crate) fn add_chart(
     page: &mut String,
@@ -277,17 +339,19 @@ pub(crate) fn add_chart(
     attendance: &Attendance,
     most: u32,
     first: usize,
+    banded: bool,
 ) -> Result<(), NoMemory>
     requires instance { attendance.now.instance ≡ instance.now }
     requires most { 0 < most }
     requires within { first + day_slots instance.now ≤ slots instance.now }
-    ensures { OnOk result (string_bytes page.new ≡ string_bytes page.old ++ chart instance.now attendance.now.duties most first) }
+    ensures { OnOk result (string_bytes page.new ≡ string_bytes page.old ++ chart instance.now attendance.now.duties most first banded) }
 {
     add_chart_head(page, most)?;
     add_grid(page)?;
     add_layer(page, instance, attendance, most, first, Layer::Covered)?;
     add_layer(page, instance, attendance, most, first, Layer::Over)?;
     add_layer(page, instance, attendance, most, first, Layer::Under)?;
-    add_need(page, instance, most, first)?;
+    add_bands(page, instance, attendance, most, first, banded)?;
+    add_need(page, instance, most, first, Edge::Least)?;
     add_hours(page)
 }

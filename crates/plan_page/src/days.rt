@@ -2,15 +2,17 @@
 ghost use Rattle.std.specs.Prelude.{◌≡◌, ◌+◌, ◌*◌, ◌^◌, ◌<◌, ◌≤◌, ◌++◌, All, OnOk, length, map, string_bytes};
 ghost use Rattle.std.specs.List.{enumerate_from, flat_map};
 ghost use Rattle.plan_tables.specs.Starting.{IsKnown};
+ghost use Rattle.plan_tables.specs.SummaryLines.{wanted_hours};
 ghost use Rattle.plan_tables.specs.Times.{span_text};
 ghost use Rattle.shift_instance.specs.Problem.{day_slots, slots};
 ghost use Rattle.plan_page.specs.Chart.{most_employees};
-ghost use Rattle.plan_page.specs.Page.{day_duties, day_end, day_hours, day_pictures, day_section, day_title, hours_end, over_begin, spans_text};
+ghost use Rattle.plan_page.specs.Page.{day_duties, day_end, day_hours, day_pictures, day_section, day_title, hours_end, over_begin, spans_text, wanted_worked};
 
 use crate::bars::add_bars;
 use crate::chart::{add_chart, most_employees};
+use crate::overview::has_bands;
 use break_rules::NoMemory;
-use plan_tables::{Attendance, DaySummary, Hours, day_slots};
+use plan_tables::{Attendance, DaySummary, Hours, Totals, day_slots};
 use shift_instance::{Instance, Row};
 use std::fmt::Write;
 
@@ -54,6 +56,31 @@ fn add_spans(
     add_span(page, instance, others)
 }
 
+/// Adds the hours that are wanted, as a range where the least and the most differ.
+fn add_wanted(page: &mut String, instance: &Instance, totals: &Totals) -> Result<(), NoMemory>
+    ensures { OnOk result (string_bytes page.new ≡ string_bytes page.old ++ wanted_hours instance.now totals.now) }
+{
+    if totals.wanted == totals.wanted_max {
+        add_span(page, instance, totals.wanted)
+    } else {
+        add_spans(page, instance, totals.wanted, "-", totals.wanted_max)
+    }
+}
+
+/// Adds the hours that are wanted, and those that are worked.
+#[tactic(auto, unfolding(crate::specs::Page::wanted_worked))]
+fn add_wanted_worked(
+    page: &mut String,
+    instance: &Instance,
+    totals: &Totals,
+) -> Result<(), NoMemory>
+    ensures { OnOk result (string_bytes page.new ≡ string_bytes page.old ++ wanted_worked instance.now totals.now) }
+{
+    add_wanted(page, instance, totals)?;
+    page.push_str(", worked ")?;
+    add_span(page, instance, totals.worked)
+}
+
 /// Adds what stands before the hours too many.
 #[tactic(auto, unfolding(crate::specs::Page::over_begin))]
 fn begin_over(page: &mut String) -> Result<(), NoMemory>
@@ -76,13 +103,7 @@ fn add_hours(page: &mut String, instance: &Instance, day: &DaySummary) -> Result
     ensures { OnOk result (string_bytes page.new ≡ string_bytes page.old ++ day_hours instance.now day.now) }
 {
     add_duties(page, day.duties)?;
-    add_spans(
-        page,
-        instance,
-        day.totals.wanted,
-        ", worked ",
-        day.totals.worked,
-    )?;
+    add_wanted_worked(page, instance, &day.totals)?;
     begin_over(page)?;
     add_spans(
         page,
@@ -113,7 +134,7 @@ fn first_slot(instance: &Instance, day: u8) -> usize
     usize::from(day) * day_slots(instance)
 }
 
-/// Adds the picture and the rows of the day that begins at a slot.
+/// Adds the picture and the rows of the day that begins at a slot, with the bands where the day has some.
 #[tactic(auto, unfolding(crate::specs::Page::day_pictures))]
 fn add_pictures(
     page: &mut String,
@@ -122,6 +143,7 @@ fn add_pictures(
     most: u32,
     rows: &[&Row],
     first: usize,
+    banded: bool,
 ) -> Result<(), NoMemory>
     requires instance { attendance.now.instance ≡ instance.now }
     requires most { most ≡ most_employees instance.now attendance.now.duties }
@@ -129,10 +151,10 @@ fn add_pictures(
     requires listed { All (IsKnown instance.now) (map (λ r. r.now) rows.now) }
     requires within { first + day_slots instance.now ≤ slots instance.now }
     requires few { first < 2 ^ 16 }
-    ensures { OnOk result (string_bytes page.new ≡ string_bytes page.old ++ day_pictures instance.now attendance.now.duties (map (λ r. r.now) rows.now) first) }
+    ensures { OnOk result (string_bytes page.new ≡ string_bytes page.old ++ day_pictures instance.now attendance.now.duties (map (λ r. r.now) rows.now) first banded) }
 {
     let day = first as u32;
-    add_chart(page, instance, attendance, most, first)?;
+    add_chart(page, instance, attendance, most, first, banded)?;
     add_bars(page, instance, day, false, rows)?;
     add_bars(page, instance, day, true, rows)
 }
@@ -159,7 +181,15 @@ fn add_day(
     let first = first_slot(instance, k as u8);
     add_title(page, k + 1)?;
     add_hours(page, instance, day)?;
-    add_pictures(page, instance, attendance, most, rows, first)?;
+    add_pictures(
+        page,
+        instance,
+        attendance,
+        most,
+        rows,
+        first,
+        has_bands(&day.totals),
+    )?;
     end_day(page)
 }
 

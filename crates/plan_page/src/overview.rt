@@ -1,20 +1,30 @@
 //! The top of the page: what the plan adds up to, and what the signs in the pictures mean.
 ghost use Rattle.std.specs.Prelude.{◌≡◌, ◌^◌, ◌<◌, ◌++◌, OnOk, string_bytes};
 ghost use Rattle.std.specs.List.{enumerate_from, flat_map};
-ghost use Rattle.plan_page.specs.Overview.{all_end, all_head, cost_foot, cost_head, cost_table, costliest_end, costliest_head, costliest_table, costly_row, day_row, days_head, days_table, foot_begin, foot_end, key_text, moment_cells, overview, part_row, standing_line, tables_begin, tables_end, totals_cells};
+ghost use Rattle.plan_page.specs.Overview.{all_end, all_head, band_sign, cost_foot, cost_head, cost_table, costliest_end, costliest_head, costliest_table, costly_row, day_row, days_head, days_table, foot_begin, foot_end, has_bands, key_text, moment_cells, need_sign, other_signs, overview, part_row, standing_line, tables_begin, tables_end, totals_cells};
 
 use crate::cells::{
-    add_number, add_row_head, add_row_number, add_span, add_time, begin_row, end_row,
+    add_number, add_row_head, add_row_number, add_span, add_time, add_wanted_employees,
+    add_wanted_hours, begin_row, end_row,
 };
 use crate::escaping::add_escaped;
 use break_rules::NoMemory;
 use plan_tables::{CostPart, CostlySlot, DaySummary, Summary, Totals};
 use shift_instance::Instance;
 
-/// What the signs in the pictures mean.
-pub(crate) const KEY: &str = "\
+/// The beginning of what the signs in the pictures mean, with the line of the need.
+pub(crate) const NEED_SIGN: &str = "\
 <p class=\"key\">
 <span><svg viewBox=\"0 0 28 14\"><path class=\"need\" d=\"M0 7H28\"/></svg>need</span>
+";
+
+/// What the strip of the bands means, and how it looks.
+pub(crate) const BAND_SIGN: &str = "\
+<span><svg viewBox=\"0 0 28 14\"><style>.band{fill:#111;fill-opacity:.2;print-color-adjust:exact;-webkit-print-color-adjust:exact}</style><path class=\"band\" d=\"M0 3h28v8h-28z\"/><path class=\"need\" d=\"M0 3H28M0 11H28\"/></svg>from the least to the most wanted</span>
+";
+
+/// What the other signs in the pictures mean.
+pub(crate) const OTHER_SIGNS: &str = "\
 <span><svg viewBox=\"0 0 28 14\"><path class=\"covered\" d=\"M0 0h28v14h-28z\"/></svg>at work as wanted</span>
 <span><svg viewBox=\"0 0 28 14\"><path class=\"over\" d=\"M0 0h28v14h-28z\"/></svg>more than wanted</span>
 <span><svg viewBox=\"0 0 28 14\"><path class=\"under\" d=\"M0 0h28v14h-28z\"/></svg>fewer than wanted</span>
@@ -94,7 +104,7 @@ fn add_totals(
     ensures { OnOk result (string_bytes page.new ≡ string_bytes page.old ++ totals_cells instance.now duties totals.now) }
 {
     add_number(page, duties)?;
-    add_span(page, instance, totals.wanted)?;
+    add_wanted_hours(page, instance, totals)?;
     add_span(page, instance, totals.worked)?;
     add_span(page, instance, totals.over)?;
     add_span(page, instance, totals.under)?;
@@ -185,7 +195,7 @@ fn add_costly_slot(
 {
     begin_row(page)?;
     add_moment(page, instance, slot)?;
-    add_number(page, u64::from(slot.wanted))?;
+    add_wanted_employees(page, slot)?;
     add_number(page, u64::from(slot.working))?;
     add_number(page, slot.cost)?;
     end_row(page)
@@ -268,12 +278,49 @@ fn end_tables(page: &mut String) -> Result<(), NoMemory>
     page.push_str("</div>\n")
 }
 
-/// Adds what the signs in the pictures mean.
-#[tactic(auto, unfolding(crate::specs::Overview::key_text))]
-fn add_key(page: &mut String) -> Result<(), NoMemory>
-    ensures { OnOk result (string_bytes page.new ≡ string_bytes page.old ++ key_text) }
+/// Adds what the line of the need means.
+#[tactic(auto, unfolding(crate::specs::Overview::need_sign))]
+fn add_need_sign(page: &mut String) -> Result<(), NoMemory>
+    ensures { OnOk result (string_bytes page.new ≡ string_bytes page.old ++ need_sign) }
 {
-    page.push_str(KEY)
+    page.push_str(NEED_SIGN)
+}
+
+/// Adds what the strip of the bands means, where there are some.
+#[tactic(auto, unfolding(crate::specs::Overview::band_sign))]
+fn add_band_sign(page: &mut String, banded: bool) -> Result<(), NoMemory>
+    ensures { OnOk result (string_bytes page.new ≡ string_bytes page.old ++ band_sign banded) }
+{
+    if banded {
+        page.push_str(BAND_SIGN)
+    } else {
+        Ok(())
+    }
+}
+
+/// Adds what the other signs in the pictures mean.
+#[tactic(auto, unfolding(crate::specs::Overview::other_signs))]
+fn add_other_signs(page: &mut String) -> Result<(), NoMemory>
+    ensures { OnOk result (string_bytes page.new ≡ string_bytes page.old ++ other_signs) }
+{
+    page.push_str(OTHER_SIGNS)
+}
+
+/// Adds what the signs in the pictures mean, with the bands where there are some.
+#[tactic(auto, unfolding(crate::specs::Overview::key_text))]
+fn add_key(page: &mut String, banded: bool) -> Result<(), NoMemory>
+    ensures { OnOk result (string_bytes page.new ≡ string_bytes page.old ++ key_text banded) }
+{
+    add_need_sign(page)?;
+    add_band_sign(page, banded)?;
+    add_other_signs(page)
+}
+
+/// Whether some of the slots that were added up have more than one wanted number.
+pub(crate) fn has_bands(totals: &Totals) -> bool
+    ensures { result ≡ has_bands totals.now }
+{
+    totals.wanted < totals.wanted_max
 }
 
 /// Adds what the plan adds up to, below a line of text, and what the signs in the pictures mean.
@@ -291,5 +338,5 @@ pub(crate) fn add_overview(
     add_days_table(page, instance, summary)?;
     add_costliest(page, instance, summary.costliest.as_slice())?;
     end_tables(page)?;
-    add_key(page)
+    add_key(page, has_bands(&summary.totals))
 }

@@ -43,7 +43,7 @@ fn written(
 }
 
 /// The page of a legal plan: a heading, a line on how the plan stands, the numbers of its summary, and for each day the need as a
-/// line over the employees as bars, with the rows of duties and their breaks below.
+/// line over the employees as bars, and the bands as a strip where some differ from it, with the rows of duties and their breaks below.
 ///
 /// It is one file of hypertext that takes nothing from elsewhere and runs nothing. Texts may hold any characters. The numbers in its
 /// tables are those of the summary of the plan (`Summary::new`), and its pictures show the cover of the plan (`Attendance`).

@@ -8,7 +8,7 @@ use advice::Stop;
 use break_rules::NoMemory;
 use shift_tables::{ListGraph, Pauses, Tables};
 use std::alloc::Global;
-use working_plan::{Placed, Plan, Stretches, ones};
+use working_plan::{FREE, FULL, Placed, Plan, Stretches, count_of};
 
 /// The most slots of a shift.
 const WINDOW: usize = 288;
@@ -79,19 +79,35 @@ fn from_place(list: &[f64], place: usize) -> &[f64] {
     list.get(place..).unwrap_or(&[])
 }
 
-/// How many bytes of a part of a list are 1, of a list of bytes 0 and 1.
-fn ones_between(list: &[u8], from: usize, to: usize) -> u32 {
+/// How often a byte stands in a part of a list.
+fn count_between(list: &[u8], from: usize, to: usize, byte: u8) -> f64 {
     match list.get(from..to) {
-        Some(part) => ones(part),
-        None => 0,
+        Some(part) => f64::from(count_of(part, byte)),
+        None => 0.0,
     }
 }
 
-/// Lays the sums of the prices of a window: `short` for a slot with too few employees, and less `spare` for the others.
-fn lay_sums(sums: &mut [f64], full: &[u8], noise: &[f64], short: f64, spare: f64) {
+/// How many slots of a part of a window are free.
+fn free_between(tables: &Tables, bytes: &[u8], from: usize, to: usize) -> f64 {
+    if tables.banded {
+        count_between(bytes, from, to, FREE)
+    } else {
+        0.0
+    }
+}
+
+/// Lays the sums of the prices of a window: `short` for a slot with too few employees, less `spare` for a full one, and nothing for a
+/// free one.
+fn lay_sums(sums: &mut [f64], bytes: &[u8], noise: &[f64], short: f64, spare: f64) {
     let mut sum = 0.0;
-    for ((place, byte), extra) in sums.iter_mut().skip(1).zip(full).zip(noise) {
-        let price = if *byte == 0 { short } else { -spare };
+    for ((place, byte), extra) in sums.iter_mut().skip(1).zip(bytes).zip(noise) {
+        let price = if *byte == FULL {
+            -spare
+        } else if *byte == FREE {
+            0.0
+        } else {
+            short
+        };
         sum += price + *extra;
         *place = sum;
     }
@@ -186,10 +202,10 @@ impl<S: Stop + Drop> PlanSearch<S> {
         let len = tables.len_of(shift);
         let turn = self.chance.below(TURNS);
         let noise = from_place(&self.noise, turn);
-        let full = self.plan.levels.full(tables.base(shift, day), len);
+        let bytes = self.plan.levels.bytes(tables.base(shift, day), len);
         lay_sums(
             &mut self.walk.sums,
-            full,
+            bytes,
             noise,
             tables.shortage,
             tables.excess,
@@ -223,13 +239,15 @@ impl<S: Stop + Drop> PlanSearch<S> {
         let len = usize::from(place.len);
         self.count(len / 8);
         let losses = place.losses;
-        let full = self.plan.levels.full(tables.base(shift, day), len);
-        let inner = f64::from(ones_between(full, losses.from, losses.to));
-        let spare = f64::from(ones(full));
+        let bytes = self.plan.levels.bytes(tables.base(shift, day), len);
+        let inner = count_between(bytes, losses.from, losses.to, FULL);
+        let spare = f64::from(count_of(bytes, FULL));
         let lost = inner.max(losses.least).min(losses.most);
         let saved = inner.min(lost);
-        let short = f64::from(place.len) - spare;
-        tables.shortage * (short - (lost - saved)) - tables.excess * (spare - saved)
+        let free = free_between(tables, bytes, losses.from, losses.to);
+        let missed = (lost - saved - free).max(0.0);
+        let short = f64::from(place.len) - spare - free_between(tables, bytes, 0, len);
+        tables.shortage * (short - missed) - tables.excess * (spare - saved)
     }
 
     /// Puts a duty in.

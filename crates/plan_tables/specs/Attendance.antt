@@ -1,7 +1,7 @@
 -- Who is at work in a slot, and who is on break there.
 use Rattle.std.specs.Prelude.{◌≡◌, ℕ, ◌-◌, List, [], map}
 use Rattle.shift_instance.specs.declared.Duty.{Duty}
-use Rattle.shift_instance.specs.Problem.{Problem, need_at}
+use Rattle.shift_instance.specs.Problem.{Problem, need_at, need_max_at}
 use Rattle.shift_instance.specs.Rota.{cover}
 use Rattle.rota_cost.specs.Cover.{Covering}
 
@@ -13,11 +13,11 @@ unbroken d = record { shift = d.shift; day = d.day; breaks = [] }
 abbrev pub on_break : Problem → List Duty → ℕ → ℕ
 on_break i rota t = cover i (map unbroken rota) t - cover i rota t
 
--- the employees in a slot beyond those that are wanted
+-- the employees in a slot above its band
 abbrev pub over_at : Problem → List Duty → ℕ → ℕ
-over_at i rota t = cover i rota t - need_at i t
+over_at i rota t = cover i rota t - need_max_at i t
 
--- the employees that are wanted in a slot beyond those that work there
+-- the employees that a slot lacks to its need
 abbrev pub under_at : Problem → List Duty → ℕ → ℕ
 under_at i rota t = need_at i t - cover i rota t
 

@@ -4,13 +4,13 @@ use Rattle.std.specs.List.Sorted.{IsPermutation, IsSortedByKey, IsStableByKey}
 use Rattle.std.specs.Ordering.{nat_cmp}
 use Rattle.std.specs.declared.cmp.Ordering.{Ordering}
 use Rattle.shift_instance.specs.declared.Duty.{Duty}
-use Rattle.shift_instance.specs.Problem.{Problem, slots, need_at, below}
+use Rattle.shift_instance.specs.Problem.{Problem, slots, need_at, need_max_at, below}
 use Rattle.shift_instance.specs.Rota.{cover, slot_cost}
 use Rattle.plan_tables.specs.declared.costliest.CostlySlot.{CostlySlot}
 
--- a slot with what is wanted there, who works there and what it costs
+-- a slot with its band, how many work there and what it costs
 abbrev pub costly_slot : Problem → List Duty → ℕ → CostlySlot
-costly_slot i rota t = record { slot = t; wanted = need_at i t; working = cover i rota t; cost = slot_cost i t (cover i rota t) }
+costly_slot i rota t = record { slot = t; wanted = need_at i t; wanted_max = need_max_at i t; working = cover i rota t; cost = slot_cost i t (cover i rota t) }
 
 -- whether a slot costs something
 abbrev pub costs : CostlySlot → Bool

@@ -8,7 +8,7 @@ use Rattle.break_rules.specs.declared.Break.{Break}
 use Rattle.shift_instance.specs.declared.Duty.{Duty}
 use Rattle.shift_instance.specs.declared.Row.{Row}
 use Rattle.shift_instance.specs.declared.Shift.{Shift}
-use Rattle.shift_instance.specs.Problem.{Problem, day_slots, slots, need_at, shift_list, below}
+use Rattle.shift_instance.specs.Problem.{Problem, day_slots, slots, need_at, need_max_at, shift_list, below}
 use Rattle.shift_instance.specs.Rota.{cover}
 use Rattle.rota_writer.specs.Table.{clock, break_text, day_number, name_of}
 use Rattle.plan_tables.specs.Attendance.{on_break, over_at, under_at}
@@ -44,14 +44,16 @@ duties_text i rows = row_text default_writer duty_columns ++ flat_map (duty_reco
 
 -- the names of the columns of the table of slots
 abbrev pub slot_columns : List (List ℕ)
-slot_columns = codes "day" ∷ codes "time" ∷ codes "need" ∷ codes "working" ∷ codes "on_break" ∷ codes "over" ∷ codes "under" ∷ []
+slot_columns = codes "day" ∷ codes "time" ∷ codes "need" ∷ codes "need_max" ∷ codes "working" ∷ codes "on_break" ∷ codes "over" ∷ codes "under" ∷ []
 
--- the fields of a slot: its day, counted from 1, when it begins, the employees that are wanted, those that work, those on break, those too many and those too few
+-- the fields of a slot: its day, counted from 1, when it begins, the least and the most wanted employees, those that work, those on break, those above the band and
+-- those that lack to the need
 abbrev pub slot_fields : Problem → List Duty → ℕ → List (List ℕ)
 slot_fields i rota t =
     decimal (t / day_slots i + 1)
     ∷ clock (t * i.slot_minutes)
     ∷ decimal (need_at i t)
+    ∷ decimal (need_max_at i t)
     ∷ decimal (cover i rota t)
     ∷ decimal (on_break i rota t)
     ∷ decimal (over_at i rota t)

@@ -3,17 +3,18 @@ use Rattle.std.specs.Prelude.{ℕ, ◌*◌, ◌/◌, Bool, ◌==◌, List, map, 
 use Rattle.std.specs.Option.{option_map_or}
 use Rattle.std.specs.List.{range_with_len}
 use Rattle.shift_instance.specs.declared.Duty.{Duty}
-use Rattle.shift_instance.specs.Problem.{Problem, day_slots, slots, need_at, shift_list, slot_of, below}
+use Rattle.shift_instance.specs.Problem.{Problem, day_slots, slots, need_at, need_max_at, shift_list, slot_of, below}
 use Rattle.shift_instance.specs.Rota.{cover, shifts_used}
 use Rattle.plan_tables.specs.declared.summary.CostPart.{CostPart}
 use Rattle.plan_tables.specs.declared.summary.DaySummary.{DaySummary}
 use Rattle.plan_tables.specs.declared.tallies.Totals.{Totals}
 use Rattle.plan_tables.specs.Attendance.{over_at, under_at}
 
--- the employees wanted, at work, too many and too few, added up over slots
+-- the least and the most wanted employees, those at work, those above the bands and those that lack, added up over slots
 abbrev pub totals_in : Problem → List Duty → List ℕ → Totals
 totals_in i rota ts = record {
   wanted = sum_by (need_at i) ts;
+  wanted_max = sum_by (need_max_at i) ts;
   worked = sum_by (cover i rota) ts;
   over = sum_by (over_at i rota) ts;
   under = sum_by (under_at i rota) ts;

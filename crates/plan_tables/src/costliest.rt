@@ -16,8 +16,10 @@ use std::cmp::Reverse;
 pub struct CostlySlot {
     /// The slot, counted from the beginning of the planning period.
     pub slot: usize,
-    /// The employees that are wanted.
+    /// The least wanted employees.
     pub wanted: u32,
+    /// The most wanted employees.
+    pub wanted_max: u32,
     /// The employees that work.
     pub working: u32,
     /// What the slot costs.
@@ -51,12 +53,14 @@ fn costly_slot(instance: &Instance, attendance: &Attendance, t: usize) -> Costly
 {
     let (excess, shortage, _) = instance.weights();
     let wanted = instance.need(t);
+    let wanted_max = instance.need_max(t);
     let working = attendance.working(t);
-    let over = working.saturating_sub(wanted);
+    let over = working.saturating_sub(wanted_max);
     let under = wanted.saturating_sub(working);
     CostlySlot {
         slot: t,
         wanted,
+        wanted_max,
         working,
         cost: u64::from(excess) * u64::from(over) + u64::from(shortage) * u64::from(under),
     }

@@ -3,7 +3,7 @@ ghost use Rattle.std.specs.Prelude.{◌≡◌, ◌<◌, ◌++◌, IfOk, IsTrue, 
 ghost use Rattle.std.specs.List.{flat_map};
 ghost use Rattle.csv.specs.Writing.{default_writer, row_text};
 ghost use Rattle.rota_writer.specs.Table.{break_text, day_number};
-ghost use Rattle.shift_instance.specs.Problem.{need_at, shift_list, slots};
+ghost use Rattle.shift_instance.specs.Problem.{need_at, need_max_at, shift_list, slots};
 ghost use Rattle.shift_instance.specs.Rota.{are_legal_rows, cover, rota_of};
 ghost use Rattle.shift_instance.specs.Valid.{IsShift, IsValid};
 ghost use Rattle.plan_tables.specs.Attendance.{on_break, over_at, under_at};
@@ -139,15 +139,17 @@ pub fn duties_csv(alloc: Global, instance: &Instance, rows: &Rows) -> Result<Vec
 /// The employees of a slot.
 #[derive(Clone, Copy, Drop)]
 struct Staffing {
-    /// The employees that are wanted.
+    /// The least wanted employees.
     wanted: u32,
+    /// The most wanted employees.
+    wanted_max: u32,
     /// The employees that work.
     working: u32,
     /// The employees that are on break.
     on_break: u32,
-    /// The employees that work beyond those that are wanted.
+    /// The employees that work above the band.
     over: u32,
-    /// The employees that are wanted beyond those that work.
+    /// The employees that lack to the need.
     under: u32,
 }
 
@@ -156,6 +158,7 @@ fn slot_staffing(instance: &Instance, attendance: &Attendance, t: usize) -> Staf
     requires instance { attendance.now.instance ≡ instance.now }
     requires slot { t < slots instance.now }
     ensures wanted { result.wanted ≡ need_at instance.now t }
+    ensures wanted_max { result.wanted_max ≡ need_max_at instance.now t }
     ensures working { result.working ≡ cover instance.now attendance.now.duties t }
     ensures on_break { result.on_break ≡ on_break instance.now attendance.now.duties t }
     ensures over { result.over ≡ over_at instance.now attendance.now.duties t }
@@ -163,12 +166,14 @@ fn slot_staffing(instance: &Instance, attendance: &Attendance, t: usize) -> Staf
     ensures valid { IsValid instance.now }
 {
     let wanted = instance.need(t);
+    let wanted_max = instance.need_max(t);
     let working = attendance.working(t);
     Staffing {
         wanted,
+        wanted_max,
         working,
         on_break: attendance.on_break(t),
-        over: working.saturating_sub(wanted),
+        over: working.saturating_sub(wanted_max),
         under: wanted.saturating_sub(working),
     }
 }
@@ -189,6 +194,7 @@ fn with_slot(
     let day = (t / day_slots(instance) + 1).to_string(alloc)?;
     let time = ClockTime::of_slot(instance, t as u32).to_string(alloc)?;
     let need = staffing.wanted.to_string(alloc)?;
+    let need_max = staffing.wanted_max.to_string(alloc)?;
     let working = staffing.working.to_string(alloc)?;
     let on_break = staffing.on_break.to_string(alloc)?;
     let over = staffing.over.to_string(alloc)?;
@@ -197,6 +203,7 @@ fn with_slot(
         day.as_bytes(),
         time.as_bytes(),
         need.as_bytes(),
+        need_max.as_bytes(),
         working.as_bytes(),
         on_break.as_bytes(),
         over.as_bytes(),
@@ -205,10 +212,11 @@ fn with_slot(
 }
 
 /// The slots of a legal plan as comma-separated values, with a first line of the names of the columns `day`, `time`, `need`,
-/// `working`, `on_break`, `over` and `under`.
+/// `need_max`, `working`, `on_break`, `over` and `under`.
 ///
 /// There is a line for each slot of the planning period, from the first. Days are counted from 1, and the time is when the slot
-/// begins. `over` are the employees that work beyond the need, `under` those that lack.
+/// begins. `need` and `need_max` are the least and the most wanted employees, `over` those that work beyond the most, `under` those
+/// that lack to the least.
 pub fn cover_csv(alloc: Global, instance: &Instance, rows: &Rows) -> Result<Vec<u8>, NoMemory>
     requires { IsTrue (are_legal_rows instance.now rows.now) }
     ensures { IfOk result (λ text. text.items ≡ cover_text instance.now (rota_of rows.now)) }
@@ -218,6 +226,7 @@ pub fn cover_csv(alloc: Global, instance: &Instance, rows: &Rows) -> Result<Vec<
         b"day",
         b"time",
         b"need",
+        b"need_max",
         b"working",
         b"on_break",
         b"over",

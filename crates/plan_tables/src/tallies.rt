@@ -11,13 +11,15 @@ use shift_instance::{Instance, Row, Rows};
 /// Employees added up over slots: one employee in one slot counts 1.
 #[derive(Clone, Copy, PartialEq, Eq, Drop)]
 pub struct Totals {
-    /// The employees that are wanted.
+    /// The least wanted employees.
     pub wanted: u64,
+    /// The most wanted employees.
+    pub wanted_max: u64,
     /// The employees that work.
     pub worked: u64,
-    /// The employees that work beyond those that are wanted.
+    /// The employees that work above the bands.
     pub over: u64,
-    /// The employees that are wanted beyond those that work.
+    /// The employees that lack to the needs.
     pub under: u64,
 }
 
@@ -37,16 +39,19 @@ pub(crate) fn totals_in(
     let _valid = instance.slots();
     let mut totals = Totals {
         wanted: 0,
+        wanted_max: 0,
         worked: 0,
         over: 0,
         under: 0,
     };
     for k in 0..count {
         let need = instance.need(first + k);
+        let most = instance.need_max(first + k);
         let working = attendance.working(first + k);
         totals.wanted += u64::from(need);
+        totals.wanted_max += u64::from(most);
         totals.worked += u64::from(working);
-        totals.over += u64::from(working.saturating_sub(need));
+        totals.over += u64::from(working.saturating_sub(most));
         totals.under += u64::from(need.saturating_sub(working));
     }
     totals

@@ -38,7 +38,8 @@ pub struct Climb {
     pub(crate) cover: Vec<f64>,
     /// The duties of each cut on duties of certain breaks.
     pub(crate) front_counts: Vec<f64>,
-    /// How far each slot is from its need, and behind these each such cut from its number. So go the lists of prices below.
+    /// How far each slot is from the number of its band that its price moves towards, and behind these each such cut from its number.
+    /// So go the lists of prices below.
     pub(crate) violations: Vec<f64>,
     pub(crate) direction: Vec<f64>,
     /// The prices of the running pass.

@@ -1,4 +1,4 @@
-//! One pass: the value of prices at the top of their ray, and how the best solution there fails the needs.
+//! One pass: the value of prices at the top of their ray, and how the best solution there fails the bands.
 
 use crate::climb::Climb;
 use crate::corners::{Corner, Share, top};
@@ -80,13 +80,32 @@ fn edge(tables: &Tables, prices: &[f64], reached: &[bool]) -> f64 {
     most
 }
 
+/// The number of a slot's band that a price counts for: the most wanted employees where it is below 0, and else the need.
+fn wanted(price: f64, need: i32, most: i32) -> f64 {
+    f64::from(if price < 0.0 { most } else { need })
+}
+
+/// The number of a slot's band that its price moves towards where so many work: the one that the price counts for, and for price 0
+/// the one that is nearest to how many work.
+fn target(price: f64, need: i32, most: i32, working: f64) -> f64 {
+    let (need, most) = (f64::from(need), f64::from(most));
+    if 0.0 < price {
+        need
+    } else if price < 0.0 {
+        most
+    } else {
+        working.max(need).min(most)
+    }
+}
+
 impl Climb {
-    /// What needs and cuts earn along the ray, and what those slots earn that nobody can work in.
+    /// What wanted employees and cuts earn along the ray, and what those slots earn that nobody can work in.
     fn needed(&self, tables: &Tables, ranges: &Ranges) -> (f64, f64) {
         let mut slope = 0.0;
         let mut fixed = 0.0;
-        for ((price, need), reached) in self.point.iter().zip(&tables.need).zip(&self.reached) {
-            let earned = *price * f64::from(*need);
+        let bands = tables.need.iter().zip(&tables.need_max);
+        for ((price, (need, most)), reached) in self.point.iter().zip(bands).zip(&self.reached) {
+            let earned = *price * wanted(*price, *need, *most);
             if *reached {
                 slope += earned;
             } else {
@@ -196,11 +215,22 @@ impl Climb {
         Ok(())
     }
 
-    /// How far the cover of each slot is from its need, and the count of each cut on duties of certain breaks from its number.
+    /// How far the cover of each slot is from the number that its price moves towards, and the count of each cut on duties of certain
+    /// breaks from its number.
     fn lay_violations(&mut self, tables: &Tables, ranges: &Ranges) {
-        let counted = self.cover.iter().zip(&tables.need).zip(&self.reached);
-        for (place, ((x, need), reached)) in self.violations.iter_mut().zip(counted) {
-            *place = if *reached { f64::from(*need) - *x } else { 0.0 };
+        let bands = tables.need.iter().zip(&tables.need_max);
+        let counted = self.cover.iter().zip(bands).zip(&self.reached);
+        let priced = counted.zip(&self.point);
+        for (place, (((x, (need, most)), reached), price)) in self
+            .violations
+            .iter_mut()
+            .zip(priced)
+        {
+            *place = if *reached {
+                target(*price, *need, *most, *x) - *x
+            } else {
+                0.0
+            };
         }
         let fronts = ranges.fronts().iter().zip(&self.front_counts);
         for (place, (cut, count)) in self.violations.iter_mut().skip(tables.slots).zip(fronts) {
@@ -208,7 +238,7 @@ impl Climb {
         }
     }
 
-    /// The chosen duties, and how they fail the needs and the cuts.
+    /// The chosen duties, and how they fail the bands and the cuts.
     fn find_violations(&mut self, tables: &Tables, ranges: &Ranges) -> Result<(), NoMemory> {
         self.chosen.clear();
         clear(&mut self.cover);

@@ -61,6 +61,8 @@ fault_place (fault.LengthRange kind) = codes "types[" ++ (decimal kind ++ codes 
 fault_place (fault.Rule kind why) = rule_place kind why
 fault_place (fault.TooManyShifts found) = codes "types"
 fault_place (fault.Name kind) = codes "types[" ++ (decimal kind ++ codes "].name")
+fault_place (fault.BandLength found wanted) = codes "need_max"
+fault_place (fault.Band slot) = codes "need_max[" ++ (decimal slot ++ codes "]")
 fault_place fault.NoMemory = []
 
 -- the place of a refusal, as far as the refusal itself tells it

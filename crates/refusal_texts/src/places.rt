@@ -95,6 +95,11 @@ fn fault_place(alloc: Global, fault: &InstanceFault) -> Result<String, AllocErro
         InstanceFault::Rule { kind, why } => rule_place(alloc, *kind, *why),
         InstanceFault::TooManyShifts { found: _ } => String::from_str(alloc, "types"),
         InstanceFault::Name { kind } => format!(in alloc; "types[{kind}].name"),
+        InstanceFault::BandLength {
+            found: _,
+            wanted: _,
+        } => String::from_str(alloc, "need_max"),
+        InstanceFault::Band { slot } => format!(in alloc; "need_max[{slot}]"),
         InstanceFault::NoMemory => Ok(String::new(alloc)),
     }
 }

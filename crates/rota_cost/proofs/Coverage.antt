@@ -15,7 +15,7 @@ use Rattle.break_rules.proofs.Lists.{any_some, any_none, from_below}
 use Rattle.break_rules.proofs.Counts.{count_by_none, count_by_at_most, count_by_same}
 use Rattle.shift_instance.specs.declared.Shift.{Shift}
 use Rattle.shift_instance.specs.declared.Duty.{Duty}
-use Rattle.shift_instance.specs.Problem.{Problem, shift_list, slots, day_slots, slot_of, need_at, below}
+use Rattle.shift_instance.specs.Problem.{Problem, shift_list, slots, day_slots, slot_of, need_at, need_max_at, below}
 use Rattle.shift_instance.specs.Rota.{works, is_on, heads_on, is_legal_rota, cover, slot_cost, shifts_used, is_used, cost}
 use Rattle.shift_instance.specs.Valid.{IsValid}
 use Rattle.shift_instance.proofs.Offsets.{same_offset}
@@ -138,7 +138,7 @@ few_at_once i rota t valid h =
 slot_few : (i : Problem) (t c : ℕ) → IsValid i → t < slots i → c ≤ 204800 → slot_cost i t c ≤ 215000000000
 slot_few i t c valid small few =
     let w : need_at i t ≤ 10000 = valid.need_limit t 0 (let l : length i.need ≡ slots i = valid.need_length in omega arith) in
-    let a : i.excess * (c - need_at i t) ≤ 1000000 * 204800 = mul-le-mul valid.excess (let k : c - need_at i t ≤ 204800 = omega arith in k) in
+    let a : i.excess * (c - need_max_at i t) ≤ 1000000 * 204800 = mul-le-mul valid.excess (let k : c - need_max_at i t ≤ 204800 = omega arith in k) in
     let b : i.shortage * (need_at i t - c) ≤ 1000000 * 10000 = mul-le-mul valid.shortage (let k : need_at i t - c ≤ 10000 = omega arith in k) in
     omega arith
 

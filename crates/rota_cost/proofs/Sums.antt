@@ -5,7 +5,7 @@ use Rattle.std.proofs.lemmas.Bool.{cases_eq}
 use Rattle.std.proofs.lemmas.List.FromFn.{length-range_with_len}
 use Rattle.break_rules.proofs.Counts.{sum_by_same}
 use Rattle.break_rules.proofs.Lists.{from_below}
-use Rattle.shift_instance.specs.Problem.{Problem, slots, need_at, below}
+use Rattle.shift_instance.specs.Problem.{Problem, slots, need_at, need_max_at, below}
 use Rattle.shift_instance.specs.Rota.{slot_cost}
 use Rattle.shift_instance.specs.Valid.{IsValid}
 use Rattle.rota_cost.specs.Counted.{slots_cost}
@@ -46,7 +46,7 @@ sum_below_set f xs (suc n) t v small room =
 slot_most : (i : Problem) (t c most : ℕ) → IsValid i → t < slots i → c ≤ most → slot_cost i t c ≤ 1000000 * most + 10000000000
 slot_most i t c most valid small few =
     let w : need_at i t ≤ 10000 = valid.need_limit t 0 (let l : length i.need ≡ slots i = valid.need_length in omega arith) in
-    let a : i.excess * (c - need_at i t) ≤ 1000000 * most = mul-le-mul valid.excess (let k : c - need_at i t ≤ most = omega arith in k) in
+    let a : i.excess * (c - need_max_at i t) ≤ 1000000 * most = mul-le-mul valid.excess (let k : c - need_max_at i t ≤ most = omega arith in k) in
     let b : i.shortage * (need_at i t - c) ≤ 1000000 * 10000 = mul-le-mul valid.shortage (let k : need_at i t - c ≤ 10000 = omega arith in k) in
     omega arith
 

@@ -52,9 +52,8 @@ pub(crate) fn slot_cost(instance: &Instance, t: usize, cover: u32) -> u64
     ensures few { result ≤ 10 ^ 6 * cover + 10 ^ 10 }
 {
     let (excess, shortage, _) = instance.weights();
-    let need = instance.need(t);
-    let over = cover.saturating_sub(need);
-    let under = need.saturating_sub(cover);
+    let over = cover.saturating_sub(instance.need_max(t));
+    let under = instance.need(t).saturating_sub(cover);
     u64::from(excess) * u64::from(over) + u64::from(shortage) * u64::from(under)
 }
 
@@ -91,8 +90,8 @@ fn shifts_used(instance: &Instance, rows: &Rows) -> u64
     used
 }
 
-/// The cost of the rota that legal rows stand for: excess and shortage in each slot, and the shifts used. It takes no
-/// memory.
+/// The cost of the rota that legal rows stand for: in each slot the excess above its band and the shortage below it, and
+/// the shifts used. It takes no memory.
 pub fn recount(instance: &Instance, rows: &Rows) -> u64
     requires { IsTrue (are_legal_rows instance.now rows.now) }
     ensures cost { result ≡ cost instance.now (rota_of rows.now) }

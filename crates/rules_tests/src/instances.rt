@@ -27,10 +27,12 @@ fn type_of(alloc: Global, name: &str) -> Result<TypeParts, NoMemory> {
 fn morning(alloc: Global, types: Vec<TypeParts>) -> Result<Parts, NoMemory> {
     let mut need = vec![in alloc; 0u32; 24]?;
     need[8..12].fill(1);
+    let need_max = need.clone()?;
     Ok(Parts {
         slot_minutes: 60,
         days: 1,
         need,
+        need_max,
         max_heads: 1,
         excess: 1,
         shortage: 2,

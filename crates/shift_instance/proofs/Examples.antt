@@ -13,9 +13,13 @@ use Rattle.shift_instance.specs.Rota.{cost, cover, is_legal_rota, are_legal_rows
 abbrev pub type_of : ℕ → ℕ → ℕ → ℕ → Kind
 type_of start_min start_max len_min len_max = record { name = 77 ∷ []; start_min = start_min; start_max = start_max; len_min = len_min; len_max = len_max; rule = plain_rule }
 
+-- that many employees from 8 to 12, in a day of hours
+abbrev pub in_morning : ℕ → List ℕ
+in_morning n = replicate 8 0 ++ n ∷ n ∷ n ∷ n ∷ replicate 12 0
+
 -- a day of hours that needs one employee from 8 to 12, and has one shift, from 8 to 12
 abbrev pub one_morning : Problem
-one_morning = record { slot_minutes = 60; days = 1; need = replicate 8 0 ++ 1 ∷ 1 ∷ 1 ∷ 1 ∷ replicate 12 0; heads = 1; excess = 1; shortage = 2; shift = 3; kinds = type_of 8 8 4 4 ∷ [] }
+one_morning = record { slot_minutes = 60; days = 1; need = in_morning 1; need_max = in_morning 1; heads = 1; excess = 1; shortage = 2; shift = 3; kinds = type_of 8 8 4 4 ∷ [] }
 
 abbrev pub duty : List Break → Duty
 duty breaks = record { shift = 0; day = 0; breaks = breaks }
@@ -48,6 +52,13 @@ cost_duty = refl
 -- one employee too many in four slots, and the shift counts once
 cost_two : cost (record one_morning { heads = 2 }) (duty [] ∷ duty [] ∷ []) ≡ 7
 cost_two = refl
+
+-- where one or two employees are wanted, neither one nor two cost more than the shift, and a third costs 1 in each of four slots
+abbrev pub banded_morning : Problem
+banded_morning = record one_morning { need_max = in_morning 2; heads = 3 }
+
+costs_in_band : map (cost banded_morning) ([] ∷ replicate 1 (duty []) ∷ replicate 2 (duty []) ∷ replicate 3 (duty []) ∷ []) ≡ 8 ∷ 3 ∷ 3 ∷ 7 ∷ []
+costs_in_band = refl
 
 legal_duty : is_legal_rota one_morning (duty [] ∷ []) ≡ true
 legal_duty = refl
@@ -97,11 +108,16 @@ works_at_night = refl
 slots_of_two_days : map (slot_of (record night { days = 2 }) (shift 0 22 4) 1) (below 4) ≡ 46 ∷ 47 ∷ 0 ∷ 1 ∷ []
 slots_of_two_days = refl
 
+-- one employee from 8 to 16, but for the hour from 12 on
+abbrev around_noon : List ℕ
+around_noon = replicate 8 0 ++ 1 ∷ 1 ∷ 1 ∷ 1 ∷ 0 ∷ 1 ∷ 1 ∷ 1 ∷ replicate 8 0
+
 -- a shift of 8 hours with one break of an hour, and an hour of resettling after it
 abbrev long_day : ℕ → Problem
 long_day resettle =
     record one_morning {
-      need = replicate 8 0 ++ 1 ∷ 1 ∷ 1 ∷ 1 ∷ 0 ∷ 1 ∷ 1 ∷ 1 ∷ replicate 8 0;
+      need = around_noon;
+      need_max = around_noon;
       kinds = record { name = 77 ∷ []; start_min = 8; start_max = 8; len_min = 8; len_max = 8; rule = record { lead = 2; tail = 2; work_min = 2; work_max = 5; long_work = 5; long_rest = 1; size_min = 1; size_max = 1; totals = (8, 1) ∷ []; lunches = []; resettle = resettle } } ∷ [];
     }
 

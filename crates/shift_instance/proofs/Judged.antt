@@ -1,7 +1,7 @@
 -- An instance's numbers, judged.
 use Rattle.std.proofs.Common.{◌≡◌, inl, inr, ℕ, zero, suc, ◌+◌, ◌*◌, ◌/◌, ◌<◌, ◌≤◌, Bool, true, false, not, ◌&&◌, ◌||◌, ◌==◌, List, [], ◌∷◌, ◌++◌, map, length, take, drop, get_or, sym, ap, ◌∙◌, subst, arith, nat_le, nat_lt, Option, Some, None}
 use Rattle.std.specs.Prelude.{All, if◌then◌else◌, slice_get}
-use Rattle.std.specs.List.{flat_map, enumerate_from}
+use Rattle.std.specs.List.{flat_map, enumerate_from, zip}
 use Rattle.std.specs.Cmp.Lexicographic.{bytes_decides}
 use Rattle.std.proofs.lemmas.Bool.{and_parts, or_cases, or_parts, leb-true, ltb-true, ltb-false, eqb-true, not-false, false≢true}
 use Rattle.std.proofs.lemmas.List.{drop_more}
@@ -12,12 +12,12 @@ use Rattle.break_rules.specs.Causes.{first_cause}
 use Rattle.break_rules.specs.RuleFaults.{rule_causes}
 use Rattle.break_rules.proofs.Causes.{no_cause, NoCause, none_from_no_cause, first_left, first_right}
 use Rattle.shift_instance.specs.declared.InstanceFault.{InstanceFault}
-use Rattle.shift_instance.specs.declared.InstanceFault.TheVariants.{SlotMinutes, Days, NeedLength, NeedTooLarge, Weight, Heads, Types, StartRange, LengthRange, Rule, TooManyShifts, Name, NoMemory}
+use Rattle.shift_instance.specs.declared.InstanceFault.TheVariants.{SlotMinutes, Days, NeedLength, NeedTooLarge, Weight, Heads, Types, StartRange, LengthRange, Rule, TooManyShifts, Name, BandLength, Band, NoMemory}
 use Rattle.shift_instance.specs.Kind.{Kind}
 use Rattle.shift_instance.specs.Names.{is_name, has_name, is_taken}
-use Rattle.shift_instance.specs.Problem.{Problem, day_slots, shift_list}
+use Rattle.shift_instance.specs.Problem.{Problem, slots, day_slots, need_at, need_max_at, shift_list}
 use Rattle.shift_instance.specs.Valid.{IsValid, IsKind}
-use Rattle.shift_instance.specs.Faults.{is_slot_minutes, period_causes, need_cause, size_causes, cause_of_kind, kind_causes, types_causes, part_causes, instance_causes, Answers}
+use Rattle.shift_instance.specs.Faults.{is_slot_minutes, period_causes, need_cause, band_cause, band_causes, wanted_causes, size_causes, cause_of_kind, kind_causes, types_causes, part_causes, instance_causes, Answers}
 
 -- the slots of a day
 minutes_one : (m k : ℕ) → (m == k) ≡ true → (0 < k) × (24 ≤ 1440 / k) × (1440 / k ≤ 288) → (0 < m) × (24 ≤ 1440 / m) × (1440 / m ≤ 288)
@@ -59,6 +59,22 @@ none_right (x ∷ xs) ys h = none_right xs ys h.1
 needs_small : (from : ℕ) (need : List ℕ) → NoCause (map need_cause (enumerate_from from need)) → All (λ n. n ≤ 10000) need
 needs_small from [] h = All-nil (λ n. n ≤ 10000)
 needs_small from (n ∷ need) h = All-cons (λ n. n ≤ 10000) n need (ltb-false 10000 n h.0) (needs_small (from + 1) need h.1)
+
+-- bands without a fault
+band_fits : (low high : ℕ) → (nat_lt high low || nat_lt 10000 high) ≡ false → (low ≤ high) × (high ≤ 10000)
+band_fits low high h = let p = or_parts (nat_lt high low) (nat_lt 10000 high) h in (ltb-false high low p.0, ltb-false 10000 high p.1)
+
+bands_small : (from : ℕ) (need most : List ℕ) → length most ≡ length need → NoCause (map band_cause (enumerate_from from (zip need most))) → All (λ n. n ≤ 10000) most
+bands_small from [] [] e h = All-nil (λ n. n ≤ 10000)
+bands_small from [] (m ∷ most) e h = absurd (omega arith)
+bands_small from (n ∷ need) [] e h = absurd (omega arith)
+bands_small from (n ∷ need) (m ∷ most) e h = All-cons (λ n. n ≤ 10000) m most (band_fits n m h.0).1 (bands_small (from + 1) need most (omega arith) h.1)
+
+bands_fit : (from : ℕ) (need most : List ℕ) → NoCause (map band_cause (enumerate_from from (zip need most))) → (t : ℕ) → t < length need → t < length most → get_or need t 0 ≤ get_or most t 0
+bands_fit from [] most h t small fits = absurd (omega arith)
+bands_fit from (n ∷ need) [] h t small fits = absurd (omega arith)
+bands_fit from (n ∷ need) (m ∷ most) h zero small fits = (band_fits n m h.0).0
+bands_fit from (n ∷ need) (m ∷ most) h (suc t) small fits = bands_fit (from + 1) need most h.1 t (omega arith) (omega arith)
 
 -- a rule without a fault
 none_of_kind : (k : ℕ) (cs : List (Bool × RuleFault)) → NoCause (map (cause_of_kind k) cs) → NoCause cs
@@ -157,11 +173,15 @@ type_passes per_day kinds k x all small read none rest =
 pub few_kinds : (i : Problem) → first_cause (part_causes i) ≡ None → length i.kinds ≤ 16
 few_kinds i h =
     let p = period_causes i in
-    let n = map need_cause (enumerate_from 0 i.need) in
+    let n = wanted_causes i in
     let s = size_causes i in
     let k = types_causes (day_slots i) i.kinds in
     let sizes = none_right (p ++ n) s (none_left (p ++ n ++ s) k (no_cause (p ++ n ++ s ++ k) h)) in
     leb-true _ _ (and_parts (nat_le 1 (length i.kinds)) (nat_le (length i.kinds) 16) (not-false _ sizes.1.1.0)).1
+
+-- a need for each slot
+pub need_of_each : (i : Problem) → first_cause (period_causes i) ≡ None → length i.need ≡ slots i
+need_of_each i h = let period = no_cause (period_causes i) h in eqb-true _ _ (not-false _ period.1.1.0)
 
 pub few_sizes : (i : Problem) → first_cause (size_causes i) ≡ None → length i.kinds ≤ 16
 few_sizes i h =
@@ -173,7 +193,7 @@ pub valid_from_none : (i : Problem) → first_cause (instance_causes i) ≡ None
 unfolding instance_causes
 valid_from_none i h =
     let p = period_causes i in
-    let n = map need_cause (enumerate_from 0 i.need) in
+    let n = wanted_causes i in
     let s = size_causes i in
     let k = types_causes (day_slots i) i.kinds in
     let all = no_cause (instance_causes i) h in
@@ -181,7 +201,9 @@ valid_from_none i h =
     let front3 = none_left (p ++ n ++ s) k front4 in
     let front2 = none_left (p ++ n) s front3 in
     let period = none_left p n front2 in
-    let needs = none_right p n front2 in
+    let wanted = none_right p n front2 in
+    let needs = none_left (map need_cause (enumerate_from 0 i.need)) (band_causes i) wanted in
+    let bands = none_right (map need_cause (enumerate_from 0 i.need)) (band_causes i) wanted in
     let sizes = none_right (p ++ n) s front3 in
     let kinds = none_right (p ++ n ++ s) k front4 in
     let last = none_right (p ++ n ++ s ++ k) _ all in
@@ -197,6 +219,8 @@ valid_from_none i h =
     let day_high : day_slots i ≤ 288 = m.2 in
     let most : i.days * day_slots i ≤ 7 * 288 = mul-le-mul high day_high in
     let least : 1 * 24 ≤ i.days * day_slots i = mul-le-mul low day_low in
+    let need_length : length i.need ≡ slots i = eqb-true _ _ (not-false _ period.1.1.0) in
+    let band_length : length i.need_max ≡ slots i = eqb-true _ _ (not-false _ bands.0) in
     record {
       minutes = m.0;
       some_day_slots = day_low;
@@ -205,8 +229,11 @@ valid_from_none i h =
       few_slots = omega arith;
       days = high;
       some_days = omega arith;
-      need_length = eqb-true _ _ (not-false _ period.1.1.0);
+      need_length = need_length;
       need_limit = needs_small 0 i.need needs;
+      band_length = band_length;
+      band_limit = bands_small 0 i.need i.need_max (band_length ∙ sym need_length) bands.1;
+      bands = λ t small. bands_fit 0 i.need i.need_max bands.1 t (omega arith) (omega arith);
       excess = ltb-false _ _ v.0;
       shortage = ltb-false _ _ v.1;
       shift = ltb-false _ _ w.1;
@@ -258,6 +285,13 @@ judged_needs : (from : ℕ) (needs : List ℕ) → AreJudged (map need_cause (en
 judged_needs from [] = tt
 judged_needs from (n ∷ needs) = (tt, judged_needs (from + 1) needs)
 
+judged_bands : (from : ℕ) (bands : List (ℕ × ℕ)) → AreJudged (map band_cause (enumerate_from from bands))
+judged_bands from [] = tt
+judged_bands from (b ∷ bands) = (tt, judged_bands (from + 1) bands)
+
+judged_wanted : (i : Problem) → AreJudged (wanted_causes i)
+judged_wanted i = judged-append (map need_cause (enumerate_from 0 i.need)) (band_causes i) (judged_needs 0 i.need) (tt, judged_bands 0 (zip i.need i.need_max))
+
 judged_rule : (k : ℕ) (cs : List (Bool × RuleFault)) → AreJudged (map (cause_of_kind k) cs)
 judged_rule k [] = tt
 judged_rule k (c ∷ cs) = (tt, judged_rule k cs)
@@ -278,9 +312,9 @@ first_judged (c ∷ cs) e h g = go c.0 (first_judged cs e h.1) g
 judged_instance : (i : Problem) → AreJudged (instance_causes i)
 unfolding instance_causes
 judged_instance i =
-    let n = map need_cause (enumerate_from 0 i.need) in
+    let n = wanted_causes i in
     let parts =
-    judged-append (period_causes i ++ n ++ size_causes i) (types_causes (day_slots i) i.kinds) (judged-append (period_causes i ++ n) (size_causes i) (judged-append (period_causes i) n (tt, (tt, (tt, tt))) (judged_needs 0 i.need)) (tt, (tt, (tt, tt))))
+    judged-append (period_causes i ++ n ++ size_causes i) (types_causes (day_slots i) i.kinds) (judged-append (period_causes i ++ n) (size_causes i) (judged-append (period_causes i) n (tt, (tt, (tt, tt))) (judged_wanted i)) (tt, (tt, (tt, tt))))
     (judged_kinds (day_slots i) i.kinds 0 i.kinds) in
     judged-append (part_causes i) _ parts (tt, tt)
 
@@ -298,6 +332,8 @@ answers_from (LengthRange kind) o h g = g
 answers_from (Rule kind why) o h g = g
 answers_from (TooManyShifts found) o h g = g
 answers_from (Name kind) o h g = g
+answers_from (BandLength found wanted) o h g = g
+answers_from (Band slot) o h g = g
 
 -- the fault that judging gives is the answer
 pub answered : (i : Problem) (e : InstanceFault) → first_cause (instance_causes i) ≡ Some e → Answers e (first_cause (instance_causes i))

@@ -3,7 +3,7 @@ use Rattle.std.specs.Prelude.{ℕ, List, ◌++◌, codes}
 use Rattle.std.specs.Fmt.{decimal}
 use Rattle.break_rules.specs.RuleFaults.{rule_fault_text}
 use Rattle.shift_instance.specs.declared.InstanceFault.{InstanceFault}
-use Rattle.shift_instance.specs.declared.InstanceFault.TheVariants.{SlotMinutes, Days, NeedLength, NeedTooLarge, Weight, Heads, Types, StartRange, LengthRange, Rule, TooManyShifts, Name, NoMemory}
+use Rattle.shift_instance.specs.declared.InstanceFault.TheVariants.{SlotMinutes, Days, NeedLength, NeedTooLarge, Weight, Heads, Types, StartRange, LengthRange, Rule, TooManyShifts, Name, BandLength, Band, NoMemory}
 
 -- a fault's number, and then its fields, separated by single spaces
 abbrev pub instance_fault_text : InstanceFault → List ℕ
@@ -19,4 +19,6 @@ instance_fault_text (LengthRange kind) = codes "9 " ++ decimal kind
 instance_fault_text (Rule kind why) = codes "10 " ++ decimal kind ++ codes " " ++ rule_fault_text why
 instance_fault_text (TooManyShifts found) = codes "11 " ++ decimal found
 instance_fault_text (Name kind) = codes "12 " ++ decimal kind
+instance_fault_text (BandLength found wanted) = codes "13 " ++ decimal found ++ codes " " ++ decimal wanted
+instance_fault_text (Band slot) = codes "14 " ++ decimal slot
 instance_fault_text NoMemory = codes "no memory"

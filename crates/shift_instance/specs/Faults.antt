@@ -1,10 +1,10 @@
 -- Why numbers don't make an instance.
 use Rattle.std.specs.Prelude.{◌≡◌, ℕ, ◌*◌, Bool, not, ◌&&◌, ◌||◌, ◌==◌, nat_lt, nat_le, List, [], ◌∷◌, ◌++◌, map, length, take, Option, Some, None}
-use Rattle.std.specs.List.{flat_map, enumerate_from, list_any}
+use Rattle.std.specs.List.{flat_map, enumerate_from, list_any, zip}
 use Rattle.break_rules.specs.declared.RuleFault.{RuleFault}
 use Rattle.break_rules.specs.RuleFaults.{rule_causes}
 use Rattle.shift_instance.specs.declared.InstanceFault.{InstanceFault}
-use Rattle.shift_instance.specs.declared.InstanceFault.TheVariants.{SlotMinutes, Days, NeedLength, NeedTooLarge, Weight, Heads, Types, StartRange, LengthRange, Rule, TooManyShifts, Name, NoMemory}
+use Rattle.shift_instance.specs.declared.InstanceFault.TheVariants.{SlotMinutes, Days, NeedLength, NeedTooLarge, Weight, Heads, Types, StartRange, LengthRange, Rule, TooManyShifts, Name, BandLength, Band, NoMemory}
 use Rattle.shift_instance.specs.Kind.{Kind}
 use Rattle.shift_instance.specs.Names.{is_name, is_taken}
 use Rattle.shift_instance.specs.Problem.{Problem, day_slots, slots, shift_list}
@@ -24,6 +24,20 @@ period_causes i =
 -- a need that is too large, by its slot
 abbrev pub need_cause : ℕ × ℕ → Bool × InstanceFault
 need_cause p = (nat_lt 10000 p.1, NeedTooLarge p.0)
+
+-- a band that ends below the need, or is too large, by its slot
+abbrev pub band_cause : ℕ × (ℕ × ℕ) → Bool × InstanceFault
+band_cause p = (nat_lt p.1.1 p.1.0 || nat_lt 10000 p.1.1, Band p.0)
+
+-- the causes that concern the bands
+abbrev pub band_causes : Problem → List (Bool × InstanceFault)
+band_causes i =
+    (not (length i.need_max == slots i), BandLength (length i.need_max) (slots i))
+    ∷ map band_cause (enumerate_from 0 (zip i.need i.need_max))
+
+-- the causes that concern the wanted employees: first the needs, and then the bands
+abbrev pub wanted_causes : Problem → List (Bool × InstanceFault)
+wanted_causes i = map need_cause (enumerate_from 0 i.need) ++ band_causes i
 
 -- the causes that concern weights, heads and the number of types
 abbrev pub size_causes : Problem → List (Bool × InstanceFault)
@@ -51,7 +65,7 @@ types_causes per_day kinds = flat_map (λ k. kind_causes per_day (take k.0 kinds
 
 -- the causes but for the number of shifts, in the order in which they are answered
 abbrev pub part_causes : Problem → List (Bool × InstanceFault)
-part_causes i = period_causes i ++ map need_cause (enumerate_from 0 i.need) ++ size_causes i ++ types_causes (day_slots i) i.kinds
+part_causes i = period_causes i ++ wanted_causes i ++ size_causes i ++ types_causes (day_slots i) i.kinds
 
 -- the causes in the order in which they are answered
 unfoldable pub instance_causes : Problem → List (Bool × InstanceFault)

@@ -7,12 +7,13 @@ use Rattle.break_rules.specs.declared.Rule.{Rule}
 use Rattle.shift_instance.specs.declared.Shift.{Shift}
 pub use Rattle.shift_instance.specs.Kind.{Kind}
 
--- the numbers of an instance: the planning period, the wanted employees of each slot, the most duties of one shift on
--- one day, the weights of excess, shortage and shifts used, and the shift types
+-- the numbers of an instance: the planning period, the wanted employees of each slot from the least number to the
+-- greatest, the most duties of one shift on one day, the weights of excess, shortage and shifts used, and the shift types
 pub record Problem : Type 0 where
   pub slot_minutes : ℕ
   pub days : ℕ
   pub need : List ℕ
+  pub need_max : List ℕ
   pub heads : ℕ
   pub excess : ℕ
   pub shortage : ℕ
@@ -27,9 +28,12 @@ day_slots i = 1440 / i.slot_minutes
 abbrev pub slots : Problem → ℕ
 slots i = i.days * day_slots i
 
--- the wanted employees of a slot
+-- the band of a slot, which is the range of its wanted employees: the least number, and the greatest
 abbrev pub need_at : Problem → ℕ → ℕ
 need_at i t = slice_index i.need t
+
+abbrev pub need_max_at : Problem → ℕ → ℕ
+need_max_at i t = slice_index i.need_max t
 
 -- every number from one up to another, both included
 abbrev pub from_to : ℕ → ℕ → List ℕ

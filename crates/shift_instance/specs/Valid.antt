@@ -8,7 +8,7 @@ use Rattle.shift_instance.specs.Graphs.{AreGraphs}
 use Rattle.shift_instance.specs.Kind.{Kind}
 use Rattle.shift_instance.specs.Names.{is_name}
 use Rattle.shift_instance.specs.Faults.{instance_causes}
-use Rattle.shift_instance.specs.Problem.{Problem, slots, day_slots, shift_list}
+use Rattle.shift_instance.specs.Problem.{Problem, slots, day_slots, need_at, need_max_at, shift_list}
 
 -- a shift type whose name, windows and break rule are within the ranges
 pub record IsKind (i : Problem) (k : Kind) : Type 0 where
@@ -38,6 +38,9 @@ pub record IsValid (i : Problem) : Type 0 where
   pub some_days : 0 < i.days
   pub need_length : length i.need ≡ slots i
   pub need_limit : All (λ n. n ≤ 10000) i.need
+  pub band_length : length i.need_max ≡ slots i
+  pub band_limit : All (λ n. n ≤ 10000) i.need_max
+  pub bands : (t : ℕ) → t < slots i → need_at i t ≤ need_max_at i t
   pub excess : i.excess ≤ 1000000
   pub shortage : i.shortage ≤ 1000000
   pub shift : i.shift ≤ 1000000

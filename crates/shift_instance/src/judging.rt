@@ -1,11 +1,11 @@
 //! The faults of an instance's numbers, one after another.
 ghost use Rattle.std.specs.Prelude.{◌≡◌, ◌≤◌, ◌^◌, ◌+◌, ◌-◌, ℕ, length, map, take};
-ghost use Rattle.std.specs.List.{enumerate_from, flat_map, list_all};
+ghost use Rattle.std.specs.List.{enumerate_from, flat_map, list_all, zip};
 ghost use Rattle.break_rules.specs.Causes.{first_cause};
 ghost use Rattle.break_rules.specs.RuleFaults.{rule_causes};
-ghost use Rattle.shift_instance.specs.Problem.{shifts_of_kind};
+ghost use Rattle.shift_instance.specs.Problem.{shifts_of_kind, slots};
 ghost use Rattle.shift_instance.specs.Names.{is_name_byte, is_name, has_name, is_taken};
-ghost use Rattle.shift_instance.specs.Faults.{period_causes, need_cause, size_causes, cause_of_kind, kind_causes, types_causes, part_causes, instance_causes, is_slot_minutes};
+ghost use Rattle.shift_instance.specs.Faults.{period_causes, need_cause, band_cause, band_causes, wanted_causes, size_causes, cause_of_kind, kind_causes, types_causes, part_causes, instance_causes, is_slot_minutes};
 
 use crate::{InstanceFault, Parts, TypeParts};
 use break_rules::Rule;
@@ -50,6 +50,43 @@ fn judge_needs(needs: &[u32]) -> Option<InstanceFault>
         }
     }
     None
+}
+
+/// The first band that ends below the need, or is too large.
+fn judge_ends(needs: &[u32], ends: &[u32]) -> Option<InstanceFault>
+    requires { length ends.now ≡ length needs.now }
+    ensures { result ≡ first_cause (map band_cause (enumerate_from 0 (zip needs.now ends.now))) }
+{
+    for (t, end) in ends.iter().enumerate() {
+        if *end < needs[t] || 10000 < *end {
+            return Some(InstanceFault::Band { slot: t as u64 });
+        }
+    }
+    None
+}
+
+/// The first fault of the bands, where there is a need for each slot.
+fn judge_bands(parts: &Parts) -> Option<InstanceFault>
+    requires { length parts.now.need ≡ slots parts.now }
+    ensures { result ≡ first_cause (band_causes parts.now) }
+{
+    let found = parts.need_max.len() as u64;
+    let wanted = parts.need.len() as u64;
+    if found != wanted {
+        return Some(InstanceFault::BandLength { found, wanted });
+    }
+    judge_ends(parts.need.as_slice(), parts.need_max.as_slice())
+}
+
+/// The first fault of the wanted employees, where there is a need for each slot.
+fn judge_wanted(parts: &Parts) -> Option<InstanceFault>
+    requires { length parts.now.need ≡ slots parts.now }
+    ensures { result ≡ first_cause (wanted_causes parts.now) }
+{
+    match judge_needs(parts.need.as_slice()) {
+        Some(fault) => Some(fault),
+        None => judge_bands(parts),
+    }
 }
 
 /// The first fault of weights, heads and the number of types.
@@ -190,7 +227,7 @@ fn judge_parts(parts: &Parts) -> Option<InstanceFault>
         Some(fault) => return Some(fault),
         None => {}
     }
-    match judge_needs(parts.need.as_slice()) {
+    match judge_wanted(parts) {
         Some(fault) => return Some(fault),
         None => {}
     }

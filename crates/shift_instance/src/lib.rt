@@ -13,7 +13,7 @@ ghost use Rattle.break_rules.specs.Causes.{first_cause};
 ghost use Rattle.break_rules.specs.RuleFaults.{rule_causes};
 ghost use Rattle.break_rules.specs.Ranges.{IsRule};
 ghost use Rattle.break_graph.specs.Graph.{IsGraph};
-ghost use Rattle.shift_instance.specs.Problem.{need_at, shift_list, slot_of, slots, day_slots};
+ghost use Rattle.shift_instance.specs.Problem.{need_at, need_max_at, shift_list, slot_of, slots, day_slots};
 ghost use Rattle.shift_instance.specs.Faults.{instance_causes, Answers};
 ghost use Rattle.shift_instance.specs.Valid.{IsValid, IsShift};
 
@@ -107,13 +107,16 @@ pub struct Parts {
     pub slot_minutes: u16,
     /// The days of the planning period.
     pub days: u16,
-    /// The wanted employees of each slot of the planning period.
+    /// The least wanted employees of each slot of the planning period.
     pub need: Vec<u32>,
+    /// The most wanted employees of each slot, from which on more of them are too many. Where a slot has one wanted number, this is
+    /// its need once more.
+    pub need_max: Vec<u32>,
     /// The most duties of one shift on one day.
     pub max_heads: u16,
-    /// The cost of an employee too many in a slot.
+    /// The cost of an employee above the band in a slot.
     pub excess: u32,
-    /// The cost of an employee too few in a slot.
+    /// The cost of an employee that a slot lacks to its need.
     pub shortage: u32,
     /// The cost of a shift that is used.
     pub shift: u32,
@@ -130,6 +133,7 @@ impl Model for Parts {
       slot_minutes = i.slot_minutes;
       days = i.days;
       need = i.need.items;
+      need_max = i.need_max.items;
       heads = i.max_heads;
       excess = i.excess;
       shortage = i.shortage;
@@ -165,6 +169,10 @@ pub enum InstanceFault {
     TooManyShifts { found: u64 },
     /// The name of a type isn't 1 to 32 bytes of visible ASCII without space, or a type before has it.
     Name { kind: u16 },
+    /// There are `found` greatest numbers of wanted employees, and the planning period has `wanted` slots.
+    BandLength { found: u64, wanted: u64 },
+    /// The most wanted employees of a slot are fewer than its need, or more than 10,000.
+    Band { slot: u64 },
     /// No memory was left.
     NoMemory,
 }
@@ -190,6 +198,8 @@ impl fmt::Display for InstanceFault {
             InstanceFault::Rule { kind, why } => write!(f, "10 {kind} {why}"),
             InstanceFault::TooManyShifts { found } => write!(f, "11 {found}"),
             InstanceFault::Name { kind } => write!(f, "12 {kind}"),
+            InstanceFault::BandLength { found, wanted } => write!(f, "13 {found} {wanted}"),
+            InstanceFault::Band { slot } => write!(f, "14 {slot}"),
             InstanceFault::NoMemory => f.write_str("no memory"),
         }
     }
@@ -218,7 +228,7 @@ impl Model for Instance {
 }
 
 impl Instance {
-    /// The instance of these numbers, or their first fault: first those of the slots' length, the days, the needs, the
+    /// The instance of these numbers, or their first fault: first those of the slots' length, the days, the needs, the bands, the
     /// weights, the heads and the number of types, then of each type in order its name, its starts, its lengths and its
     /// rule, and at last the number of shifts. Where no fault applies, the only refusal left is running out of memory.
     pub fn new(alloc: Global, parts: Parts) -> Result<Instance, InstanceFault>
@@ -341,7 +351,7 @@ impl Instance {
         }
     }
 
-    /// The wanted employees of a slot.
+    /// The least wanted employees of a slot.
     pub fn need(&self, t: usize) -> u32
         requires { t < slots self.now }
         ensures need { result ≡ need_at self.now t }
@@ -352,7 +362,19 @@ impl Instance {
         parts.need[t]
     }
 
-    /// The costs of an employee too many and of an employee too few in a slot, and of a shift that is used.
+    /// The most wanted employees of a slot, which are no fewer than its need.
+    pub fn need_max(&self, t: usize) -> u32
+        requires { t < slots self.now }
+        ensures need_max { result ≡ need_max_at self.now t }
+        ensures band { need_at self.now t ≤ result }
+        ensures limit { result ≤ 10000 }
+        ensures valid { IsValid self.now }
+    {
+        let parts = &self.parts;
+        parts.need_max[t]
+    }
+
+    /// The costs of an employee above the band and of an employee below it in a slot, and of a shift that is used.
     pub fn weights(&self) -> (u32, u32, u32)
         ensures weights { result ≡ (self.now.excess, self.now.shortage, self.now.shift) }
         ensures valid { IsValid self.now }

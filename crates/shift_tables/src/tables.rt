@@ -49,14 +49,18 @@ pub struct Tables {
     pub days: usize,
     /// The most duties of a shift on a day.
     pub heads: usize,
-    /// What an employee too many costs in a slot.
+    /// What an employee above its band costs in a slot.
     pub excess: f64,
-    /// What an employee too few costs in a slot.
+    /// What an employee below its band costs in a slot.
     pub shortage: f64,
     /// What a shift costs that is used.
     pub weight: f64,
-    /// The wanted employees of each slot.
+    /// The least wanted employees of each slot.
     pub need: Vec<i32>,
+    /// The most wanted employees of each slot.
+    pub need_max: Vec<i32>,
+    /// Whether some slot has more than one wanted number.
+    pub banded: bool,
     /// The shifts, by number.
     pub shifts: Vec<DutyPlace>,
     /// The shifts that have a legal list, and whose graph the instance keeps.
@@ -102,7 +106,7 @@ fn losses(rule: &Rule, len: u16) -> LostWork {
     }
 }
 
-/// The needs of all slots.
+/// The least wanted employees of all slots.
 fn needs(alloc: Global, instance: &Instance) -> Result<Vec<i32>, NoMemory> {
     let mut need = Vec::new(alloc);
     for t in 0..instance.slots() {
@@ -111,12 +115,24 @@ fn needs(alloc: Global, instance: &Instance) -> Result<Vec<i32>, NoMemory> {
     Ok(need)
 }
 
+/// The most wanted employees of all slots.
+fn greatest_needs(alloc: Global, instance: &Instance) -> Result<Vec<i32>, NoMemory> {
+    let mut most = Vec::new(alloc);
+    for t in 0..instance.slots() {
+        most.push(instance.need_max(t) as i32)?;
+    }
+    Ok(most)
+}
+
 impl Tables {
     /// The tables of an instance.
     pub fn new(alloc: Global, instance: &Instance) -> Result<Tables, NoMemory> {
         let (excess, shortage, weight) = instance.weights();
         let slots = instance.slots();
         let days = usize::from(instance.days());
+        let need = needs(alloc, instance)?;
+        let need_max = greatest_needs(alloc, instance)?;
+        let banded = need.as_slice() != need_max.as_slice();
         let mut tables = Tables {
             slots,
             day_slots: slots.checked_div(days).unwrap_or(0),
@@ -125,7 +141,9 @@ impl Tables {
             excess: f64::from(excess),
             shortage: f64::from(shortage),
             weight: f64::from(weight),
-            need: needs(alloc, instance)?,
+            need,
+            need_max,
+            banded,
             shifts: Vec::new(alloc),
             usable: Vec::new(alloc),
             bases: Vec::new(alloc),
@@ -201,7 +219,7 @@ impl Tables {
         Ok(self.graphs.len().wrapping_sub(1))
     }
 
-    /// Whether these are the tables of an instance, as far as its needs, its weights, and the starts and lengths of its shifts
+    /// Whether these are the tables of an instance, as far as its bands, its weights, and the starts and lengths of its shifts
     /// tell.
     pub fn is_of(&self, instance: &Instance) -> bool {
         let (excess, shortage, weight) = instance.weights();
@@ -211,14 +229,20 @@ impl Tables {
             && self.slots == instance.slots()
             && self.heads == usize::from(instance.heads())
             && [self.excess, self.shortage, self.weight] == weights
-            && self.has_needs(instance)
+            && self.has_bands(instance)
             && self.has_shifts(instance)
     }
 
-    /// Whether the needs are those of an instance with as many slots.
-    fn has_needs(&self, instance: &Instance) -> bool {
+    /// Whether the bands of all slots are those of an instance with as many slots.
+    fn has_bands(&self, instance: &Instance) -> bool {
+        if self.need.len() != self.need_max.len() {
+            return false;
+        }
         for (t, need) in self.need.iter().enumerate() {
-            if instance.slots() <= t || *need != instance.need(t) as i32 {
+            if instance.slots() <= t
+                || *need != instance.need(t) as i32
+                || self.need_max[t] != instance.need_max(t) as i32
+            {
                 return false;
             }
         }

@@ -56,9 +56,9 @@ fn cost_above(tables: &Tables, view: &NodeView<'_>, window: Window, m: u16) -> f
     let mut cost = 0.0;
     for place in window.base..window.base.wrapping_add(window.len) {
         let slot = place.checked_rem(tables.slots).unwrap_or(0);
-        let need = tables.need.get(slot).copied().unwrap_or(0);
+        let most = tables.need_max.get(slot).copied().unwrap_or(0);
         let price = view.prices.get(slot).copied().unwrap_or(0.0);
-        cost += (tables.excess + price) * (duties - f64::from(need)).max(0.0);
+        cost += (tables.excess + price) * (duties - f64::from(most)).max(0.0);
     }
     cost
 }

@@ -1,16 +1,25 @@
-//! How many employees work in each slot beyond those that are wanted there.
+//! How many employees work in each slot beyond those that are needed there.
 
 use break_rules::NoMemory;
 use shift_tables::{PAUSES, Pauses, Tables};
 use std::alloc::Global;
 
-/// The employees of each slot less those wanted. Two tables of bytes tell the slots with enough employees and those with
-/// too many; they go twice around the planning period, so that a window never wraps.
+/// The byte of a slot with as many employees as are wanted at most, or more.
+pub const FULL: u8 = 1;
+
+/// The byte of a slot with as many employees as are needed or more, but fewer than are wanted at most.
+pub const FREE: u8 = 2;
+
+/// The byte of a slot with fewer employees than are needed.
+const SHORT: u8 = 0;
+
+/// The employees of each slot less those needed, and how many more are wanted at most than are needed. A table of bytes tells the
+/// full, the free and the short slots; it goes twice around the planning period, so that a window never wraps.
 #[derive(Drop)]
 pub struct Levels {
     off: Vec<i32>,
-    full: Vec<u8>,
-    over: Vec<u8>,
+    widths: Vec<i32>,
+    bytes: Vec<u8>,
 }
 
 /// Slots of a window in which a duty works: from the first one to the one behind the last.
@@ -72,12 +81,13 @@ impl Stretches {
     }
 }
 
-/// What a change of a duty does: in how many slots an employee was missed, or would be, and in how many not.
+/// What a change of a duty does: in how many slots an employee was missed, or would be, and in how many one was too many. The
+/// others are free without the employee, and cost the same with and without.
 #[derive(Clone, Copy)]
 pub struct Effect {
     /// The slots where the employee is wanted.
     pub wanted: u32,
-    /// The others.
+    /// The slots that are full without the employee.
     pub spare: u32,
 }
 
@@ -87,31 +97,42 @@ impl Effect {
         tables.shortage * f64::from(self.wanted) - tables.excess * f64::from(self.spare)
     }
 
-    /// Counts one slot.
-    fn count(&mut self, is_wanted: bool) {
-        if is_wanted {
+    /// Counts one slot, by its byte without the employee.
+    fn count(&mut self, byte: u8) {
+        if byte == SHORT {
             self.wanted = self.wanted.wrapping_add(1);
-        } else {
+        } else if byte == FULL {
             self.spare = self.spare.wrapping_add(1);
         }
     }
 }
 
-/// Writes a byte at a slot and once around.
-fn write_twice(list: &mut [u8], slot: usize, slots: usize, byte: bool) {
-    if let Some(place) = list.get_mut(slot) {
-        *place = u8::from(byte);
-    }
-    if let Some(place) = list.get_mut(slot.wrapping_add(slots)) {
-        *place = u8::from(byte);
+/// The byte of a slot with that many employees more than are needed, where `width` more are wanted at most.
+fn byte_of(off: i32, width: i32) -> u8 {
+    if off < 0 {
+        SHORT
+    } else if width <= off {
+        FULL
+    } else {
+        FREE
     }
 }
 
-/// How many bytes of a list are 1, of a list of bytes 0 and 1.
-pub fn ones(list: &[u8]) -> u32 {
+/// Writes a byte at a slot and once around.
+fn write_twice(list: &mut [u8], slot: usize, slots: usize, byte: u8) {
+    if let Some(place) = list.get_mut(slot) {
+        *place = byte;
+    }
+    if let Some(place) = list.get_mut(slot.wrapping_add(slots)) {
+        *place = byte;
+    }
+}
+
+/// How often a byte stands in a list.
+pub fn count_of(list: &[u8], byte: u8) -> u32 {
     let mut sum = 0u32;
-    for byte in list {
-        sum = sum.wrapping_add(u32::from(*byte));
+    for other in list {
+        sum = sum.wrapping_add(u32::from(*other == byte));
     }
     sum
 }
@@ -123,12 +144,16 @@ impl Levels {
         let twice = slots.saturating_mul(2);
         let mut levels = Levels {
             off: Vec::new(alloc),
-            full: vec![in alloc; 0; twice]?,
-            over: vec![in alloc; 0; twice]?,
+            widths: Vec::new(alloc),
+            bytes: vec![in alloc; SHORT; twice]?,
         };
         for (slot, need) in tables.need.iter().enumerate() {
-            levels.off.push(need.wrapping_neg())?;
-            write_twice(&mut levels.full, slot, slots, *need <= 0);
+            let most = tables.need_max.get(slot).copied().unwrap_or(*need);
+            let off = need.wrapping_neg();
+            let width = most.wrapping_sub(*need);
+            levels.off.push(off)?;
+            levels.widths.push(width)?;
+            write_twice(&mut levels.bytes, slot, slots, byte_of(off, width));
         }
         Ok(levels)
     }
@@ -143,9 +168,10 @@ impl Levels {
     /// What the cover costs.
     pub fn cost(&self, tables: &Tables) -> f64 {
         let mut cost = 0.0;
-        for off in &self.off {
-            let off = f64::from(*off);
-            cost += (tables.excess * off).max(-tables.shortage * off);
+        for (off, width) in self.off.iter().zip(&self.widths) {
+            let over = tables.excess * f64::from(off.wrapping_sub(*width));
+            let under = -tables.shortage * f64::from(*off);
+            cost += over.max(under).max(0.0);
         }
         cost
     }
@@ -160,19 +186,30 @@ impl Levels {
         }
     }
 
-    /// Sets how many more employees work in a slot than are wanted.
+    /// Sets how many more employees work in a slot than are needed.
     fn set(&mut self, slot: usize, off: i32) {
         let slots = self.off.len();
         if let Some(place) = self.off.get_mut(slot) {
             *place = off;
         }
-        write_twice(&mut self.full, slot, slots, 0 <= off);
-        write_twice(&mut self.over, slot, slots, 0 < off);
+        let byte = self.byte(slot, off);
+        write_twice(&mut self.bytes, slot, slots, byte);
     }
 
-    /// How many more employees work in a slot than are wanted.
-    pub fn off(&self, slot: usize) -> i32 {
+    /// How many more employees work in a slot than are needed.
+    fn off(&self, slot: usize) -> i32 {
         self.off.get(slot).copied().unwrap_or(0)
+    }
+
+    /// The byte of a slot where that many employees more than are needed work.
+    fn byte(&self, slot: usize, off: i32) -> u8 {
+        byte_of(off, self.widths.get(slot).copied().unwrap_or(0))
+    }
+
+    /// Whether the employees of a slot aren't within its band.
+    fn is_off_at(&self, slot: usize) -> bool {
+        let off = self.off(slot);
+        off < 0 || self.widths.get(slot).copied().unwrap_or(0) < off
     }
 
     /// One employee more in each slot of a stretch.
@@ -180,7 +217,7 @@ impl Levels {
         for place in stretch.from..stretch.to {
             let slot = self.wrapped(place);
             let off = self.off(slot);
-            effect.count(off < 0);
+            effect.count(self.byte(slot, off));
             self.set(slot, off.wrapping_add(1));
         }
     }
@@ -189,9 +226,9 @@ impl Levels {
     fn lower_stretch(&mut self, stretch: Stretch, effect: &mut Effect) {
         for place in stretch.from..stretch.to {
             let slot = self.wrapped(place);
-            let off = self.off(slot);
-            effect.count(off <= 0);
-            self.set(slot, off.wrapping_sub(1));
+            let off = self.off(slot).wrapping_sub(1);
+            effect.count(self.byte(slot, off));
+            self.set(slot, off);
         }
     }
 
@@ -224,13 +261,13 @@ impl Levels {
         let slots = self.off.len();
         for place in stretch.from..stretch.to {
             let slot = self.wrapped(place);
-            let spare = 0 < self.off(slot);
-            effect.count(!spare);
-            write_twice(&mut self.full, slot, slots, spare);
+            let byte = self.byte(slot, self.off(slot).wrapping_sub(1));
+            effect.count(byte);
+            write_twice(&mut self.bytes, slot, slots, byte);
         }
     }
 
-    /// Shows which slots were full with one employee less in some stretches, until [`Levels::cover`], and counts what that
+    /// Shows the slots as they were with one employee less in some stretches, until [`Levels::cover`], and counts what that
     /// would do.
     pub fn expose(&mut self, stretches: &Stretches) -> Effect {
         let mut effect = Effect {
@@ -243,43 +280,43 @@ impl Levels {
         effect
     }
 
-    /// Shows the full slots of a stretch as they are.
+    /// Shows the slots of a stretch as they are.
     fn cover_stretch(&mut self, stretch: Stretch) {
         let slots = self.off.len();
         for place in stretch.from..stretch.to {
             let slot = self.wrapped(place);
-            let is_full = 0 <= self.off(slot);
-            write_twice(&mut self.full, slot, slots, is_full);
+            let byte = self.byte(slot, self.off(slot));
+            write_twice(&mut self.bytes, slot, slots, byte);
         }
     }
 
-    /// Shows the full slots of some stretches as they are.
+    /// Shows the slots of some stretches as they are.
     pub fn cover(&mut self, stretches: &Stretches) {
         for stretch in stretches.as_slice() {
             self.cover_stretch(*stretch);
         }
     }
 
-    /// For each slot of a window, 1 where it has enough employees.
-    pub fn full(&self, base: usize, len: usize) -> &[u8] {
-        self.full.get(base..base.wrapping_add(len)).unwrap_or(&[])
+    /// The byte of each slot of a window: [`FULL`], [`FREE`], or another one where it has fewer employees than are needed.
+    pub fn bytes(&self, base: usize, len: usize) -> &[u8] {
+        self.bytes.get(base..base.wrapping_add(len)).unwrap_or(&[])
     }
 
-    /// Whether some slot of a window hasn't just the employees that are wanted.
+    /// Whether the employees of some slot of a window aren't within its band.
     pub fn is_off(&self, base: usize, len: usize) -> bool {
         for place in base..base.wrapping_add(len) {
-            if self.off(self.wrapped(place)) != 0 {
+            if self.is_off_at(self.wrapped(place)) {
                 return true;
             }
         }
         false
     }
 
-    /// The first slot from one on, around the planning period, that hasn't just the employees that are wanted.
+    /// The first slot from one on, around the planning period, whose employees aren't within its band.
     pub fn off_slot(&self, from: usize) -> Option<usize> {
         for place in from..from.wrapping_add(self.off.len()) {
             let slot = self.wrapped(place);
-            if self.off(slot) != 0 {
+            if self.is_off_at(slot) {
                 return Some(slot);
             }
         }

@@ -5,5 +5,5 @@
 mod levels;
 mod plan;
 
-pub use levels::{Effect, Levels, Stretches, ones};
+pub use levels::{Effect, FREE, FULL, Levels, Stretches, count_of};
 pub use plan::{Placed, Plan};

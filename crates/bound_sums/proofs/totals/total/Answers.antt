@@ -1,9 +1,9 @@
-use Rattle.std.proofs.Common.{◌≡◌, ◌≤◌, ℕ, ℤ, pos, ◌+ℤ◌, ◌*ℤ◌, List, get_or, subst, sym, ap, ◌∙◌}
+use Rattle.std.proofs.Common.{◌≡◌, ◌≤◌, ℕ, ℤ, ◌+ℤ◌, List, get_or, subst, sym, ap, ◌∙◌}
 use Rattle.std.specs.List.{zip}
 use Rattle.break_rules.specs.Sums.{int_sum_by}
-use Rattle.shift_instance.specs.Problem.{below, slots, need_at}
+use Rattle.shift_instance.specs.Problem.{below, slots}
 use Rattle.head_splits.specs.declared.Cut.{Cut}
-use Rattle.head_splits.specs.Bound.{slot_worth, cut_worth}
+use Rattle.head_splits.specs.Bound.{worth_at, slot_worth, cut_worth}
 use Rattle.bound_sums.proofs.Sizes.{three_added}
 use Rattle.std.specs.Int.RustNames.{unsigned_abs}
 use Rattle.shift_instance.specs.Worth.{price_of}
@@ -25,7 +25,7 @@ returns-clause-total c =
     let y = c.cuts_worth-cuts.result in
     let z = c.args.terms in
     let of_slots : x ≡ int_sum_by (slot_worth i c.args.prices.now) (below (slots i)) =
-    c.slots_worth-slots.ensures.worth ∙ ap (λ (xs : List ℤ). int_sum_by (λ (t : ℕ). price_of xs t *ℤ pos (need_at i t)) (below (slots i))) c.as_slice.ensures in
+    c.slots_worth-slots.ensures.worth ∙ ap (λ (xs : List ℤ). int_sum_by (λ (t : ℕ). worth_at i t (price_of xs t)) (below (slots i))) c.as_slice.ensures in
     let of_cuts : y ≡ int_sum_by cut_worth (zip c.args.cuts.now c.args.prices.now.cuts) =
     c.cuts_worth-cuts.ensures.worth ∙ ap (λ (xs : List Cut). int_sum_by cut_worth (zip xs c.as_slice-3.result.now)) c.as_slice-2.ensures
     ∙ ap (λ (ys : List ℕ). int_sum_by cut_worth (zip c.args.cuts.now ys)) c.as_slice-3.ensures in

@@ -1,5 +1,5 @@
 use Rattle.std.proofs.Common.{◌≡◌, ℕ, ◌+◌, arith, ap, ◌∙◌, sym, sum_by}
-use Rattle.shift_instance.specs.Problem.{below, need_at}
+use Rattle.shift_instance.specs.Problem.{below}
 use Rattle.shift_instance.specs.Rota.{cover, rota_of}
 use Rattle.shift_instance.proofs.Ranges.{sum_below_more}
 use Rattle.descents.specs.Evening.{squared_distance}
@@ -9,11 +9,11 @@ pub loop-t-preserved : goal.loop-t-preserved
 loop-t-preserved c =
     let i = c.args.instance.now in
     let rota = rota_of c.args.draft.now.rows in
-    let f = λ (t : ℕ). squared_distance (cover i rota t) (need_at i t) in
+    let f = λ (t : ℕ). squared_distance i t (cover i rota t) in
     let t = c.loop-t.t in
     let square = c.squared_distance-sum.result in
     let works : c.working.result ≡ cover i rota t = c.working.ensures ∙ ap (λ j. cover j rota t) c.requires in
-    let here : square ≡ f t = c.squared_distance-sum.ensures.square ∙ ap (λ n. squared_distance n c.need.result) works ∙ ap (λ n. squared_distance (cover i rota t) n) c.need.ensures.need in
+    let here : square ≡ f t = c.squared_distance-sum.ensures.square ∙ ap (λ n. squared_distance i t n) works in
     let total : c.loop-t.sum ≡ sum_by f (below t) = c.loop-t.invariant.sum in
     record {
       sum = ap (λ (n : ℕ). n + square) total ∙ ap (λ (n : ℕ). sum_by f (below t) + n) here ∙ sym (sum_below_more f t);

@@ -9,7 +9,7 @@ loop-k-preserved c =
     let i = c.args.instance.now in
     let days = c.args.days.now in
     let k = c.loop-k.k in
-    let d : DaySummary = record { duties = 0; totals = record { wanted = 0; worked = 0; over = 0; under = 0 } } in
+    let d : DaySummary = record { duties = 0; totals = record { wanted = 0; wanted_max = 0; worked = 0; over = 0; under = 0 } } in
     c.in_ok-add_day.ensures
-    ∙ ap (λ (text : List ℕ). text ++ day_line i (k, get_or days k d)) c.loop-k.invariant
-    ∙ numbered_more (day_line i) (string_bytes c.args.text.now) days k d c.loop-k-test.true
+    ∙ ap (λ (text : List ℕ). text ++ day_line i c.args.width (k, get_or days k d)) c.loop-k.invariant
+    ∙ numbered_more (day_line i c.args.width) (string_bytes c.args.text.now) days k d c.loop-k-test.true

@@ -1,6 +1,6 @@
 use Rattle.std.proofs.Common.{◌≡◌, ℕ, ◌++◌, IfOk, List, sym, ap, ◌∙◌, subst, arith}
 use Rattle.std.specs.List.{flat_map}
-use Rattle.std.proofs.lemmas.List.{flat_map_more}
+use Rattle.std.proofs.lemmas.List.{flat_map_more, append-nil}
 use Rattle.csv.specs.Writing.{default_writer, row_text}
 use Rattle.rota_cost.specs.Cover.{Covering}
 use Rattle.shift_instance.specs.declared.Duty.{Duty}
@@ -9,6 +9,11 @@ use Rattle.shift_instance.specs.Rota.{rota_of}
 use Rattle.shift_instance.proofs.Ranges.{below_next}
 use Rattle.plan_tables.specs.Records.{cover_text, slot_columns, slot_fields}
 use Rattle.plan_tables.proofs.tables.cover_csv.Goals as goal
+
+pub loop-t-init : goal.loop-t-init
+loop-t-init c =
+    let head : List ℕ = row_text default_writer slot_columns in
+    c.in_ok-records.ensures ∙ ap (λ (text : List ℕ). text ++ head) c.new-2.ensures ∙ sym (append-nil head)
 
 pub loop-t-preserved : goal.loop-t-preserved
 loop-t-preserved c =
