@@ -28,3 +28,6 @@ returns-then-not-branch-clause-leads g c =
 
 pub returns-clause-leads : goal.returns-clause-leads
 returns-clause-leads g c = λ free. rounds_done c.args.instance.now _ c.rounds._round c.rounds.draft.cover.duties c.rounds-test.false c.rounds.invariant.leads
+
+pub returns-then-not-branch-clause-rounds : goal.returns-then-not-branch-clause-rounds
+returns-then-not-branch-clause-rounds g c = c.in_ok-round.ensures.rounds c.rounds.invariant.rounds
