@@ -2,7 +2,8 @@
 use Rattle.std.proofs.Common.{◌≡◌, inl, inr, ℕ, ◌+◌, ◌-◌, ◌*◌, ◌<◌, ◌≤◌, ℤ, pos, ◌+ℤ◌, ◌≤ℤ◌, Bool, true, false, cond, not, ◌&&◌, ◌==◌, List, [], ◌∷◌, ◌++◌, replicate, refl, sym, ap, ◌∙◌, subst, arith, sum_by, count_by, nat_lt, eq-eqb, All, get_or-set_same, get_or-set_other}
 use Rattle.std.proofs.lemmas.List.{append-nil, length-replicate, get_or-replicate}
 use Rattle.std.proofs.lemmas.List.Sums.{fold-append}
-use Rattle.std.specs.Prelude.{IsTrue, unsigned_abs, fold, max, if◌then◌else◌}
+use Rattle.std.specs.Prelude.{IsTrue, IsSomeAnd, Option, slice_get, length, unsigned_abs, fold, max, if◌then◌else◌}
+use Rattle.std.specs.Option.{option_map_or}
 use Rattle.std.specs.List.{list_any}
 use Rattle.std.proofs.lemmas.Bool.{cases_Bool, cases_eq, ne_eqb, false≢true, and_parts, and_from, lt-ltb}
 use Rattle.std.proofs.lemmas.Int.{ints}
@@ -12,9 +13,13 @@ use Rattle.break_rules.specs.Lists.{Has}
 use Rattle.break_rules.proofs.Lists.{any_at, any_some, from_below}
 use Rattle.break_rules.proofs.Sums.{int_sum_by-same, int_sum_by_pick_below}
 use Rattle.price_sums.specs.Along.{AreSmallPrices}
+use Rattle.break_rules.specs.declared.Rule.{Rule}
+use Rattle.break_rules.specs.Breaks.{works_at}
 use Rattle.shift_instance.specs.declared.Duty.{Duty}
+use Rattle.shift_instance.specs.declared.Shift.{Shift}
 use Rattle.shift_instance.specs.AllDuties.{all_duties}
-use Rattle.shift_instance.specs.Problem.{Problem, slots, need_at, need_max_at, below}
+use Rattle.shift_instance.specs.Problem.{Problem, slots, need_at, need_max_at, shift_list, slot_of, below}
+use Rattle.shift_instance.proofs.Shifts.{some_at, is_some_and_at, is_some_and_from}
 use Rattle.shift_instance.specs.Rota.{is_legal_duty, is_legal_rota, is_list_of, works, cover, slot_cost, cost}
 use Rattle.shift_instance.specs.Worth.{price_of, earned, worth, IsBest}
 use Rattle.shift_instance.proofs.AllDuties.{Has-all_duties, from_all_duties}
@@ -53,6 +58,9 @@ earned_unit i t d h =
       | inr ne ↦ rw (ne_eqb t s ne) (ap (λ z. cond (works i d s) z (pos 0)) (priced_elsewhere i t s (from_below (slots i) s m) ne) ∙ same_both (works i d s) (pos 0))
     ])
     ∙ int_sum_by_pick_below v t (slots i) h
+
+and_false : (b : Bool) → (b && false) ≡ false
+and_false b = elim (cases_Bool b) [ inl t ↦ rw t refl | inr f ↦ rw f refl ]
 
 -- the duty of a shift on a day with a break list
 abbrev pub with : ℕ → ℕ → List Break → Duty
@@ -96,6 +104,43 @@ best_avoids i t s day list value h best small other legal =
 -- where no list is legal, none works in the slot
 pub none_avoids : (i : Problem) (t s day : ℕ) → ((list : List Break) → is_list_of i s list ≡ false) → AvoidsOn i t s day
 none_avoids i t s day none other legal = absurd (false≢true (sym (none other) ∙ legal))
+
+-- a slot at which no offset of a shift on a day stands
+abbrev pub IsApart : Problem → ℕ → ℕ → ℕ → ℕ → Type 0
+IsApart i t s day k = IsSomeAnd (slice_get (shift_list i) s) (λ (x : Shift × Rule). slot_of i x.0 day k ≡ t → ⊥)
+
+-- a slot at which no offset below one more than n stands
+pub apart_next : (i : Problem) (t s day n slot : ℕ) → s < length (shift_list i) → IsSomeAnd (slice_get (shift_list i) s) (λ (x : Shift × Rule). slot ≡ slot_of i x.0 day n)
+    → (slot ≡ t → ⊥) → ((k : ℕ) → k < n → IsApart i t s day k) → (k : ℕ) → k < n + 1 → IsApart i t s day k
+apart_next i t s day n slot h is ne before k less =
+    let found = some_at (shift_list i) s h in
+    let x = found.0 in
+    let same : slot ≡ slot_of i x.0 day n = is_some_and_at (slice_get (shift_list i) s) (λ (x : Shift × Rule). slot ≡ slot_of i x.0 day n) x found.1 is in
+    elim (cases_eq k n) [
+      | inl e ↦ subst (λ m. IsApart i t s day m) (sym e) (is_some_and_from (slice_get (shift_list i) s) (λ (x : Shift × Rule). slot_of i x.0 day n ≡ t → ⊥) x found.1 (λ at. ne (same ∙ at)))
+      | inr other ↦ before k (omega arith)
+    ]
+
+-- the length of a shift, by its number
+pub len_of : (i : Problem) (s : ℕ) (shift : Shift) → s < length (shift_list i) → IsSomeAnd (slice_get (shift_list i) s) (λ (x : Shift × Rule). shift ≡ x.0)
+    → IsSomeAnd (slice_get (shift_list i) s) (λ (x : Shift × Rule). x.0.len ≤ shift.len)
+len_of i s shift h is =
+    let found = some_at (shift_list i) s h in
+    let same : shift ≡ found.0.0 = is_some_and_at (slice_get (shift_list i) s) (λ (x : Shift × Rule). shift ≡ x.0) found.0 found.1 is in
+    is_some_and_from (slice_get (shift_list i) s) (λ (x : Shift × Rule). x.0.len ≤ shift.len) found.0 found.1 (subst (λ (z : Shift). found.0.0.len ≤ z.len) (sym same) (omega arith))
+
+-- where no offset of a shift on a day stands at a slot, none works in it
+pub apart_avoids : (i : Problem) (t s day len : ℕ) → s < length (shift_list i) → IsSomeAnd (slice_get (shift_list i) s) (λ (x : Shift × Rule). x.0.len ≤ len)
+    → ((k : ℕ) → k < len → IsApart i t s day k) → AvoidsOn i t s day
+apart_avoids i t s day len h short apart list legal =
+    let found = some_at (shift_list i) s h in
+    let x = found.0 in
+    let within : x.0.len ≤ len = is_some_and_at (slice_get (shift_list i) s) (λ (x : Shift × Rule). x.0.len ≤ len) x found.1 short in
+    let stands : ℕ → Bool = λ offset. works_at x.1 x.0.len list offset && (slot_of i x.0 day offset == t) in
+    ap (λ (o : Option (Shift × Rule)). option_map_or (λ (x : Shift × Rule). list_any (λ offset. works_at x.1 x.0.len list offset && (slot_of i x.0 day offset == t)) (below x.0.len)) o false) found.1
+    ∙ any_fails stands (below x.0.len) (λ k m.
+    let elsewhere = is_some_and_at (slice_get (shift_list i) s) (λ (x : Shift × Rule). slot_of i x.0 day k ≡ t → ⊥) x found.1 (apart k (omega (arith, from_below x.0.len k m, within))) in
+    ap (λ b. works_at x.1 x.0.len list k && b) (ne_eqb (slot_of i x.0 day k) t elsewhere) ∙ and_false (works_at x.1 x.0.len list k))
 
 -- ---- slots that are reached
 

@@ -1,5 +1,5 @@
 //! The slots in which some legal duty works.
-ghost use Rattle.std.specs.Prelude.{◌≡◌, ◌+◌, ◌^◌, ◌<◌, ◌≤◌, [], ◌∷◌, ◌++◌, length, IfOk, OnOk, MatchOption, cond, if◌then◌else◌};
+ghost use Rattle.std.specs.Prelude.{◌≡◌, ◌+◌, ◌^◌, ◌<◌, ◌≤◌, [], ◌∷◌, ◌++◌, false, length, IfOk, OnOk, MatchOption, cond, if◌then◌else◌};
 ghost use Rattle.shift_instance.specs.Problem.{slots, shift_list};
 ghost use Rattle.instance_warnings.specs.Reached.{unit_prices, is_reached, is_missed, IsReaching, AreLegal, AvoidsOn, AvoidsShift, Avoids, unreached};
 
@@ -19,7 +19,21 @@ fn unit_prices(alloc: Global, instance: &Instance, t: usize) -> Result<Vec<i64>,
     Ok(prices)
 }
 
-/// A legal duty of a shift on a day that works in a slot, if there is one.
+/// Whether a slot lies between the start of a shift on a day and its end. In any other slot none of its duties works.
+fn lies_within(instance: &Instance, shift: u16, day: u8, t: usize) -> bool
+    requires { shift < length (shift_list instance.now) }
+    ensures { result ≡ false → AvoidsOn instance.now t shift day }
+{
+    let len = instance.shift(shift).len;
+    for offset in 0..len {
+        if instance.slot_of(shift, day, offset) == t {
+            return true;
+        }
+    }
+    false
+}
+
+/// A legal duty of a shift on a day that works in a slot, if there is one. Lists are priced only where the slot lies within the shift.
 fn duty_on(
     alloc: Global,
     instance: &Instance,
@@ -34,6 +48,9 @@ fn duty_on(
     requires day { day < instance.now.days }
     ensures { IfOk result (λ found. MatchOption found (AvoidsOn instance.now t shift day) (IsReaching instance.now t)) }
 {
+    if !lies_within(instance, shift, day, t) {
+        return Ok(None);
+    }
     let best = best_pattern(alloc, instance, shift, day, prices, &[])?;
     let Some((pattern, value)) = best else {
         return Ok(None);
