@@ -86,6 +86,19 @@ fn a_report_is_shown(rt: HostRuntime) -> Result<(), Fail> {
 }
 
 #[test]
+fn a_report_is_judged(rt: HostRuntime) -> Result<(), Fail> {
+    let alloc = rt.alloc();
+    let words = words_of(alloc, "shift_plan check w.json r")?;
+    match wanted_by(alloc, words.as_slice()) {
+        Ok(Wanted::Check(check)) => {
+            assert_eq!(rt; (check.instance, check.report), ("w.json", "r"));
+            Ok(())
+        }
+        _ => Err(Fail::from("no report to be judged")),
+    }
+}
+
+#[test]
 fn other_words_are_refused(rt: HostRuntime) -> Result<(), Fail> {
     let alloc = rt.alloc();
     let kind = kind_at(alloc, "shift_plan plan")?;

@@ -2,6 +2,7 @@
 #![tactic(auto)]
 
 mod sheets;
-mod standing;
+mod standings;
 
-pub use sheets::{ready_folder, show_plan};
+pub use sheets::{ready_folder, say, show_plan};
+pub use standings::standing;

@@ -3,7 +3,7 @@
 ghost use Rattle.std.specs.Prelude.{IsTrue};
 ghost use Rattle.shift_instance.specs.Rota.{are_legal_rows};
 
-use crate::standing::standing;
+use crate::standings::standing;
 use plan_page::plan_page;
 use plan_tables::{Summary, cover_csv, duties_csv, duties_table, summary_text};
 use planning_files::{make_folder, write_whole};
@@ -79,8 +79,8 @@ impl Sheets {
     }
 }
 
-/// Says a text on standard output. Where nobody takes it, the files stand all the same.
-fn say(rt: HostRuntime, text: &str) {
+/// Says a text on standard output. Where nobody takes it, the files that were written stand all the same.
+pub fn say(rt: HostRuntime, text: &str) {
     let mut out = rt.stdout();
     let _ = out.write_all(text.as_bytes());
     let _ = out.flush();

@@ -1,7 +1,8 @@
 //! Shift plans for people: `shift_plan plan INSTANCE` searches for a cheapest plan within a time and writes it to a folder, and
-//! `shift_plan show INSTANCE REPORT` does so with the plan of a report that stands.
+//! `shift_plan show INSTANCE REPORT` does so with the plan of a report that stands; `shift_plan check INSTANCE REPORT` judges one.
 #![tactic(auto)]
 
+mod checking;
 mod journals;
 mod listening;
 mod planning;
@@ -50,6 +51,7 @@ fn answer<R: Threads + Wait + Sync>(
     match wanted {
         Wanted::Plan(words) => planning::plan(host, rt, &words)?,
         Wanted::Show(words) => showing::show(host, &words)?,
+        Wanted::Check(words) => checking::check(host, &words)?,
     }
     Ok(0)
 }
