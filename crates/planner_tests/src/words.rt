@@ -86,6 +86,19 @@ fn a_report_is_shown(rt: HostRuntime) -> Result<(), Fail> {
 }
 
 #[test]
+fn rules_are_said_back(rt: HostRuntime) -> Result<(), Fail> {
+    let alloc = rt.alloc();
+    let words = words_of(alloc, "shift_plan rules w.json")?;
+    match wanted_by(alloc, words.as_slice()) {
+        Ok(Wanted::Rules(rules)) => {
+            assert_eq!(rt; rules.instance, "w.json");
+            Ok(())
+        }
+        _ => Err(Fail::from("no rules to be said back")),
+    }
+}
+
+#[test]
 fn a_report_is_judged(rt: HostRuntime) -> Result<(), Fail> {
     let alloc = rt.alloc();
     let words = words_of(alloc, "shift_plan check w.json r")?;

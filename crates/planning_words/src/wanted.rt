@@ -37,7 +37,10 @@ Examples:
       Judges a report that stands and shows its plan once more.
 
   shift_plan check week.json week.plan/report
-      Judges a report that stands and says what came of it.";
+      Judges a report that stands and says what came of it.
+
+  shift_plan rules week.json
+      Says the rules of the instance back, in clock time.";
 
 /// At what else than its time a search is to end.
 #[derive(Clone, Copy, PartialEq, Eq, Drop)]
@@ -78,6 +81,13 @@ pub struct ShowWords<'a> {
     pub out: Option<&'a str>,
 }
 
+/// The words that ask for the rules of an instance.
+#[derive(Clone, Copy, Drop)]
+pub struct RulesWords<'a> {
+    /// The file of the instance document.
+    pub instance: &'a str,
+}
+
 /// The words that ask for a report to be judged.
 #[derive(Clone, Copy, Drop)]
 pub struct CheckWords<'a> {
@@ -96,6 +106,8 @@ pub enum Wanted<'a> {
     Show(ShowWords<'a>),
     /// A report that stands, judged.
     Check(CheckWords<'a>),
+    /// The rules of an instance in words.
+    Rules(RulesWords<'a>),
 }
 
 /// The word for the folder of a plan.
@@ -195,6 +207,13 @@ fn show_command<'a>(alloc: Global) -> Result<Command<'a>, AllocError> {
         .arg(out_word(alloc))
 }
 
+/// The words behind `rules`.
+fn rules_command<'a>(alloc: Global) -> Result<Command<'a>, AllocError> {
+    Command::new(alloc, "rules")
+        .about("Says the rules of an instance back, in clock time")
+        .arg(instance_word(alloc))
+}
+
 /// The words behind `check`.
 fn check_command<'a>(alloc: Global) -> Result<Command<'a>, AllocError> {
     Command::new(alloc, "check")
@@ -217,7 +236,8 @@ fn command<'a>(alloc: Global) -> Result<Command<'a>, AllocError> {
     let plan = plan_command(alloc)?;
     let planning = program(alloc).subcommand(plan)?;
     let showing = planning.subcommand(show_command(alloc)?)?;
-    showing.subcommand(check_command(alloc)?)
+    let checking = showing.subcommand(check_command(alloc)?)?;
+    checking.subcommand(rules_command(alloc)?)
 }
 
 /// What ends a search, by its word.
@@ -258,6 +278,14 @@ fn show_words<'a>(matches: &ArgMatches<'a>) -> ShowWords<'a> {
     }
 }
 
+/// What the words behind `rules` ask for.
+fn rules_words<'a>(matches: &ArgMatches<'a>) -> RulesWords<'a> {
+    RulesWords {
+        // a required word is there
+        instance: matches.get_str("INSTANCE").unwrap_or(""),
+    }
+}
+
 /// What the words behind `check` ask for.
 fn check_words<'a>(matches: &ArgMatches<'a>) -> CheckWords<'a> {
     CheckWords {
@@ -271,7 +299,7 @@ fn check_words<'a>(matches: &ArgMatches<'a>) -> CheckWords<'a> {
 /// where that is asked for.
 ///
 /// The words are `plan INSTANCE [--journal FILE] [--seconds T] [--workers W] [--out FOLDER] [--stop-on line|enter] [--anew]`,
-/// `show INSTANCE REPORT [--out FOLDER]` or `check INSTANCE REPORT`. T is at most 4,000,000 and 60 where it isn't given, W is from 1 to 16 and 4 where it isn't
+/// `show INSTANCE REPORT [--out FOLDER]`, `check INSTANCE REPORT` or `rules INSTANCE`. T is at most 4,000,000 and 60 where it isn't given, W is from 1 to 16 and 4 where it isn't
 /// given.
 pub fn wanted_by<'a>(alloc: Global, words: &'a [String]) -> Result<Wanted<'a>, Error>
     ensures { IfOk result IsWithin }
@@ -280,6 +308,7 @@ pub fn wanted_by<'a>(alloc: Global, words: &'a [String]) -> Result<Wanted<'a>, E
     match matches.subcommand() {
         Some(("show", behind)) => Ok(Wanted::Show(show_words(behind))),
         Some(("check", behind)) => Ok(Wanted::Check(check_words(behind))),
+        Some(("rules", behind)) => Ok(Wanted::Rules(rules_words(behind))),
         Some((_, behind)) => Ok(Wanted::Plan(plan_words(behind))),
         // one of the commands is required
         None => Ok(Wanted::Plan(plan_words(&matches))),

@@ -1,11 +1,13 @@
 //! Shift plans for people: `shift_plan plan INSTANCE` searches for a cheapest plan within a time and writes it to a folder, and
-//! `shift_plan show INSTANCE REPORT` does so with the plan of a report that stands; `shift_plan check INSTANCE REPORT` judges one.
+//! `shift_plan show INSTANCE REPORT` does so with the plan of a report that stands; `shift_plan check INSTANCE REPORT` judges one, and
+//! `shift_plan rules INSTANCE` says the rules of an instance back.
 #![tactic(auto)]
 
 mod checking;
 mod journals;
 mod listening;
 mod planning;
+mod ruling;
 mod showing;
 mod telling;
 
@@ -52,6 +54,7 @@ fn answer<R: Threads + Wait + Sync>(
         Wanted::Plan(words) => planning::plan(host, rt, &words)?,
         Wanted::Show(words) => showing::show(host, &words)?,
         Wanted::Check(words) => checking::check(host, &words)?,
+        Wanted::Rules(words) => ruling::rules(host, &words)?,
     }
     Ok(0)
 }
