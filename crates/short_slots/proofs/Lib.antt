@@ -1,0 +1,2 @@
+mod OneMore
+pub mod Ones
