@@ -189,9 +189,11 @@ def journal_of_another_instance(folder):
     folder.plan("--seconds", "1")
     before = (folder.path / "week.journal").read_bytes()
     (folder.path / "week.json").write_text(folder.text.replace('"max_heads": ', '"max_heads": 1', 1).replace('"max_heads":1', '"max_heads":2', 1))
+    heads = json.loads(folder.text)["max_heads"], json.loads((folder.path / "week.json").read_text())["max_heads"]
     run = folder.plan("--seconds", "1")
     same = (folder.path / "week.journal").read_bytes() == before
-    return ends(run, 9, "another instance") + ([] if same else ["the journal was changed"])
+    told = "the two differ first at max_heads: it is %d in the document, and %d in the journal's instance" % heads[::-1]
+    return ends(run, 9, "another instance", told) + ([] if same else ["the journal was changed"])
 
 
 def damaged_journal(folder):
@@ -243,6 +245,13 @@ def journal_of_the_instance(folder):
     return ends(folder.plan("--journal", "week.json"), 2, "would be the same file")
 
 
+def document_with_a_namesake(folder):
+    (folder.path / "week.txt").write_text(folder.text)
+    faults = ends(folder.run("plan", "week.txt", "--seconds", "1"), 2, "would have one journal and one folder")
+    named = folder.run("plan", "week.txt", "--seconds", "1", "--journal", "other", "--out", "shown")
+    return faults + ends(named, 0) + ([] if (folder.path / "shown" / "report").exists() else ["no plan was written"])
+
+
 def bent_report(folder):
     folder.plan("--seconds", "1")
     path = folder.path / "week.plan" / "report"
@@ -280,6 +289,13 @@ def short_time(folder):
     run = folder.plan("--seconds", "3")
     taken = time.monotonic() - began
     return ends(run, 0) + (["3 seconds took %.1f" % taken] if taken > 6 else [])
+
+
+def search_without_a_cheaper_plan(folder):
+    began = time.monotonic()
+    run = folder.plan("--seconds", "100", "--until-quiet", "1")
+    taken = time.monotonic() - began
+    return ends(run, 0, "no cheaper plan for as long as --until-quiet says") + (["it took %.1f seconds" % taken] if taken > 90 else [])
 
 
 ASKED = "the search ends early, as it was asked to"
@@ -435,8 +451,8 @@ def journal_without_room(folder):
 
 MEETINGS = (
     lock_in_use, killed_run, search_gone_on_with, begun_anew, no_search_to_show, journal_that_is_a_folder, journal_of_another_instance, damaged_journal, torn_journal,
-    journal_on_a_full_device, folder_below_a_file, folder_that_is_a_file, instance_that_isnt_there, instance_that_is_a_folder, journal_of_the_instance, bent_report,
-    words_in_the_wrong_order, report_that_is_none, closed_output, short_time, line_in_mid_search, end_of_input_in_mid_search, line_before_the_search,
+    journal_on_a_full_device, folder_below_a_file, folder_that_is_a_file, instance_that_isnt_there, instance_that_is_a_folder, journal_of_the_instance, document_with_a_namesake, bent_report,
+    words_in_the_wrong_order, report_that_is_none, closed_output, short_time, search_without_a_cheaper_plan, line_in_mid_search, end_of_input_in_mid_search, line_before_the_search,
     input_meant_for_others, enter_at_a_terminal, interrupted_as_it_begins, terminated_in_mid_search, interrupted_while_it_writes, interrupted_as_it_ends,
     interrupted_twice, interrupted_with_a_word, line_given_to_run, program_killed_below_run, journal_without_room,
 )

@@ -24,7 +24,7 @@ fn kind_at(alloc: Global, line: &str) -> Result<Option<ErrorKind>, AllocError> {
 }
 
 /// What a line asks for where it asks for a plan: its journal and folder, `-` where they aren't said, its seconds, its workers, whether
-/// it begins again, and at what else it ends.
+/// it begins again, at what else it ends, and after how many seconds without a cheaper plan, 0 where that isn't said.
 fn plan_at(alloc: Global, line: &str) -> Result<Option<String>, AllocError> {
     let words = words_of(alloc, line)?;
     match wanted_by(alloc, words.as_slice()) {
@@ -38,6 +38,7 @@ fn plan_at(alloc: Global, line: &str) -> Result<Option<String>, AllocError> {
                     out,
                     anew,
                     stop_on,
+                    until_quiet,
                 },
             ),
         ) => {
@@ -48,8 +49,9 @@ fn plan_at(alloc: Global, line: &str) -> Result<Option<String>, AllocError> {
                 Some(StopOn::Enter) => "enter",
                 None => "-",
             };
+            let quiet = until_quiet.unwrap_or(0);
             Ok(Some(format!(in alloc;
-                "{instance} {journal} {seconds} {workers} {out} {anew} {end}"
+                "{instance} {journal} {seconds} {workers} {out} {anew} {end} {quiet}"
             )?))
         }
         _ => Ok(None),
@@ -60,13 +62,15 @@ fn plan_at(alloc: Global, line: &str) -> Result<Option<String>, AllocError> {
 fn a_plan_has_its_words(rt: HostRuntime) -> Result<(), Fail> {
     let alloc = rt.alloc();
     let short = plan_at(alloc, "shift_plan plan w.json")?.ok_or("no plan")?;
-    assert_eq!(rt; short.as_str(), "w.json - 60 4 - false -");
+    assert_eq!(rt; short.as_str(), "w.json - 60 4 - false - 0");
     let long =
         "shift_plan plan w.json --journal j --seconds 0 --workers=16 --out o --stop-on line --anew";
     let long = plan_at(alloc, long)?.ok_or("no plan")?;
-    assert_eq!(rt; long.as_str(), "w.json j 0 16 o true line");
+    assert_eq!(rt; long.as_str(), "w.json j 0 16 o true line 0");
+    let quiet = plan_at(alloc, "shift_plan plan w.json --until-quiet 90")?.ok_or("no plan")?;
+    assert_eq!(rt; quiet.as_str(), "w.json - 60 4 - false - 90");
     let told = plan_at(alloc, "shift_plan plan --stop-on=enter w.json")?.ok_or("no plan")?;
-    assert_eq!(rt; told.as_str(), "w.json - 60 4 - false enter");
+    assert_eq!(rt; told.as_str(), "w.json - 60 4 - false enter 0");
     Ok(())
 }
 
@@ -86,6 +90,18 @@ fn a_report_is_shown(rt: HostRuntime) -> Result<(), Fail> {
 }
 
 #[test]
+fn rules_are_said(rt: HostRuntime) -> Result<(), Fail> {
+    let words = words_of(rt.alloc(), "shift_plan rules w.json")?;
+    match wanted_by(rt.alloc(), words.as_slice()) {
+        Ok(Wanted::Rules(rules)) => {
+            assert_eq!(rt; rules.instance, "w.json");
+            Ok(())
+        }
+        _ => Err(Fail::from("no rules are said")),
+    }
+}
+
+#[test]
 fn other_words_are_refused(rt: HostRuntime) -> Result<(), Fail> {
     let alloc = rt.alloc();
     let kind = kind_at(alloc, "shift_plan plan")?;
@@ -93,6 +109,10 @@ fn other_words_are_refused(rt: HostRuntime) -> Result<(), Fail> {
     let kind = kind_at(alloc, "shift_plan plan w.json --workers 17")?;
     assert!(rt; matches!(kind, Some(ErrorKind::ValueValidation)));
     let kind = kind_at(alloc, "shift_plan plan w.json --seconds ten")?;
+    assert!(rt; matches!(kind, Some(ErrorKind::ValueValidation)));
+    let kind = kind_at(alloc, "shift_plan plan w.json --seconds -5")?;
+    assert!(rt; matches!(kind, Some(ErrorKind::ValueValidation)));
+    let kind = kind_at(alloc, "shift_plan plan w.json --until-quiet 0")?;
     assert!(rt; matches!(kind, Some(ErrorKind::ValueValidation)));
     let kind = kind_at(alloc, "shift_plan plan w.json --stop-on dusk")?;
     assert!(rt; matches!(kind, Some(ErrorKind::InvalidValue)));

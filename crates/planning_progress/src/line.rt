@@ -12,6 +12,8 @@ pub struct Reached {
     pub steps: u64,
     /// What the best plan costs.
     pub cost: u64,
+    /// For how many seconds there was no cheaper plan.
+    pub quiet: u64,
     /// What every plan is known to cost at least.
     pub bound: u64,
 }
@@ -26,13 +28,18 @@ pub fn gap_of(cost: u64, bound: u64) -> u64
 
 /// The line of a search that has run for so many seconds, without its line feed.
 pub fn progress_line(alloc: Global, seconds: u64, reached: Reached) -> Result<String, AllocError>
-    ensures { IfOk result (λ line. string_bytes line ≡ progress_text seconds reached.steps reached.cost reached.bound) }
+    ensures { IfOk result (λ line. string_bytes line ≡ progress_text seconds reached.steps reached.cost reached.quiet reached.bound) }
 {
-    let Reached { steps, cost, bound } = reached;
+    let Reached {
+        steps,
+        cost,
+        quiet,
+        bound,
+    } = reached;
     let gap = gap_of(cost, bound);
     let whole = gap / 10;
     let tenths = gap % 10;
     format!(in alloc;
-        "{seconds} s, {steps} steps, cost {cost}, bound {bound}, gap {whole}.{tenths} %"
+        "{seconds} s, {steps} steps, cost {cost} for {quiet} s, bound {bound}, gap {whole}.{tenths} %"
     )
 }

@@ -3,7 +3,7 @@
 ghost use Rattle.std.specs.Prelude.{IsTrue};
 ghost use Rattle.shift_instance.specs.Rota.{are_legal_rows};
 
-use crate::standing::standing;
+use crate::standing::{standing, why_empty};
 use plan_page::plan_page;
 use plan_tables::{Summary, cover_csv, duties_csv, duties_table, summary_text};
 use planning_files::{make_folder, write_whole};
@@ -103,7 +103,11 @@ pub fn show_plan(
         say(rt, text.as_str());
         return Ok(());
     };
-    let stands = standing(alloc, &plan.cert, *cost)?;
+    let mut stands = standing(alloc, &plan.cert, *cost)?;
+    if rows.is_empty() {
+        stands.push_str(" ")?;
+        stands.push_str(why_empty(&plan.instance))?;
+    }
     let sheets = Sheets::new(alloc, &plan.instance, rows, instance, stands.as_str())?;
     write_file(rt, folder, "report", plan.report.as_slice())?;
     write_file(rt, folder, "duties.csv", sheets.duties.as_slice())?;

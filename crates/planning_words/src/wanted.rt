@@ -3,20 +3,10 @@
 ghost use Rattle.std.specs.Prelude.{◌≤◌, IfOk};
 ghost use Rattle.planning_words.specs.Wanted.{IsWithin};
 
-use clap::{Arg, ArgAction, ArgMatches, Command, Error, value_parser};
+use crate::numbers::{NumberWord, quiet_of, seconds_of, workers_of};
+use clap::error::ErrorKind;
+use clap::{Arg, ArgAction, ArgMatches, Command, Error};
 use std::alloc::{AllocError, Global};
-
-/// How long a search lasts where the words don't say, in seconds.
-const SECONDS_UNSAID: u32 = 60;
-
-/// The longest search, in seconds.
-const SECONDS_MOST: u32 = 4_000_000;
-
-/// How many workers search where the words don't say.
-const WORKERS_UNSAID: u16 = 4;
-
-/// The most workers.
-const WORKERS_MOST: u16 = 16;
 
 /// The words for what ends a search.
 const STOPS: &[&str] = &["line", "enter"];
@@ -34,7 +24,10 @@ Examples:
       Searches for ten minutes with eight workers and writes the plan to the folder rota.
 
   shift_plan show week.json week.plan/report
-      Judges a report that stands and shows its plan once more.";
+      Judges a report that stands and shows its plan once more.
+
+  shift_plan rules week.json
+      Says the rules of the instance back, in clock time.";
 
 /// At what else than its time a search is to end.
 #[derive(Clone, Copy, PartialEq, Eq, Drop)]
@@ -62,6 +55,8 @@ pub struct PlanWords<'a> {
     pub anew: bool,
     /// At what else the search is to end, if it is said.
     pub stop_on: Option<StopOn>,
+    /// After how many seconds without a cheaper plan the search is to end, if it is said.
+    pub until_quiet: Option<u32>,
 }
 
 /// The words that ask for a report to be shown.
@@ -75,6 +70,13 @@ pub struct ShowWords<'a> {
     pub out: Option<&'a str>,
 }
 
+/// The words that ask for the rules of an instance.
+#[derive(Clone, Copy, Drop)]
+pub struct RulesWords<'a> {
+    /// The file of the instance document.
+    pub instance: &'a str,
+}
+
 /// What a command line asks for.
 #[derive(Clone, Copy, Drop)]
 pub enum Wanted<'a> {
@@ -82,6 +84,8 @@ pub enum Wanted<'a> {
     Plan(PlanWords<'a>),
     /// A report that stands, shown once more.
     Show(ShowWords<'a>),
+    /// The rules of an instance in words.
+    Rules(RulesWords<'a>),
 }
 
 /// The word for the folder of a plan.
@@ -113,7 +117,7 @@ fn seconds_word<'a>(alloc: Global) -> Arg<'a> {
     Arg::new(alloc, "seconds")
         .long("seconds")
         .value_name("T")
-        .value_parser(value_parser!(u32).range(0..=4_000_000))
+        .allow_hyphen_values(true)
         .help(
             "How long to search, in seconds; 0 writes the plan that the journal holds [default: 60]",
         )
@@ -124,7 +128,7 @@ fn workers_word<'a>(alloc: Global) -> Arg<'a> {
     Arg::new(alloc, "workers")
         .long("workers")
         .value_name("W")
-        .value_parser(value_parser!(u16).range(1..=16))
+        .allow_hyphen_values(true)
         .help("How many workers search at the same time, 1 to 16 [default: 4]")
 }
 
@@ -147,13 +151,23 @@ fn stop_word<'a>(alloc: Global) -> Arg<'a> {
         )
 }
 
+/// The word for the time without a cheaper plan after which a search ends.
+fn quiet_word<'a>(alloc: Global) -> Arg<'a> {
+    Arg::new(alloc, "until-quiet")
+        .long("until-quiet")
+        .value_name("T")
+        .allow_hyphen_values(true)
+        .help("End the search after so many seconds without a cheaper plan [default: never]")
+}
+
 /// The command `plan` with the words for what is read and how long is searched.
 fn timed_command<'a>(alloc: Global) -> Result<Command<'a>, AllocError> {
     Command::new(alloc, "plan")
         .about("Searches for a cheapest plan and writes it")
         .arg(instance_word(alloc))?
         .arg(journal_word(alloc))?
-        .arg(seconds_word(alloc))
+        .arg(seconds_word(alloc))?
+        .arg(quiet_word(alloc))
 }
 
 /// The words behind `plan`.
@@ -177,6 +191,13 @@ fn show_command<'a>(alloc: Global) -> Result<Command<'a>, AllocError> {
         .arg(out_word(alloc))
 }
 
+/// The words behind `rules`.
+fn rules_command<'a>(alloc: Global) -> Result<Command<'a>, AllocError> {
+    Command::new(alloc, "rules")
+        .about("Says the rules of an instance back, in clock time")
+        .arg(instance_word(alloc))
+}
+
 /// The program without its commands.
 fn program<'a>(alloc: Global) -> Command<'a> {
     Command::new(alloc, "shift_plan")
@@ -190,7 +211,8 @@ fn program<'a>(alloc: Global) -> Command<'a> {
 fn command<'a>(alloc: Global) -> Result<Command<'a>, AllocError> {
     let plan = plan_command(alloc)?;
     let planning = program(alloc).subcommand(plan)?;
-    planning.subcommand(show_command(alloc)?)
+    let showing = planning.subcommand(show_command(alloc)?)?;
+    showing.subcommand(rules_command(alloc)?)
 }
 
 /// What ends a search, by its word.
@@ -201,24 +223,24 @@ fn stop_on(word: &str) -> StopOn {
     }
 }
 
-/// What the words behind `plan` ask for.
-fn plan_words<'a>(matches: &ArgMatches<'a>) -> PlanWords<'a>
-    ensures seconds { result.seconds ≤ SECONDS_MOST }
-    ensures some { 1 ≤ result.workers }
-    ensures sixteen { result.workers ≤ WORKERS_MOST }
+/// What the words behind `plan` ask for, or the first word that has a number which it doesn't take.
+fn plan_words<'a>(matches: &ArgMatches<'a>) -> Result<PlanWords<'a>, NumberWord>
+    ensures { IfOk result (λ words. IsWithin (Wanted.Plan words)) }
 {
-    let seconds = matches.get_one::<u32>("seconds").unwrap_or(SECONDS_UNSAID);
-    let workers = matches.get_one::<u16>("workers").unwrap_or(WORKERS_UNSAID);
-    PlanWords {
+    let seconds = seconds_of(matches)?;
+    let workers = workers_of(matches)?;
+    let until_quiet = quiet_of(matches)?;
+    Ok(PlanWords {
         // a required word is there
         instance: matches.get_str("INSTANCE").unwrap_or(""),
         journal: matches.get_str("journal"),
-        seconds: seconds.min(SECONDS_MOST),
-        workers: workers.clamp(1, WORKERS_MOST),
+        seconds,
+        workers,
         out: matches.get_str("out"),
         anew: matches.get_flag("anew"),
         stop_on: matches.get_str("stop-on").map(stop_on),
-    }
+        until_quiet,
+    })
 }
 
 /// What the words behind `show` ask for.
@@ -231,20 +253,46 @@ fn show_words<'a>(matches: &ArgMatches<'a>) -> ShowWords<'a> {
     }
 }
 
+/// What the words behind `rules` ask for.
+fn rules_words<'a>(matches: &ArgMatches<'a>) -> RulesWords<'a> {
+    RulesWords {
+        // a required word is there
+        instance: matches.get_str("INSTANCE").unwrap_or(""),
+    }
+}
+
+/// What is said where a word has a number that it doesn't take, as clap says what is wrong with words.
+fn no_number(alloc: Global, matches: &ArgMatches, word: NumberWord) -> Result<Error, AllocError> {
+    let sentence = word.refusal(alloc, matches)?;
+    let mut whole = command(alloc)?;
+    whole.error(ErrorKind::ValueValidation, sentence.as_str())
+}
+
+/// What the words behind `plan` ask for, or what is said of the first number that its word doesn't take.
+fn wanted_plan<'a>(alloc: Global, behind: &ArgMatches<'a>) -> Result<Wanted<'a>, Error>
+    ensures { IfOk result IsWithin }
+{
+    match plan_words(behind) {
+        Ok(words) => Ok(Wanted::Plan(words)),
+        Err(word) => Err(no_number(alloc, behind, word)?),
+    }
+}
+
 /// What the words of a command line ask for, the program's name first among them. The error is what clap says of other words, and the help
 /// where that is asked for.
 ///
-/// The words are `plan INSTANCE [--journal FILE] [--seconds T] [--workers W] [--out FOLDER] [--stop-on line|enter] [--anew]` or
-/// `show INSTANCE REPORT [--out FOLDER]`. T is at most 4,000,000 and 60 where it isn't given, W is from 1 to 16 and 4 where it isn't
-/// given.
+/// The words are `plan INSTANCE [--journal FILE] [--seconds T] [--until-quiet T] [--workers W] [--out FOLDER] [--stop-on line|enter] [--anew]`,
+/// `show INSTANCE REPORT [--out FOLDER]` or `rules INSTANCE`. The T of `--seconds` is at most 4,000,000 and 60 where it isn't given, that of
+/// `--until-quiet` from 1 to as much, and W is from 1 to 16 and 4 where it isn't given.
 pub fn wanted_by<'a>(alloc: Global, words: &'a [String]) -> Result<Wanted<'a>, Error>
     ensures { IfOk result IsWithin }
 {
     let matches = command(alloc)?.try_get_matches_from(words)?;
     match matches.subcommand() {
         Some(("show", behind)) => Ok(Wanted::Show(show_words(behind))),
-        Some((_, behind)) => Ok(Wanted::Plan(plan_words(behind))),
-        // one of the two is required
-        None => Ok(Wanted::Plan(plan_words(&matches))),
+        Some(("rules", behind)) => Ok(Wanted::Rules(rules_words(behind))),
+        Some((_, behind)) => wanted_plan(alloc, behind),
+        // one of the three is required
+        None => wanted_plan(alloc, &matches),
     }
 }

@@ -1,10 +1,12 @@
-//! Shift plans for people: `shift_plan plan INSTANCE` searches for a cheapest plan within a time and writes it to a folder, and
-//! `shift_plan show INSTANCE REPORT` does so with the plan of a report that stands.
+//! Shift plans for people: `shift_plan plan INSTANCE` searches for a cheapest plan within a time and writes it to a folder,
+//! `shift_plan show INSTANCE REPORT` does so with the plan of a report that stands, and `shift_plan rules INSTANCE` says the rules of
+//! an instance back.
 #![tactic(auto)]
 
 mod journals;
 mod listening;
 mod planning;
+mod ruling;
 mod showing;
 mod telling;
 
@@ -50,6 +52,7 @@ fn answer<R: Threads + Wait + Sync>(
     match wanted {
         Wanted::Plan(words) => planning::plan(host, rt, &words)?,
         Wanted::Show(words) => showing::show(host, &words)?,
+        Wanted::Rules(words) => ruling::rules(host, &words)?,
     }
     Ok(0)
 }

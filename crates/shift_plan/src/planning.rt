@@ -2,18 +2,21 @@
 
 ghost use Rattle.std.specs.Prelude.{◌<◌, ◌^◌};
 
-use crate::journals::locked_journal;
+use crate::journals::{journal_head, journal_of, locked_journal};
 use crate::listening::{listen, stop_of};
-use crate::telling::{Beginning, shown_on, tell_end, warn};
+use crate::telling::{Beginning, say_rules, shown_on, tell_end, warn};
 use advice::Adviser;
+use instance_json::canonical;
+use journal_texts::difference;
 use planning_files::LockedJournal;
-use planning_progress::{Progress, Shown, Until, Watched};
+use planning_progress::{Limits, Progress, Shown, Until, Watched};
 use planning_refusals::{Cause, Refusal, read_document};
 use planning_runs::{Plan, Planned, search_plan};
 use planning_sheets::{ready_folder, show_plan};
 use planning_words::{PlanWords, StopOn, folder_beside};
+use search_book::OpenFault;
 use shift_instance::Instance;
-use solve_runs::Request;
+use solve_runs::{Request, SearchEnd};
 use std::alloc::{AllocError, Global};
 use std::sync::{Arc, Wait};
 use std::thread::Threads;
@@ -39,7 +42,7 @@ pub(crate) fn folder_of(
 }
 
 /// The instance of a document.
-fn instance_in(alloc: Global, document: &[u8]) -> Result<Instance, Refusal> {
+pub(crate) fn instance_in(alloc: Global, document: &[u8]) -> Result<Instance, Refusal> {
     match instance_json::read(alloc, document) {
         Ok(instance) => Ok(instance),
         Err(why) => Err(Refusal::document(alloc, document, &why)),
@@ -55,8 +58,11 @@ fn progress_of(rt: HostRuntime, words: &PlanWords) -> Result<Arc<Progress>, Refu
             String::from_str(alloc, "the system doesn't tell the time"),
         ));
     };
-    let limit = u64::from(words.seconds) * SECOND;
-    let progress = Progress::new(alloc, began, limit, words.workers)?;
+    let limits = Limits {
+        whole: u64::from(words.seconds) * SECOND,
+        quiet: words.until_quiet.map(|quiet| u64::from(quiet) * SECOND),
+    };
+    let progress = Progress::new(alloc, began, limits, words.workers)?;
     Ok(Arc::new(alloc, progress)?)
 }
 
@@ -65,6 +71,26 @@ fn steps_of(seconds: u32) -> u64
     ensures { result < 2 ^ 63 }
 {
     if seconds == 0 { 0 } else { STEPS_MOST }
+}
+
+/// Says where a document and the instance of its journal differ first, where a search was refused since they do.
+fn tell_difference(rt: HostRuntime, words: &PlanWords, end: &SearchEnd) -> Result<(), Refusal> {
+    let alloc = rt.alloc();
+    let SearchEnd::Refused(OpenFault::OtherInstance { at }) = end else {
+        return Ok(());
+    };
+    let document = read_document(rt, words.instance)?;
+    let instance = instance_in(alloc, document.as_slice())?;
+    let ours = canonical(alloc, &instance)?;
+    let journal = journal_of(alloc, words)?;
+    let Some(theirs) = journal_head(rt, journal.as_str()) else {
+        return Ok(());
+    };
+    let sentence = difference(alloc, ours.as_slice(), theirs.as_slice(), *at)?;
+    let _ = eprintln!(rt;
+        "shift_plan: note that the journal belongs to another instance: {sentence}"
+    );
+    Ok(())
 }
 
 /// The adviser of a worker, which searches thoroughly for plans of the instance with a seed of its own and tells how far the search has come.
@@ -109,6 +135,7 @@ fn advised<R: Threads + Wait + Sync>(
         rt, alloc, instance, request, disk, advisers, &gate, &until,
     );
     let Some(plan) = plan else {
+        tell_difference(host, words, &searched.end)?;
         return Err(Refusal::of_end(alloc, &searched.end).unwrap_or(Refusal::from(AllocError)));
     };
     tell_end(host, progress, &searched.end);
@@ -166,7 +193,8 @@ pub(crate) fn plan<R: Threads + Wait + Sync>(
     let folder = folder_of(alloc, words.out, words.instance)?;
     let document = read_document(host, words.instance)?;
     let instance = instance_in(alloc, document.as_slice())?;
-    warn(host, &instance)?;
+    say_rules(host, &instance)?;
+    warn(host, document.as_slice(), &instance)?;
     let journals = locked_journal(host, words)?;
     ready_folder(host, folder.as_str())?;
     let plan = searched(host, rt, words, instance, &journals.now)?;

@@ -1,9 +1,11 @@
 //! What is said of a search on standard error.
 
-use instance_warnings::warnings;
+use document_faults::repeated_names;
+use instance_warnings::{Told, warnings};
 use journal_texts::full_sentence;
 use planning_progress::{Progress, Shown};
 use planning_refusals::Refusal;
+use rule_sentences::rules_text;
 use shift_instance::Instance;
 use solve_runs::SearchEnd;
 use std::io::IsTerminal;
@@ -19,10 +21,21 @@ pub(crate) fn shown_on(rt: HostRuntime, enter_ends: bool) -> Shown {
     }
 }
 
-/// Says what a planner should know of an instance before it is searched.
-pub(crate) fn warn(rt: HostRuntime, instance: &Instance) -> Result<(), Refusal> {
+/// Says the rules of an instance back before it is searched.
+pub(crate) fn say_rules(rt: HostRuntime, instance: &Instance) -> Result<(), Refusal> {
+    let rules = rules_text(rt.alloc(), instance)?;
+    let _ = eprint!(rt; "{}", rules.as_str());
+    Ok(())
+}
+
+/// Says what a planner should know of an instance before it is searched, and of the document that it stands in.
+pub(crate) fn warn(rt: HostRuntime, document: &[u8], instance: &Instance) -> Result<(), Refusal> {
+    for name in &repeated_names(rt.alloc(), document)? {
+        let _ = eprintln!(rt; "shift_plan: note that {name}");
+    }
     for warning in &warnings(rt.alloc(), instance)? {
-        let _ = eprintln!(rt; "shift_plan: note that {warning}");
+        let told = Told { warning, instance };
+        let _ = eprintln!(rt; "shift_plan: note that {told}");
     }
     Ok(())
 }
@@ -62,6 +75,11 @@ pub(crate) fn tell_end(rt: HostRuntime, progress: &Progress, end: &SearchEnd) {
         SearchEnd::Stopped if progress.is_end_asked() => {
             let _ = eprintln!(rt;
                 "shift_plan: the search ends early, as it was asked to: its plan is written, and the same line goes on from there"
+            );
+        }
+        SearchEnd::Stopped if progress.is_quiet(&rt) => {
+            let _ = eprintln!(rt;
+                "shift_plan: the search ends early, since there was no cheaper plan for as long as --until-quiet says: its plan is written, and the same line goes on from there"
             );
         }
         _ => {}

@@ -1,0 +1,83 @@
+-- The least and the greatest of needs, and their sum, with one need more.
+use Rattle.std.proofs.Common.{◌≡◌, inl, inr, ℕ, zero, suc, ◌+◌, ◌*◌, ◌<◌, ◌≤◌, Option, Some, List, [], ◌∷◌, ◌++◌, min, max, map, sum, length, refl, sym, ap, ◌∙◌, subst, arith, add-zero}
+use Rattle.std.specs.Prelude.{IsSomeAnd, slice_get}
+use Rattle.std.specs.List.{range_with_len}
+use Rattle.std.proofs.lemmas.Bool.{cases_lt}
+use Rattle.std.proofs.lemmas.List.FromFn.{map-range_with_len_more}
+use Rattle.std.proofs.lemmas.List.Sums.{sum_by-cons, sum_by_push}
+use Rattle.break_rules.specs.Lists.{Has}
+use Rattle.break_rules.proofs.Lists.{Has-append_left, Has-append_right, Has-append_cases}
+use Rattle.rule_sentences.specs.declared.needs.DayNeed.{DayNeed}
+use Rattle.rule_sentences.specs.declared.needs.NeedRange.{NeedRange}
+use Rattle.rule_sentences.specs.Needs.{IsRangeOf}
+
+pub one_need : (n wanted : ℕ) → wanted ≡ n → IsRangeOf (n ∷ []) (record { least = n; greatest = n; wanted = wanted })
+one_need n wanted e = record {
+  least = λ m h. elim h [ inl s ↦ (let z : n ≡ m = s in omega arith) | inr none ↦ absurd none ];
+  some_least = inl refl;
+  greatest = λ m h. elim h [ inl s ↦ (let z : n ≡ m = s in omega arith) | inr none ↦ absurd none ];
+  some_greatest = inl refl;
+  wanted = e ∙ sym (sum_by-cons (λ (x : ℕ). x) n [] ∙ add-zero n);
+}
+
+pub one_more : (needs : List ℕ) (d e : NeedRange) (n : ℕ) → IsRangeOf needs d → e.least ≡ min d.least n → e.greatest ≡ max d.greatest n → e.wanted ≡ d.wanted + n → IsRangeOf (needs ++ n ∷ []) e
+one_more needs d e n h low high all = record {
+  least = λ m at. elim (Has-append_cases needs (n ∷ []) m at) [
+    | inl old ↦ (let z : d.least ≤ m = h.least m old in omega arith)
+    | inr new ↦ elim new [ inl s ↦ (let z : n ≡ m = s in omega arith) | inr none ↦ absurd none ]
+  ];
+  some_least = elim (cases_lt d.least n) [
+    | inl less ↦ subst (λ (k : ℕ). Has (needs ++ n ∷ []) k) (let z : d.least ≡ e.least = omega arith in z) (Has-append_left needs (n ∷ []) d.least h.some_least)
+    | inr more ↦ subst (λ (k : ℕ). Has (needs ++ n ∷ []) k) (let z : n ≡ e.least = omega arith in z) (Has-append_right needs (n ∷ []) n (inl refl))
+  ];
+  greatest = λ m at. elim (Has-append_cases needs (n ∷ []) m at) [
+    | inl old ↦ (let z : m ≤ d.greatest = h.greatest m old in omega arith)
+    | inr new ↦ elim new [ inl s ↦ (let z : n ≡ m = s in omega arith) | inr none ↦ absurd none ]
+  ];
+  some_greatest = elim (cases_lt d.greatest n) [
+    | inl less ↦ subst (λ (k : ℕ). Has (needs ++ n ∷ []) k) (let z : n ≡ e.greatest = omega arith in z) (Has-append_right needs (n ∷ []) n (inl refl))
+    | inr more ↦ subst (λ (k : ℕ). Has (needs ++ n ∷ []) k) (let z : d.greatest ≡ e.greatest = omega arith in z) (Has-append_left needs (n ∷ []) d.greatest h.some_greatest)
+  ];
+  wanted = all ∙ ap (λ (k : ℕ). k + n) h.wanted ∙ sym (sum_by_push (λ (x : ℕ). x) needs n);
+}
+
+-- the need of the first slots of a day, with one slot more
+pub record Next (f : ℕ → ℕ) (first offset : ℕ) (e : NeedRange) : Type 0 where
+  pub is : IsRangeOf (map f (range_with_len first (offset + 1))) e
+  pub few : e.wanted ≤ (offset + 1) * 10000
+
+pub next_need : (f : ℕ → ℕ) (first offset need : ℕ) (d e : NeedRange) → IsRangeOf (map f (range_with_len first offset)) d → d.wanted ≤ offset * 10000 → need ≡ f (first + offset) → need ≤ 10000
+    → ((needs : List ℕ) → IsRangeOf needs d → IsRangeOf (needs ++ need ∷ []) e) → Next f first offset e
+next_need f first offset need d e h few is small more =
+    let xs : List ℕ = map f (range_with_len first offset) in
+    let next : IsRangeOf (xs ++ need ∷ []) e = more xs h in
+    let all : e.wanted ≡ sum xs + need = next.wanted ∙ sum_by_push (λ (x : ℕ). x) xs need in
+    let before : d.wanted ≡ sum xs = h.wanted in
+    let low : e.wanted ≤ (offset + 1) * 10000 = small_sum e.wanted d.wanted (sum xs) need offset all before few small in
+    record {
+      is = subst (λ (ys : List ℕ). IsRangeOf ys e) (ap (λ (n : ℕ). xs ++ n ∷ []) is ∙ sym (map-range_with_len_more f first offset (first + offset) refl)) next;
+      few = low;
+    }
+  where
+    small_sum : (a b c n k : ℕ) → a ≡ c + n → b ≡ c → b ≤ k * 10000 → n ≤ 10000 → a ≤ (k + 1) * 10000
+    small_sum a b c n k e f g h = omega arith
+
+-- elements of a list that grows at its end
+get_old : {X : Type 0} (xs ys : List X) (k : ℕ) → k < length xs → slice_get (xs ++ ys) k ≡ slice_get xs k
+get_old [] ys k h = absurd (omega arith)
+get_old (x ∷ xs) ys zero h = refl
+get_old (x ∷ xs) ys (suc k) h = get_old xs ys k (omega arith)
+
+get_new : {X : Type 0} (xs : List X) (y : X) → slice_get (xs ++ y ∷ []) (length xs) ≡ Some y
+get_new [] y = refl
+get_new (x ∷ xs) y = get_new xs y
+
+pub each_more : (P : ℕ → DayNeed → Type 0) (xs : List DayNeed) (y : DayNeed) (n : ℕ) → length xs ≡ n → ((k : ℕ) → k < n → IsSomeAnd (slice_get xs k) (P k)) → P n y → (k : ℕ) → k < n + 1 → IsSomeAnd (slice_get (xs ++ y ∷ []) k) (P k)
+each_more P xs y n e each last k h = elim (cases_lt k n) [
+  | inl old ↦ subst (λ (o : Option DayNeed). IsSomeAnd o (P k)) (sym (get_old xs (y ∷ []) k (omega arith))) (each k old)
+  | inr new ↦
+      let same : n ≡ k = omega arith in
+      subst (λ (j : ℕ). IsSomeAnd (slice_get (xs ++ y ∷ []) j) (P j)) same
+      (subst (λ (j : ℕ). IsSomeAnd (slice_get (xs ++ y ∷ []) j) (P n)) e
+      (subst (λ (o : Option DayNeed). IsSomeAnd o (P n)) (sym (get_new xs y)) last))
+]
