@@ -1,6 +1,6 @@
 #!/usr/bin/env python3
 """Reads what `shift_plan` writes and says, by docs/DEFINITIONS.md alone: of some examples and of random small instances the report is accepted,
-`duties.csv` and `cover.csv` hold its rows, the bands and the cover, and the cost that they add up to is the one that is printed; `show` writes
+`duties.csv`, `rota.csv` and `cover.csv` hold its rows, its duties, the bands and the cover, and the cost that they add up to is the one that is printed; `show` writes
 the same files once more. Then runs that meet something in their way: another run's lock, a killed run, journals of all kinds, folders. Prints
 what is wrong, and last `N passed, M failed`, counted in instances and runs. Build the programs first."""
 import collections
@@ -25,9 +25,10 @@ from plain_reading import Reading, Trial, read_report
 
 TOP = pathlib.Path(__file__).resolve().parent.parent
 EXAMPLES = ("ward_week", "call_day", "airport_day")
-FILES = ("report", "duties.csv", "cover.csv", "plan.html")
+FILES = ("report", "rota.csv", "duties.csv", "cover.csv", "plan.html")
 INSTANCES = 10
 DUTY_COLUMNS, SLOT_COLUMNS = "day start end type employees breaks", "day time need need_max working on_break over under"
+ROTA_COLUMNS = "day start end next_day type paid worked"
 
 
 def program(name):
@@ -71,6 +72,10 @@ class Folder:
             lines = list(csv.reader(source))
         return lines[1:] if lines[0] == columns.split() else []
 
+    def lines(self, name):
+        with open(self.path / "week.plan" / name, newline="") as source:
+            return list(csv.reader(source))
+
     def period(self, first, length):
         return "%s-%s" % (clock(first * self.minutes), clock((first + length) * self.minutes))
 
@@ -85,6 +90,22 @@ class Folder:
             line = [first // self.reading.day_slots + 1, *self.period(start, length).split("-"), names[row.shift], row.count, breaks]
             found.append((first, list(map(str, line))))
         return [line for _, line in sorted(found, key=lambda one: one[0])]
+
+    def rota(self, rows):
+        """The lines of `rota.csv` for these rows, with the names of its columns."""
+        names = [kind["name"] for kind in self.document["types"] for _ in range((kind["start_max"] - kind["start_min"] + 1) * (kind["len_max"] - kind["len_min"] + 1))]
+        most, found = max([len(row.breaks) for row in rows], default=0), []
+        for row in rows:
+            _, length, start = self.reading.shifts[row.shift]
+            first = (row.day * self.reading.day_slots + start) % len(self.reading.need)
+            worked = length - sum(size for _, size in row.breaks)
+            paid, worked = ("%d:%02d" % divmod(slots * self.minutes, 60) for slots in (length, worked))
+            late = "yes" if start % self.reading.day_slots + length >= self.reading.day_slots else "no"
+            times = [time for begin, size in row.breaks for time in self.period(start + begin, size).split("-")]
+            line = [first // self.reading.day_slots + 1, *self.period(start, length).split("-"), late, names[row.shift], paid, worked, *times]
+            found += [(first, list(map(str, line)) + [""] * (2 * most - len(times)))] * row.count
+        columns = ["break_%d_%s" % (number + 1, end) for number in range(most) for end in ("start", "end")]
+        return [ROTA_COLUMNS.split() + columns, *(line for _, line in sorted(found, key=lambda one: one[0]))]
 
     def cover(self, rows):
         """The lines of `cover.csv` for these rows."""
@@ -122,6 +143,7 @@ class Folder:
             ("the report isn't accepted", accepted == 0),
             ("the rows aren't legal at their cost", self.reading.are_legal(report.rows) and self.reading.cost(report.rows) == report.cost),
             ("duties.csv holds something else than the rows", self.table("duties.csv", DUTY_COLUMNS) == self.duties(report.rows)),
+            ("rota.csv holds something else than the duties", self.lines("rota.csv") == self.rota(report.rows)),
             ("cover.csv holds something else than need and cover", self.table("cover.csv", SLOT_COLUMNS) == list(self.cover(report.rows))),
             ("the printed cost is another one", re.search(r"^cost +(\d+)$", said, re.M).group(1) == str(self.added_up()) == str(report.cost)),
             ("the page takes something from elsewhere", not re.search(r"<script|https?://(?!www\.w3\.org/)|url\((?!#)|<link", page)),

@@ -7,4 +7,3 @@ pub mod Starting
 pub mod Records
 pub mod SummaryLines
 pub mod DutyLines
-pub mod Written

@@ -1,6 +1,6 @@
 //! What the system does with a file: no clause says it.
 
-use planning_files::set_aside;
+use planning_files::{set_aside, write_kept};
 use std::fs;
 use std::test::Fail;
 
@@ -17,5 +17,17 @@ fn old_journals_keep_names_of_their_own(rt: HostRuntime) -> Result<(), Fail> {
     );
     assert_eq!(rt; fs::read_to_string(&rt, "old.journal.1")?.as_str(), "first");
     assert!(rt; !fs::exists(&rt, "old.journal")?);
+    Ok(())
+}
+
+#[test]
+fn what_stands_there_is_kept(rt: HostRuntime) -> Result<(), Fail> {
+    fs::write(&rt, "kept.csv", "by hand")?;
+    let kept = write_kept(rt, ".", "kept.csv", b"written")?.ok_or("not kept")?;
+    assert_eq!(rt; kept.as_str(), "./kept.csv.1");
+    assert_eq!(rt; fs::read_to_string(&rt, "kept.csv.1")?.as_str(), "by hand");
+    assert!(rt; write_kept(rt, ".", "kept.csv", b"written")?.is_none());
+    assert!(rt; write_kept(rt, ".", "fresh.csv", b"written")?.is_none());
+    assert_eq!(rt; fs::read_to_string(&rt, "fresh.csv")?.as_str(), "written");
     Ok(())
 }

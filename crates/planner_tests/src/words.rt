@@ -85,6 +85,31 @@ fn a_report_is_shown(rt: HostRuntime) -> Result<(), Fail> {
     }
 }
 
+/// What a line asks for beside a plan or a report that is shown: its command and its two files.
+fn files_at(alloc: Global, line: &str) -> Result<Option<String>, AllocError> {
+    let words = words_of(alloc, line)?;
+    let (command, first, second) = match wanted_by(alloc, words.as_slice()) {
+        Ok(Wanted::Check(check)) => ("check", check.instance, check.report),
+        Ok(Wanted::Import(tables)) => ("import", tables.folder, tables.instance),
+        Ok(Wanted::Export(tables)) => ("export", tables.instance, tables.folder),
+        _ => return Ok(None),
+    };
+    Ok(Some(format!(in alloc; "{command} {first} {second}")?))
+}
+
+#[test]
+fn a_report_is_judged_and_tables_are_read_and_written(rt: HostRuntime) -> Result<(), Fail> {
+    let alloc = rt.alloc();
+    for line in ["check w.json r", "import t w.json", "export w.json t"] {
+        let words = format!(in alloc; "shift_plan {line}")?;
+        let found = files_at(alloc, words.as_str())?.ok_or("nothing of these")?;
+        assert_eq!(rt; found.as_str(), line);
+    }
+    let kind = kind_at(alloc, "shift_plan import t")?;
+    assert!(rt; matches!(kind, Some(ErrorKind::MissingRequiredArgument)));
+    Ok(())
+}
+
 #[test]
 fn other_words_are_refused(rt: HostRuntime) -> Result<(), Fail> {
     let alloc = rt.alloc();

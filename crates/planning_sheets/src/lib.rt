@@ -4,4 +4,5 @@
 mod sheets;
 mod standing;
 
-pub use sheets::{ready_folder, show_plan};
+pub use sheets::{ready_folder, say, show_plan};
+pub use standing::standing;

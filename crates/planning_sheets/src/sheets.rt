@@ -10,6 +10,7 @@ use planning_files::{make_folder, write_whole};
 use planning_refusals::{Cause, Refusal};
 use planning_runs::Plan;
 use refusal_texts::Role;
+use rota_table::rota_csv;
 use shift_instance::{Instance, Rows};
 use std::alloc::{AllocError, Global};
 use std::io::{self, Write};
@@ -42,6 +43,8 @@ fn write_file(rt: HostRuntime, folder: &str, name: &str, bytes: &[u8]) -> Result
 /// The files of a plan, and what is said of it.
 #[derive(Drop)]
 struct Sheets {
+    /// Its rota, to be hung up, as comma-separated values.
+    rota: Vec<u8>,
     /// Its duties as comma-separated values.
     duties: Vec<u8>,
     /// Its slots as comma-separated values.
@@ -64,6 +67,7 @@ impl Sheets {
         requires { IsTrue (are_legal_rows instance.now rows.now) }
     {
         let summary = Summary::new(alloc, instance, rows)?;
+        let rota = rota_csv(alloc, instance, rows)?;
         let duties = duties_csv(alloc, instance, rows)?;
         let cover = cover_csv(alloc, instance, rows)?;
         let page = plan_page(alloc, instance, rows, heading, standing)?;
@@ -71,6 +75,7 @@ impl Sheets {
         let table = duties_table(alloc, instance, rows)?;
         let said = format!(in alloc; "{}\n{}", sums.as_str(), table.as_str())?;
         Ok(Sheets {
+            rota,
             duties,
             cover,
             page,
@@ -79,8 +84,8 @@ impl Sheets {
     }
 }
 
-/// Says a text on standard output. Where nobody takes it, the files stand all the same.
-fn say(rt: HostRuntime, text: &str) {
+/// Says a text on standard output. Where nobody takes it, the files that were written stand all the same.
+pub fn say(rt: HostRuntime, text: &str) {
     let mut out = rt.stdout();
     let _ = out.write_all(text.as_bytes());
     let _ = out.flush();
@@ -106,11 +111,12 @@ pub fn show_plan(
     let stands = standing(alloc, &plan.cert, *cost)?;
     let sheets = Sheets::new(alloc, &plan.instance, rows, instance, stands.as_str())?;
     write_file(rt, folder, "report", plan.report.as_slice())?;
+    write_file(rt, folder, "rota.csv", sheets.rota.as_slice())?;
     write_file(rt, folder, "duties.csv", sheets.duties.as_slice())?;
     write_file(rt, folder, "cover.csv", sheets.cover.as_slice())?;
     write_file(rt, folder, "plan.html", sheets.page.as_bytes())?;
     let text = format!(in alloc;
-        "{}\n\n{}\nThe plan is in the folder {folder}: plan.html, duties.csv, cover.csv and report.\n",
+        "{}\n\n{}\nThe plan is in the folder {folder}: plan.html, rota.csv, duties.csv, cover.csv and report.\n",
         stands.as_str(),
         sheets.said.as_str()
     )?;

@@ -3,6 +3,7 @@
 ghost use Rattle.std.specs.Prelude.{◌≤◌, IfOk};
 ghost use Rattle.planning_words.specs.Wanted.{IsWithin};
 
+use crate::tables::{TableWords, export_command, import_command, table_words};
 use clap::{Arg, ArgAction, ArgMatches, Command, Error, value_parser};
 use std::alloc::{AllocError, Global};
 
@@ -34,7 +35,16 @@ Examples:
       Searches for ten minutes with eight workers and writes the plan to the folder rota.
 
   shift_plan show week.json week.plan/report
-      Judges a report that stands and shows its plan once more.";
+      Judges a report that stands and shows its plan once more.
+
+  shift_plan check week.json week.plan/report
+      Judges a report that stands and says what came of it.
+
+  shift_plan import tables week.json
+      Writes the document of the tables settings.csv, need.csv, types.csv and rules.csv in the folder tables.
+
+  shift_plan export week.json tables
+      Writes the tables of a document to the folder tables.";
 
 /// At what else than its time a search is to end.
 #[derive(Clone, Copy, PartialEq, Eq, Drop)]
@@ -75,6 +85,15 @@ pub struct ShowWords<'a> {
     pub out: Option<&'a str>,
 }
 
+/// The words that ask for a report to be judged.
+#[derive(Clone, Copy, Drop)]
+pub struct CheckWords<'a> {
+    /// The file of the instance document.
+    pub instance: &'a str,
+    /// The file of the report.
+    pub report: &'a str,
+}
+
 /// What a command line asks for.
 #[derive(Clone, Copy, Drop)]
 pub enum Wanted<'a> {
@@ -82,6 +101,12 @@ pub enum Wanted<'a> {
     Plan(PlanWords<'a>),
     /// A report that stands, shown once more.
     Show(ShowWords<'a>),
+    /// A report that stands, judged.
+    Check(CheckWords<'a>),
+    /// The document of tables.
+    Import(TableWords<'a>),
+    /// The tables of a document.
+    Export(TableWords<'a>),
 }
 
 /// The word for the folder of a plan.
@@ -92,7 +117,7 @@ fn out_word<'a>(alloc: Global) -> Arg<'a> {
 }
 
 /// The word for the instance.
-fn instance_word<'a>(alloc: Global) -> Arg<'a> {
+pub(crate) fn instance_word<'a>(alloc: Global) -> Arg<'a> {
     Arg::new(alloc, "INSTANCE")
         .required(true)
         .help("The file of the instance document")
@@ -165,16 +190,28 @@ fn plan_command<'a>(alloc: Global) -> Result<Command<'a>, AllocError> {
         .arg(anew_word(alloc))
 }
 
+/// The word for the report.
+fn report_word<'a>(alloc: Global) -> Arg<'a> {
+    Arg::new(alloc, "REPORT")
+        .required(true)
+        .help("The file of the report")
+}
+
 /// The words behind `show`.
 fn show_command<'a>(alloc: Global) -> Result<Command<'a>, AllocError> {
-    let report = Arg::new(alloc, "REPORT")
-        .required(true)
-        .help("The file of the report");
     Command::new(alloc, "show")
         .about("Judges a report that stands and shows its plan")
         .arg(instance_word(alloc))?
-        .arg(report)?
+        .arg(report_word(alloc))?
         .arg(out_word(alloc))
+}
+
+/// The words behind `check`.
+fn check_command<'a>(alloc: Global) -> Result<Command<'a>, AllocError> {
+    Command::new(alloc, "check")
+        .about("Judges a report that stands and says what came of it")
+        .arg(instance_word(alloc))?
+        .arg(report_word(alloc))
 }
 
 /// The program without its commands.
@@ -186,11 +223,19 @@ fn program<'a>(alloc: Global) -> Command<'a> {
         .arg_required_else_help(true)
 }
 
-/// The whole command line.
-fn command<'a>(alloc: Global) -> Result<Command<'a>, AllocError> {
+/// The program with the commands for plans.
+fn planning_command<'a>(alloc: Global) -> Result<Command<'a>, AllocError> {
     let plan = plan_command(alloc)?;
     let planning = program(alloc).subcommand(plan)?;
-    planning.subcommand(show_command(alloc)?)
+    let showing = planning.subcommand(show_command(alloc)?)?;
+    showing.subcommand(check_command(alloc)?)
+}
+
+/// The whole command line.
+fn command<'a>(alloc: Global) -> Result<Command<'a>, AllocError> {
+    let planning = planning_command(alloc)?;
+    let importing = planning.subcommand(import_command(alloc)?)?;
+    importing.subcommand(export_command(alloc)?)
 }
 
 /// What ends a search, by its word.
@@ -231,11 +276,20 @@ fn show_words<'a>(matches: &ArgMatches<'a>) -> ShowWords<'a> {
     }
 }
 
+/// What the words behind `check` ask for.
+fn check_words<'a>(matches: &ArgMatches<'a>) -> CheckWords<'a> {
+    CheckWords {
+        // required words are there
+        instance: matches.get_str("INSTANCE").unwrap_or(""),
+        report: matches.get_str("REPORT").unwrap_or(""),
+    }
+}
+
 /// What the words of a command line ask for, the program's name first among them. The error is what clap says of other words, and the help
 /// where that is asked for.
 ///
-/// The words are `plan INSTANCE [--journal FILE] [--seconds T] [--workers W] [--out FOLDER] [--stop-on line|enter] [--anew]` or
-/// `show INSTANCE REPORT [--out FOLDER]`. T is at most 4,000,000 and 60 where it isn't given, W is from 1 to 16 and 4 where it isn't
+/// The words are `plan INSTANCE [--journal FILE] [--seconds T] [--workers W] [--out FOLDER] [--stop-on line|enter] [--anew]`,
+/// `show INSTANCE REPORT [--out FOLDER]`, `check INSTANCE REPORT`, `import FOLDER INSTANCE` or `export INSTANCE FOLDER`. T is at most 4,000,000 and 60 where it isn't given, W is from 1 to 16 and 4 where it isn't
 /// given.
 pub fn wanted_by<'a>(alloc: Global, words: &'a [String]) -> Result<Wanted<'a>, Error>
     ensures { IfOk result IsWithin }
@@ -243,8 +297,11 @@ pub fn wanted_by<'a>(alloc: Global, words: &'a [String]) -> Result<Wanted<'a>, E
     let matches = command(alloc)?.try_get_matches_from(words)?;
     match matches.subcommand() {
         Some(("show", behind)) => Ok(Wanted::Show(show_words(behind))),
+        Some(("check", behind)) => Ok(Wanted::Check(check_words(behind))),
+        Some(("import", behind)) => Ok(Wanted::Import(table_words(behind))),
+        Some(("export", behind)) => Ok(Wanted::Export(table_words(behind))),
         Some((_, behind)) => Ok(Wanted::Plan(plan_words(behind))),
-        // one of the two is required
+        // one of the commands is required
         None => Ok(Wanted::Plan(plan_words(&matches))),
     }
 }

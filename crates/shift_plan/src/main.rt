@@ -1,11 +1,15 @@
 //! Shift plans for people: `shift_plan plan INSTANCE` searches for a cheapest plan within a time and writes it to a folder, and
-//! `shift_plan show INSTANCE REPORT` does so with the plan of a report that stands.
+//! `shift_plan show INSTANCE REPORT` does so with the plan of a report that stands; `shift_plan check INSTANCE REPORT` judges one.
+//! `shift_plan import FOLDER INSTANCE` writes the document of a spreadsheet's tables, and `shift_plan export INSTANCE FOLDER` the tables
+//! of a document.
 #![tactic(auto)]
 
+mod checking;
 mod journals;
 mod listening;
 mod planning;
 mod showing;
+mod tables;
 mod telling;
 
 use planning_refusals::{Cause, Refusal};
@@ -50,6 +54,9 @@ fn answer<R: Threads + Wait + Sync>(
     match wanted {
         Wanted::Plan(words) => planning::plan(host, rt, &words)?,
         Wanted::Show(words) => showing::show(host, &words)?,
+        Wanted::Check(words) => checking::check(host, &words)?,
+        Wanted::Import(words) => tables::import(host, &words)?,
+        Wanted::Export(words) => tables::export(host, &words)?,
     }
     Ok(0)
 }

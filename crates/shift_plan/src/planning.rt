@@ -39,7 +39,7 @@ pub(crate) fn folder_of(
 }
 
 /// The instance of a document.
-fn instance_in(alloc: Global, document: &[u8]) -> Result<Instance, Refusal> {
+pub(crate) fn instance_in(alloc: Global, document: &[u8]) -> Result<Instance, Refusal> {
     match instance_json::read(alloc, document) {
         Ok(instance) => Ok(instance),
         Err(why) => Err(Refusal::document(alloc, document, &why)),

@@ -2,6 +2,7 @@
 
 use instance_warnings::warnings;
 use journal_texts::full_sentence;
+use plan_tables::Hours;
 use planning_progress::{Progress, Shown};
 use planning_refusals::Refusal;
 use shift_instance::Instance;
@@ -17,6 +18,16 @@ pub(crate) fn shown_on(rt: HostRuntime, enter_ends: bool) -> Shown {
     } else {
         Shown::Below
     }
+}
+
+/// The hours wanted in all slots of an instance together.
+pub(crate) fn hours_wanted(instance: &Instance) -> Hours {
+    let parts = instance.parts();
+    let mut wanted: u64 = 0;
+    for need in &parts.need {
+        wanted = wanted.saturating_add(u64::from(*need));
+    }
+    Hours::of_slots(instance, wanted)
 }
 
 /// Says what a planner should know of an instance before it is searched.
