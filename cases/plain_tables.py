@@ -1,7 +1,7 @@
 #!/usr/bin/env python3
 """Reads the tables that `shift_plan export` writes, by docs/FORMATS.md alone: of each example and of random instances they hold the numbers of the
 document, and `shift_plan import` writes the canonical text of the same instance from them, and from tables that say the same otherwise: with
-semicolons, a byte order mark, decimal hours, columns in another order, and a row for each step in which the need stays the same. Words: the number of
+semicolons, a byte order mark, decimal hours, columns in another order, and a row for each step in which the band stays the same. Words: the number of
 random instances (1000 where none is given) and a seed (1). Prints what is wrong, and last `N passed, M failed`. Build `shift_plan` first."""
 import csv
 import io
@@ -25,9 +25,10 @@ LETTERS = "abcXYZ019,;\"<>&.=+-@'"
 
 
 def whole(document):
-    """The document with every field, as its canonical text has it."""
+    """The document with every field, as its canonical text has it: `need_max` is left out where it is `need` once more."""
     types = [{**kind, "breaks": {**PLAIN, **(kind.get("breaks") or {})} if kind.get("breaks") else PLAIN} for kind in document["types"]]
-    return {**document, "types": types}
+    most = {"need_max": document["need_max"]} if document.get("need_max", document["need"]) != document["need"] else {}
+    return {**{field: value for field, value in document.items() if field != "need_max"}, **most, "types": types}
 
 
 def canonical(document):
@@ -54,8 +55,9 @@ class Tables:
         return [["slot_minutes", "days", "excess", "shortage", "shift", "max_heads"], list(map(str, numbers))]
 
     def need(self):
-        rows = [[str(slot // self.day_slots + 1), self.span(slot % self.day_slots), str(need)] for slot, need in enumerate(self.document["need"])]
-        return [["day", "time", "need"], *rows]
+        bands = zip(self.document["need"], self.document.get("need_max", self.document["need"]))
+        rows = [[str(slot // self.day_slots + 1), self.span(slot % self.day_slots), str(need), "" if most == need else str(most)] for slot, (need, most) in enumerate(bands)]
+        return [["day", "time", "need", "need_max"], *rows]
 
     def types(self):
         head = ["name", "first_start", "last_start", "shortest", "longest", "rule"]
@@ -90,22 +92,29 @@ def decimal(draws, cell):
 
 
 def fewer(rows, day_slots):
-    """The rows of needs without those of a step in which the need stays the same, where such a step divides the day."""
+    """The rows of needs without those of a step in which the band stays the same, where such a step divides the day."""
     head, rows = rows[0], rows[1:]
     kept = []
     for first in range(0, len(rows), day_slots):
         day = rows[first:first + day_slots]
         steps = [step for step in range(1, day_slots + 1)
-                 if day_slots % step == 0 and all(len({row[2] for row in day[at:at + step]}) == 1 for at in range(0, day_slots, step))]
+                 if day_slots % step == 0 and all(len({tuple(row[2:]) for row in day[at:at + step]}) == 1 for at in range(0, day_slots, step))]
         kept += day[::max(steps)]
     return [head, *kept]
+
+
+def stated(draws, rows):
+    """The rows of needs without the column of the most wanted where no row has them, or with each of them."""
+    if not any(row[3] for row in rows[1:]):
+        return [row[:3] for row in rows]
+    return [[*row[:3], row[3] or draws.choice(("", row[2]))] for row in rows]
 
 
 def otherwise(draws, tables, day_slots):
     """The same tables as another spreadsheet writes them."""
     found = {}
     for name, rows in tables.items():
-        rows = fewer(rows, day_slots) if name == "need.csv" else rows
+        rows = stated(draws, fewer(rows, day_slots)) if name == "need.csv" else rows
         spans = [place for place, column in enumerate(rows[0]) if column in ("time", "first_start", "last_start", "shortest", "longest", *UNSAID, "long_rest") and name != "settings.csv"]
         rows = [rows[0], *([decimal(draws, cell) if place in spans and cell else cell for place, cell in enumerate(row)] for row in rows[1:])]
         places = draws.sample(range(len(rows[0])), len(rows[0]))
@@ -145,12 +154,17 @@ class Draws(random.Random):
         return {"name": self.name(names), "start_min": start, "start_max": min(2 * day_slots - 1, start + self.randint(0, 7)), "len_min": length,
                 "len_max": min(day_slots, length + self.randint(0, 7)), "breaks": self.choice((None, self.rule()))}
 
+    def most(self, need):
+        return self.choice((need, need, self.randint(need, 10000)))
+
     def document(self):
         minutes, days = self.choice((5, 10, 15, 20, 30, 60)), self.randint(1, 7)
         day_slots, names = 1440 // minutes, set()
         step = self.choice([step for step in range(1, day_slots + 1) if day_slots % step == 0])
         need = [count for _ in range(days * day_slots // step) for count in [self.choice((0, 1, self.randint(0, 10000)))] * step]
-        return {"slot_minutes": minutes, "days": days, "need": need, "max_heads": self.randint(1, 200),
+        most = [end for first in range(0, len(need), step) for end in [self.most(need[first])] * step]
+        band = self.choice(({}, {}, {"need_max": need}, {"need_max": most}))
+        return {"slot_minutes": minutes, "days": days, "need": need, **band, "max_heads": self.randint(1, 200),
                 "weights": {part: self.choice((0, 1, self.randint(0, 1000000))) for part in ("excess", "shortage", "shift")},
                 "types": [self.kind(day_slots, names) for _ in range(self.choice((1, 2, 3, 16)))]}
 

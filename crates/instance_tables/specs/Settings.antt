@@ -1,9 +1,9 @@
 -- The settings and the needs of an instance as tables. What a record is written as is `csv`'s own definition.
-use Rattle.std.specs.Prelude.{ℕ, ◌+◌, ◌/◌, ◌%◌, List, [], ◌∷◌, ◌++◌, codes}
+use Rattle.std.specs.Prelude.{ℕ, ◌+◌, ◌/◌, ◌%◌, ◌==◌, List, [], ◌∷◌, ◌++◌, codes, if◌then◌else◌}
 use Rattle.std.specs.List.{flat_map}
 use Rattle.std.specs.Fmt.{decimal}
 use Rattle.csv.specs.Writing.{default_writer, row_text}
-use Rattle.shift_instance.specs.Problem.{Problem, below, day_slots, need_at, slots}
+use Rattle.shift_instance.specs.Problem.{Problem, below, day_slots, need_at, need_max_at, slots}
 use Rattle.instance_tables.specs.Times.{slots_text}
 
 -- the names of the columns of the settings
@@ -20,11 +20,15 @@ settings_text i = row_text default_writer settings_columns ++ row_text default_w
 
 -- the names of the columns of the needs
 abbrev pub need_columns : List (List ℕ)
-need_columns = codes "day" ∷ codes "time" ∷ codes "need" ∷ []
+need_columns = codes "day" ∷ codes "time" ∷ codes "need" ∷ codes "need_max" ∷ []
 
--- a slot of the planning period: its day, counted from 1, when it begins, and the employees that are wanted
+-- the most employees that are wanted in a slot, and nothing where they are the least
+abbrev pub need_max_text : Problem → ℕ → List ℕ
+need_max_text i t = if need_max_at i t == need_at i t then [] else decimal (need_max_at i t)
+
+-- a slot of the planning period: its day, counted from 1, when it begins, and the employees that are wanted, at least and at most
 abbrev pub need_fields : Problem → ℕ → List (List ℕ)
-need_fields i t = decimal (t / day_slots i + 1) ∷ slots_text i.slot_minutes (t % day_slots i) ∷ decimal (need_at i t) ∷ []
+need_fields i t = decimal (t / day_slots i + 1) ∷ slots_text i.slot_minutes (t % day_slots i) ∷ decimal (need_at i t) ∷ need_max_text i t ∷ []
 
 -- the table of needs: the names of its columns, and a row for each slot
 abbrev pub need_text : Problem → List ℕ

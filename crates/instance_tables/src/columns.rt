@@ -34,8 +34,10 @@ pub enum Column {
     Day,
     /// The time of day from which on a need holds.
     Time,
-    /// The wanted employees.
+    /// The least wanted employees.
     Need,
+    /// The most wanted employees.
+    NeedMax,
     /// The name of a type.
     Name,
     /// The earliest time at which its shifts start.
@@ -81,7 +83,7 @@ const OF_SETTINGS: &[Column] = &[
     Column::MaxHeads,
 ];
 
-const OF_NEED: &[Column] = &[Column::Day, Column::Time, Column::Need];
+const OF_NEED: &[Column] = &[Column::Day, Column::Time, Column::Need, Column::NeedMax];
 
 const OF_TYPES: &[Column] = &[
     Column::Name,
@@ -128,9 +130,12 @@ impl Table {
         }
     }
 
-    /// Whether it must have a column: a break rule may leave out all parts that limit nothing.
+    /// Whether it must have a column: a break rule may leave out all parts that limit nothing, and needs the most wanted employees.
     pub(crate) fn must_have(self, column: Column) -> bool {
-        self != Table::Rules || column == Column::Rule
+        match self {
+            Table::Rules => column == Column::Rule,
+            _ => column != Column::NeedMax,
+        }
     }
 
     /// The column of it that has a name, if one has.
@@ -161,6 +166,7 @@ impl Column {
             Column::Day => "day",
             Column::Time => "time",
             Column::Need => "need",
+            Column::NeedMax => "need_max",
             Column::Name => "name",
             Column::FirstStart => "first_start",
             Column::LastStart => "last_start",

@@ -5,7 +5,7 @@ ghost use Rattle.csv.specs.Writing.{default_writer, row_text};
 ghost use Rattle.shift_instance.specs.Problem.{day_slots, slots};
 ghost use Rattle.table_records.specs.Guarding.{guarded};
 ghost use Rattle.instance_tables.specs.Times.{slots_text};
-ghost use Rattle.instance_tables.specs.Settings.{need_fields, need_text, settings_text};
+ghost use Rattle.instance_tables.specs.Settings.{need_fields, need_max_text, need_text, settings_text};
 ghost use Rattle.instance_tables.specs.Types.{is_plain, rule_name, type_row, types_text};
 ghost use Rattle.instance_tables.specs.RuleRows.{rules_text};
 
@@ -88,6 +88,19 @@ fn time_of_slot(alloc: Global, instance: &Instance, slot: u32) -> Result<String,
     time.to_string(alloc)
 }
 
+/// The most wanted employees of a slot, and nothing where they are the least.
+fn most_wanted(alloc: Global, instance: &Instance, t: usize) -> Result<String, NoMemory>
+    requires { t < slots instance.now }
+    ensures { IfOk result (λ text. string_bytes text ≡ need_max_text instance.now t) }
+{
+    let most = instance.need_max(t);
+    if most == instance.need(t) {
+        Ok(String::new(alloc))
+    } else {
+        most.to_string(alloc)
+    }
+}
+
 /// Adds the row of a slot.
 fn with_slot(
     alloc: Global,
@@ -103,14 +116,20 @@ fn with_slot(
     let day = (t / per_day + 1).to_string(alloc)?;
     let time = time_of_slot(alloc, instance, (t % per_day) as u32)?;
     let need = wanted.to_string(alloc)?;
-    records.with(&[day.as_bytes(), time.as_bytes(), need.as_bytes()])
+    let most = most_wanted(alloc, instance, t)?;
+    records.with(&[
+        day.as_bytes(),
+        time.as_bytes(),
+        need.as_bytes(),
+        most.as_bytes(),
+    ])
 }
 
 /// The needs of an instance as a table.
 fn need_table(alloc: Global, instance: &Instance) -> Result<Vec<u8>, NoMemory>
     ensures { IfOk result (λ text. text.items ≡ need_text instance.now) }
 {
-    let mut records = Records::new(alloc).with(&[b"day", b"time", b"need"])?;
+    let mut records = Records::new(alloc).with(&[b"day", b"time", b"need", b"need_max"])?;
     for t in 0..instance.slots() {
         records = with_slot(alloc, records, instance, t)?;
     }

@@ -41,13 +41,14 @@ fn rules_of(
 /// what stands there and what may stand there.
 pub fn imported(alloc: Global, tables: &Tables) -> Result<Instance, ImportRefusal> {
     let settings = read_settings(alloc, tables.settings)?;
-    let need = read_need(alloc, &settings, tables.need)?;
+    let bands = read_need(alloc, &settings, tables.need)?;
     let rules = rules_of(alloc, settings.grid, tables.rules)?;
     let types = TypeTable::read(alloc, tables.types)?;
     let parts = Parts {
         slot_minutes: settings.grid.slot_minutes,
         days: settings.days,
-        need,
+        need: bands.need,
+        need_max: bands.need_max,
         max_heads: settings.max_heads,
         excess: settings.excess,
         shortage: settings.shortage,

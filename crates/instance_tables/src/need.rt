@@ -17,7 +17,37 @@ struct Said {
     /// The number of the row.
     row: u64,
     /// The wanted employees.
+    band: Band,
+}
+
+/// The wanted employees of a slot.
+#[derive(Clone, Copy, Drop)]
+struct Band {
+    /// The least.
     need: u32,
+    /// The most.
+    need_max: u32,
+}
+
+/// The wanted employees of each slot of the planning period.
+#[derive(Drop)]
+pub(crate) struct Bands {
+    /// The least of each slot.
+    pub(crate) need: Vec<u32>,
+    /// The most of each slot.
+    pub(crate) need_max: Vec<u32>,
+}
+
+/// The wanted employees of a row. The most are the least where their cell is empty.
+fn band_in(alloc: Global, sheet: &Sheet, row: &SheetRow) -> Result<Band, ImportRefusal> {
+    let need = sheet.cell(row, Column::Need).number(alloc, 0, NEED_MOST)?;
+    let most = sheet.cell(row, Column::NeedMax);
+    let need_max = if most.text.is_empty() {
+        need
+    } else {
+        most.number(alloc, need, NEED_MOST)?
+    };
+    Ok(Band { need, need_max })
 }
 
 /// The slot of a day at the time that a cell spells, counted from 0.
@@ -39,7 +69,7 @@ fn note_row(
         .number(alloc, 1, u32::from(settings.days))?;
     let time = sheet.cell(row, Column::Time);
     let slot = slot_in(alloc, settings.grid, time)?;
-    let need = sheet.cell(row, Column::Need).number(alloc, 0, NEED_MOST)?;
+    let band = band_in(alloc, sheet, row)?;
     let days = u64::from(day - 1);
     let at = days
         .saturating_mul(u64::from(settings.grid.day_slots))
@@ -52,7 +82,7 @@ fn note_row(
             }
             *place = Some(Said {
                 row: row.number,
-                need,
+                band,
             });
             Ok(())
         }
@@ -89,9 +119,9 @@ fn step_of(day: &[Option<Said>]) -> usize {
     1
 }
 
-/// Adds the need of a day, each row's as long as a step lasts. The first step that has no row is refused.
+/// Adds the wanted employees of a day, each row's as long as a step lasts. The first step that has no row is refused.
 fn add_day(
-    need: &mut Vec<u32>,
+    bands: &mut Bands,
     grid: Grid,
     number: u16,
     day: &[Option<Said>],
@@ -99,11 +129,14 @@ fn add_day(
     let step = step_of(day);
     let slot_minutes = u64::from(grid.slot_minutes);
     let mut left = 0;
-    let mut wanted = 0;
+    let mut wanted = Band {
+        need: 0,
+        need_max: 0,
+    };
     let mut time: u64 = 0;
     for said in day {
         match said {
-            Some(said) => wanted = said.need,
+            Some(said) => wanted = said.band,
             None if left == 0 => {
                 let why = Why::Gap {
                     day: number,
@@ -120,7 +153,8 @@ fn add_day(
             left - 1
         };
         time = time.saturating_add(slot_minutes);
-        need.push(wanted)?;
+        bands.need.push(wanted.need)?;
+        bands.need_max.push(wanted.need_max)?;
     }
     Ok(())
 }
@@ -147,15 +181,18 @@ pub(crate) fn read_need(
     alloc: Global,
     settings: &Settings,
     bytes: &[u8],
-) -> Result<Vec<u32>, ImportRefusal> {
+) -> Result<Bands, ImportRefusal> {
     let sheet = Sheet::read(alloc, Table::Need, bytes)?;
     let said = said_by(alloc, settings, &sheet)?;
     let per_day = usize::from(settings.grid.day_slots.max(1));
-    let mut need = Vec::new(alloc);
+    let mut bands = Bands {
+        need: Vec::new(alloc),
+        need_max: Vec::new(alloc),
+    };
     let mut number: u16 = 0;
     for day in said.as_slice().chunks(per_day) {
         number = number.saturating_add(1);
-        add_day(&mut need, settings.grid, number, day)?;
+        add_day(&mut bands, settings.grid, number, day)?;
     }
-    Ok(need)
+    Ok(bands)
 }

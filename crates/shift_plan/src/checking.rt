@@ -16,11 +16,12 @@ fn document_text(
     instance: &Instance,
 ) -> Result<String, AllocError> {
     let days = instance.days();
+    let hours = hours_wanted(alloc, instance)?;
     let between = if days == 1 { "day" } else { "days" };
     format!(in alloc;
         "The document {} has {days} {between} and {} hours wanted.\n",
         words.instance,
-        hours_wanted(instance)
+        hours.as_str()
     )
 }
 

@@ -86,6 +86,25 @@ fn folder_and_name(path: &str) -> (&str, &str) {
     }
 }
 
+/// What is said of a document that is written.
+fn written_text(
+    alloc: Global,
+    words: &TableWords,
+    instance: &Instance,
+) -> Result<String, AllocError> {
+    let parts = instance.parts();
+    let wanted = hours_wanted(alloc, instance)?;
+    format!(in alloc;
+        "The document is {}. Days: {}, minutes of a slot: {}, hours wanted: {}, types: {}, shifts: {}.\n",
+        words.instance,
+        parts.days,
+        parts.slot_minutes,
+        wanted.as_str(),
+        parts.types.len(),
+        instance.shifts().len()
+    )
+}
+
 /// Reads the tables in a folder and writes their document.
 pub(crate) fn import(rt: HostRuntime, words: &TableWords) -> Result<(), Refusal> {
     let alloc = rt.alloc();
@@ -93,17 +112,7 @@ pub(crate) fn import(rt: HostRuntime, words: &TableWords) -> Result<(), Refusal>
     let document = instance_json::canonical(alloc, &instance)?;
     let (folder, name) = folder_and_name(words.instance);
     write_file(rt, Role::Instance, folder, name, document.as_slice())?;
-    let parts = instance.parts();
-    let text = format!(in alloc;
-        "The document is {}: {} days of slots of {} minutes, {} hours wanted, {} types with {} shifts.\n",
-        words.instance,
-        parts.days,
-        parts.slot_minutes,
-        hours_wanted(&instance),
-        parts.types.len(),
-        instance.shifts().len()
-    )?;
-    say(rt, text.as_str());
+    say(rt, written_text(alloc, words, &instance)?.as_str());
     Ok(())
 }
 

@@ -7,6 +7,7 @@ use planning_progress::{Progress, Shown};
 use planning_refusals::Refusal;
 use shift_instance::Instance;
 use solve_runs::SearchEnd;
+use std::alloc::{AllocError, Global};
 use std::io::IsTerminal;
 use std::sync::Arc;
 use worker_gate::Gate;
@@ -20,14 +21,25 @@ pub(crate) fn shown_on(rt: HostRuntime, enter_ends: bool) -> Shown {
     }
 }
 
-/// The hours wanted in all slots of an instance together.
-pub(crate) fn hours_wanted(instance: &Instance) -> Hours {
-    let parts = instance.parts();
-    let mut wanted: u64 = 0;
-    for need in &parts.need {
-        wanted = wanted.saturating_add(u64::from(*need));
+/// How long so many employees in each slot work together.
+fn hours_together(instance: &Instance, employees: &[u32]) -> Hours {
+    let mut slots: u64 = 0;
+    for count in employees {
+        slots = slots.saturating_add(u64::from(*count));
     }
-    Hours::of_slots(instance, wanted)
+    Hours::of_slots(instance, slots)
+}
+
+/// The hours wanted in all slots of an instance together, as a range where the least and the most differ.
+pub(crate) fn hours_wanted(alloc: Global, instance: &Instance) -> Result<String, AllocError> {
+    let parts = instance.parts();
+    let least = hours_together(instance, parts.need.as_slice());
+    let most = hours_together(instance, parts.need_max.as_slice());
+    if least.minutes == most.minutes {
+        format!(in alloc; "{least}")
+    } else {
+        format!(in alloc; "{least}-{most}")
+    }
 }
 
 /// Says what a planner should know of an instance before it is searched.
