@@ -5,7 +5,7 @@ ghost use Rattle.csv.specs.Writing.{default_writer, row_text};
 ghost use Rattle.shift_instance.specs.Problem.{day_slots, slots};
 ghost use Rattle.table_records.specs.Guarding.{guarded};
 ghost use Rattle.instance_tables.specs.Times.{slots_text};
-ghost use Rattle.instance_tables.specs.Settings.{need_fields, need_max_text, need_text, settings_text};
+ghost use Rattle.instance_tables.specs.Settings.{need_fields, need_max_text, need_text, settings_fields, settings_text};
 ghost use Rattle.instance_tables.specs.Types.{is_plain, rule_name, type_row, types_text};
 ghost use Rattle.instance_tables.specs.RuleRows.{rules_text};
 
@@ -39,6 +39,26 @@ pub(crate) fn slots_text(alloc: Global, slot_minutes: u16, slots: u16) -> Result
     span.to_string(alloc)
 }
 
+/// Adds the row of the settings of an instance.
+fn with_settings(alloc: Global, records: Records, parts: &Parts) -> Result<Records, NoMemory>
+    ensures { IfOk result (λ r. r ≡ records ++ row_text default_writer (settings_fields parts.now)) }
+{
+    let slot_minutes = parts.slot_minutes.to_string(alloc)?;
+    let days = parts.days.to_string(alloc)?;
+    let excess = parts.excess.to_string(alloc)?;
+    let shortage = parts.shortage.to_string(alloc)?;
+    let shift = parts.shift.to_string(alloc)?;
+    let max_heads = parts.max_heads.to_string(alloc)?;
+    records.with(&[
+        slot_minutes.as_bytes(),
+        days.as_bytes(),
+        excess.as_bytes(),
+        shortage.as_bytes(),
+        shift.as_bytes(),
+        max_heads.as_bytes(),
+    ])
+}
+
 /// The settings of an instance as a table.
 fn settings_table(alloc: Global, parts: &Parts) -> Result<Vec<u8>, NoMemory>
     ensures { IfOk result (λ text. text.items ≡ settings_text parts.now) }
@@ -51,20 +71,7 @@ fn settings_table(alloc: Global, parts: &Parts) -> Result<Vec<u8>, NoMemory>
         b"shift",
         b"max_heads",
     ])?;
-    let slot_minutes = parts.slot_minutes.to_string(alloc)?;
-    let days = parts.days.to_string(alloc)?;
-    let excess = parts.excess.to_string(alloc)?;
-    let shortage = parts.shortage.to_string(alloc)?;
-    let shift = parts.shift.to_string(alloc)?;
-    let max_heads = parts.max_heads.to_string(alloc)?;
-    let records = records.with(&[
-        slot_minutes.as_bytes(),
-        days.as_bytes(),
-        excess.as_bytes(),
-        shortage.as_bytes(),
-        shift.as_bytes(),
-        max_heads.as_bytes(),
-    ])?;
+    let records = with_settings(alloc, records, parts)?;
     records.into_bytes()
 }
 

@@ -127,6 +127,57 @@ fn lunches_text(alloc: Global, slot_minutes: u16, entries: &[Lunch]) -> Result<S
     Ok(text)
 }
 
+/// The parts of a rule that limit work, as a table has them.
+#[derive(Drop)]
+struct WorkTexts {
+    lead: String,
+    tail: String,
+    work_min: String,
+    work_max: String,
+    long_work: String,
+}
+
+/// The parts of a rule that limit each break, as a table has them.
+#[derive(Drop)]
+struct BreakTexts {
+    long_rest: String,
+    size_min: String,
+    size_max: String,
+    resettle: String,
+}
+
+/// The parts of a rule that limit work.
+fn work_texts(alloc: Global, slot_minutes: u16, rule: &Rule) -> Result<WorkTexts, NoMemory>
+    ensures lead { IfOk result (λ texts. string_bytes texts.lead ≡ part_text slot_minutes 0 rule.now.lead) }
+    ensures tail { IfOk result (λ texts. string_bytes texts.tail ≡ part_text slot_minutes 0 rule.now.tail) }
+    ensures work_min { IfOk result (λ texts. string_bytes texts.work_min ≡ part_text slot_minutes 1 rule.now.work_min) }
+    ensures work_max { IfOk result (λ texts. string_bytes texts.work_max ≡ part_text slot_minutes 288 rule.now.work_max) }
+    ensures long_work { IfOk result (λ texts. string_bytes texts.long_work ≡ part_text slot_minutes 288 rule.now.long_work) }
+{
+    Ok(WorkTexts {
+        lead: part_text(alloc, slot_minutes, 0, rule.lead)?,
+        tail: part_text(alloc, slot_minutes, 0, rule.tail)?,
+        work_min: part_text(alloc, slot_minutes, 1, rule.work_min)?,
+        work_max: part_text(alloc, slot_minutes, 288, rule.work_max)?,
+        long_work: part_text(alloc, slot_minutes, 288, rule.long_work)?,
+    })
+}
+
+/// The parts of a rule that limit each break.
+fn break_texts(alloc: Global, slot_minutes: u16, rule: &Rule) -> Result<BreakTexts, NoMemory>
+    ensures long_rest { IfOk result (λ texts. string_bytes texts.long_rest ≡ rest_text slot_minutes rule.now) }
+    ensures size_min { IfOk result (λ texts. string_bytes texts.size_min ≡ part_text slot_minutes 1 rule.now.size_min) }
+    ensures size_max { IfOk result (λ texts. string_bytes texts.size_max ≡ part_text slot_minutes 48 rule.now.size_max) }
+    ensures resettle { IfOk result (λ texts. string_bytes texts.resettle ≡ part_text slot_minutes 0 rule.now.resettle) }
+{
+    Ok(BreakTexts {
+        long_rest: rest_text(alloc, slot_minutes, rule)?,
+        size_min: part_text(alloc, slot_minutes, 1, rule.size_min)?,
+        size_max: part_text(alloc, slot_minutes, 48, rule.size_max)?,
+        resettle: part_text(alloc, slot_minutes, 0, rule.resettle)?,
+    })
+}
+
 /// Adds the row of the rule of a type.
 fn with_rule(
     alloc: Global,
@@ -138,30 +189,23 @@ fn with_rule(
     ensures { IfOk result (λ r. r ≡ records ++ row_text default_writer (rule_fields slot_minutes name.now rule.now)) }
 {
     let name = guarded(alloc, name)?;
-    let lead = part_text(alloc, slot_minutes, 0, rule.lead)?;
-    let tail = part_text(alloc, slot_minutes, 0, rule.tail)?;
-    let work_min = part_text(alloc, slot_minutes, 1, rule.work_min)?;
-    let work_max = part_text(alloc, slot_minutes, 288, rule.work_max)?;
-    let long_work = part_text(alloc, slot_minutes, 288, rule.long_work)?;
-    let long_rest = rest_text(alloc, slot_minutes, rule)?;
-    let size_min = part_text(alloc, slot_minutes, 1, rule.size_min)?;
-    let size_max = part_text(alloc, slot_minutes, 48, rule.size_max)?;
+    let work = work_texts(alloc, slot_minutes, rule)?;
+    let breaks = break_texts(alloc, slot_minutes, rule)?;
     let totals = totals_text(alloc, slot_minutes, rule.totals.as_slice())?;
     let lunches = lunches_text(alloc, slot_minutes, rule.lunches.as_slice())?;
-    let resettle = part_text(alloc, slot_minutes, 0, rule.resettle)?;
     records.with(&[
         name.as_bytes(),
-        lead.as_bytes(),
-        tail.as_bytes(),
-        work_min.as_bytes(),
-        work_max.as_bytes(),
-        long_work.as_bytes(),
-        long_rest.as_bytes(),
-        size_min.as_bytes(),
-        size_max.as_bytes(),
+        work.lead.as_bytes(),
+        work.tail.as_bytes(),
+        work.work_min.as_bytes(),
+        work.work_max.as_bytes(),
+        work.long_work.as_bytes(),
+        breaks.long_rest.as_bytes(),
+        breaks.size_min.as_bytes(),
+        breaks.size_max.as_bytes(),
         totals.as_bytes(),
         lunches.as_bytes(),
-        resettle.as_bytes(),
+        breaks.resettle.as_bytes(),
     ])
 }
 
