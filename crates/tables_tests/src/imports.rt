@@ -125,6 +125,10 @@ const NEED_REFUSALS: &[(&str, &str)] = &[
         "need.csv, row 2, column time: `0:10` stands there; a whole number of slots of 30 minutes stands here, as 0:30 or 6:00",
     ),
     (
+        "day,time,need,need_max\n1,0:00,2,1\n",
+        "need.csv, row 2, column need_max: `1` stands there; a whole number from 2 to 10000 stands here",
+    ),
+    (
         "day,time,need\n1,0:00,2\n\n1,0:00,2\n",
         "need.csv, row 4, column time: `0:00` stands there; it stands in row 2 too",
     ),
@@ -137,6 +141,22 @@ fn refusals_tell_the_place_and_what_may_stand_there(rt: HostRuntime) -> Result<(
         let found = answer(alloc, &tables_of(SETTINGS, need, TYPES, RULES))?;
         assert_eq!(rt; found.as_str(), *said);
     }
+    Ok(())
+}
+
+#[test]
+fn bands_are_read_and_written(rt: HostRuntime) -> Result<(), Fail> {
+    let alloc = rt.alloc();
+    let need = "day,time,need,need_max\n1,0:00,2,\n1,12:00,5,7\n2,0:00,3,3\n";
+    let tables = tables_of(SETTINGS, need, TYPES, RULES);
+    let text = answer(alloc, &tables)?;
+    assert!(rt; text.as_str().contains(",2,5,5,"), "{text}");
+    assert!(rt; text.as_str().contains(",7,7,3,3,"), "{text}");
+    let Ok(instance) = imported(alloc, &tables) else {
+        return Err(Fail::from("refused"));
+    };
+    let again = text_again(alloc, &instance)?;
+    assert_eq!(rt; again.as_str(), text.as_str());
     Ok(())
 }
 
