@@ -22,13 +22,13 @@ settings_text i = row_text default_writer settings_columns ++ row_text default_w
 abbrev pub need_columns : List (List ℕ)
 need_columns = codes "day" ∷ codes "time" ∷ codes "need" ∷ codes "need_max" ∷ []
 
--- the most employees that are wanted in a slot, and nothing where they are the least
-abbrev pub need_max_text : Problem → ℕ → List ℕ
-need_max_text i t = if need_max_at i t == need_at i t then [] else decimal (need_max_at i t)
+-- the most employees that are wanted, and nothing where they are the least
+abbrev pub need_max_text : ℕ → ℕ → List ℕ
+need_max_text need most = if most == need then [] else decimal most
 
 -- a slot of the planning period: its day, counted from 1, when it begins, and the employees that are wanted, at least and at most
 abbrev pub need_fields : Problem → ℕ → List (List ℕ)
-need_fields i t = decimal (t / day_slots i + 1) ∷ slots_text i.slot_minutes (t % day_slots i) ∷ decimal (need_at i t) ∷ need_max_text i t ∷ []
+need_fields i t = decimal (t / day_slots i + 1) ∷ slots_text i.slot_minutes (t % day_slots i) ∷ decimal (need_at i t) ∷ need_max_text (need_at i t) (need_max_at i t) ∷ []
 
 -- the table of needs: the names of its columns, and a row for each slot
 abbrev pub need_text : Problem → List ℕ

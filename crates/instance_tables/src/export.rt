@@ -95,13 +95,11 @@ fn time_of_slot(alloc: Global, instance: &Instance, slot: u32) -> Result<String,
     time.to_string(alloc)
 }
 
-/// The most wanted employees of a slot, and nothing where they are the least.
-fn most_wanted(alloc: Global, instance: &Instance, t: usize) -> Result<String, NoMemory>
-    requires { t < slots instance.now }
-    ensures { IfOk result (λ text. string_bytes text ≡ need_max_text instance.now t) }
+/// The most wanted employees, and nothing where they are the least.
+fn need_max_text(alloc: Global, need: u32, most: u32) -> Result<String, NoMemory>
+    ensures { IfOk result (λ text. string_bytes text ≡ need_max_text need most) }
 {
-    let most = instance.need_max(t);
-    if most == instance.need(t) {
+    if most == need {
         Ok(String::new(alloc))
     } else {
         most.to_string(alloc)
@@ -123,7 +121,7 @@ fn with_slot(
     let day = (t / per_day + 1).to_string(alloc)?;
     let time = time_of_slot(alloc, instance, (t % per_day) as u32)?;
     let need = wanted.to_string(alloc)?;
-    let most = most_wanted(alloc, instance, t)?;
+    let most = need_max_text(alloc, wanted, instance.need_max(t))?;
     records.with(&[
         day.as_bytes(),
         time.as_bytes(),
