@@ -67,6 +67,14 @@ class Folder:
                 return
             time.sleep(0.002)
 
+    def wait_for_steps(self):
+        """Waits until the journal is longer than its head and some steps of the ward's week, half a minute at most."""
+        path = self.path / "week.journal"
+        for _ in range(3000):
+            if path.exists() and path.stat().st_size > 20000:
+                return
+            time.sleep(0.01)
+
     def table(self, name, columns):
         with open(self.path / "week.plan" / name, newline="") as source:
             lines = list(csv.reader(source))
@@ -181,7 +189,7 @@ def lock_in_use(folder):
 
 def killed_run(folder):
     run = subprocess.Popen([program("shift_plan"), "plan", "week.json", "--seconds", "60"], cwd=folder.path, stdout=subprocess.DEVNULL, stderr=subprocess.DEVNULL)
-    time.sleep(4)
+    folder.wait_for_steps()
     run.send_signal(signal.SIGKILL)
     run.wait()
     begun = not (folder.path / "week.plan" / "report").exists()
@@ -389,7 +397,7 @@ def interrupted_as_it_begins(folder):
 
 def terminated_in_mid_search(folder):
     run = folder.begun("--seconds", "60", starter=starter(folder))
-    time.sleep(5)
+    folder.wait_for_steps()
     run.terminate()
     return ended(folder, run, 0, ASKED)
 
@@ -438,7 +446,7 @@ def line_given_to_run(folder):
 
 def program_killed_below_run(folder):
     run = folder.begun("--seconds", "60", starter=starter(folder))
-    time.sleep(5)
+    folder.wait_for_steps()
     subprocess.run(["pkill", "-KILL", "-P", str(run.pid)], check=True)
     return ended(folder, run, 0, "the program was killed by signal 9", "goes on from ")
 

@@ -1,7 +1,8 @@
 #!/usr/bin/env python3
 """A second reading of docs/DEFINITIONS.md and docs/FORMATS.md, by plain enumeration over every list of breaks, beside what `shift_check` and
-`shift_solve` answer on small random instances. Words: the number of instances (100 where none is given) and a seed (1). Prints each difference
-with the instance and the report that show it, and last `N passed, M failed`, counted in instances. Build both programs first."""
+`shift_solve` answer on small random instances, half of them with bands. Words: the number of instances (100 where none is given), a seed (1),
+and a folder that holds both programs (where none is given, they are taken as they are built). Prints each difference with the instance and the
+report that show it, and last `N passed, M failed`, counted in instances."""
 import collections
 import functools
 import itertools
@@ -387,9 +388,9 @@ def differences(number, solve, check, seed=1, first=0):
                 yield "instance %d of seed %s: %s\n%s\n%s" % (instance, seed, fault, trial.text, report)
 
 
-def main(number="100", seed="1"):
+def main(number="100", seed="1", programs=None):
     crates, failed = pathlib.Path(__file__).resolve().parent.parent / "crates", 0
-    solve, check = (crates / name / "out" / name for name in ("shift_solve", "shift_check"))
+    solve, check = (pathlib.Path(programs or crates / name / "out").resolve() / name for name in ("shift_solve", "shift_check"))
     for instance in range(int(number)):
         found = list(differences(1, solve, check, seed, instance))
         print("".join(text + "\n" for text in found), end="", flush=True)

@@ -1,7 +1,7 @@
 //! Climbs, and what the prices prove that they end at.
 ghost use Rattle.std.specs.Prelude.{◌≤◌, length};
 
-use crate::days::{LONG, first_break};
+use crate::days::{BANDED, LONG, first_break};
 use advice::Never;
 use break_rules::NoMemory;
 use dual_bound::prove;
@@ -81,9 +81,9 @@ fn climb(alloc: Global, instance: &Instance, cuts: Cuts, rounds: u32) -> Result<
     Ok(Climbed { value, bound })
 }
 
-/// A climb on the long day below a cut to at least one duty whose break lies at this offset.
-fn below(alloc: Global, start: u16) -> Result<Climbed, Fail> {
-    let instance = read(alloc, LONG.as_bytes())?;
+/// A climb on a day below a cut to at least one duty whose break lies at this offset.
+fn below(alloc: Global, day: &str, start: u16) -> Result<Climbed, Fail> {
+    let instance = read(alloc, day.as_bytes())?;
     climb(alloc, &instance, first_break(alloc, start)?, 40)
 }
 
@@ -104,11 +104,23 @@ impl Climbed {
 // The best break, from 11 to 12, costs nothing. One from 10 to 11 leaves nobody there, and one employee too many from 11 on.
 #[test]
 fn a_cut_on_a_break_has_a_price(rt: HostRuntime) -> Result<(), Fail> {
-    let best = below(rt.alloc(), 3)?;
+    let best = below(rt.alloc(), LONG, 3)?;
     assert_eq!(rt; (best.value, best.bound), (3.0, 3));
-    let other = below(rt.alloc(), 2)?;
+    let other = below(rt.alloc(), LONG, 2)?;
     assert!(rt; other.is_proved());
     assert_eq!(rt; other.bound, 6);
+    Ok(())
+}
+
+// With its break from 10 to 11 the one duty leaves nobody there and is within the band from 11 on: that plan costs 5.
+#[test]
+fn a_cut_within_a_band_has_a_price(rt: HostRuntime) -> Result<(), Fail> {
+    let best = below(rt.alloc(), BANDED, 3)?;
+    assert_eq!(rt; (best.value, best.bound), (3.0, 3));
+    let other = below(rt.alloc(), BANDED, 2)?;
+    assert!(rt; other.is_proved());
+    assert!(rt; other.bound <= 5);
+    assert!(rt; 3 < other.bound);
     Ok(())
 }
 

@@ -1,4 +1,4 @@
-//! Tests of climbs of prices on a small day, worked out by hand, and against the bounds that the prices prove.
+//! Tests of climbs of prices on small days, worked out by hand, and against the bounds that the prices prove.
 #![tactic(auto)]
 
 #[cfg(test)]

@@ -26,8 +26,8 @@ use Rattle.shift_instance.specs.Valid.{IsValid}
 use Rattle.shift_instance.specs.Worth.{price_of, earned}
 use Rattle.shift_instance.proofs.Offsets.{same_offset}
 use Rattle.shift_instance.proofs.Shifts.{some_at, Has_at, shift_within}
-use Rattle.greedy.specs.Greedy.{duty, best_duty, marginal_price, marginal_prices, used_list, value_on, counts, gain, next_shift, new_duties, greedy_after, greedy_rota}
-use Rattle.greedy.proofs.Rounds.{best_earns, counts_parts, count_new, count_one, from_new_duties, next_gains, lt_true, next_cases, round_grows, round_some, round_none}
+use Rattle.greedy.specs.Greedy.{duty, best_duty, marginal_price, marginal_prices, used_list, value_on, counts, gain, next_shift, new_duties, greedy_after}
+use Rattle.greedy.proofs.Rounds.{best_earns, counts_parts, count_new, count_one, from_new_duties, next_gains, lt_true, next_cases, round_grows, round_some, round_none, rounds_none}
 
 pub times_one : (v : ℤ) → v *ℤ pos 1 ≡ v
 times_one v = mul-suc v 0 ∙ ap (λ z. v +ℤ z) (mul-zero v) ∙ omega (arith, ints)
@@ -260,12 +260,8 @@ round_cheaper i rota s valid e =
     less : (m n : ℕ) (z : ℤ) → pos m +ℤ z ≡ pos n → pos 0 <ℤ z → m < n
     less m n z e h = omega (arith, ints)
 
-rounds_none : (i : Problem) (rota : List Duty) → greedy_after i 0 rota ≡ rota
-unfolding greedy_after
-rounds_none i rota = refl
-
--- so the greedy plan costs no more than any plan on the way to it
-rounds_cheaper : (i : Problem) (n : ℕ) (rota : List Duty) → IsValid i → cost i (greedy_after i n rota) ≤ cost i rota
+-- so the plan after more rounds costs no more
+pub rounds_cheaper : (i : Problem) (n : ℕ) (rota : List Duty) → IsValid i → cost i (greedy_after i n rota) ≤ cost i rota
 rounds_cheaper i zero rota valid = let e : cost i (greedy_after i zero rota) ≡ cost i rota = ap (cost i) (rounds_none i rota) in omega arith
 rounds_cheaper i (suc n) rota valid =
     elim (next_cases i rota) [
@@ -276,7 +272,3 @@ rounds_cheaper i (suc n) rota valid =
           let one : cost i (rota ++ new_duties i rota some.0) < cost i rota = round_cheaper i rota some.0 valid some.1 in
           omega arith
     ]
-
-pub greedy_cheaper : (i : Problem) → IsValid i → cost i (greedy_rota i) ≤ cost i []
-unfolding greedy_rota
-greedy_cheaper i valid = rounds_cheaper i (length (shift_list i) * i.days * i.heads) [] valid

@@ -15,15 +15,15 @@ use Rattle.shift_instance.specs.Problem.{Problem, slots, need_at, need_max_at, s
 use Rattle.shift_instance.specs.Rota.{cover, heads_on, is_used, are_legal_rows, cost, rota_of}
 use Rattle.shift_instance.specs.Valid.{IsValid}
 use Rattle.greedy.specs.Drafts.{Leads, LeadsToGreedy}
-use Rattle.greedy.specs.Greedy.{duty, marginal_price, marginal_prices, best_list, best_duty, day_value, value_on, is_wanted, counts, gain, first_greatest, next_shift, new_duties, greedy_after, greedy_rota, greedy_rows, rows_of}
+use Rattle.greedy.specs.Greedy.{duty, marginal_price, marginal_prices, best_list, best_duty, day_value, value_on, is_wanted, counts, gain, first_greatest, next_shift, new_duties, greedy_after, greedy_rota, greedy_rows, rows_of, AreRowsAfterRounds, IsAfterRounds}
 use Rattle.greedy.specs.Sizes.{IsWithin, ArePrices}
-use Rattle.greedy.proofs.Falls.{greedy_cheaper}
+use Rattle.greedy.proofs.Falls.{rounds_cheaper}
 use Rattle.greedy.proofs.Growing.{heads_before}
 use Rattle.greedy.proofs.Leading.{leads_all}
 use Rattle.greedy.proofs.PlanRows.{rows_legal, rota_costs}
 use Rattle.shift_instance.proofs.Ranges.{int_sum_below_more}
 use Rattle.greedy.proofs.Ranges.{map_push, filter_more}
-use Rattle.greedy.proofs.Rounds.{used_is, find_some, round_some, round_none, greedy_legal}
+use Rattle.greedy.proofs.Rounds.{used_is, find_some, round_some, round_none, rounds_more, rounds_none, greedy_after_legal}
 
 -- ---- prices
 -- a marginal price is no larger than a weight
@@ -185,40 +185,54 @@ round_goes_on i rounds s rota next e step h =
     let one : rounds + 1 ≡ suc rounds = omega arith in
     ap (greedy_after i rounds) step ∙ sym (round_some i rounds rota s (sym e)) ∙ ap (λ k. greedy_after i k rota) (sym one) ∙ h
 
--- the round that finds no shift to take
-pub last_round : (i : Problem) (n k : ℕ) (rota next : List Duty) (more : Bool) → k < n → more ≡ false
-    → ((rounds : ℕ) → LeadsToGreedy i (rounds + 1) rota → MatchBool more (LeadsToGreedy i rounds next) (LeadsToGreedy i 0 next))
-    → LeadsToGreedy i (n - k) rota → LeadsToGreedy i 0 next
-last_round i n k rota next more l e step h =
+-- the round that takes no shift: it leaves the greedy plan, if what it says of that holds
+pub last_round : (A : Type 0) (i : Problem) (n k : ℕ) (rota next : List Duty) (more : Bool) → k < n → more ≡ false
+    → ((rounds : ℕ) → LeadsToGreedy i (rounds + 1) rota → MatchBool more (LeadsToGreedy i rounds next) (A → LeadsToGreedy i 0 next))
+    → LeadsToGreedy i (n - k) rota → A → LeadsToGreedy i 0 next
+last_round A i n k rota next more l e step h =
     let one : n - k ≡ n - k - 1 + 1 = omega arith in
-    subst (λ b. MatchBool b (LeadsToGreedy i (n - k - 1) next) (LeadsToGreedy i 0 next)) e
+    subst (λ b. MatchBool b (LeadsToGreedy i (n - k - 1) next) (A → LeadsToGreedy i 0 next)) e
     (step (n - k - 1) (subst (λ (r : ℕ). LeadsToGreedy i r rota) one h))
 
 -- a round that takes one
-pub next_round : (i : Problem) (n k : ℕ) (rota next : List Duty) (more : Bool) → k < n → more ≡ true
-    → ((rounds : ℕ) → LeadsToGreedy i (rounds + 1) rota → MatchBool more (LeadsToGreedy i rounds next) (LeadsToGreedy i 0 next))
+pub next_round : (A : Type 0) (i : Problem) (n k : ℕ) (rota next : List Duty) (more : Bool) → k < n → more ≡ true
+    → ((rounds : ℕ) → LeadsToGreedy i (rounds + 1) rota → MatchBool more (LeadsToGreedy i rounds next) (A → LeadsToGreedy i 0 next))
     → LeadsToGreedy i (n - k) rota → LeadsToGreedy i (n - (k + 1)) next
-next_round i n k rota next more l e step h =
+next_round A i n k rota next more l e step h =
     let one : n - k ≡ n - (k + 1) + 1 = omega arith in
-    subst (λ b. MatchBool b (LeadsToGreedy i (n - (k + 1)) next) (LeadsToGreedy i 0 next)) e
+    subst (λ b. MatchBool b (LeadsToGreedy i (n - (k + 1)) next) (A → LeadsToGreedy i 0 next)) e
     (step (n - (k + 1)) (subst (λ (r : ℕ). LeadsToGreedy i r rota) one h))
 
 -- no round is ahead when all are made
 pub rounds_done : (i : Problem) (n k : ℕ) (rota : List Duty) → n ≤ k → LeadsToGreedy i (n - k) rota → LeadsToGreedy i 0 rota
 rounds_done i n k rota l h = let none : n - k ≡ 0 = omega arith in subst (λ (r : ℕ). LeadsToGreedy i r rota) none h
 
+-- ---- some number of rounds
+pub opening_after : (i : Problem) (rota : List Duty) → rota ≡ [] → IsAfterRounds i rota
+opening_after i rota none = (0, none ∙ sym (rounds_none i []))
+
+-- a round that takes a shift is one more
+pub one_after : (i : Problem) (s : ℕ) (rota next : List Duty) → Some s ≡ next_shift i rota → next ≡ rota ++ new_duties i rota s → IsAfterRounds i rota → IsAfterRounds i next
+one_after i s rota next e step h = (
+  suc h.0,
+  step ∙ ap (λ (ds : List Duty). ds ++ new_duties i ds s) h.1
+      ∙ sym (rounds_more i h.0 [] s (sym (ap (next_shift i) h.1) ∙ sym e)),
+)
+
 -- ---- the plan
 pub plan_rows : (i : Problem) (rota : List Duty) (rows : List Row) → LeadsToGreedy i 0 rota → rows ≡ rows_of i rota → rows ≡ greedy_rows i
 unfolding greedy_rows greedy_after
 plan_rows i rota rows h e = e ∙ ap (rows_of i) h
 
-pub plan_legal : (i : Problem) (rows : List Row) → rows ≡ greedy_rows i → are_legal_rows i rows ≡ true
-unfolding greedy_rows
-plan_legal i rows e = ap (are_legal_rows i) e ∙ rows_legal i (greedy_rota i) (greedy_legal i)
+pub rows_after : (i : Problem) (rota : List Duty) (rows : List Row) → IsAfterRounds i rota → rows ≡ rows_of i rota → AreRowsAfterRounds i rows
+rows_after i rota rows h e = (h.0, e ∙ ap (rows_of i) h.1)
 
-pub plan_cheaper : (i : Problem) (rows : List Row) → IsValid i → rows ≡ greedy_rows i → cost i (rota_of rows) ≤ cost i []
-unfolding greedy_rows
-plan_cheaper i rows valid e =
-    let same : cost i (rota_of rows) ≡ cost i (greedy_rota i) = ap (λ zs. cost i (rota_of zs)) e ∙ rota_costs i (greedy_rota i) (greedy_legal i) in
-    let l : cost i (greedy_rota i) ≤ cost i [] = greedy_cheaper i valid in
+pub plan_legal : (i : Problem) (rows : List Row) → AreRowsAfterRounds i rows → are_legal_rows i rows ≡ true
+plan_legal i rows h = ap (are_legal_rows i) h.1 ∙ rows_legal i (greedy_after i h.0 []) (greedy_after_legal i h.0 [] refl)
+
+pub plan_cheaper : (i : Problem) (rows : List Row) → IsValid i → AreRowsAfterRounds i rows → cost i (rota_of rows) ≤ cost i []
+plan_cheaper i rows valid h =
+    let rota = greedy_after i h.0 [] in
+    let same : cost i (rota_of rows) ≡ cost i rota = ap (λ zs. cost i (rota_of zs)) h.1 ∙ rota_costs i rota (greedy_after_legal i h.0 [] refl) in
+    let l : cost i rota ≤ cost i [] = rounds_cheaper i h.0 [] valid in
     omega arith

@@ -1,6 +1,6 @@
 -- The rounds of the greedy plan: each adds legal duties, and in the end no shift is left to take.
 use Rattle.std.proofs.Common.{◌≡◌, ◌⊎◌, inl, inr, ℕ, zero, suc, ◌+◌, ◌*◌, ◌<◌, ◌≤◌, ℤ, pos, ◌-ℤ◌, ◌≤ℤ◌, ◌<ℤ◌, Bool, true, false, cond, ◌&&◌, ◌==◌, not, List, [], ◌∷◌, ◌++◌, filter, length, refl, sym, ap, ◌∙◌, subst, arith, nat_lt, nat_le, Option, Some, None, length-append}
-use Rattle.std.specs.Prelude.{int_lt, unwrap_or}
+use Rattle.std.specs.Prelude.{int_lt, is_some, unwrap_or}
 use Rattle.std.specs.Option.{option_map_or}
 use Rattle.std.specs.List.{list_all, list_any, find, count_by}
 use Rattle.std.proofs.lemmas.Int.{ints}
@@ -234,6 +234,10 @@ round_none i (suc n) rota e = ap (λ o. option_map_or (λ s. greedy_after i n (r
 pub next_cases : (i : Problem) (rota : List Duty) → (next_shift i rota ≡ None) ⊎ ((s : ℕ) × (next_shift i rota ≡ Some s))
 next_cases i rota = elim (next_shift i rota) as (λ o. (o ≡ None) ⊎ ((s : ℕ) × (o ≡ Some s))) [ None ↦ inl refl | Some s ↦ inr (s, refl) ]
 
+pub rounds_none : (i : Problem) (rota : List Duty) → greedy_after i 0 rota ≡ rota
+unfolding greedy_after
+rounds_none i rota = refl
+
 pub greedy_after_legal : (i : Problem) (n : ℕ) (rota : List Duty) → is_legal_rota i rota ≡ true → is_legal_rota i (greedy_after i n rota) ≡ true
 unfolding greedy_after
 greedy_after_legal i zero rota legal = legal
@@ -267,6 +271,18 @@ pub greedy_ready : (i : Problem) → next_shift i (greedy_rota i) ≡ None
 unfolding greedy_rota
 greedy_ready i = ends i (length (shift_list i) * i.days * i.heads) [] refl (omega arith)
 
-pub greedy_legal : (i : Problem) → is_legal_rota i (greedy_rota i) ≡ true
-unfolding greedy_rota
-greedy_legal i = greedy_after_legal i (length (shift_list i) * i.days * i.heads) [] refl
+-- what one round more makes of the plan after some rounds
+pub rounds_more : (i : Problem) (n : ℕ) (rota : List Duty) (s : ℕ) → next_shift i (greedy_after i n rota) ≡ Some s → greedy_after i (suc n) rota ≡ greedy_after i n rota ++ new_duties i (greedy_after i n rota) s
+rounds_more i zero rota s e =
+    let none : greedy_after i zero rota ≡ rota = rounds_none i rota in
+    let here : next_shift i rota ≡ Some s = sym (ap (next_shift i) none) ∙ e in
+    round_some i zero rota s here ∙ rounds_none i (rota ++ new_duties i rota s) ∙ sym (ap (λ (ds : List Duty). ds ++ new_duties i ds s) none)
+rounds_more i (suc n) rota s e =
+    elim (next_cases i rota) [
+      | inl none ↦ absurd (false≢true (ap is_some (sym none ∙ sym (ap (next_shift i) (round_none i (suc n) rota none)) ∙ e)))
+      | inr some ↦
+          let one : greedy_after i (suc n) rota ≡ greedy_after i n (rota ++ new_duties i rota some.0) = round_some i n rota some.0 some.1 in
+          round_some i (suc n) rota some.0 some.1
+          ∙ rounds_more i n (rota ++ new_duties i rota some.0) s (sym (ap (next_shift i) one) ∙ e)
+          ∙ sym (ap (λ (ds : List Duty). ds ++ new_duties i ds s) one)
+    ]

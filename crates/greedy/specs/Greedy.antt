@@ -1,5 +1,5 @@
 -- The greedy plan: it takes shifts one after another, always that which lowers the cost most, each with its best lists. Source: this project's profile.
-use Rattle.std.specs.Prelude.{ℕ, zero, suc, ◌*◌, ℤ, pos, ◌-ℤ◌, neg_ℤ, Bool, not, ◌&&◌, nat_lt, int_lt, List, [], ◌++◌, map, length, Option, unwrap_or, if◌then◌else◌}
+use Rattle.std.specs.Prelude.{◌≡◌, ℕ, zero, suc, ◌*◌, ℤ, pos, ◌-ℤ◌, neg_ℤ, Bool, not, ◌&&◌, nat_lt, int_lt, List, [], ◌++◌, map, length, Option, unwrap_or, if◌then◌else◌}
 use Rattle.std.specs.Option.{option_map_or}
 use Rattle.std.specs.List.{list_any, filter, find}
 use Rattle.break_rules.specs.declared.Break.{Break}
@@ -86,6 +86,10 @@ unfoldable pub greedy_after : Problem → ℕ → List Duty → List Duty
 greedy_after i zero rota = rota
 greedy_after i (suc rounds) rota = option_map_or (λ s. greedy_after i rounds (rota ++ new_duties i rota s)) (next_shift i rota) rota
 
+-- the plan is the one after some number of rounds from no duties
+abbrev pub IsAfterRounds : Problem → List Duty → Type 0
+IsAfterRounds i rota = (rounds : ℕ) × (rota ≡ greedy_after i rounds [])
+
 -- the greedy plan: from no duties, as many rounds as a legal plan can have duties
 unfoldable pub greedy_rota : Problem → List Duty
 greedy_rota i = greedy_after i (length (shift_list i) * i.days * i.heads) []
@@ -97,3 +101,7 @@ rows_of i rota = map (λ d. row_of d (count_of rota d)) (filter (λ d. nat_lt 0 
 -- the rows of the greedy plan
 unfoldable pub greedy_rows : Problem → List Row
 greedy_rows i = rows_of i (greedy_rota i)
+
+-- the rows are those of the plan after some number of rounds
+abbrev pub AreRowsAfterRounds : Problem → List Row → Type 0
+AreRowsAfterRounds i rows = (rounds : ℕ) × (rows ≡ rows_of i (greedy_after i rounds []))

@@ -1,6 +1,6 @@
 //! Upper bounds of the gains of shifts. While duties are added a gain falls, but for that of the shift that is taken, so a
 //! bound stays one, and only shifts whose bound leads are looked at again.
-ghost use Rattle.std.specs.Prelude.{◌≡◌, ℕ, ℤ, pos, ◌<◌, ◌≤◌, ◌+ℤ◌, [], Some, None, IfOk, OnOk, MatchOption, length, set};
+ghost use Rattle.std.specs.Prelude.{◌≡◌, ℕ, ℤ, pos, ◌<◌, ◌≤◌, ◌+ℤ◌, [], Some, None, IfOk, IfSome, OnOk, MatchOption, false, length, set};
 ghost use Rattle.shift_instance.specs.Problem.{shift_list};
 ghost use Rattle.greedy.specs.Bounds.{AreBounds, bound_at};
 ghost use Rattle.greedy.specs.Drafts.{IsDraft, Leads};
@@ -12,6 +12,7 @@ ghost use Rattle.greedy.specs.Values.{AreValuesOf};
 use crate::draft::Draft;
 use crate::gains::gain;
 use crate::known::{KnownDays, kept_values};
+use advice::Stop;
 use break_rules::NoMemory;
 use price_sums::{DaySums, Lane};
 use shift_instance::Instance;
@@ -56,14 +57,16 @@ fn leading(bounds: &[i64]) -> Option<u16>
 }
 
 /// The shift to take next, with its values at the marginal prices that the sums are of: that of greatest gain, and of least number
-/// among equals, where its gain is above 0. Its bound is its gain then.
-pub(crate) fn next_shift(
+/// among equals, where its gain is above 0. Its bound is its gain then. Before each look at a shift the stop is looked at, and once it
+/// asks, no shift is to take.
+pub(crate) fn next_shift<S: Stop>(
     alloc: Global,
     instance: &Instance,
     draft: &Draft,
     sums: &DaySums,
     bounds: &mut Vec<i64>,
     known: &mut [KnownDays],
+    stop: &S,
 ) -> Result<Option<Taken>, NoMemory>
     requires draft { IsDraft instance.now draft.now.cover draft.now.heads.items draft.now.rows.items }
     requires sums { sums.now.instance ≡ instance.now }
@@ -71,14 +74,17 @@ pub(crate) fn next_shift(
     requires priced { ArePrices instance.now sums.now.prices }
     requires bounds { AreBounds instance.now draft.now.cover.duties bounds.old.items }
     requires known { KeepsEach instance.now sums.now.prices known.old }
-    ensures next { IfOk result (λ found. MatchOption found (None ≡ next_shift instance.now draft.now.cover.duties) (λ taken. Some taken.shift ≡ next_shift instance.now draft.now.cover.duties)) }
-    ensures values { IfOk result (λ found. MatchOption found (None ≡ next_shift instance.now draft.now.cover.duties) (λ taken. AreValuesOf instance.now sums.now.prices taken.shift taken.values)) }
-    ensures exact { IfOk result (λ found. MatchOption found (None ≡ next_shift instance.now draft.now.cover.duties) (λ taken. bound_at bounds.new.items taken.shift ≡ gain instance.now draft.now.cover.duties taken.shift)) }
+    ensures next { IfOk result (λ found. MatchOption found (S.can_ask stop.now ≡ false → None ≡ next_shift instance.now draft.now.cover.duties) (λ taken. Some taken.shift ≡ next_shift instance.now draft.now.cover.duties)) }
+    ensures values { IfOk result (λ found. IfSome found (λ taken. AreValuesOf instance.now sums.now.prices taken.shift taken.values)) }
+    ensures exact { IfOk result (λ found. IfSome found (λ taken. bound_at bounds.new.items taken.shift ≡ gain instance.now draft.now.cover.duties taken.shift)) }
     ensures bounds { OnOk result (AreBounds instance.now draft.now.cover.duties bounds.new.items) }
     ensures known { OnOk result (KeepsEach instance.now sums.now.prices known.new) }
 {
     let mut lanes = Vec::new(alloc);
     'looks: while let Some(shift) = leading(bounds) {
+        if stop.is_asked() {
+            return Ok(None);
+        }
         let entry = &mut known[usize::from(shift)];
         let values = kept_values(alloc, instance, sums, shift, entry, &mut lanes)?;
         let gain = gain(instance, draft, &values, shift);

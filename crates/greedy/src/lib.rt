@@ -14,4 +14,4 @@ mod rows;
 mod values;
 
 pub use laws::{gain_is_the_fall_of_cost, greedy_plan_is_ready};
-pub use plan::greedy_plan;
+pub use plan::{greedy_plan, greedy_plan_until};

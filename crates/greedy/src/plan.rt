@@ -1,5 +1,5 @@
 //! The rounds of the greedy plan.
-ghost use Rattle.std.specs.Prelude.{◌≡◌, ◌<◌, ◌≤◌, ◌+◌, ◌++◌, ◌∷◌, [], ℕ, length, IfOk, OnOk, IsTrue, MatchBool, if◌then◌else◌};
+ghost use Rattle.std.specs.Prelude.{◌≡◌, ◌<◌, ◌≤◌, ◌+◌, ◌++◌, ◌∷◌, [], ℕ, length, IfOk, OnOk, IsTrue, MatchBool, false, if◌then◌else◌};
 ghost use Rattle.shift_instance.specs.Problem.{shift_list};
 ghost use Rattle.shift_instance.specs.Rota.{are_legal_rows, cost, heads_on, rota_of};
 ghost use Rattle.greedy.specs.Bounds.{AreBounds};
@@ -7,7 +7,7 @@ ghost use Rattle.greedy.specs.Kept.{AreKept};
 ghost use Rattle.greedy.specs.Sizes.{ArePrices};
 ghost use Rattle.greedy.specs.Values.{AreValuesOf};
 ghost use Rattle.greedy.specs.Drafts.{IsDraft, LeadsToGreedy};
-ghost use Rattle.greedy.specs.Greedy.{best_duty, day_value, greedy_rows, is_wanted, marginal_prices, new_duties};
+ghost use Rattle.greedy.specs.Greedy.{AreRowsAfterRounds, IsAfterRounds, best_duty, day_value, greedy_rows, is_wanted, marginal_prices, new_duties};
 
 use crate::bounds::{next_shift, raise};
 use crate::draft::Draft;
@@ -15,6 +15,7 @@ use crate::gains::is_wanted;
 use crate::kept::Kept;
 use crate::lists::best_list;
 use crate::values::value_on;
+use advice::{Never, Stop};
 use break_rules::NoMemory;
 use price_sums::Lane;
 use shift_instance::{Instance, Rows};
@@ -70,20 +71,22 @@ fn add_days(
     Ok(())
 }
 
-/// One round: takes the shift of greatest gain, and says whether there was one. The bounds are no less than the gains, and
-/// stay so; what is kept is at the marginal prices of the plan, and stays so while there are shifts to take.
-fn round(
+/// One round: takes the shift of greatest gain, and says whether there was one. Once the stop asks, the round takes none. The bounds are
+/// no less than the gains, and stay so; what is kept is at the marginal prices of the plan, and stays so while there are shifts to take.
+fn round<S: Stop>(
     alloc: Global,
     instance: &Instance,
     draft: &mut Draft,
     kept: &mut Kept,
+    stop: &S,
 ) -> Result<bool, NoMemory>
     requires draft { IsDraft instance.now draft.old.cover draft.old.heads.items draft.old.rows.items }
     requires bounds { AreBounds instance.now draft.old.cover.duties kept.old.bounds.items }
     requires kept { AreKept instance.now draft.old.cover.duties kept.old.prices.items kept.old.sums kept.old.known.items }
     ensures draft { OnOk result (IsDraft instance.now draft.new.cover draft.new.heads.items draft.new.rows.items) }
+    ensures rounds { OnOk result (IsAfterRounds instance.now draft.old.cover.duties → IsAfterRounds instance.now draft.new.cover.duties) }
     ensures leads { IfOk result (λ more. (rounds : ℕ) → LeadsToGreedy instance.now (rounds + 1) draft.old.cover.duties
-        → MatchBool more (LeadsToGreedy instance.now rounds draft.new.cover.duties) (LeadsToGreedy instance.now 0 draft.new.cover.duties)) }
+        → MatchBool more (LeadsToGreedy instance.now rounds draft.new.cover.duties) (S.can_ask stop.now ≡ false → LeadsToGreedy instance.now 0 draft.new.cover.duties)) }
     ensures bounds { OnOk result (AreBounds instance.now draft.new.cover.duties kept.new.bounds.items) }
     ensures kept { OnOk result (AreKept instance.now draft.new.cover.duties kept.new.prices.items kept.new.sums kept.new.known.items) }
 {
@@ -94,6 +97,7 @@ fn round(
         &kept.sums,
         &mut kept.bounds,
         &mut kept.known,
+        stop,
     )? {
         Some(taken) => {
             let shift = taken.shift;
@@ -107,10 +111,11 @@ fn round(
     }
 }
 
-/// The greedy plan as a draft.
-fn greedy_draft(alloc: Global, instance: &Instance) -> Result<Draft, NoMemory>
+/// The greedy plan as a draft or, once the stop asks, the plan after the rounds so far.
+fn greedy_draft<S: Stop>(alloc: Global, instance: &Instance, stop: &S) -> Result<Draft, NoMemory>
     ensures draft { IfOk result (λ d. IsDraft instance.now d.cover d.heads.items d.rows.items) }
-    ensures leads { IfOk result (λ d. LeadsToGreedy instance.now 0 d.cover.duties) }
+    ensures rounds { IfOk result (λ d. IsAfterRounds instance.now d.cover.duties) }
+    ensures leads { IfOk result (λ d. S.can_ask stop.now ≡ false → LeadsToGreedy instance.now 0 d.cover.duties) }
 {
     let mut draft = Draft::empty(alloc, instance)?;
     let mut kept = Kept::opening(alloc, instance, &draft.cover)?;
@@ -118,7 +123,7 @@ fn greedy_draft(alloc: Global, instance: &Instance) -> Result<Draft, NoMemory>
         * usize::from(instance.days())
         * usize::from(instance.heads());
     'rounds: for _round in 0..most {
-        if !round(alloc, instance, &mut draft, &mut kept)? {
+        if !round(alloc, instance, &mut draft, &mut kept, stop)? {
             return Ok(draft);
         }
     }
@@ -127,13 +132,28 @@ fn greedy_draft(alloc: Global, instance: &Instance) -> Result<Draft, NoMemory>
 
 /// The rows of the greedy plan of an instance, by shift, then by day, then by break list: from no duties, in each round a
 /// duty of the shift that gains most at the marginal prices of the slots, on each day where it gains, each with the best
-/// list of the shift on that day. A shift without a legal list isn't used.
+/// list of the shift on that day. A shift without a legal list isn't used. Once the stop asks, the round that is under way adds
+/// nothing, and the rows after the rounds before it are handed over.
+pub fn greedy_plan_until<S: Stop>(
+    alloc: Global,
+    instance: &Instance,
+    stop: &S,
+) -> Result<Rows, NoMemory>
+    ensures rounds { IfOk result (λ rows. AreRowsAfterRounds instance.now rows) }
+    ensures rows { IfOk result (λ rows. S.can_ask stop.now ≡ false → rows ≡ greedy_rows instance.now) }
+    ensures legal { IfOk result (λ rows. IsTrue (are_legal_rows instance.now rows)) }
+    ensures cheaper { IfOk result (λ rows. cost instance.now (rota_of rows) ≤ cost instance.now []) }
+{
+    let draft = greedy_draft(alloc, instance, stop)?;
+    let Draft { rows, .. } = draft;
+    Ok(Rows::new(rows))
+}
+
+/// The rows of the greedy plan of an instance, with all its rounds.
 pub fn greedy_plan(alloc: Global, instance: &Instance) -> Result<Rows, NoMemory>
     ensures rows { IfOk result (λ rows. rows ≡ greedy_rows instance.now) }
     ensures legal { IfOk result (λ rows. IsTrue (are_legal_rows instance.now rows)) }
     ensures cheaper { IfOk result (λ rows. cost instance.now (rota_of rows) ≤ cost instance.now []) }
 {
-    let draft = greedy_draft(alloc, instance)?;
-    let Draft { rows, .. } = draft;
-    Ok(Rows::new(rows))
+    greedy_plan_until(alloc, instance, &Never)
 }

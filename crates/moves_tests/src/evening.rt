@@ -1,5 +1,5 @@
-//! Breaks of a night that are made even, worked out by hand.
-use crate::fixtures::{NIGHT, instance_of};
+//! Breaks of nights that are made even, worked out by hand.
+use crate::fixtures::{BANDED_NIGHT, NIGHT, instance_of};
 use break_rules::NoMemory;
 use descents::{even_out, unevenness};
 use greedy::greedy_plan;
@@ -21,5 +21,22 @@ fn breaks_are_made_even(rt: HostRuntime) -> Result<(), Fail> {
     let alloc = rt.alloc();
     let instance = instance_of(alloc, NIGHT)?;
     assert_eq!(rt; evened(alloc, &instance)?, (2, 3, 9));
+    Ok(())
+}
+
+/// What the greedy plan of an instance costs.
+fn greedy_cost(alloc: Global, instance: &Instance) -> Result<u64, NoMemory> {
+    let draft = Draft::new(alloc, instance, greedy_plan(alloc, instance)?)?;
+    Ok(draft.cost())
+}
+
+// The third duty is free within the bands, and saves one of the two shortages in the hour in which the first two pause. One move then
+// takes one of these out of that hour, and nobody is missed.
+#[test]
+fn breaks_are_made_even_within_bands(rt: HostRuntime) -> Result<(), Fail> {
+    let alloc = rt.alloc();
+    let instance = instance_of(alloc, BANDED_NIGHT)?;
+    assert_eq!(rt; greedy_cost(alloc, &instance)?, 5);
+    assert_eq!(rt; evened(alloc, &instance)?, (1, 0, 3));
     Ok(())
 }

@@ -24,6 +24,10 @@ pub const LONGER: &str =
 pub const NIGHT: &str =
     "{\"slot_minutes\":60,\"days\":1,\"need\":[3,3,3,3,3,3,3,3,0,0,0,0,0,0,0,0,0,0,0,0,0,0,0,0],\"max_heads\":3,\"weights\":{\"excess\":1,\"shortage\":2,\"shift\":3},\"types\":[{\"name\":\"N\",\"start_min\":0,\"start_max\":0,\"len_min\":8,\"len_max\":8,\"breaks\":{\"lead\":2,\"tail\":2,\"work_min\":2,\"work_max\":5,\"long_work\":5,\"long_rest\":1,\"size_min\":1,\"size_max\":1,\"totals\":[[8,1]],\"lunches\":[],\"resettle\":0}}]}";
 
+/// The same with bands: two or three employees will do in each of these hours.
+pub const BANDED_NIGHT: &str =
+    "{\"slot_minutes\":60,\"days\":1,\"need\":[2,2,2,2,2,2,2,2,0,0,0,0,0,0,0,0,0,0,0,0,0,0,0,0],\"need_max\":[3,3,3,3,3,3,3,3,0,0,0,0,0,0,0,0,0,0,0,0,0,0,0,0],\"max_heads\":3,\"weights\":{\"excess\":1,\"shortage\":2,\"shift\":3},\"types\":[{\"name\":\"N\",\"start_min\":0,\"start_max\":0,\"len_min\":8,\"len_max\":8,\"breaks\":{\"lead\":2,\"tail\":2,\"work_min\":2,\"work_max\":5,\"long_work\":5,\"long_rest\":1,\"size_min\":1,\"size_max\":1,\"totals\":[[8,1]],\"lunches\":[],\"resettle\":0}}]}";
+
 /// A move as a table spells it: shift, day and breaks, or two shifts. Breaks are of one hour, and told by the hours before them.
 #[derive(Clone, Copy, Drop)]
 pub enum Step {

@@ -1,19 +1,17 @@
 -- The page of a plan.
-use Rattle.std.specs.Prelude.{◌≡◌, ℕ, ◌+◌, ◌*◌, Bool, true, false, List, ◌++◌, codes, length}
+use Rattle.std.specs.Prelude.{◌≡◌, ℕ, ◌+◌, ◌*◌, Bool, true, false, List, ◌++◌, codes}
 use Rattle.std.specs.List.{enumerate_from, flat_map}
 use Rattle.std.specs.Fmt.{decimal}
 use Rattle.shift_instance.specs.declared.Duty.{Duty}
 use Rattle.shift_instance.specs.declared.Row.{Row}
-use Rattle.shift_instance.specs.Problem.{Problem, below, day_slots, slots}
-use Rattle.shift_instance.specs.Rota.{cost, rota_of}
-use Rattle.plan_tables.specs.declared.summary.TheConstants.{COSTLIEST}
+use Rattle.shift_instance.specs.Problem.{Problem, day_slots}
+use Rattle.shift_instance.specs.Rota.{rota_of}
 use Rattle.plan_tables.specs.declared.summary.DaySummary.{DaySummary}
 use Rattle.plan_tables.specs.declared.summary.Summary.{Summary}
 use Rattle.plan_tables.specs.declared.tallies.Totals.{Totals}
-use Rattle.plan_tables.specs.Costliest.{AreCostliest}
 use Rattle.plan_tables.specs.Starting.{by_start}
 use Rattle.plan_tables.specs.SummaryLines.{wanted_hours}
-use Rattle.plan_tables.specs.Tallies.{day_summaries, excess_part, shifts_part, shortage_part, totals_in}
+use Rattle.plan_tables.specs.Summing.{IsSummary}
 use Rattle.plan_tables.specs.Times.{span_text}
 use Rattle.plan_page.specs.declared.head.TheConstants.{BEGINNING, LOOKS}
 use Rattle.plan_page.specs.Bars.{bars}
@@ -79,17 +77,6 @@ day_section i rota rows (k, day) =
 unfoldable pub page_text : Problem → List Duty → List Row → List ℕ → List ℕ → Summary → List ℕ
 page_text i rota rows heading standing s =
     head heading ++ overview i s standing ++ flat_map (day_section i rota rows) (enumerate_from 0 s.days.items) ++ codes "</body>\n</html>\n"
-
--- this is a summary of a rota
-pub record IsSummary (i : Problem) (rota : List Duty) (s : Summary) : Type 0 where
-  pub cost : s.cost ≡ cost i rota
-  pub excess : s.excess ≡ excess_part i rota
-  pub shortage : s.shortage ≡ shortage_part i rota
-  pub shifts : s.shifts ≡ shifts_part i rota
-  pub duties : s.duties ≡ length rota
-  pub totals : s.totals ≡ totals_in i rota (below (slots i))
-  pub costliest : AreCostliest i rota COSTLIEST s.costliest.items
-  pub days : s.days.items ≡ day_summaries i rota
 
 -- this is the page of rows: it shows a summary of them, and them by their start
 pub record IsPage (i : Problem) (rows : List Row) (heading standing page : List ℕ) : Type 0 where

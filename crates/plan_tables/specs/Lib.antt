@@ -3,6 +3,7 @@ pub mod Times
 pub mod Attendance
 pub mod Tallies
 pub mod Costliest
+pub mod Summing
 pub mod Starting
 pub mod Records
 pub mod SummaryLines

@@ -1,9 +1,8 @@
 //! What a plan adds up to.
-ghost use Rattle.std.specs.Prelude.{◌≡◌, ◌+◌, ◌*◌, ◌^◌, ◌<◌, ◌≤◌, IfOk, IsTrue, length};
-ghost use Rattle.shift_instance.specs.Problem.{below, slots};
-ghost use Rattle.shift_instance.specs.Rota.{are_legal_rows, cost, rota_of};
-ghost use Rattle.plan_tables.specs.Costliest.{AreCostliest};
-ghost use Rattle.plan_tables.specs.Tallies.{day_summaries, day_summary, excess_part, part, shifts_part, shortage_part, totals_in};
+ghost use Rattle.std.specs.Prelude.{◌≡◌, ◌+◌, ◌*◌, ◌^◌, ◌<◌, IfOk, IsTrue};
+ghost use Rattle.shift_instance.specs.Rota.{are_legal_rows, rota_of};
+ghost use Rattle.plan_tables.specs.Summing.{IsSummary};
+ghost use Rattle.plan_tables.specs.Tallies.{day_summaries, day_summary, part};
 
 use crate::costliest::costliest;
 use crate::tallies::{day_slots, duties, duties_on, shifts_used, totals_in};
@@ -107,15 +106,8 @@ impl Summary {
     /// What legal rows add up to.
     pub fn new(alloc: Global, instance: &Instance, rows: &Rows) -> Result<Summary, NoMemory>
         requires { IsTrue (are_legal_rows instance.now rows.now) }
-        ensures cost { IfOk result (λ s. s.cost ≡ cost instance.now (rota_of rows.now)) }
+        ensures sums { IfOk result (IsSummary instance.now (rota_of rows.now)) }
         ensures parts { IfOk result (λ s. s.cost ≡ s.excess.cost + s.shortage.cost + s.shifts.cost) }
-        ensures excess { IfOk result (λ s. s.excess ≡ excess_part instance.now (rota_of rows.now)) }
-        ensures shortage { IfOk result (λ s. s.shortage ≡ shortage_part instance.now (rota_of rows.now)) }
-        ensures shifts { IfOk result (λ s. s.shifts ≡ shifts_part instance.now (rota_of rows.now)) }
-        ensures duties { IfOk result (λ s. s.duties ≡ length (rota_of rows.now)) }
-        ensures totals { IfOk result (λ s. s.totals ≡ totals_in instance.now (rota_of rows.now) (below (slots instance.now))) }
-        ensures costliest { IfOk result (λ s. AreCostliest instance.now (rota_of rows.now) COSTLIEST s.costliest.items) }
-        ensures days { IfOk result (λ s. s.days.items ≡ day_summaries instance.now (rota_of rows.now)) }
     {
         let attendance = Attendance::new(alloc, instance, rows)?;
         let (excess, shortage, shift) = instance.weights();

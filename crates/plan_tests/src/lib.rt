@@ -1,4 +1,4 @@
-//! Tests of searches for plans, on a day whose best plan is plain to see.
+//! Tests of searches for plans, on days whose best plan is plain to see.
 #![tactic(auto)]
 
 #[cfg(test)]

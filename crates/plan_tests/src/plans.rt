@@ -1,4 +1,4 @@
-//! Plans of a search on a day whose best plan is plain to see.
+//! Plans of a search on days whose best plan is plain to see.
 
 use advice::Never;
 use break_rules::NoMemory;
@@ -16,6 +16,11 @@ use std::test::Fail;
 /// the plan costs the one shift.
 const DAY: &str =
     "{\"slot_minutes\":60,\"days\":1,\"need\":[0,0,0,0,0,0,0,0,2,2,2,1,1,2,2,2,0,0,0,0,0,0,0,0],\"max_heads\":3,\"weights\":{\"excess\":1,\"shortage\":2,\"shift\":3},\"types\":[{\"name\":\"M\",\"start_min\":6,\"start_max\":10,\"len_min\":7,\"len_max\":9,\"breaks\":{\"lead\":2,\"tail\":2,\"work_min\":2,\"work_max\":5,\"long_work\":5,\"long_rest\":1,\"size_min\":1,\"size_max\":1,\"totals\":[[7,1]],\"lunches\":[],\"resettle\":0}}]}";
+
+/// The same with bands: two or three employees will do from 8 to 16 o'clock. Three duties of 8 hours from 8 o'clock on, whose breaks begin in
+/// three different hours, are within every band: the plan costs the one shift. With two duties each break leaves one too few.
+const BANDED: &str =
+    "{\"slot_minutes\":60,\"days\":1,\"need\":[0,0,0,0,0,0,0,0,2,2,2,2,2,2,2,2,0,0,0,0,0,0,0,0],\"need_max\":[0,0,0,0,0,0,0,0,3,3,3,3,3,3,3,3,0,0,0,0,0,0,0,0],\"max_heads\":3,\"weights\":{\"excess\":1,\"shortage\":2,\"shift\":3},\"types\":[{\"name\":\"M\",\"start_min\":6,\"start_max\":10,\"len_min\":7,\"len_max\":9,\"breaks\":{\"lead\":2,\"tail\":2,\"work_min\":2,\"work_max\":5,\"long_work\":5,\"long_rest\":1,\"size_min\":1,\"size_max\":1,\"totals\":[[7,1]],\"lunches\":[],\"resettle\":0}}]}";
 
 /// What a search came to: what its best plan costs by its own count and by the count of the judge, in how many rows, and the
 /// work that it did.
@@ -57,9 +62,9 @@ fn outcome_of(search: &PlanSearch<Never>, instance: &Instance) -> Result<Outcome
     })
 }
 
-/// What a search with a seed comes to in some slices of work.
-fn reached(alloc: Global, seed: u64, slices: u32) -> Result<Outcome, Fail> {
-    let instance = read(alloc, DAY.as_bytes())?;
+/// What a search with a seed comes to on a day in some slices of work.
+fn reached(alloc: Global, day: &str, seed: u64, slices: u32) -> Result<Outcome, Fail> {
+    let instance = read(alloc, day.as_bytes())?;
     let tables = Tables::new(alloc, &instance)?;
     let search = searched(alloc, &tables, seed, slices)?;
     outcome_of(&search, &instance)
@@ -88,9 +93,9 @@ fn offered(
     outcome_of(&search, instance)
 }
 
-/// What a search comes to that is offered what another one found.
-fn outcome_offered(alloc: Global) -> Result<Outcome, Fail> {
-    let instance = read(alloc, DAY.as_bytes())?;
+/// What a search on a day comes to that is offered what another one found.
+fn outcome_offered(alloc: Global, day: &str) -> Result<Outcome, Fail> {
+    let instance = read(alloc, day.as_bytes())?;
     let tables = Tables::new(alloc, &instance)?;
     let rows = rows_found(alloc, &instance, &tables, 1)?;
     offered(alloc, &instance, &tables, &rows)
@@ -98,7 +103,7 @@ fn outcome_offered(alloc: Global) -> Result<Outcome, Fail> {
 
 #[test]
 fn the_best_plan_is_found(rt: HostRuntime) -> Result<(), Fail> {
-    let found = reached(rt.alloc(), 1, 10)?;
+    let found = reached(rt.alloc(), DAY, 1, 10)?;
     assert_eq!(rt; found.cost, 3);
     assert!(rt; found.told == 3.0);
     assert_eq!(rt; found.rows, 2);
@@ -108,15 +113,33 @@ fn the_best_plan_is_found(rt: HostRuntime) -> Result<(), Fail> {
 // Work goes on a little beyond each slice, and not for long.
 #[test]
 fn work_ends_soon_behind_the_slices(rt: HostRuntime) -> Result<(), Fail> {
-    let found = reached(rt.alloc(), 3, 2)?;
+    let found = reached(rt.alloc(), DAY, 3, 2)?;
     assert!(rt; 40_000 <= found.work);
     assert!(rt; found.work < 80_000);
     Ok(())
 }
 
 #[test]
+fn the_best_plan_within_bands_is_found(rt: HostRuntime) -> Result<(), Fail> {
+    let found = reached(rt.alloc(), BANDED, 1, 10)?;
+    assert_eq!(rt; found.cost, 3);
+    assert!(rt; found.told == 3.0);
+    assert_eq!(rt; found.rows, 3);
+    Ok(())
+}
+
+#[test]
+fn an_offered_plan_within_bands_is_kept(rt: HostRuntime) -> Result<(), Fail> {
+    let found = outcome_offered(rt.alloc(), BANDED)?;
+    assert_eq!(rt; found.cost, 3);
+    assert!(rt; found.told == 3.0);
+    assert_eq!(rt; found.work, 0);
+    Ok(())
+}
+
+#[test]
 fn an_offered_plan_is_kept(rt: HostRuntime) -> Result<(), Fail> {
-    let found = outcome_offered(rt.alloc())?;
+    let found = outcome_offered(rt.alloc(), DAY)?;
     assert_eq!(rt; found.cost, 3);
     assert!(rt; found.told == 3.0);
     assert_eq!(rt; found.work, 0);

@@ -25,9 +25,10 @@ use Rattle.worker_gate.specs.declared.run.RunEnd.TheVariants.{Finished, Spent, F
 use Rattle.worker_gate.specs.Runs.{committed, plans_and_prices_since, IsSameSearch, RunEnds, RunMakes}
 use Rattle.solve_runs.specs.Demo.{demo_text, line_of, AreCommitted, Demonstration, DemoMet, IsNew, IsShown, IsTold, OverMemory, Searches}
 use Rattle.solve_runs.specs.Report.{IsUnbeaten}
-use Rattle.solve_runs.specs.Search.{is_reported, status_at}
+use Rattle.solve_runs.specs.Searching.{end_of, is_reported}
 use Rattle.solve_runs.specs.Served.{AreTold, ToldMet}
 use Rattle.solve_runs.specs.Streams.{SinkMet}
+use Rattle.solve_runs.specs.Writing.{status_at}
 use Rattle.solve_runs.specs.declared.status.Status.{Status}
 use Rattle.solve_runs.specs.declared.status.Status.TheVariants.{Optimal, Budget, Full, Usage, Input, Workers, ReadFault, WriteFault, DiskFault, NoMemory, Journal}
 use Rattle.solve_runs.proofs.Ending.{few_steps}
@@ -40,17 +41,17 @@ searches_of first last end same makes ends shown enough =
     record { same = same; makes = makes; ends = ends; shown = shown; few = λ spent. few_steps first.budget (steps_enough first.instance) (λ le. enough le spent) }
 
 -- each step was committed, or all but the one for whose posts there was no room
-pub are_committed : (first last : BoardView) (end : RunEnd) → is_reported end ≡ true → RunMakes first last end → AreCommitted end (committed end last.taken) last.taken
-are_committed first last Finished some makes = refl
-are_committed first last Spent some makes = refl
-are_committed first last (FullEnd most limit) some makes =
+pub are_committed : (first last : BoardView) (end : RunEnd) → end ≢ Stopped → is_reported (end_of end) ≡ true → RunMakes first last end → AreCommitted end (committed end last.taken) last.taken
+are_committed first last Finished going some makes = refl
+are_committed first last Spent going some makes = refl
+are_committed first last (FullEnd most limit) going some makes =
     let held : BoardView = makes.end.0 in
     let cut : last.taken ≡ held.taken = ap (λ (v : BoardView). v.taken) makes.end.3.4 in
     let more : held.taken ≡ makes.last.taken + 1 = ap (λ (v : BoardView). v.taken) makes.end.2.takes.4 in
     let all : last.taken ≡ (last.taken - 1) + 1 = omega (arith, cut, more) in all
-are_committed first last DiskEnd some makes = absurd (false≢true some)
-are_committed first last MemoryEnd some makes = absurd (false≢true some)
-are_committed first last Stopped some makes = absurd (false≢true some)
+are_committed first last DiskEnd going some makes = absurd (false≢true some)
+are_committed first last MemoryEnd going some makes = absurd (false≢true some)
+are_committed first last Stopped going some makes = absurd (going refl)
 
 -- the one adviser was told so often
 pub one_told : (before after : List ℕ) (was is grown commits : ℕ) → before ≡ was ∷ [] → after ≡ is ∷ [] → (was < 2 ^ 63 → is ≡ was + grown) → grown ≡ commits → AreTold 1 commits (record { before = before; after = after })
@@ -114,7 +115,7 @@ module _ {D : Type 0} (reads : D → Option (List ℕ)) (calls faults : D → �
 module _ {D : Type 0} (reads : D → Option (List ℕ)) (images : D → List ℕ → Type 0) (calls faults : D → ℕ) (number budget : ℕ) (old new : SearchView D) (end : RunEnd) where
   -- what is known of a demonstration's book after its search
   pub record Known : Type 0 where
-    pub reported : is_reported end ≡ true
+    pub reported : is_reported (end_of end) ≡ true
     pub fresh : IsNew (generated number) budget (board_of reads calls faults old)
     pub searches : Searches (board_of reads calls faults old) (board_of reads calls faults new) end
     pub running : new.log.in_flight ≡ [] → IsRunningPosts reads images calls new.log
@@ -127,14 +128,14 @@ module _ {D : Type 0} (reads : D → Option (List ℕ)) (images : D → List ℕ
   limit_of k = ap (λ (o : Origin). o.limit) k.searches.same.origin ∙ k.fresh.limit
 
   -- no posts are in flight after a search that came to such an end
-  landed : (how : RunEnd) → is_reported how ≡ true → RunEnds (board_of reads calls faults new) how → ShutOf new.log.limit (faults new.log.opened) (faults new.log.disk) new.log.in_flight new.log.shut
+  landed : (how : RunEnd) → is_reported (end_of how) ≡ true → RunEnds (board_of reads calls faults new) how → ShutOf new.log.limit (faults new.log.opened) (faults new.log.disk) new.log.in_flight new.log.shut
       → new.log.in_flight ≡ []
   landed Finished some ends fault = subst (ShutOf new.log.limit (faults new.log.opened) (faults new.log.disk) new.log.in_flight) ends.0.running fault
   landed Spent some ends fault = subst (ShutOf new.log.limit (faults new.log.opened) (faults new.log.disk) new.log.in_flight) ends.0.running fault
   landed (FullEnd most limit) some ends fault = (subst (ShutOf new.log.limit (faults new.log.opened) (faults new.log.disk) new.log.in_flight) ends.0 fault).0
   landed DiskEnd some ends fault = absurd (false≢true some)
   landed MemoryEnd some ends fault = absurd (false≢true some)
-  landed Stopped some ends fault = absurd (false≢true some)
+  landed Stopped some ends fault = subst (ShutOf new.log.limit (faults new.log.opened) (faults new.log.disk) new.log.in_flight) ends.0.running fault
 
   sound_of : Known → IsSound (generated number) (book_at (board_of reads calls faults new))
   sound_of k =
@@ -161,13 +162,13 @@ unbeaten : {i : Problem} {budget : ℕ} {file : List ℕ} (d : Demonstration i b
 unbeaten {i} d = λ rota legal. finished_best i (book_at d.last) rota d.sound d.searches.ends.1 legal
 
 -- the line was written
-pub shown_ends : (met : DemoMet) (end : RunEnd) → is_reported end ≡ true → IsShown met end → OverMemory met (status_at end)
+pub shown_ends : (met : DemoMet) (end : RunEnd) → is_reported (end_of end) ≡ true → IsShown met end → OverMemory met (status_at (end_of end))
 shown_ends met Finished some shown = (shown, unbeaten shown.demo)
 shown_ends met Spent some shown = shown
 shown_ends met (FullEnd most limit) some shown = shown
 shown_ends met DiskEnd some shown = absurd (false≢true some)
 shown_ends met MemoryEnd some shown = absurd (false≢true some)
-shown_ends met Stopped some shown = absurd (false≢true some)
+shown_ends met Stopped some shown = absurd shown.told.2
 
 -- a content that is told
 some_of : (o : Option (List ℕ)) → IsSome o → (file : List ℕ) × (o ≡ Some file)
@@ -179,7 +180,7 @@ module _ {D : Type 0} (reads : D → Option (List ℕ)) (images : D → List ℕ
   abbrev pub met : DemoMet
   met = record { number = number; budget = budget; told = advisers; sink = sink; file = reads new.log.disk }
 
-  pub line_written : Appends sink.held sink.held_after (line_of number (board_of reads calls faults new)) → OverMemory met (status_at end)
+  pub line_written : Appends sink.held sink.held_after (line_of number (board_of reads calls faults new)) → OverMemory met (status_at (end_of end))
   unfolding demo_of
   line_written written =
       let t = some_of (reads new.log.disk) told in
@@ -191,7 +192,7 @@ module _ {D : Type 0} (reads : D → Option (List ℕ)) (images : D → List ℕ
       let t = some_of (reads new.log.disk) told in
       record { end = end; reported = k.reported; file = t.0; kept = t.1; demo = demo_of reads images calls faults number budget old new end k t.0 t.1; told = counted; written = part; cause = rose }
 
-module _ {D : Type 0} (reads : D → Option (List ℕ)) (images : D → List ℕ → Type 0) (calls faults : D → ℕ) (number budget : ℕ) (i : Problem) (old new : SearchView D) (end : RunEnd) (made : i ≡ generated number) (some : is_reported end ≡ true)
+module _ {D : Type 0} (reads : D → Option (List ℕ)) (images : D → List ℕ → Type 0) (calls faults : D → ℕ) (number budget : ℕ) (i : Problem) (old new : SearchView D) (end : RunEnd) (made : i ≡ generated number) (some : is_reported (end_of end) ≡ true)
     (fresh : IsNew i budget (board_of reads calls faults old)) (searches : Searches (board_of reads calls faults old) (board_of reads calls faults new) end) (running : new.log.in_flight ≡ [] → IsRunningPosts reads images calls new.log)
     (fault : ShutOf new.log.limit (faults new.log.opened) (faults new.log.disk) new.log.in_flight new.log.shut) (told : IsSome (reads new.log.disk)) (sink : SinkMet) (advisers : ToldMet) (counted : IsTold advisers end new.taken) (after : List ℕ) (back : after ≡ advisers.after) (status : Status) (disk : Option D) where
   all_known : Known reads images calls faults number budget old new end
@@ -208,8 +209,8 @@ module _ {D : Type 0} (reads : D → Option (List ℕ)) (images : D → List ℕ
       (subst (λ (x : Status). OverMemory (shows (Some new.log.disk) advisers.after) x) (sym is) ends))
 
   -- the end of a demonstration whose line was written
-  pub demonstrated : status ≡ status_at end → disk ≡ Some new.log.disk → Appends sink.held sink.held_after (line_of number (board_of reads calls faults new)) → OverMemory (shows disk after) status
-  demonstrated is same written = handed_back (status_at end) (line_written reads images calls faults number budget old new end all_known told sink advisers counted written) is same
+  pub demonstrated : status ≡ status_at (end_of end) → disk ≡ Some new.log.disk → Appends sink.held sink.held_after (line_of number (board_of reads calls faults new)) → OverMemory (shows disk after) status
+  demonstrated is same written = handed_back (status_at (end_of end)) (line_written reads images calls faults number budget old new end all_known told sink advisers counted written) is same
 
   -- and of one whose line was written in part
   pub demonstrated_in_part : status ≡ WriteFault → disk ≡ Some new.log.disk → AppendsPart sink.held sink.held_after (line_of number (board_of reads calls faults new)) → Rose sink.faults.0 sink.faults.1

@@ -1,7 +1,14 @@
--- How many advisers serve.
-use Rattle.std.proofs.Common.{◌≡◌, ℕ, zero, suc, ◌+◌, ◌-◌, ◌≤◌, List, [], ◌∷◌, length, min, take, arith, refl}
+-- The limits of a command's numbers, and how many advisers serve.
+use Rattle.std.proofs.Common.{◌≡◌, ℕ, zero, suc, ◌+◌, ◌-◌, ◌≤◌, List, [], ◌∷◌, length, min, take, arith, refl, subst}
 use Rattle.std.proofs.Math.Nat.{min-le_left, min-le_right}
+use Rattle.solve_words.specs.declared.command.Command.{Command}
+use Rattle.solve_words.specs.Asked.{asked}
+use Rattle.solve_words.specs.Words.{IsWithin}
 use Rattle.solve_runs.specs.Words.{workers_for}
+
+-- the numbers of a command are within their limits, whatever it was matched as
+pub still_within : (command matched : Command) → command ≡ matched → IsWithin (asked command) → IsWithin (asked matched)
+still_within command matched is within = subst (λ (c : Command). IsWithin (asked c)) is within
 
 -- so many advisers serve as workers are asked for, where there are enough
 pub served_are : (asked have n served : ℕ) (advisers : List ℕ) → have ≡ workers_for advisers → length advisers ≡ n → asked ≤ have → served + (n - asked) ≡ n → (served ≡ asked) × (served ≤ 16)

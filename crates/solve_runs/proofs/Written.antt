@@ -22,7 +22,7 @@ use Rattle.solve_runs.specs.declared.status.Status.TheVariants.{Optimal, Budget,
 use Rattle.solve_runs.specs.Ended.{HasEnded}
 use Rattle.solve_runs.specs.Report.{cert_of, output_of}
 use Rattle.solve_runs.specs.Run.{OverDisk, Reports, ReportsPart}
-use Rattle.solve_runs.specs.Search.{is_reported as is_reported_run, IsLanded}
+use Rattle.solve_runs.specs.Search.{IsLanded}
 use Rattle.solve_runs.specs.Searching.{end_of, is_reported, HasNotSearched, HasSearched, IsSessionOf}
 use Rattle.solve_runs.specs.Served.{ToldMet}
 use Rattle.solve_runs.specs.Session.{met_of, posts_in, DiskMet, Session}
@@ -31,14 +31,6 @@ use Rattle.solve_runs.specs.Words.{workers_for}
 use Rattle.solve_runs.specs.Writing.{status_at, EndsAs, IsReported, IsReportedPart, Unwritten}
 
 -- a search whose report is written came to an end of its own
-reported_run : (how : RunEnd) → end_of how ≢ Stopped → is_reported (end_of how) ≡ true → is_reported_run how ≡ true
-reported_run FinishedEnd going some = refl
-reported_run SpentEnd going some = refl
-reported_run (FullEnd end limit) going some = refl
-reported_run DiskEnd going some = absurd (false≢true some)
-reported_run MemoryEnd going some = absurd (false≢true some)
-reported_run StoppedEnd going some = absurd (going refl)
-
 landed_run : (how : RunEnd) → end_of how ≢ Stopped → is_reported (end_of how) ≡ true → IsLanded how
 landed_run FinishedEnd going some = tt
 landed_run SpentEnd going some = tt
@@ -89,7 +81,7 @@ module _ {D : Type 0} (reads : D → Option (List ℕ)) (images : D → List ℕ
 
     unwritten : (how : RunEnd) (s : Session met i) (status : Status) → end_of how ≢ Stopped → IsSessionOf calls book s → HasEnded met i workers budget told how (board_of reads calls faults book) s → is_reported (end_of how) ≡ true → Unwritten i book table sink status
         → OverDisk met sink i table budget workers told true status
-    unwritten how s WriteFault going own ended some part = (refl, s, board_of reads calls faults book, how, reported_run how going some, ended, part_of calls book met i s own sink table part)
+    unwritten how s WriteFault going own ended some part = (refl, s, board_of reads calls faults book, how, landed_run how going some, some, ended, part_of calls book met i s own sink table part)
     unwritten how s NoMemory going own ended some part = inr (refl, s, board_of reads calls faults book, how, landed_run how going some, ended)
     unwritten how s Optimal going own ended some part = absurd part
     unwritten how s Budget going own ended some part = absurd part

@@ -19,7 +19,7 @@ use Rattle.worker_gate.specs.Runs.{committed, plans_and_prices_since, IsIdle, Is
 use Rattle.solve_runs.specs.declared.status.Status.{Status}
 use Rattle.solve_runs.specs.declared.status.Status.TheVariants.{Optimal, Budget, Full, Usage, Input, Workers, ReadFault, WriteFault, DiskFault, NoMemory, Journal}
 use Rattle.solve_runs.specs.Report.{IsUnbeaten}
-use Rattle.solve_runs.specs.Search.{is_reported}
+use Rattle.solve_runs.specs.Searching.{end_of, is_reported}
 use Rattle.solve_runs.specs.Served.{AreTold, ToldMet}
 use Rattle.solve_runs.specs.Streams.{SinkMet}
 
@@ -106,7 +106,7 @@ pub record IsShown (met : DemoMet) (end : RunEnd) : Type 0 where
 -- the search ended, and its disk is handed back; the beginning of its line was written, and the sink had a fault
 pub record IsCutShort (met : DemoMet) : Type 0 where
   pub end : RunEnd
-  pub reported : IsTrue (is_reported end)
+  pub reported : IsTrue (is_reported (end_of end))
   pub file : List ℕ
   pub kept : met.file ≡ Some file
   pub demo : Demonstration (generated met.number) met.budget end file

@@ -35,7 +35,7 @@ pub record IsSpent (budget : ℕ) {disk : DiskMet} {i : Problem} (session : Sess
   pub unfinished : IsFalse (is_finished session.last)
   pub few : budget < steps_enough i
 
--- a node is open, though not all steps of the budget were taken
+-- a node is open; that a step of the budget was left is said of its workers (`WorkersEnd`)
 pub record IsStopped {disk : DiskMet} {i : Problem} (session : Session disk i) : Type 0 where
   pub landed : session.in_flight ≡ []
   pub unfinished : IsFalse (is_finished session.last)

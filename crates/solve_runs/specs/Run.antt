@@ -22,9 +22,10 @@ use Rattle.solve_runs.specs.Session.{DiskMet, IsUncalled, Session, posts_in}
 use Rattle.solve_runs.specs.Status.{EndsBeforeReading}
 use Rattle.worker_gate.specs.declared.run.RunEnd.{RunEnd}
 use Rattle.worker_gate.specs.declared.run.RunEnd.TheVariants.{Finished, Spent, Full as FullEnd, DiskFault as DiskEnd}
-use Rattle.solve_runs.specs.Search.{is_reported, IsLanded}
+use Rattle.solve_runs.specs.Search.{IsLanded}
+use Rattle.solve_runs.specs.Searching.{end_of, is_reported}
 use Rattle.solve_runs.specs.Served.{AreUntold, ToldMet}
-use Rattle.solve_runs.specs.Streams.{SinkMet}
+use Rattle.solve_runs.specs.Streams.{sink_of, SinkMet}
 use Rattle.solve_runs.specs.Words.{workers_for, AsksWorkers, Command, IsCommand}
 use Rattle.solve_words.specs.Words.{from_number, Asked}
 
@@ -52,7 +53,7 @@ abbrev pub OverDisk : DiskMet → SinkMet → Problem → Bool → ℕ → ℕ �
 OverDisk disk sink i table budget workers told opened Optimal = (opened ≡ true) × (s : Session disk i) × (last : BoardView) × HasEnded disk i workers budget told Finished last s × Reports sink table s
 OverDisk disk sink i table budget workers told opened Budget = (opened ≡ true) × (s : Session disk i) × (last : BoardView) × HasEnded disk i workers budget told Spent last s × Reports sink table s
 OverDisk disk sink i table budget workers told opened (Full end limit) = (opened ≡ true) × (s : Session disk i) × (last : BoardView) × HasEnded disk i workers budget told (FullEnd end limit) last s × Reports sink table s
-OverDisk disk sink i table budget workers told opened WriteFault = (opened ≡ true) × (s : Session disk i) × (last : BoardView) × (end : RunEnd) × IsTrue (is_reported end) × HasEnded disk i workers budget told end last s × ReportsPart sink table s
+OverDisk disk sink i table budget workers told opened WriteFault = (opened ≡ true) × (s : Session disk i) × (last : BoardView) × (end : RunEnd) × IsLanded end × IsTrue (is_reported (end_of end)) × HasEnded disk i workers budget told end last s × ReportsPart sink table s
 OverDisk disk sink i table budget workers told opened DiskFault = Rose disk.faults.0 disk.faults.1
     × (((opened ≡ false) × IsLeft disk i × AreUntold workers told) ⊎ ((opened ≡ true) × (s : Session disk i) × (last : BoardView) × HasEnded disk i workers budget told DiskEnd last s))
 OverDisk disk sink i table budget workers told opened NoMemory =
@@ -76,6 +77,20 @@ pub record Met : Type 1 where
   pub disk : DiskMet
   pub opened : Bool
   pub demo : Option (List ℕ)
+
+-- what a run meets that is asked for that: of its source what it has left and its count of faults, and of its sink what it holds and its
+-- count of faults, each from one of its states to a later one; and the rest as it stands above
+abbrev pub met_in : {S K : Type 0} → (Asked → Type 0) → (S → Option (List ℕ)) → (S → ℕ) → S → S → (K → Option (List ℕ)) → (K → ℕ) → K → K → ToldMet → DiskMet → Bool → Option (List ℕ) → Met
+met_in asks left read_faults source source_after held write_faults sink sink_after told disk opened demo = record {
+  asks = asks;
+  left = left source;
+  read_faults = (read_faults source, read_faults source_after);
+  told = told;
+  sink = sink_of held write_faults sink sink_after;
+  disk = disk;
+  opened = opened;
+  demo = demo;
+}
 
 -- no book was opened on the disk, and no disk in memory is handed back
 pub record IsUnopened (met : Met) : Type 0 where

@@ -1,5 +1,5 @@
 -- What a run does to the book that it opened, step by step.
-use Rattle.std.specs.Prelude.{◌≡◌, ⊤, ℕ, ◌+◌, ◌*◌, ◌<◌, ◌≤◌, Bool, true, false, List, Option, None}
+use Rattle.std.specs.Prelude.{◌≡◌, ⊤, ℕ, ◌+◌, ◌*◌, ◌<◌, ◌≤◌, false, List, Option, None}
 use Rattle.search_core.specs.Calls.{full_hands, steps_enough, IsFresh}
 use Rattle.search_core.specs.Core.{empty_hands, IsFront}
 use Rattle.search_book.specs.Search.{SearchView, board_of}
@@ -8,8 +8,6 @@ use Rattle.worker_gate.specs.declared.run.RunEnd.TheVariants.{Finished, Spent, F
 use Rattle.board_lock.specs.Turns.{plans_since, prices_since, AreTurns}
 use Rattle.worker_gate.specs.Runs.{IsSameSearch}
 use Rattle.worker_gate.specs.Workers.{WorkersEnd}
-use Rattle.solve_runs.specs.declared.status.Status.{Status}
-use Rattle.solve_runs.specs.declared.status.Status.TheVariants.{Optimal, Budget, Full, DiskFault, NoMemory}
 use Rattle.solve_runs.specs.Served.{AreTold, ToldMet}
 
 -- a book from which no node was taken yet
@@ -40,25 +38,7 @@ pub record Ends {D : Type 0} (reads : D → Option (List ℕ)) (calls faults : D
 abbrev pub Told : {D : Type 0} → (D → Option (List ℕ)) → (D → ℕ) → (D → ℕ) → ℕ → ToldMet → SearchView D → SearchView D → RunEnd → Type 0
 Told reads calls faults workers told old new end = (commits : ℕ) × Ends reads calls faults workers commits old new end × AreTold workers commits told
 
--- whether the search of a run came to an end of which a report is written; nobody asks it to stop
-abbrev pub is_reported : RunEnd → Bool
-is_reported Finished = true
-is_reported Spent = true
-is_reported (FullEnd end limit) = true
-is_reported DiskEnd = false
-is_reported MemoryEnd = false
-is_reported Stopped = false
-
--- how a run ends whose search ended so, and whose report was written, where there is one; no search of a run is asked to stop
-abbrev pub status_at : RunEnd → Status
-status_at Finished = Optimal
-status_at Spent = Budget
-status_at (FullEnd end limit) = Full end limit
-status_at DiskEnd = DiskFault
-status_at MemoryEnd = NoMemory
-status_at Stopped = NoMemory
-
--- a search that the disk didn't end
+-- a search that neither the disk ended nor a stop: no run asks for one
 abbrev pub IsLanded : RunEnd → Type 0
 IsLanded Finished = ⊤
 IsLanded Spent = ⊤

@@ -6,3 +6,7 @@ pub record SinkMet : Type 0 where
   pub held : Option (List ℕ)
   pub held_after : Option (List ℕ)
   pub faults : ℕ × ℕ
+
+-- what shows of a sink from one of its states to a later one
+abbrev pub sink_of : {K : Type 0} → (K → Option (List ℕ)) → (K → ℕ) → K → K → SinkMet
+sink_of held faults old new = record { held = held old; held_after = held new; faults = (faults old, faults new) }

@@ -9,11 +9,14 @@ ghost use Rattle.search_book.specs.Keeping.{IsRunningPosts, ShutOf};
 ghost use Rattle.search_book.specs.Search.{board_of};
 ghost use Rattle.worker_gate.specs.Runs.{committed};
 ghost use Rattle.solve_runs.specs.Demo.{demo_text, end_text, line_of, AreCommitted, Demonstration, IsNew, OverMemory, Searches};
-ghost use Rattle.solve_runs.specs.Search.{is_reported, status_at, IsBegun};
+ghost use Rattle.solve_runs.specs.Search.{IsBegun};
+ghost use Rattle.solve_runs.specs.Searching.{end_of, is_reported};
 ghost use Rattle.solve_runs.specs.Served.{AreTold};
 ghost use Rattle.solve_runs.specs.Status.{EndsUnwritten};
+ghost use Rattle.solve_runs.specs.Streams.{sink_of};
 ghost use Rattle.solve_runs.specs.declared.status.Status.TheVariants.{NoMemory as MemoryStatus};
 
+use crate::searched::{end_of, status_at};
 use crate::status::Status;
 use advice::{Adviser, Never};
 use gated_journal::JOURNAL_MAX;
@@ -75,36 +78,6 @@ fn write_line<K: Sink, D: Disk>(
     Ok(write_all(out, bytes.as_slice()))
 }
 
-/// Whether a search came to an end of which a report is written.
-fn is_reported(end: RunEnd) -> bool
-    ensures { result ≡ is_reported end }
-{
-    match end {
-        RunEnd::Finished => true,
-        RunEnd::Spent => true,
-        RunEnd::Full { end: _, limit: _ } => true,
-        RunEnd::DiskFault => false,
-        RunEnd::NoMemory => false,
-        RunEnd::Stopped => false,
-    }
-}
-
-/// How a run ends whose search ended so, and whose report was written, where there is one.
-fn status_at(end: RunEnd) -> Status
-    requires { end ≢ RunEnd.Stopped }
-    ensures { result ≡ status_at end }
-{
-    match end {
-        RunEnd::Finished => Status::Optimal,
-        RunEnd::Spent => Status::Budget,
-        RunEnd::Full { end, limit } => Status::Full { end, limit },
-        RunEnd::DiskFault => Status::DiskFault,
-        RunEnd::NoMemory => Status::NoMemory,
-        // the run's stop never asks
-        RunEnd::Stopped => unreachable!(),
-    }
-}
-
 /// The search of a demonstration by the one adviser over a book from which no node was taken yet. The adviser comes back.
 fn search_all<D: Disk, G: Gate>(
     alloc: Global,
@@ -119,7 +92,8 @@ fn search_all<D: Disk, G: Gate>(
     requires one { vec_len advisers.old ≡ 1 }
     ensures searches { Searches (board_of D.reads D.calls D.faults book.old) (board_of D.reads D.calls D.faults book.new) result }
     ensures told { AreTold 1 (committed result book.new.taken) (record { before = map (λ a. told a) advisers.old.items; after = map (λ a. told a) advisers.new.items }) }
-    ensures committed { is_reported result ≡ true → AreCommitted result (committed result book.new.taken) book.new.taken }
+    ensures going { result ≢ RunEnd.Stopped }
+    ensures committed { is_reported (end_of result) ≡ true → AreCommitted result (committed result book.new.taken) book.new.taken }
 {
     let mut seat = Seat {
         adviser: advisers.remove(0),
@@ -216,7 +190,7 @@ fn demo_over<K: Sink, G: Gate>(
           number = number;
           budget = steps;
           told = record { before = map (λ a. told a) advisers.items; after = map (λ a. told a) result.advisers.items };
-          sink = record { held = K.held out.old; held_after = K.held out.new; faults = (K.faults out.old, K.faults out.new) };
+          sink = sink_of K.held K.faults out.old out.new;
           file = option_and_then ⟦<MemDisk as Disk>⟧.reads result.disk;
         })
         result.status }
@@ -225,8 +199,9 @@ fn demo_over<K: Sink, G: Gate>(
     let Ok(mut book) = new_book(alloc, instance, steps) else {
         return DemoEnd::no_memory(advisers);
     };
-    let end = search_all(alloc, instance, &mut book, &mut advisers, gate);
-    if !is_reported(end) {
+    let how = search_all(alloc, instance, &mut book, &mut advisers, gate);
+    let end = end_of(how);
+    if !end.is_reported() {
         // a disk in memory fails by running out of memory alone
         return DemoEnd::no_memory(advisers);
     }
@@ -254,7 +229,7 @@ pub(crate) fn run_demo<K: Sink, G: Gate>(
           number = number;
           budget = steps;
           told = record { before = map (λ a. told a) advisers.items; after = map (λ a. told a) result.advisers.items };
-          sink = record { held = K.held out.old; held_after = K.held out.new; faults = (K.faults out.old, K.faults out.new) };
+          sink = sink_of K.held K.faults out.old out.new;
           file = option_and_then ⟦<MemDisk as Disk>⟧.reads result.disk;
         })
         result.status }

@@ -7,6 +7,7 @@ ghost use Rattle.certificate.specs.Text.{Agrees};
 ghost use Rattle.shift_instance.specs.Valid.{IsValid};
 ghost use Rattle.solve_runs.specs.Report.{cert_of, output_of, status_of_book};
 ghost use Rattle.solve_runs.specs.Status.{EndsUnwritten};
+ghost use Rattle.solve_runs.specs.Streams.{sink_of};
 ghost use Rattle.solve_runs.specs.Writing.{IsReported, Unwritten};
 
 use crate::status::Status;
@@ -81,8 +82,8 @@ pub(crate) fn write_report<K: Sink, D: Disk>(
     out: &mut K,
 ) -> Result<(), Status>
     requires same { book.now.log.instance ≡ instance.now }
-    ensures ok { OnOk result (IsReported instance.now book.now table (record { held = K.held out.old; held_after = K.held out.new; faults = (K.faults out.old, K.faults out.new) })) }
-    ensures err { IfErr result (Unwritten instance.now book.now table (record { held = K.held out.old; held_after = K.held out.new; faults = (K.faults out.old, K.faults out.new) })) }
+    ensures ok { OnOk result (IsReported instance.now book.now table (sink_of K.held K.faults out.old out.new)) }
+    ensures err { IfErr result (Unwritten instance.now book.now table (sink_of K.held K.faults out.old out.new)) }
     ensures unwritten { IfErr result (λ status. EndsUnwritten status → out.new ≡ out.old) }
 {
     let Ok(bytes) = report_of(alloc, instance, book, table) else {

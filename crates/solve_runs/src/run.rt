@@ -4,17 +4,18 @@ ghost use Rattle.std.specs.Prelude.{◌≡◌, ◌≢◌, ◌<◌, ◌≤◌, �
 ghost use Rattle.solve_words.specs.Asked.{asked};
 ghost use Rattle.solve_words.specs.Words.{from_number, Asked, Asks, IsWithin};
 ghost use Rattle.solve_runs.specs.Demo.{OverMemory};
-ghost use Rattle.solve_runs.specs.Run.{status_unread, EndsCommand, Explains, IsUnread, OverDisk};
+ghost use Rattle.solve_runs.specs.Run.{met_in, status_unread, EndsCommand, Explains, IsUnread, OverDisk};
 ghost use Rattle.solve_runs.specs.Searching.{SearchEnds};
 ghost use Rattle.solve_runs.specs.Session.{met_of};
 ghost use Rattle.solve_runs.specs.Status.{EndsEarly, EndsUnwritten};
+ghost use Rattle.solve_runs.specs.Streams.{sink_of};
 ghost use Rattle.solve_runs.specs.Words.{workers_for};
-ghost use Rattle.solve_runs.specs.Writing.{status_at, EndsAs};
+ghost use Rattle.solve_runs.specs.Writing.{EndsAs};
 
 use crate::demo::run_demo;
 use crate::report::write_report;
 use crate::search::{run_search, workers_for};
-use crate::searched::{Request, SearchEnd, Searched};
+use crate::searched::{Request, SearchEnd, Searched, status_at};
 use crate::status::Status;
 use advice::{Adviser, Never};
 use instance_input::{Unread, read_instance};
@@ -38,24 +39,6 @@ fn status_unread(why: Unread) -> Status
         Unread::Refused(why) => Status::Input(why),
         Unread::ReadFault => Status::ReadFault,
         Unread::NoMemory => Status::NoMemory,
-    }
-}
-
-/// How a run ends whose search ended so, and whose report was written, where there is one.
-fn status_at(end: SearchEnd) -> Status
-    requires { end ≢ SearchEnd.Stopped }
-    ensures { result ≡ status_at end }
-{
-    match end {
-        SearchEnd::Finished => Status::Optimal,
-        SearchEnd::Spent => Status::Budget,
-        SearchEnd::Full { end, limit } => Status::Full { end, limit },
-        SearchEnd::DiskFault => Status::DiskFault,
-        SearchEnd::NoMemory => Status::NoMemory,
-        // the stop of a run never asks
-        SearchEnd::Stopped => unreachable!(),
-        SearchEnd::TooFewAdvisers { asked, have } => Status::Workers { asked, have },
-        SearchEnd::Refused(why) => Status::Journal(why),
     }
 }
 
@@ -107,7 +90,7 @@ fn write_end<K: Sink, D: Disk>(
 ) -> Status
     requires same { book.now.log.instance ≡ instance.now }
     requires going { end ≢ SearchEnd.Stopped }
-    ensures status { EndsAs instance.now book.now end table (record { held = K.held out.old; held_after = K.held out.new; faults = (K.faults out.old, K.faults out.new) }) result }
+    ensures status { EndsAs instance.now book.now end table (sink_of K.held K.faults out.old out.new) result }
     ensures unwritten { EndsUnwritten result → out.new ≡ out.old }
 {
     if !end.is_reported() {
@@ -133,7 +116,7 @@ fn end_search<K: Sink, D: Disk>(
         → SearchEnds D.reads D.images D.images_since D.calls D.faults disk instance.now workers budget (record { before = before; after = map (λ a. told a) searched.advisers.items }) searched.book searched.end
         → workers ≤ workers_for before
         → OverDisk (met_of D.reads D.images D.images_since D.calls D.faults disk result.disk)
-        (record { held = K.held out.old; held_after = K.held out.new; faults = (K.faults out.old, K.faults out.new) })
+        (sink_of K.held K.faults out.old out.new)
         instance.now table budget workers (record { before = before; after = map (λ a. told a) result.advisers.items }) result.opened result.status }
     ensures unwritten { EndsUnwritten result.status → out.new ≡ out.old }
     ensures demo { result.demo ≡ None }
@@ -175,16 +158,10 @@ fn run_over<S: Source, K: Sink, D: Disk + Send, G: Gate + Sync, R: Threads + Wai
     requires steps { request.steps < 2 ^ 63 }
     requires enough { request.workers ≤ workers_for (map (λ a. told a) advisers.items) }
     ensures status { (journal : List ℕ) → EndsCommand
-        (record {
-          asks = λ asked. Unit {0};
-          left = S.left input.old;
-          read_faults = (S.faults input.old, S.faults input.new);
-          told = record { before = map (λ a. told a) advisers.items; after = map (λ a. told a) result.advisers.items };
-          sink = record { held = K.held out.old; held_after = K.held out.new; faults = (K.faults out.old, K.faults out.new) };
-          disk = met_of D.reads D.images D.images_since D.calls D.faults disk result.disk;
-          opened = result.opened;
-          demo = option_and_then ⟦<MemDisk as Disk>⟧.reads result.demo;
-        })
+        (met_in (λ asked. Unit {0}) S.left S.faults input.old input.new K.held K.faults out.old out.new
+        (record { before = map (λ a. told a) advisers.items; after = map (λ a. told a) result.advisers.items })
+        (met_of D.reads D.images D.images_since D.calls D.faults disk result.disk)
+        result.opened (option_and_then ⟦<MemDisk as Disk>⟧.reads result.demo))
         (record { journal = journal; workers = request.workers; steps = request.steps; table = table })
         result.status }
     ensures unwritten { EndsUnwritten result.status → out.new ≡ out.old }
@@ -219,7 +196,7 @@ fn run_beside<K: Sink, D: Disk, G: Gate>(
           number = number;
           budget = steps;
           told = record { before = map (λ a. told a) advisers.items; after = map (λ a. told a) result.advisers.items };
-          sink = record { held = K.held out.old; held_after = K.held out.new; faults = (K.faults out.old, K.faults out.new) };
+          sink = sink_of K.held K.faults out.old out.new;
           file = option_and_then ⟦<MemDisk as Disk>⟧.reads result.demo;
         })
         result.status }
@@ -279,16 +256,10 @@ pub fn run_command<
     requires count { D.calls disk < 2 ^ 62 }
     requires within { IsWithin (asked command) }
     ensures status { Explains
-        (record {
-          asks = λ a. a ≡ asked command.entry;
-          left = S.left input.old;
-          read_faults = (S.faults input.old, S.faults input.new);
-          told = record { before = map (λ a. told a) advisers.items; after = map (λ a. told a) result.advisers.items };
-          sink = record { held = K.held out.old; held_after = K.held out.new; faults = (K.faults out.old, K.faults out.new) };
-          disk = met_of D.reads D.images D.images_since D.calls D.faults disk result.disk;
-          opened = result.opened;
-          demo = option_and_then ⟦<MemDisk as Disk>⟧.reads result.demo;
-        })
+        (met_in (λ a. a ≡ asked command.entry) S.left S.faults input.old input.new K.held K.faults out.old out.new
+        (record { before = map (λ a. told a) advisers.items; after = map (λ a. told a) result.advisers.items })
+        (met_of D.reads D.images D.images_since D.calls D.faults disk result.disk)
+        result.opened (option_and_then ⟦<MemDisk as Disk>⟧.reads result.demo))
         result.status }
     ensures unread { IsUnread (λ a. a ≡ asked command.entry) result.status → input.new ≡ input.old }
     ensures unwritten { EndsUnwritten result.status → out.new ≡ out.old }
@@ -340,16 +311,10 @@ pub fn solve_run<S: Source, K: Sink, D: Disk + Send, G: Gate + Sync, R: Threads 
 ) -> Ended<D>
     requires count { D.calls disk < 2 ^ 62 }
     ensures status { Explains
-        (record {
-          asks = Asks (map string_bytes words.now);
-          left = S.left input.old;
-          read_faults = (S.faults input.old, S.faults input.new);
-          told = record { before = map (λ a. told a) advisers.items; after = map (λ a. told a) result.advisers.items };
-          sink = record { held = K.held out.old; held_after = K.held out.new; faults = (K.faults out.old, K.faults out.new) };
-          disk = met_of D.reads D.images D.images_since D.calls D.faults disk result.disk;
-          opened = result.opened;
-          demo = option_and_then ⟦<MemDisk as Disk>⟧.reads result.demo;
-        })
+        (met_in (Asks (map string_bytes words.now)) S.left S.faults input.old input.new K.held K.faults out.old out.new
+        (record { before = map (λ a. told a) advisers.items; after = map (λ a. told a) result.advisers.items })
+        (met_of D.reads D.images D.images_since D.calls D.faults disk result.disk)
+        result.opened (option_and_then ⟦<MemDisk as Disk>⟧.reads result.demo))
         result.status }
     ensures unread { IsUnread (Asks (map string_bytes words.now)) result.status → input.new ≡ input.old }
     ensures unwritten { EndsUnwritten result.status → out.new ≡ out.old }

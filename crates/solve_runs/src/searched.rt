@@ -1,8 +1,10 @@
-//! What a search over a disk is asked for, and what it answers.
+//! What a search over a disk is asked for, what it answers, and how a run ends by its answer.
 
-ghost use Rattle.std.specs.Prelude.{◌≡◌, Err};
+ghost use Rattle.std.specs.Prelude.{◌≡◌, ◌≢◌, Err};
 ghost use Rattle.solve_runs.specs.Searching.{end_of, end_unopened, is_reported};
+ghost use Rattle.solve_runs.specs.Writing.{status_at};
 
+use crate::status::Status;
 use advice::Adviser;
 use plan_base::Disk;
 use search_book::{Book, OpenFault};
@@ -102,5 +104,23 @@ pub(crate) fn end_unopened(fault: OpenFault) -> SearchEnd
         OpenFault::DiskFault => SearchEnd::DiskFault,
         OpenFault::NoMemory => SearchEnd::NoMemory,
         why => SearchEnd::Refused(why),
+    }
+}
+
+/// How a run ends whose search ended so, and whose report was written, where there is one.
+pub(crate) fn status_at(end: SearchEnd) -> Status
+    requires { end ≢ SearchEnd.Stopped }
+    ensures { result ≡ status_at end }
+{
+    match end {
+        SearchEnd::Finished => Status::Optimal,
+        SearchEnd::Spent => Status::Budget,
+        SearchEnd::Full { end, limit } => Status::Full { end, limit },
+        SearchEnd::DiskFault => Status::DiskFault,
+        SearchEnd::NoMemory => Status::NoMemory,
+        // the stop of a run never asks
+        SearchEnd::Stopped => unreachable!(),
+        SearchEnd::TooFewAdvisers { asked, have } => Status::Workers { asked, have },
+        SearchEnd::Refused(why) => Status::Journal(why),
     }
 }

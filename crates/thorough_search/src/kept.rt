@@ -5,7 +5,7 @@ use crate::prices::{SCALE, begin_prices, cut_prices, slot_prices};
 use crate::splits::{HeadSplit, NodeView, best_split};
 use advice::{Ask, Stop};
 use break_rules::NoMemory;
-use greedy::greedy_plan;
+use greedy::greedy_plan_until;
 use head_splits::{CutPrices, Prices, SlotPrices};
 use plan_search::{Guide, PlanSearch};
 use price_climb::{Climb, Limits, Ranges};
@@ -37,7 +37,7 @@ pub(crate) struct Kept<S: Stop + Drop> {
     climb: Climb,
     /// What the cheapest plan of hints costs that was offered to the plan search.
     offered: u64,
-    /// Whether the greedy plan was made.
+    /// Whether the greedy plan was made, whole or as far as the stop let it.
     is_greedy_made: bool,
     /// The rows of the greedy plan, where it wasn't advised yet.
     greedy: Option<Rows>,
@@ -175,16 +175,16 @@ impl<S: Stop + Drop> Kept<S> {
         Ok(())
     }
 
-    /// Makes the greedy plan, once and only where the best rota has no duty, and not where a stop is asked for. Where the plan search has
-    /// none that is cheaper, that plan is kept to be advised, and offered to the search, which doesn't take it where a duty has too many
-    /// breaks.
+    /// Makes the greedy plan, once and only where the best rota has no duty, and not where a stop is asked for. Once the stop asks, the
+    /// plan is the one after the rounds that were made by then. Where the plan search has none that is cheaper, the plan is kept to be
+    /// advised, and offered to the search, which doesn't take it where a duty has too many breaks.
     fn make_greedy(&mut self, instance: &Instance, ask: &Ask) -> Result<(), NoMemory> {
         let is_wanted = !self.is_greedy_made && ask.hint.rows.as_slice().is_empty();
         if !is_wanted || self.plans.stop().is_asked() {
             return Ok(());
         }
         self.is_greedy_made = true;
-        let rows = greedy_plan(self.alloc, instance)?;
+        let rows = greedy_plan_until(self.alloc, instance, self.plans.stop())?;
         if self.is_cheaper_than(recount(instance, &rows)) {
             return Ok(());
         }

@@ -1,4 +1,5 @@
 use Rattle.std.proofs.Common.{◌≡◌, ◌<◌, ◌≤ℤ◌, ◌∙◌, ℤ, pos, neg_ℤ, List, length, set, to_z, of_z, w64, sym, ap, subst, arith}
+use Rattle.std.proofs.lemmas.Bool.{false≢true}
 use Rattle.std.proofs.lemmas.Int.{ints}
 use Rattle.shift_instance.specs.Problem.{shift_list}
 use Rattle.greedy.specs.Bounds.{bound_at}
@@ -9,7 +10,7 @@ use Rattle.greedy.proofs.Keeping.{keeps_with}
 use Rattle.greedy.proofs.bounds.next_shift.Goals as goal
 
 pub returns-then-gain-index-clause-next : goal.returns-then-gain-index-clause-next
-returns-then-gain-index-clause-next c =
+returns-then-gain-index-clause-next g c =
     let i = c.args.instance.now in
     let rota = c.args.draft.now.cover.duties in
     let bounds = c.looks.bounds.items in
@@ -30,7 +31,7 @@ returns-then-gain-index-clause-next c =
     next_is i rota bounds c.leading.result s c.in-Some.is (sym is ∙ same ∙ read) c.looks.invariant.bounds led
 
 pub looks-smaller : goal.looks-smaller
-looks-smaller c =
+looks-smaller g c =
     let i = c.args.instance.now in
     let rota = c.args.draft.now.cover.duties in
     let bounds = c.looks.bounds.items in
@@ -49,7 +50,7 @@ looks-smaller c =
     (falls_short (gain i rota s) (bound_at bounds s) (c.looks.invariant.bounds.each s (omega arith)) (λ e. c.if-gain-index.false (ap (of_z w64) (is ∙ e ∙ sym read))))
 
 pub looks-preserved : goal.looks-preserved
-looks-preserved c =
+looks-preserved g c =
     let i = c.args.instance.now in
     let rota = c.args.draft.now.cover.duties in
     let bounds = c.looks.bounds.items in
@@ -70,7 +71,7 @@ looks-preserved c =
     }
 
 pub returns-then-gain-index-clause-known : goal.returns-then-gain-index-clause-known
-returns-then-gain-index-clause-known c =
+returns-then-gain-index-clause-known g c =
     let i = c.args.instance.now in
     let bounds = c.looks.bounds.items in
     let s = c.in-Some.shift in
@@ -80,13 +81,10 @@ returns-then-gain-index-clause-known c =
     keeps_with i c.args.sums.now.prices c.looks.known s c.from.result c.kept_values.new.known (omega arith) c.from.ensures c.in_ok-values.ensures.known c.looks.invariant.known
 
 pub returns-clause-next : goal.returns-clause-next
-returns-clause-next c =
+returns-clause-next g c = λ _.
     let bounds = c.looks.bounds.items in
     let led = subst (λ (bs : List ℤ). (top : ℤ) × Leads (bound_at bs) (length bs) c.leading.result top) c.deref.ensures.value c.leading.ensures in
     none_left c.args.instance.now c.args.draft.now.cover.duties bounds c.leading.result c.in_default.is c.looks.invariant.bounds led
 
-pub returns-clause-values : goal.returns-clause-values
-returns-clause-values c = returns-clause-next c
-
-pub returns-clause-exact : goal.returns-clause-exact
-returns-clause-exact c = returns-clause-next c
+pub returns-then-is_asked-clause-next : goal.returns-then-is_asked-clause-next
+returns-then-is_asked-clause-next g c = λ free. absurd (false≢true (sym free ∙ c.is_asked.ensures.allowed c.if-is_asked.true))

@@ -26,7 +26,7 @@ written-requires-clause-listed c =
 pub written-requires-clause-days : goal.written-requires-clause-days
 written-requires-clause-days c =
     let i = c.args.instance.now in
-    ap (λ (days : List DaySummary). length days) c.in_ok-summary.ensures.days
+    ap (λ (days : List DaySummary). length days) c.in_ok-summary.ensures.sums.days
     ∙ length-map (below i.days) (day_summary i (rota_of c.args.rows.now)) ∙ length-range_with_len 0 i.days
 
 pub returns : goal.returns
@@ -41,16 +41,7 @@ returns c =
     let duties : c.in_ok-attendance.attendance.duties ≡ rota_of rows = ap (λ (a : Covering). a.duties) c.in_ok-attendance.ensures in
     record {
       summary = summary;
-      sums = record {
-        cost = c.in_ok-summary.ensures.cost;
-        excess = c.in_ok-summary.ensures.excess;
-        shortage = c.in_ok-summary.ensures.shortage;
-        shifts = c.in_ok-summary.ensures.shifts;
-        duties = c.in_ok-summary.ensures.duties;
-        totals = c.in_ok-summary.ensures.totals;
-        costliest = c.in_ok-summary.ensures.costliest;
-        days = c.in_ok-summary.ensures.days;
-      };
+      sums = c.in_ok-summary.ensures.sums;
       bytes =
           c.in_ok-page.ensures
           ∙ ap (λ (rota : List Duty). page_text i rota (map f c.as_slice.result.now) heading standing summary) duties

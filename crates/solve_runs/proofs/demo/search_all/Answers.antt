@@ -1,4 +1,5 @@
 use Rattle.std.proofs.Common.{◌∙◌, ℕ, map, arith}
+use Rattle.std.proofs.lemmas.Bool.{false≢true}
 use Rattle.solve_runs.proofs.Demos.{are_committed, one_told, searches_of}
 use Rattle.solve_runs.proofs.Telling.{map_last, map_single, Element}
 use Rattle.solve_runs.proofs.demo.search_all.Goals as goal
@@ -19,5 +20,8 @@ returns-clause-told g c =
     (map_last heard left.items last.items seat.adviser (omega (arith, left.ok, c.remove.ensures.len, c.requires.one)) c.push_reserved.ensures.items)
     r.told (r.each ∙ r.share)
 
+pub returns-clause-going : goal.returns-clause-going
+returns-clause-going g c = λ is. false≢true (c.run_seat-end.ensures.stopped is)
+
 pub returns-clause-committed : goal.returns-clause-committed
-returns-clause-committed g c = λ some. are_committed _ _ c.run_seat-end.result some c.run_seat-end.ensures.makes
+returns-clause-committed g c = λ some. are_committed _ _ c.run_seat-end.result (returns-clause-going g c) some c.run_seat-end.ensures.makes

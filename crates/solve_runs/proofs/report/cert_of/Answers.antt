@@ -7,7 +7,7 @@ use Rattle.certificate.specs.Accepted.{is_accepted}
 use Rattle.certificate.specs.History.{lines_of}
 use Rattle.certificate.specs.Text.{Agrees}
 use Rattle.search_core.proofs.Fits.{class_few, rows_fit}
-use Rattle.solve_runs.specs.Report.{cert_of, status_of_book}
+use Rattle.solve_runs.specs.Report.{status_of_book}
 use Rattle.solve_runs.proofs.Accepting.{accepted, has_text}
 use Rattle.solve_runs.proofs.report.cert_of.Goals as goal
 
@@ -18,27 +18,23 @@ cert_is c s p n ls status plan bound lines =
     ∙ ap (λ x. record c { status = s; plan = p; bound = x }) bound
     ∙ ap (λ x. record c { status = s; plan = p; bound = n; lines = x }) lines
 
-pub returns-clause-agrees : goal.returns-clause-agrees
-returns-clause-agrees g c = λ valid.
+pub returns-clause-is : goal.returns-clause-is
+returns-clause-is g c =
     let v = c.args.book.now.log in
     let e = c.in_ok-cert.ensures in
-    let is : c.in_ok-cert.cert ≡ cert_of v.history v.book =
     cert_is c.in_ok-cert.cert (status_of_book v.book) (Some (v.book.cost, v.book.best)) _ (lines_of v.history)
     (e.status ∙ c.status_of.ensures)
     (e.plan ∙ ap (λ (n : ℕ). Some (n, c.best.result.now)) c.best_cost.ensures ∙ ap (λ (rows : List Row). Some (v.book.cost, rows)) c.best.ensures.best)
     (e.bound ∙ c.floor.ensures.floor)
-    (e.lines ∙ ap lines_of c.history-posts.ensures.history) in
+    (e.lines ∙ ap lines_of c.history-posts.ensures.history)
+
+pub returns-clause-agrees : goal.returns-clause-agrees
+returns-clause-agrees g c = λ valid.
+    let v = c.args.book.now.log in
     let few : length v.history < 2 ^ 32 = omega (arith, c.history-posts.ensures.few) in
-    subst Agrees (sym is) (has_text v.instance v.history v.book valid few (rows_fit v.instance v.book.best valid c.best.ensures.sound.legal).0 c.history-posts.ensures.folds)
+    subst Agrees (sym {A = Cert} (returns-clause-is g c)) (has_text v.instance v.history v.book valid few (rows_fit v.instance v.book.best valid c.best.ensures.sound.legal).0 c.history-posts.ensures.folds)
 
 pub returns-clause-accepted : goal.returns-clause-accepted
 returns-clause-accepted g c = λ valid.
     let v = c.args.book.now.log in
-    let e = c.in_ok-cert.ensures in
-    let is : c.in_ok-cert.cert ≡ cert_of v.history v.book =
-    cert_is c.in_ok-cert.cert (status_of_book v.book) (Some (v.book.cost, v.book.best)) _ (lines_of v.history)
-    (e.status ∙ c.status_of.ensures)
-    (e.plan ∙ ap (λ (n : ℕ). Some (n, c.best.result.now)) c.best_cost.ensures ∙ ap (λ (rows : List Row). Some (v.book.cost, rows)) c.best.ensures.best)
-    (e.bound ∙ c.floor.ensures.floor)
-    (e.lines ∙ ap lines_of c.history-posts.ensures.history) in
-    subst (λ (x : Cert). is_accepted v.instance x ≡ true) (sym is) (accepted v.instance v.history v.book valid (λ class live. class_few v.instance class valid live) c.history-posts.ensures.folds)
+    subst (λ (x : Cert). is_accepted v.instance x ≡ true) (sym {A = Cert} (returns-clause-is g c)) (accepted v.instance v.history v.book valid (λ class live. class_few v.instance class valid live) c.history-posts.ensures.folds)

@@ -1,11 +1,10 @@
-use Rattle.std.proofs.Common.{◌≡◌, ◌∙◌, ap, inl, inr, refl, sym, subst, ℕ, map, List, arith, vec_len}
+use Rattle.std.proofs.Common.{◌≡◌, ◌∙◌, ap, inl, inr, refl, sym, ℕ, map, List, arith, vec_len}
 use Rattle.std.specs.Prelude.{unwrap_or}
 use Rattle.std.proofs.lemmas.List.{length-map}
 use Rattle.solve_words.specs.Asked.{asked}
-use Rattle.solve_words.specs.Words.{IsWithin}
 use Rattle.solve_runs.specs.Words.{workers_unsaid, Command}
 use Rattle.solve_runs.proofs.Explaining.{demo_of_first, ends_turned, no_demonstration, none_in, not_unread, search_explains, some_workers, too_many}
-use Rattle.solve_runs.proofs.Limits.{served_are}
+use Rattle.solve_runs.proofs.Limits.{served_are, still_within}
 use Rattle.solve_runs.proofs.Telling.{have_same, map_take, Element}
 use Rattle.solve_runs.proofs.run.run_command.Goals as goal
 
@@ -22,15 +21,13 @@ returns-then-have-asked-clause-status g c =
 pub run_over-requires-clause-some : goal.run_over-requires-clause-some
 run_over-requires-clause-some g c =
     let s = c.in-Search in
-    let within = subst (λ command. IsWithin (asked command)) s.is c.requires.within in
-    let some = some_workers s.workers within.0 in
+    let some = some_workers s.workers (still_within _ _ s.is c.requires.within).0 in
     omega (arith, some, c.unwrap_or-workers.ensures)
 
 pub run_over-requires-clause-steps : goal.run_over-requires-clause-steps
 run_over-requires-clause-steps g c =
     let s = c.in-Search in
-    let within = subst (λ command. IsWithin (asked command)) s.is c.requires.within in
-    let few = within.1 in
+    let few = (still_within _ _ s.is c.requires.within).1 in
     omega (arith, few)
 
 pub run_over-requires-clause-enough : goal.run_over-requires-clause-enough
@@ -72,8 +69,7 @@ returns-then-have-lt1-clause-status g c =
 pub run_beside-requires-clause-steps : goal.run_beside-requires-clause-steps
 run_beside-requires-clause-steps g c =
     let s = c.in-Demo in
-    let within = subst (λ command. IsWithin (asked command)) s.is c.requires.within in
-    let few = within.1 in
+    let few = (still_within _ _ s.is c.requires.within).1 in
     omega (arith, few)
 
 pub run_beside-requires-clause-one : goal.run_beside-requires-clause-one
