@@ -2,7 +2,7 @@
 #![tactic(auto)]
 
 mod sheets;
-mod standing;
+mod standings;
 
 pub use sheets::{ready_folder, say, show_plan};
-pub use standing::standing;
+pub use standings::standing;

@@ -3,7 +3,7 @@
 ghost use Rattle.std.specs.Prelude.{IsTrue};
 ghost use Rattle.shift_instance.specs.Rota.{are_legal_rows};
 
-use crate::standing::standing;
+use crate::standings::standing;
 use plan_page::plan_page;
 use plan_tables::{Summary, cover_csv, duties_csv, duties_table, summary_text};
 use planning_files::{make_folder, write_whole};
