@@ -76,7 +76,7 @@ fn add_post(
 
 /// Adds the posts of a record to a state, up to the first that isn't allowed, with bounds below the cuts that a tree has for
 /// their nodes: it is the tree of the posts of the state, these and others behind them.
-fn add_posts(
+fn add_bounded(
     state: &mut State,
     instance: &Instance,
     tree: &CutTree,
@@ -103,7 +103,7 @@ fn add_posts(
     Ok(())
 }
 
-/// Adds the posts that were read of a record to a state, up to the first that isn't allowed, with bounds as [`add_posts`] takes
+/// Adds the posts that were read of a record to a state, up to the first that isn't allowed, with bounds as [`add_bounded`] takes
 /// them.
 pub(crate) fn add_record(
     state: &mut State,
@@ -118,6 +118,6 @@ pub(crate) fn add_record(
     ensures ok { OnOk result ((bytes : List ℕ) → IsReadOf bytes outcome → TakesRecord state.old bytes state.new) }
     ensures err { IfErr result (λ why. (bytes : List ℕ) → IsReadOf bytes outcome → RecordStops instance.now state.old.book bytes why) }
 {
-    add_posts(state, instance, tree, outcome?, bounds)?;
+    add_bounded(state, instance, tree, outcome?, bounds)?;
     Ok(())
 }
