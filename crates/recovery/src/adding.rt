@@ -1,11 +1,11 @@
 //! Posts of a record added to a state, with the bounds that workers found.
-ghost use Rattle.std.specs.Prelude.{◌≡◌, ◌++◌, ℕ, List, OnErr, OnOk, IfErr, IfOk, IfSome, not};
+ghost use Rattle.std.specs.Prelude.{◌≡◌, ◌++◌, ℕ, List, Some, slice_get, OnErr, OnOk, IfErr, IfOk, IfSome, MatchResult, not};
 ghost use Rattle.post_codec.specs.declared.post.Post.{Post as APost};
 ghost use Rattle.search_core.specs.Book.{is_node_and};
 ghost use Rattle.search_core.specs.Faults.{step_fault, Refuses, Steps};
 ghost use Rattle.search_core.specs.Taking.{Stops, Takes};
 ghost use Rattle.search_core.specs.declared.fault.StepFault.TheVariants.{NoMemory};
-ghost use Rattle.recovery.specs.Folding.{RecordStops, TakesRecord};
+ghost use Rattle.recovery.specs.Folding.{RecordStops};
 ghost use Rattle.recovery.specs.NodeCuts.{nodes_of};
 ghost use Rattle.recovery.specs.PostBounds.{priced_node, AreBoundsIn, IsBoundAt, IsUnsplitOf};
 ghost use Rattle.recovery.specs.Reads.{IsReadOf};
@@ -74,6 +74,13 @@ fn add_post(
     }
 }
 
+/// The bound at a place, where one is known.
+fn bound_at(bounds: &[Option<u64>], at: usize) -> Option<u64>
+    ensures { IfSome result (λ bound. slice_get bounds.now at ≡ Some (Some bound)) }
+{
+    *bounds.get(at)?
+}
+
 /// Adds the posts of a record to a state, up to the first that isn't allowed, with bounds below the cuts that a tree has for
 /// their nodes: it is the tree of the posts of the state, these and others behind them.
 fn add_bounded(
@@ -89,13 +96,12 @@ fn add_bounded(
     ensures ok { OnOk result (Takes state.old posts.items state.new) }
     ensures err { IfErr result (Stops instance.now state.old.book posts.items) }
 {
+    // an instance is valid, and a state's posts make its book
+    let _heads = instance.heads();
+    let _posts = state.history().len();
     let mut at = 0;
     for post in posts {
-        let bound = match bounds.get(at) {
-            Some(bound) => *bound,
-            None => None,
-        };
-        if let Err(why) = add_post(state, instance, post, bound) {
+        if let Err(why) = add_post(state, instance, post, bound_at(bounds, at)) {
             return Err(Refusal { at: at as u64, why });
         }
         at += 1;
@@ -115,7 +121,7 @@ pub(crate) fn add_record(
     requires instance { instance.now ≡ state.old.instance }
     requires tree { IfOk outcome (λ posts. (rest : List APost) × (tree.now ≡ nodes_of ((state.old.history ++ posts.items) ++ rest))) }
     requires bounds { IfOk outcome (λ posts. AreBoundsIn instance.now tree.now posts.items bounds.now) }
-    ensures ok { OnOk result ((bytes : List ℕ) → IsReadOf bytes outcome → TakesRecord state.old bytes state.new) }
+    ensures ok { OnOk result (MatchResult outcome (λ posts. Takes state.old posts.items state.new) (λ _. ⊥)) }
     ensures err { IfErr result (λ why. (bytes : List ℕ) → IsReadOf bytes outcome → RecordStops instance.now state.old.book bytes why) }
 {
     add_bounded(state, instance, tree, outcome?, bounds)?;

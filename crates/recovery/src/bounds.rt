@@ -1,8 +1,9 @@
 //! The bounds of the prices of posts, those of each record by themselves.
-ghost use Rattle.std.specs.Prelude.{◌≡◌, IsTrue, length, slice_get, IfOk, IfSome};
+ghost use Rattle.std.specs.Prelude.{◌≡◌, IsTrue, length, slice_get, IfOk, IfSome, IsSomeAnd};
 ghost use Rattle.head_splits.specs.Bound.{are_prices, bound_of};
 ghost use Rattle.recovery.specs.NodeCuts.{cuts_at};
 ghost use Rattle.recovery.specs.PostBounds.{AreBoundsIn, IsBoundIn};
+ghost use Rattle.recovery.specs.Reads.{posts_in};
 
 use crate::cut_tree::CutTree;
 use crate::reads::Outcome;
@@ -92,7 +93,7 @@ impl<'a> Jobs for PricedRecords<'a> {
 
     ghost count = { λ r. length r.outcomes.now };
 
-    ghost gives = { λ r at bounds. IfSome (slice_get r.outcomes.now at) (λ outcome. IfOk outcome (λ posts. AreBoundsIn r.instance.now r.tree.now posts.items bounds.items)) };
+    ghost gives = { λ r at bounds. IsSomeAnd (slice_get r.outcomes.now at) (λ outcome. AreBoundsIn r.instance.now r.tree.now (posts_in outcome) bounds.items) };
 
     ghost serves = { λ r buffers. buffers ≡ r.instance.now };
 

@@ -77,7 +77,7 @@ fn fold_records(
     outcomes: Vec<Outcome>,
     bounds: &[Vec<Option<u64>>],
 ) -> Result<State, RebuildFault>
-    requires reads { AreReads (map (λ r. r.items) records.now) outcomes.items }
+    requires reads { AreReads records.now outcomes.items }
     requires tree { tree.now ≡ nodes_of (all_posts outcomes.items) }
     requires bounds { AreAllBounds instance.now tree.now outcomes.items bounds.now }
     ensures instance { IfOk result (λ s. s.instance ≡ instance.now) }

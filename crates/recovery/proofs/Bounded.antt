@@ -1,0 +1,62 @@
+-- Bounds that workers found are those of the nodes of a book.
+use Rattle.std.proofs.Common.{◌≡◌, ℕ, zero, suc, ◌+◌, IsTrue, List, [], ◌∷◌, ◌++◌, length, refl, sym, ap, ◌∙◌, subst, append_assoc, arith, Option, Some, None}
+use Rattle.std.specs.Prelude.{slice_get, IfSome}
+use Rattle.shift_instance.specs.Problem.{Problem}
+use Rattle.shift_instance.specs.Valid.{IsValid}
+use Rattle.head_splits.specs.declared.Cut.{Cut}
+use Rattle.head_splits.specs.declared.Prices.{Prices}
+use Rattle.head_splits.specs.Bound.{are_prices, bound_of}
+use Rattle.head_splits.specs.Nodes.{Node}
+use Rattle.post_codec.specs.declared.post.Post.{Post}
+use Rattle.post_codec.specs.declared.post.Post.TheVariants.{Plan, Priced, Settled, Split}
+use Rattle.search_core.specs.Book.{Book, book_after, book_of, opening}
+use Rattle.search_core.specs.State.{StateView}
+use Rattle.search_core.proofs.Runs.{book_after-append}
+use Rattle.search_core.proofs.Taking.{Taking}
+use Rattle.search_core.specs.Taking.{Takes}
+use Rattle.std.specs.Option.{option_and_then}
+use Rattle.recovery.specs.NodeCuts.{cuts_at, nodes_of}
+use Rattle.recovery.specs.PostBounds.{AreBoundsIn, IsBoundAt, IsBoundIn}
+use Rattle.recovery.proofs.CutTrees.{get_seam}
+use Rattle.recovery.proofs.NodesOf.{cuts_known}
+
+-- a bound below the cuts that all splits make is one of a node of a book
+bound_there : (i : Problem) (b : Book) (nodes : List (List Cut)) (k : ℕ) (prices : Prices) (bound : ℕ) → ((n : Node) → slice_get b.nodes k ≡ Some n → cuts_at nodes k ≡ n.cuts)
+    → IsTrue (are_prices i (cuts_at nodes k) prices) × (bound ≡ bound_of i (cuts_at nodes k) prices)
+    → (o : Option Node) → slice_get b.nodes k ≡ o → IfSome o (λ n. IsTrue (are_prices i n.cuts prices) × (bound ≡ bound_of i n.cuts prices))
+bound_there i b nodes k prices bound known is None e = tt
+bound_there i b nodes k prices bound known is (Some n) e = subst (λ (cuts : List Cut). IsTrue (are_prices i cuts prices) × (bound ≡ bound_of i cuts prices)) (known n e) is
+
+bound_is : (i : Problem) (b : Book) (nodes : List (List Cut)) (post : Post) (bound : ℕ) → ((k : ℕ) (n : Node) → slice_get b.nodes k ≡ Some n → cuts_at nodes k ≡ n.cuts) → IsBoundIn i nodes post bound → IsBoundAt i b post bound
+bound_is i b nodes (Plan worker rows c) bound known is = is
+bound_is i b nodes (Priced worker k prices) bound known is = bound_there i b nodes k prices bound (known k) is (slice_get b.nodes k) refl
+bound_is i b nodes (Split worker k class m) bound known is = is
+bound_is i b nodes (Settled worker k) bound known is = is
+
+bound_known : (i : Problem) (b : Book) (nodes : List (List Cut)) (posts : List Post) (bounds : List (Option ℕ)) (at : ℕ) (post : Post) → ((k : ℕ) (n : Node) → slice_get b.nodes k ≡ Some n → cuts_at nodes k ≡ n.cuts)
+    → AreBoundsIn i nodes posts bounds → slice_get posts at ≡ Some post → (bound : Option ℕ) → IfSome bound (λ bound. slice_get bounds at ≡ Some (Some bound)) → IfSome bound (IsBoundAt i b post)
+bound_known i b nodes posts bounds at post known are here None e = tt
+bound_known i b nodes posts bounds at post known are here (Some bound) e = bound_is i b nodes post bound known (are at post bound here e)
+
+-- the bound of the next of some posts that a state takes
+pub next_bound : (i : Problem) (nodes : List (List Cut)) (posts rest : List Post) (bounds : List (Option ℕ)) (old mid : StateView) (passed left next : List Post) (at : ℕ) (post : Post) (bound : Option ℕ)
+    → IsValid i → i ≡ old.instance → book_of old.instance old.history ≡ Some old.book → nodes ≡ nodes_of ((old.history ++ posts) ++ rest) → AreBoundsIn i nodes posts bounds
+    → Taking posts old passed left at mid → left ≡ post ∷ next → IfSome bound (λ bound. slice_get bounds at ≡ Some (Some bound)) → IfSome bound (IsBoundAt mid.instance mid.book post)
+next_bound i nodes posts rest bounds old mid passed left next at post bound valid j folds tree are t e found =
+    let same : mid.instance ≡ i = t.takes.same ∙ sym j in
+    let whole : passed ++ post ∷ next ≡ posts = ap (λ (l : List Post). passed ++ l) (sym e) ∙ t.split in
+    let here : slice_get posts at ≡ Some post = ap (λ n. slice_get posts n) t.count ∙ ap (λ (l : List Post). slice_get l (length passed)) (sym whole) ∙ get_seam passed next post in
+    let before : book_of i old.history ≡ Some old.book = ap (λ (p : Problem). book_of p old.history) j ∙ folds in
+    let makes : book_of i (old.history ++ passed) ≡ Some mid.book =
+    book_after-append i (opening i) old.history passed
+    ∙ ap (λ (o : Option Book). option_and_then (λ c. book_after i c passed) o) before
+    ∙ ap (λ (p : Problem). book_after p old.book passed) j
+    ∙ t.takes.makes in
+    let all : nodes ≡ nodes_of ((old.history ++ passed) ++ post ∷ next ++ rest) =
+    tree
+    ∙ ap (λ (l : List Post). nodes_of ((old.history ++ l) ++ rest)) (sym whole)
+    ∙ ap (λ (l : List Post). nodes_of (l ++ rest)) (sym (append_assoc old.history passed (post ∷ next)))
+    ∙ ap nodes_of (append_assoc (old.history ++ passed) (post ∷ next) rest) in
+    let known : (k : ℕ) (n : Node) → slice_get mid.book.nodes k ≡ Some n → cuts_at nodes k ≡ n.cuts =
+    λ k n there. ap (λ (l : List (List Cut)). cuts_at l k) all ∙ cuts_known i mid.book (old.history ++ passed) (post ∷ next ++ rest) k n valid makes there in
+    subst (λ (p : Problem). IfSome bound (IsBoundAt p mid.book post)) (sym same) (bound_known i mid.book nodes posts bounds at post known are here bound found)
