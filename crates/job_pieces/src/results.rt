@@ -7,15 +7,28 @@ use crate::pieces::Done;
 use std::alloc::{AllocError, Global};
 
 /// No result yet for each of so many jobs.
-fn no_results<O>(alloc: Global, count: usize) -> Result<Vec<Option<O>>, AllocError>
+fn no_results<O: Drop>(alloc: Global, count: usize) -> Result<Vec<Option<O>>, AllocError>
     ensures count { IfOk result (λ slots. length slots.items ≡ count) }
     ensures none { IfOk result (λ slots. All (λ slot. slot ≡ None) slots.items) }
 {
     let mut slots = Vec::with_capacity(alloc, count)?;
-    for _ in 0..count {
+    while slots.len() < count {
         slots.push(None)?;
     }
     Ok(slots)
+}
+
+/// Puts what a job gave at its place.
+fn put_one<J: Jobs>(jobs: &J, slots: &mut Vec<Option<J::Output>>, one: Done<J::Output>)
+    requires done { J.gives jobs.now one.at one.output }
+    requires given { AreGiven (J.gives jobs.now) slots.old.items }
+    ensures count { length slots.new.items ≡ length slots.old.items }
+    ensures given { AreGiven (J.gives jobs.now) slots.new.items }
+{
+    let Done { at, output } = one;
+    if at < slots.len() {
+        slots[at] = Some(output);
+    }
 }
 
 /// Puts what a worker's jobs gave at their places.
@@ -25,10 +38,8 @@ fn put_done<J: Jobs>(jobs: &J, slots: &mut Vec<Option<J::Output>>, done: Vec<Don
     ensures count { length slots.new.items ≡ length slots.old.items }
     ensures given { AreGiven (J.gives jobs.now) slots.new.items }
 {
-    for Done { at, output } in done {
-        if at < slots.len() {
-            slots[at] = Some(output);
-        }
+    for one in done {
+        put_one(jobs, slots, one);
     }
 }
 

@@ -10,11 +10,11 @@ use std::thread;
 use std::thread::Threads;
 
 /// An empty list of what is done for each of so many workers.
-fn empty_bench<O>(alloc: Global, workers: usize) -> Result<Vec<Vec<Done<O>>>, AllocError>
+fn empty_bench<O: Drop>(alloc: Global, workers: usize) -> Result<Vec<Vec<Done<O>>>, AllocError>
     ensures { IfOk result (λ bench. All (λ done. done.items ≡ []) bench.items) }
 {
     let mut bench = Vec::with_capacity(alloc, workers)?;
-    for _ in 0..workers {
+    while bench.len() < workers {
         bench.push(Vec::new(alloc))?;
     }
     Ok(bench)

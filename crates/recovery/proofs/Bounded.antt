@@ -1,22 +1,23 @@
 -- Bounds that workers found are those of the nodes of a book.
-use Rattle.std.proofs.Common.{◌≡◌, ℕ, zero, suc, ◌+◌, IsTrue, List, [], ◌∷◌, ◌++◌, length, refl, sym, ap, ◌∙◌, subst, append_assoc, arith, Option, Some, None}
-use Rattle.std.specs.Prelude.{slice_get, IfSome}
+use Rattle.std.proofs.Common.{◌≡◌, ℕ, zero, suc, ◌+◌, max, Bool, true, false, cond, ◌&&◌, not, List, [], ◌∷◌, ◌++◌, length, refl, sym, ap, ◌∙◌, subst, append_assoc, arith, Option, Some, None}
+use Rattle.std.specs.Prelude.{slice_get, IfSome, IsSome, IsTrue}
+use Rattle.std.proofs.lemmas.Bool.{false≢true}
 use Rattle.shift_instance.specs.Problem.{Problem}
 use Rattle.shift_instance.specs.Valid.{IsValid}
 use Rattle.head_splits.specs.declared.Cut.{Cut}
 use Rattle.head_splits.specs.declared.Prices.{Prices}
 use Rattle.head_splits.specs.Bound.{are_prices, bound_of}
-use Rattle.head_splits.specs.Nodes.{Node}
+use Rattle.head_splits.specs.Nodes.{Node, with_floor}
 use Rattle.post_codec.specs.declared.post.Post.{Post}
 use Rattle.post_codec.specs.declared.post.Post.TheVariants.{Plan, Priced, Settled, Split}
-use Rattle.search_core.specs.Book.{Book, book_after, book_of, opening}
-use Rattle.search_core.specs.State.{StateView}
+use Rattle.search_core.specs.Book.{Book, book_after, book_of, opening, priced, step}
+use Rattle.search_core.specs.State.{value_of, StateView}
 use Rattle.search_core.proofs.Runs.{book_after-append}
 use Rattle.search_core.proofs.Taking.{Taking}
 use Rattle.search_core.specs.Taking.{Takes}
-use Rattle.std.specs.Option.{option_and_then}
+use Rattle.std.specs.Option.{option_and_then, option_map_or}
 use Rattle.recovery.specs.NodeCuts.{cuts_at, nodes_of}
-use Rattle.recovery.specs.PostBounds.{AreBoundsIn, IsBoundAt, IsBoundIn}
+use Rattle.recovery.specs.PostBounds.{AreBoundsIn, IsBoundAt, IsBoundIn, IsUnsplitOf}
 use Rattle.recovery.proofs.CutTrees.{get_seam}
 use Rattle.recovery.proofs.NodesOf.{cuts_known}
 
@@ -60,3 +61,37 @@ next_bound i nodes posts rest bounds old mid passed left next at post bound vali
     let known : (k : ℕ) (n : Node) → slice_get mid.book.nodes k ≡ Some n → cuts_at nodes k ≡ n.cuts =
     λ k n there. ap (λ (l : List (List Cut)). cuts_at l k) all ∙ cuts_known i mid.book (old.history ++ passed) (post ∷ next ++ rest) k n valid makes there in
     subst (λ (p : Problem). IfSome bound (IsBoundAt p mid.book post)) (sym same) (bound_known i mid.book nodes posts bounds at post known are here bound found)
+
+-- ---- prices whose bound is known
+
+there : (p : Node → Bool) (o : Option Node) → option_map_or p o false ≡ true → (n : Node) × (o ≡ Some n) × (p n ≡ true)
+there p None h = absurd (false≢true h)
+there p (Some n) h = (n, refl, h)
+
+if_some : {X : Type 0} (o : Option X) (P : X → Type 0) (x : X) → o ≡ Some x → IfSome o P → P x
+if_some None P x e h = absurd (cc)
+if_some (Some y) P x e h = let same : y ≡ x = cc in subst P same h
+
+some_of : {X : Type 0} (o : Option X) (x : X) → o ≡ Some x → IsSome o
+some_of None x e = absurd (cc)
+some_of (Some y) x e = tt
+
+-- a post of prices for an unsplit node, whose bound is known, is allowed, and its number is that bound
+pub bounded_allowed : (i : Problem) (b : Book) (post : Post) (bound : ℕ) → IsBoundAt i b post bound → IsUnsplitOf b post → IsSome (step i b post) × (bound ≡ value_of i b post)
+bounded_allowed i b (Plan worker rows c) bound is unsplit = absurd is
+bounded_allowed i b (Priced worker k prices) bound is unsplit =
+    let t = there (λ n. not n.split) (slice_get b.nodes k) unsplit in
+    let n = t.0 in
+    let p = if_some (slice_get b.nodes k) (λ n. IsTrue (are_prices i n.cuts prices) × (bound ≡ bound_of i n.cuts prices)) n t.1 is in
+    let floor = max n.floor (bound_of i n.cuts prices) in
+    let allowed : priced i b k prices n ≡ Some (with_floor b.nodes k n floor) =
+    ap (λ c. cond (c && are_prices i n.cuts prices) (Some (with_floor b.nodes k n floor)) None) t.2
+    ∙ ap (λ c. cond (true && c) (Some (with_floor b.nodes k n floor)) None) p.0 in
+    let makes : step i b (Priced worker k prices) ≡ Some (record b { nodes = with_floor b.nodes k n floor }) =
+    ap (λ (o : Option Node). option_and_then (λ nodes. Some (record b { nodes = nodes })) (option_and_then (priced i b k prices) o)) t.1
+    ∙ ap (λ (o : Option (List Node)). option_and_then (λ nodes. Some (record b { nodes = nodes })) o) allowed in (
+      some_of (step i b (Priced worker k prices)) (record b { nodes = with_floor b.nodes k n floor }) makes,
+      p.1 ∙ sym (ap (λ (o : Option Node). option_map_or (λ n. bound_of i n.cuts prices) o 0) t.1),
+    )
+bounded_allowed i b (Split worker k class m) bound is unsplit = absurd is
+bounded_allowed i b (Settled worker k) bound is unsplit = absurd is

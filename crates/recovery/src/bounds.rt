@@ -16,6 +16,7 @@ use shift_instance::Instance;
 use std::alloc::{AllocError, Global};
 
 /// Posts of records, whose prices are bounded below the cuts that a tree has for their nodes.
+#[derive(Drop)]
 pub(crate) struct PricedRecords<'a> {
     pub(crate) instance: &'a Instance,
     pub(crate) tree: &'a CutTree,

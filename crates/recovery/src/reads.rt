@@ -9,7 +9,7 @@ use std::alloc::{AllocError, Global};
 pub(crate) type Outcome = Result<Vec<Post>, CodecFault>;
 
 /// Records to be read.
-#[derive(Clone, Copy, Drop)]
+#[derive(Drop)]
 pub(crate) struct Records<'a> {
     pub(crate) records: &'a [Vec<u8>],
 }

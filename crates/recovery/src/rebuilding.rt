@@ -2,7 +2,6 @@
 ghost use Rattle.std.specs.Prelude.{◌≡◌, ◌≤◌, fold, map, List, IfOk, IfErr, OnOk};
 ghost use Rattle.post_codec.specs.declared.post.Post.{Post as APost};
 ghost use Rattle.search_core.specs.Book.{Book};
-ghost use Rattle.recovery.specs.declared.fault.RebuildFault.TheVariants.{NoMemory};
 ghost use Rattle.recovery.specs.NodeCuts.{nodes_after, nodes_of};
 ghost use Rattle.recovery.specs.Reads.{all_posts, AreReads, AreAllBounds};
 ghost use Rattle.recovery.specs.Records.{MakeBook};
@@ -112,7 +111,7 @@ pub fn rebuild<R: Threads + Sync>(
     ensures history { IfOk result (λ s. MakeBook instance.now (map (λ r. r.items) records.now) s.history s.book) }
     ensures refused { IfErr result (Refuses instance.now (map (λ r. r.items) records.now)) }
     // Where the records spell posts that make a book, none is rejected.
-    ensures only { (posts : List APost) (book : Book) → MakeBook instance.now (map (λ r. r.items) records.now) posts book → IfErr result (λ fault. fault ≡ NoMemory) }
+    ensures only { (posts : List APost) (book : Book) → MakeBook instance.now (map (λ r. r.items) records.now) posts book → IfErr result (λ fault. fault ≡ RebuildFault.NoMemory) }
 {
     let workers = workers as usize;
     let outcomes = do_all(rt, alloc, &Records { records }, workers)?;
