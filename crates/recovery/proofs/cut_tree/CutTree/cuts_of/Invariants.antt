@@ -2,12 +2,12 @@ use Rattle.std.proofs.Common.{◌≡◌, ◌+◌, ◌<◌, ◌≤◌, ◌++◌, 
 use Rattle.recovery.specs.NodeCuts.{cuts_at}
 use Rattle.recovery.proofs.cut_tree.CutTree.cuts_of.Given as goal
 
-abbrev pub invariant-loop-list : goal.invariant-loop-list
-invariant-loop-list l = record {
+abbrev pub invariant-loop-at : goal.invariant-loop-at
+invariant-loop-at l = record {
   there : l.at < length l.self;
   few : l.at + length l.list.items ≤ l.node;
   cuts : cuts_at l.self l.at ++ reverse l.list.items ≡ cuts_at l.self l.node;
 }
 
-abbrev pub decreases-loop-list : goal.decreases-loop-list
-decreases-loop-list l = l.at
+abbrev pub decreases-loop-at : goal.decreases-loop-at
+decreases-loop-at l = l.at
