@@ -13,13 +13,13 @@ pub(crate) struct Done<O> {
 }
 
 /// Does the jobs from one number up to another.
-fn do_piece<J: Jobs>(
+fn do_piece<J: Jobs<O, K>, O: Drop, K>(
     alloc: Global,
     jobs: &J,
-    kept: &mut J::Kept,
+    kept: &mut K,
     from: usize,
     to: usize,
-    done: &mut Vec<Done<J::Output>>,
+    done: &mut Vec<Done<O>>,
 ) -> Result<(), AllocError>
     requires within { to ≤ J.count jobs.now }
     requires serves { J.serves jobs.now kept.old }
@@ -35,12 +35,12 @@ fn do_piece<J: Jobs>(
 }
 
 /// Does the piece of a number, counted from 0, of the pieces into which jobs are cut.
-fn do_numbered<J: Jobs>(
+fn do_numbered<J: Jobs<O, K>, O: Drop, K>(
     alloc: Global,
     jobs: &J,
-    kept: &mut J::Kept,
+    kept: &mut K,
     piece: u64,
-    done: &mut Vec<Done<J::Output>>,
+    done: &mut Vec<Done<O>>,
 ) -> Result<(), AllocError>
     requires serves { J.serves jobs.now kept.old }
     requires done { All (λ d. J.gives jobs.now d.at d.output) done.old.items }
@@ -54,11 +54,11 @@ fn do_numbered<J: Jobs>(
 }
 
 /// Takes one piece of the jobs after another that no worker has taken yet, and does it, until none is left or memory runs out.
-pub(crate) fn do_pieces<J: Jobs>(
+pub(crate) fn do_pieces<J: Jobs<O, K>, O: Drop, K: Drop>(
     alloc: Global,
     jobs: &J,
     next: &AtomicU64,
-    done: &mut Vec<Done<J::Output>>,
+    done: &mut Vec<Done<O>>,
 ) -> Result<(), AllocError>
     requires { All (λ d. J.gives jobs.now d.at d.output) done.old.items }
     ensures { All (λ d. J.gives jobs.now d.at d.output) done.new.items }

@@ -19,7 +19,7 @@ fn no_results<O: Drop>(alloc: Global, count: usize) -> Result<Vec<Option<O>>, Al
 }
 
 /// Puts what a job gave at its place.
-fn put_one<J: Jobs>(jobs: &J, slots: &mut Vec<Option<J::Output>>, one: Done<J::Output>)
+fn put_one<J: Jobs<O, K>, O: Drop, K>(jobs: &J, slots: &mut Vec<Option<O>>, one: Done<O>)
     requires done { J.gives jobs.now one.at one.output }
     requires given { AreGiven (J.gives jobs.now) slots.old.items }
     ensures count { length slots.new.items ≡ length slots.old.items }
@@ -32,7 +32,7 @@ fn put_one<J: Jobs>(jobs: &J, slots: &mut Vec<Option<J::Output>>, one: Done<J::O
 }
 
 /// Puts what a worker's jobs gave at their places.
-fn put_done<J: Jobs>(jobs: &J, slots: &mut Vec<Option<J::Output>>, done: Vec<Done<J::Output>>)
+fn put_done<J: Jobs<O, K>, O: Drop, K>(jobs: &J, slots: &mut Vec<Option<O>>, done: Vec<Done<O>>)
     requires done { All (λ d. J.gives jobs.now d.at d.output) done.items }
     requires given { AreGiven (J.gives jobs.now) slots.old.items }
     ensures count { length slots.new.items ≡ length slots.old.items }
@@ -44,7 +44,11 @@ fn put_done<J: Jobs>(jobs: &J, slots: &mut Vec<Option<J::Output>>, done: Vec<Don
 }
 
 /// Puts what the jobs of all workers gave at their places.
-fn put_all<J: Jobs>(jobs: &J, slots: &mut Vec<Option<J::Output>>, bench: Vec<Vec<Done<J::Output>>>)
+fn put_all<J: Jobs<O, K>, O: Drop, K>(
+    jobs: &J,
+    slots: &mut Vec<Option<O>>,
+    bench: Vec<Vec<Done<O>>>,
+)
     requires done { All (λ done. All (λ d. J.gives jobs.now d.at d.output) done.items) bench.items }
     requires given { AreGiven (J.gives jobs.now) slots.old.items }
     ensures count { length slots.new.items ≡ length slots.old.items }
@@ -56,14 +60,14 @@ fn put_all<J: Jobs>(jobs: &J, slots: &mut Vec<Option<J::Output>>, bench: Vec<Vec
 }
 
 /// The results of all jobs in their order, where none is missing.
-fn all_of<J: Jobs>(
+fn all_of<J: Jobs<O, K>, O: Drop, K>(
     alloc: Global,
     jobs: &J,
-    slots: Vec<Option<J::Output>>,
-) -> Result<Vec<J::Output>, AllocError>
+    slots: Vec<Option<O>>,
+) -> Result<Vec<O>, AllocError>
     requires { AreGiven (J.gives jobs.now) slots.items }
     ensures count { IfOk result (λ all. length all.items ≡ length slots.items) }
-    ensures given { IfOk result (λ all. (at : ℕ) (output : J.Output) → slice_get all.items at ≡ Some output → J.gives jobs.now at output) }
+    ensures given { IfOk result (λ all. (at : ℕ) (output : O) → slice_get all.items at ≡ Some output → J.gives jobs.now at output) }
 {
     let mut all = Vec::with_capacity(alloc, slots.len())?;
     for slot in slots {
@@ -76,14 +80,14 @@ fn all_of<J: Jobs>(
 }
 
 /// The results of all jobs in their order, out of what each worker did. One is missing only where a worker had no memory left.
-pub(crate) fn results_of<J: Jobs>(
+pub(crate) fn results_of<J: Jobs<O, K>, O: Drop, K>(
     alloc: Global,
     jobs: &J,
-    bench: Vec<Vec<Done<J::Output>>>,
-) -> Result<Vec<J::Output>, AllocError>
+    bench: Vec<Vec<Done<O>>>,
+) -> Result<Vec<O>, AllocError>
     requires { All (λ done. All (λ d. J.gives jobs.now d.at d.output) done.items) bench.items }
     ensures count { IfOk result (λ all. length all.items ≡ J.count jobs.now) }
-    ensures given { IfOk result (λ all. (at : ℕ) (output : J.Output) → slice_get all.items at ≡ Some output → J.gives jobs.now at output) }
+    ensures given { IfOk result (λ all. (at : ℕ) (output : O) → slice_get all.items at ≡ Some output → J.gives jobs.now at output) }
 {
     let mut slots = no_results(alloc, jobs.count())?;
     put_all(jobs, &mut slots, bench);

@@ -21,12 +21,12 @@ fn empty_bench<O: Drop>(alloc: Global, workers: usize) -> Result<Vec<Vec<Done<O>
 }
 
 /// The workers take the jobs piece by piece, each in a thread, and add what they do to their lists.
-fn work_all<J: Jobs + Sync, R: Threads + Sync>(
+fn work_all<J: Jobs<O, K> + Sync, O: Send + Drop, K: Drop, R: Threads + Sync>(
     rt: &R,
     alloc: Global,
     jobs: &J,
     workers: usize,
-    bench: &mut [Vec<Done<J::Output>>],
+    bench: &mut [Vec<Done<O>>],
 )
     requires some { 0 < workers }
     requires done { All (λ done. All (λ d. J.gives jobs.now d.at d.output) done.items) bench.old }
@@ -38,7 +38,7 @@ fn work_all<J: Jobs + Sync, R: Threads + Sync>(
         rt,
         bench,
         workers,
-        &|_, done: &mut Vec<Done<J::Output>>|
+        &|_, done: &mut Vec<Done<O>>|
             requires { All (λ d. J.gives jobs.now d.at d.output) done.now.items }
             ensures { All (λ d. J.gives jobs.entry.now d.at d.output) done.exit.now.items }
         {
@@ -51,15 +51,15 @@ fn work_all<J: Jobs + Sync, R: Threads + Sync>(
 /// What all jobs give, in their order, done by several workers at the same time: each takes a piece of them after another that no
 /// worker has taken yet, and keeps from job to job what helps with the next. Where a thread can't be started, its worker's jobs are
 /// done by the others.
-pub fn do_all<J: Jobs + Sync, R: Threads + Sync>(
+pub fn do_all<J: Jobs<O, K> + Sync, O: Send + Drop, K: Drop, R: Threads + Sync>(
     rt: &R,
     alloc: Global,
     jobs: &J,
     workers: usize,
-) -> Result<Vec<J::Output>, AllocError>
+) -> Result<Vec<O>, AllocError>
     requires { 0 < workers }
     ensures count { IfOk result (λ all. length all.items ≡ J.count jobs.now) }
-    ensures given { IfOk result (λ all. (at : ℕ) (output : J.Output) → slice_get all.items at ≡ Some output → J.gives jobs.now at output) }
+    ensures given { IfOk result (λ all. (at : ℕ) (output : O) → slice_get all.items at ≡ Some output → J.gives jobs.now at output) }
 {
     let mut bench = empty_bench(alloc, workers)?;
     work_all(rt, alloc, jobs, workers, bench.as_mut_slice());

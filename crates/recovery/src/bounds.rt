@@ -87,11 +87,7 @@ fn bounds_of_posts(
     Ok(bounds)
 }
 
-impl<'a> Jobs for PricedRecords<'a> {
-    type Output = Vec<Option<u64>>;
-
-    type Kept = Buffers;
-
+impl<'a> Jobs<Vec<Option<u64>>, Buffers> for PricedRecords<'a> {
     ghost count = { λ r. length r.outcomes.now };
 
     ghost gives = { λ r at bounds. IsSomeAnd (slice_get r.outcomes.now at) (λ outcome. AreBoundsIn r.instance.now r.tree.now (posts_in outcome) bounds.items) };

@@ -14,12 +14,8 @@ pub(crate) struct Records<'a> {
     pub(crate) records: &'a [Vec<u8>],
 }
 
-impl<'a> Jobs for Records<'a> {
+impl<'a> Jobs<Outcome, ()> for Records<'a> {
     ghost use Rattle.recovery.specs.Reads.{IsReadOf};
-
-    type Output = Outcome;
-
-    type Kept = ();
 
     ghost count = { λ r. length r.records.now };
 
