@@ -1,6 +1,7 @@
 -- Results that stand at the places of their jobs.
-use Rattle.std.proofs.Common.{◌≡◌, ◌⊎◌, inl, inr, ℕ, zero, suc, ◌+◌, ◌<◌, List, [], ◌∷◌, ◌++◌, length, set, refl, sym, ap, ◌∙◌, subst, append_assoc, arith, Option, Some, None, All}
+use Rattle.std.proofs.Common.{◌≡◌, ◌⊎◌, inl, inr, ℕ, zero, suc, ◌+◌, ◌<◌, List, [], ◌∷◌, ◌++◌, length, get_or, set, refl, sym, ap, ◌∙◌, subst, append_assoc, arith, Option, Some, None, All}
 use Rattle.std.specs.Prelude.{slice_get}
+use Rattle.std.proofs.lemmas.List.{length-append}
 use Rattle.job_pieces.specs.Results.{AreGiven}
 
 same_some : {X : Type 0} (x y : X) → Some x ≡ Some y → x ≡ y
@@ -34,3 +35,51 @@ pub record Taken {O : Type 0} (slots passed left : List (Option O)) (all : List 
   pub split : passed ++ left ≡ slots
   pub filled : (at : ℕ) (output : O) → slice_get all at ≡ Some output → slice_get passed at ≡ Some (Some output)
   pub count : length all ≡ length passed
+
+-- what holds at each place
+pub all_at : {X : Type 0} (P : X → Type 0) (xs : List X) → ((i : ℕ) (d : X) → i < length xs → P (get_or xs i d)) → All P xs
+all_at P [] each = tt
+all_at P (x ∷ xs) each = (each zero x (omega arith), all_at P xs (λ i d h. each (suc i) d (omega (arith, h))))
+
+-- results that were taken out of the first of some slots, with other slots left
+pub taken_starts : {O : Type 0} (slots : List (Option O)) → Taken slots [] slots []
+taken_starts slots = record { split = refl; filled = λ at output e. absurd (cc); count = refl }
+
+last_get : {X : Type 0} (xs : List X) (x y : X) (at : ℕ) → slice_get (xs ++ x ∷ []) at ≡ Some y → (slice_get xs at ≡ Some y) ⊎ ((at ≡ length xs) × (x ≡ y))
+last_get [] x y zero e = inr (refl, same_some x y e)
+last_get [] x y (suc at) e = absurd (cc)
+last_get (z ∷ xs) x y zero e = inl e
+last_get (z ∷ xs) x y (suc at) e = elim (last_get xs x y at e) [
+  | inl a ↦ inl a
+  | inr b ↦ inr (ap suc b.0, b.1)
+]
+
+front_get : {X : Type 0} (xs ys : List X) (k : ℕ) (x : X) → slice_get xs k ≡ Some x → slice_get (xs ++ ys) k ≡ Some x
+front_get [] ys k x e = absurd (cc)
+front_get (z ∷ xs) ys zero x e = e
+front_get (z ∷ xs) ys (suc k) x e = front_get xs ys k x e
+
+seam_get : {X : Type 0} (xs ys : List X) (y : X) → slice_get (xs ++ y ∷ ys) (length xs) ≡ Some y
+seam_get [] ys y = refl
+seam_get (x ∷ xs) ys y = seam_get xs ys y
+
+pub taken_more : {O : Type 0} (slots passed left next : List (Option O)) (all : List O) (output : O) → Taken slots passed left all → left ≡ Some output ∷ next → Taken slots (passed ++ Some output ∷ []) next (all ++ output ∷ [])
+taken_more slots passed left next all output t e = record {
+  split = append_assoc passed (Some output ∷ []) next ∙ ap (λ (l : List (Option _)). passed ++ l) (sym e) ∙ t.split;
+  filled = λ at x f. elim (last_get all output x at f) [
+    | inl a ↦ front_get passed (Some output ∷ []) at (Some x) (t.filled at x a)
+    | inr b ↦
+        subst (λ n. slice_get (passed ++ Some output ∷ []) n ≡ Some (Some x)) (sym (b.0 ∙ t.count))
+        (subst (λ y. slice_get (passed ++ Some output ∷ []) (length passed) ≡ Some (Some y)) b.1 (seam_get passed [] (Some output)))
+  ];
+  count = omega (arith, t.count, length-append all (output ∷ []), length-append passed (Some output ∷ []));
+}
+
+pub taken_ends : {O : Type 0} (gives : ℕ → O → Type 0) (slots passed : List (Option O)) (all : List O) → Taken slots passed [] all → AreGiven gives slots → (length all ≡ length slots) × ((at : ℕ) (output : O) → slice_get all at ≡ Some output → gives at output)
+taken_ends gives slots passed all t given =
+    let whole : passed ≡ slots = sym (append_none passed) ∙ t.split in
+    (t.count ∙ ap length whole, λ at output e. given at output (ap (λ (l : List (Option _)). slice_get l at) (sym whole) ∙ t.filled at output e))
+  where
+    append_none : {X : Type 0} (xs : List X) → xs ++ [] ≡ xs
+    append_none [] = refl
+    append_none (x ∷ xs) = ap (λ (l : List _). x ∷ l) (append_none xs)

@@ -1,5 +1,5 @@
 //! Pieces of jobs, which one worker does.
-ghost use Rattle.std.specs.Prelude.{◌≡◌, ◌≤◌, ◌<◌, ℕ, All};
+ghost use Rattle.std.specs.Prelude.{◌≤◌, All};
 
 use crate::{Jobs, PIECE};
 use std::alloc::{AllocError, Global};
@@ -58,19 +58,21 @@ pub(crate) fn do_pieces<J: Jobs<O, K>, O: Drop, K: Drop>(
     alloc: Global,
     jobs: &J,
     next: &AtomicU64,
-    done: &mut Vec<Done<O>>,
-) -> Result<(), AllocError>
-    requires { All (λ d. J.gives jobs.now d.at d.output) done.old.items }
-    ensures { All (λ d. J.gives jobs.now d.at d.output) done.new.items }
+) -> Vec<Done<O>>
+    ensures { All (λ d. J.gives jobs.now d.at d.output) result.items }
 {
+    let mut done = Vec::new(alloc);
     let pieces = jobs.count().div_ceil(PIECE) as u64;
     let mut kept = jobs.begin(alloc);
     for _ in 0..pieces {
         let piece = next.fetch_add(1, Ordering::SeqCst);
         if pieces <= piece {
-            return Ok(());
+            return done;
         }
-        do_numbered(alloc, jobs, &mut kept, piece, done)?;
+        // Where memory runs out, the results of further jobs are missing.
+        if do_numbered(alloc, jobs, &mut kept, piece, &mut done).is_err() {
+            return done;
+        }
     }
-    Ok(())
+    done
 }

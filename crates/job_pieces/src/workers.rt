@@ -1,5 +1,5 @@
 //! Jobs done by several workers, each in a thread.
-ghost use Rattle.std.specs.Prelude.{◌≡◌, ◌<◌, ℕ, All, IfOk, Some, [], length, slice_get};
+ghost use Rattle.std.specs.Prelude.{◌≡◌, ◌<◌, ℕ, All, IfOk, Some, length, slice_get};
 
 use crate::Jobs;
 use crate::pieces::{Done, do_pieces};
@@ -9,43 +9,25 @@ use std::sync::atomic::AtomicU64;
 use std::thread;
 use std::thread::Threads;
 
-/// An empty list of what is done for each of so many workers.
-fn empty_bench<O: Drop>(alloc: Global, workers: usize) -> Result<Vec<Vec<Done<O>>>, AllocError>
-    ensures { IfOk result (λ bench. All (λ done. done.items ≡ []) bench.items) }
-{
-    let mut bench = Vec::with_capacity(alloc, workers)?;
-    while bench.len() < workers {
-        bench.push(Vec::new(alloc))?;
-    }
-    Ok(bench)
-}
-
-/// The workers take the jobs piece by piece, each in a thread, and add what they do to their lists.
+/// What each of so many workers does, who take the jobs piece by piece, each in a thread where one can be started.
 fn work_all<J: Jobs<O, K> + Sync, O: Send + Drop, K: Drop, R: Threads + Sync>(
     rt: &R,
     alloc: Global,
     jobs: &J,
     workers: usize,
-    bench: &mut [Vec<Done<O>>],
-)
-    requires some { 0 < workers }
-    requires done { All (λ done. All (λ d. J.gives jobs.now d.at d.output) done.items) bench.old }
-    ensures { All (λ done. All (λ d. J.gives jobs.now d.at d.output) done.items) bench.new }
+) -> Result<Vec<Vec<Done<O>>>, AllocError>
+    ensures { IfOk result (λ bench. All (λ done. All (λ d. J.gives jobs.now d.at d.output) done.items) bench.items) }
 {
     let next = AtomicU64::new(0);
     let next = &next;
-    thread::for_each_mut(
+    thread::map_indices(
         rt,
-        bench,
+        alloc,
         workers,
-        &|_, done: &mut Vec<Done<O>>|
-            requires { All (λ d. J.gives jobs.now d.at d.output) done.now.items }
-            ensures { All (λ d. J.gives jobs.entry.now d.at d.output) done.exit.now.items }
-        {
-            // Where memory ran out, the job's result is missing.
-            let _ = do_pieces(alloc, jobs, next, done);
-        },
-    );
+        &|_| -> Vec<Done<O>>
+            ensures { All (λ d. J.gives jobs.entry.now d.at d.output) result.items }
+        { do_pieces(alloc, jobs, next) },
+    )
 }
 
 /// What all jobs give, in their order, done by several workers at the same time: each takes a piece of them after another that no
@@ -61,7 +43,6 @@ pub fn do_all<J: Jobs<O, K> + Sync, O: Send + Drop, K: Drop, R: Threads + Sync>(
     ensures count { IfOk result (λ all. length all.items ≡ J.count jobs.now) }
     ensures given { IfOk result (λ all. (at : ℕ) (output : O) → slice_get all.items at ≡ Some output → J.gives jobs.now at output) }
 {
-    let mut bench = empty_bench(alloc, workers)?;
-    work_all(rt, alloc, jobs, workers, bench.as_mut_slice());
+    let bench = work_all(rt, alloc, jobs, workers)?;
     results_of(alloc, jobs, bench)
 }
