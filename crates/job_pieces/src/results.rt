@@ -1,5 +1,5 @@
 //! What jobs gave, by their numbers.
-ghost use Rattle.std.specs.Prelude.{◌≡◌, ℕ, All, IfOk, Some, length, slice_get};
+ghost use Rattle.std.specs.Prelude.{◌≡◌, ℕ, All, IfOk, None, Some, length, slice_get};
 ghost use Rattle.job_pieces.specs.Results.{AreGiven};
 
 use crate::Jobs;

@@ -10,7 +10,7 @@ use std::thread;
 use std::thread::Threads;
 
 /// What each of so many workers does, who take the jobs piece by piece, each in a thread where one can be started.
-fn work_all<J: Jobs<O, K> + Sync, O: Send + Drop, K: Drop, R: Threads + Sync>(
+fn work_all<J: Jobs<O, K> + Sync, O: Send + Drop, K: Send + Drop, R: Threads + Sync>(
     rt: &R,
     alloc: Global,
     jobs: &J,
@@ -33,7 +33,7 @@ fn work_all<J: Jobs<O, K> + Sync, O: Send + Drop, K: Drop, R: Threads + Sync>(
 /// What all jobs give, in their order, done by several workers at the same time: each takes a piece of them after another that no
 /// worker has taken yet, and keeps from job to job what helps with the next. Where a thread can't be started, its worker's jobs are
 /// done by the others.
-pub fn do_all<J: Jobs<O, K> + Sync, O: Send + Drop, K: Drop, R: Threads + Sync>(
+pub fn do_all<J: Jobs<O, K> + Sync, O: Send + Drop, K: Send + Drop, R: Threads + Sync>(
     rt: &R,
     alloc: Global,
     jobs: &J,
