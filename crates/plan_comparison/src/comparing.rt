@@ -1,0 +1,134 @@
+//! Duties that two plans have in common, and those that one of them has alone.
+ghost use Rattle.std.specs.Prelude.{◌≡◌, ◌≤◌, ◌*◌, IfOk, IsTrue, length, min};
+ghost use Rattle.shift_instance.specs.Rota.{are_legal_rows, duty_of, same_duty};
+ghost use Rattle.plan_comparison.specs.Changes.{changes, day_changes, duties_on, kept_duties, kept_on, times_in};
+
+use break_rules::NoMemory;
+use carried_rows::carried_rows;
+use shift_instance::{Instance, Row, Rows};
+use std::alloc::Global;
+
+/// What became of the duties of one day.
+#[derive(Clone, Copy, Debug, PartialEq, Eq, Drop)]
+pub struct DayChanges {
+    /// How many duties of the old plan stand in the new one.
+    pub kept: u64,
+    /// How many duties of the old plan don't stand in the new one.
+    pub gone: u64,
+    /// How many duties of the new plan didn't stand in the old one.
+    pub new: u64,
+}
+
+/// Whether the duties of two rows are the same.
+fn is_same_duty(a: &Row, b: &Row) -> bool
+    ensures { result ≡ same_duty (duty_of a.now) (duty_of b.now) }
+{
+    a.shift == b.shift && a.day == b.day && a.breaks.is_same(&b.breaks)
+}
+
+/// How often rows have the duty of a row.
+fn times_in(rows: &Rows, row: &Row) -> u128
+    ensures times { result ≡ times_in rows.now row.now }
+    ensures few { result ≤ 65535 * length rows.now }
+{
+    let mut times = 0u128;
+    for other in rows.as_slice() {
+        if is_same_duty(other, row) {
+            times += u128::from(other.count);
+        }
+    }
+    times
+}
+
+/// How many duties of a row other rows have too.
+fn shared(others: &Rows, row: &Row) -> u64
+    ensures { result ≡ min row.now.count (times_in others.now row.now) }
+{
+    times_in(others, row).min(u128::from(row.count)) as u64
+}
+
+/// How many duties rows have on a day.
+fn duties_on(instance: &Instance, rows: &Rows, day: u8) -> u64
+    requires { IsTrue (are_legal_rows instance.now rows.now) }
+    ensures { result ≡ duties_on rows.now day }
+{
+    let _valid = instance.slots();
+    let mut duties = 0;
+    for row in rows.as_slice() {
+        if row.day == day {
+            duties += u64::from(row.count);
+        }
+    }
+    duties
+}
+
+/// How many duties of a plan on a day other rows have too.
+fn kept_on(instance: &Instance, others: &Rows, rows: &Rows, day: u8) -> u64
+    requires { IsTrue (are_legal_rows instance.now rows.now) }
+    ensures { result ≡ kept_on others.now rows.now day }
+{
+    let _valid = instance.slots();
+    let mut kept = 0;
+    for row in rows.as_slice() {
+        if row.day == day {
+            kept += shared(others, row);
+        }
+    }
+    kept
+}
+
+/// How many duties of a plan other rows have too.
+pub fn kept_duties(instance: &Instance, others: &Rows, rows: &Rows) -> u64
+    requires { IsTrue (are_legal_rows instance.now rows.now) }
+    ensures { result ≡ kept_duties others.now rows.now }
+{
+    let _valid = instance.slots();
+    let mut kept = 0;
+    for row in rows.as_slice() {
+        kept += shared(others, row);
+    }
+    kept
+}
+
+/// What became of the duties of a day, where `carried` are the rows of the old plan that stand in a plan of the new instance.
+fn day_changes(
+    old: &Instance,
+    new: &Instance,
+    carried: &Rows,
+    before: &Rows,
+    after: &Rows,
+    day: u8,
+) -> DayChanges
+    requires before { IsTrue (are_legal_rows old.now before.now) }
+    requires after { IsTrue (are_legal_rows new.now after.now) }
+    ensures { result ≡ day_changes carried.now before.now after.now day }
+{
+    let kept = kept_on(new, carried, after, day);
+    DayChanges {
+        kept,
+        gone: duties_on(old, before, day).saturating_sub(kept),
+        new: duties_on(new, after, day).saturating_sub(kept),
+    }
+}
+
+/// What became of the duties of a plan of the old instance in a plan of the new one, for each day that one of the instances has, from the
+/// first. A duty of the new plan was kept where the row of a duty of the old plan is carried to it.
+pub fn changes(
+    alloc: Global,
+    old: &Instance,
+    new: &Instance,
+    before: &Rows,
+    after: &Rows,
+) -> Result<Vec<DayChanges>, NoMemory>
+    requires before { IsTrue (are_legal_rows old.now before.now) }
+    requires after { IsTrue (are_legal_rows new.now after.now) }
+    ensures { IfOk result (λ list. list.items ≡ changes old.now new.now before.now after.now) }
+{
+    let carried = carried_rows(alloc, old, new, before)?;
+    let days = old.days().max(new.days());
+    let mut list = Vec::new(alloc);
+    for day in 0..days {
+        list.push(day_changes(old, new, &carried, before, after, day))?;
+    }
+    Ok(list)
+}
