@@ -38,6 +38,7 @@ fn plan_at(alloc: Global, line: &str) -> Result<Option<String>, AllocError> {
                     out,
                     anew,
                     stop_on,
+                    ..
                 },
             ),
         ) => {
@@ -82,6 +83,44 @@ fn a_report_is_shown(rt: HostRuntime) -> Result<(), Fail> {
             Ok(())
         }
         _ => Err(Fail::from("nothing is shown")),
+    }
+}
+
+/// The plan that a line names to be kept, and its instance: `-` where it names none.
+fn kept_at(alloc: Global, line: &str) -> Result<Option<String>, AllocError> {
+    let words = words_of(alloc, line)?;
+    match wanted_by(alloc, words.as_slice()) {
+        Ok(Wanted::Plan(PlanWords { like: Some(like), .. })) => {
+            Ok(Some(format!(in alloc; "{} {}", like.report, like.of)?))
+        }
+        Ok(_) => Ok(Some(String::from_str(alloc, "-")?)),
+        Err(_) => Ok(None),
+    }
+}
+
+#[test]
+fn a_plan_to_keep_is_named_with_its_instance(rt: HostRuntime) -> Result<(), Fail> {
+    let alloc = rt.alloc();
+    let found = kept_at(alloc, "shift_plan plan w.json --like r --of v.json")?;
+    assert_eq!(rt; found.as_ref().map_or("", String::as_str), "r v.json");
+    let found = kept_at(alloc, "shift_plan plan w.json")?;
+    assert_eq!(rt; found.as_ref().map_or("", String::as_str), "-");
+    assert!(rt; kept_at(alloc, "shift_plan plan w.json --like r")?.is_none());
+    assert!(rt; kept_at(alloc, "shift_plan plan w.json --of v.json")?.is_none());
+    Ok(())
+}
+
+#[test]
+fn two_plans_are_compared(rt: HostRuntime) -> Result<(), Fail> {
+    let alloc = rt.alloc();
+    let words = words_of(alloc, "shift_plan compare v.json q w.json r")?;
+    match wanted_by(alloc, words.as_slice()) {
+        Ok(Wanted::Compare(both)) => {
+            assert_eq!(rt; (both.instance, both.report), ("v.json", "q"));
+            assert_eq!(rt; (both.other_instance, both.other_report), ("w.json", "r"));
+            Ok(())
+        }
+        _ => Err(Fail::from("nothing is compared")),
     }
 }
 

@@ -1,8 +1,9 @@
 -- What a report shows.
-use Rattle.std.specs.Prelude.{◌≡◌, List, ℕ, Ok}
+use Rattle.std.specs.Prelude.{◌≡◌, List, ℕ, Ok, Some, IsTrue, option_map}
 use Rattle.shift_instance.specs.Problem.{Problem}
 use Rattle.instance_json.specs.Reading.{reading_of, IsAnswer}
 use Rattle.certificate.specs.declared.Cert.{Cert}
+use Rattle.certificate.specs.Accepted.{is_accepted}
 use Rattle.certificate.specs.Departing.{IsFaultOf, Spells}
 use Rattle.cert_check.specs.Judged.{IsRefused}
 use Rattle.search_book.specs.Search.{SearchView}
@@ -22,3 +23,7 @@ IsUnshown document report (Refused why) = (i : Problem) × (c : Cert) × (readin
 pub record IsOfBook {D : Type 0} (i : Problem) (book : SearchView D) (plan : Plan) : Type 0 where
   pub instance : plan.instance ≡ i
   pub cert : plan.cert ≡ cert_of book.log.history book.log.book
+
+-- a report shows a plan of an instance that costs so much: it spells a certificate that is accepted and has a plan of that cost
+abbrev pub IsShownAt : Problem → List ℕ → ℕ → Type 0
+IsShownAt i report cost = (c : Cert) × Spells report c × IsTrue (is_accepted i c) × (option_map (λ p. p.0) c.plan ≡ Some cost)

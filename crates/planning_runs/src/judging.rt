@@ -1,11 +1,11 @@
 //! The judgement on reports.
 
-ghost use Rattle.std.specs.Prelude.{◌≡◌, IfErr, IfOk, IsTrue, Ok};
+ghost use Rattle.std.specs.Prelude.{◌≡◌, ◌<◌, IfErr, IfOk, IfSome, IsTrue, Ok};
 ghost use Rattle.instance_json.specs.Reading.{reading_of};
 ghost use Rattle.certificate.specs.Accepted.{is_accepted};
 ghost use Rattle.certificate.specs.Departing.{Spells};
 ghost use Rattle.cert_check.specs.Judged.{IsRefused};
-ghost use Rattle.planning_runs.specs.Reports.{IsOfBook, IsUnshown};
+ghost use Rattle.planning_runs.specs.Reports.{IsOfBook, IsShownAt, IsUnshown};
 
 use crate::plan::Plan;
 use break_rules::NoMemory;
@@ -66,6 +66,22 @@ pub fn judged_plan(alloc: Global, document: &[u8], report: Vec<u8>) -> Result<Pl
         Ok(plan) => Ok(plan),
         Err(why) => Err(Unshown::Refused(why)),
     }
+}
+
+/// What the plan costs that a report shows for an instance, where it costs less than `cost`; none where it doesn't, or where the report is
+/// refused or has no plan. A report that claims no lesser cost isn't judged.
+pub fn cheaper_cost(alloc: Global, instance: &Instance, report: &[u8], cost: u64) -> Option<u64>
+    ensures shown { IfSome result (IsShownAt instance.now report.now) }
+    ensures cheaper { IfSome result (λ found. found < cost) }
+{
+    let cert = certificate::read(alloc, report).ok()?;
+    let (claimed, _rows) = cert.plan.as_ref()?;
+    if cost <= *claimed {
+        return None;
+    }
+    let accepted = check(alloc, instance, &cert).ok()?;
+    let found = accepted.cost?;
+    if found < cost { Some(found) } else { None }
 }
 
 /// The plan of a book of the instance, judged as any report is. The certificate of a book is accepted, so `NoMemory` is the only refusal.

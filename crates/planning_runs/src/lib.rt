@@ -5,6 +5,6 @@ mod judging;
 mod plan;
 mod search;
 
-pub use judging::{Unshown, judged_plan};
+pub use judging::{Unshown, cheaper_cost, judged_plan};
 pub use plan::Plan;
 pub use search::{Planned, search_plan};

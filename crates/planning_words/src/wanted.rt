@@ -3,6 +3,9 @@
 ghost use Rattle.std.specs.Prelude.{◌≤◌, IfOk};
 ghost use Rattle.planning_words.specs.Wanted.{IsWithin};
 
+use crate::keeping::{
+    CompareWords, LikeWords, compare_command, compare_words, like_word, like_words, of_word,
+};
 use clap::{Arg, ArgAction, ArgMatches, Command, Error, value_parser};
 use std::alloc::{AllocError, Global};
 
@@ -34,7 +37,13 @@ Examples:
       Searches for ten minutes with eight workers and writes the plan to the folder rota.
 
   shift_plan show week.json week.plan/report
-      Judges a report that stands and shows its plan once more.";
+      Judges a report that stands and shows its plan once more.
+
+  shift_plan plan changed.json --like week.plan/report --of week.json
+      Searches for a plan of the changed instance that keeps what it can of the plan of week.json.
+
+  shift_plan compare week.json week.plan/report changed.json changed.plan/report
+      Says which duties the two plans have in common, and what each costs.";
 
 /// At what else than its time a search is to end.
 #[derive(Clone, Copy, PartialEq, Eq, Drop)]
@@ -62,6 +71,8 @@ pub struct PlanWords<'a> {
     pub anew: bool,
     /// At what else the search is to end, if it is said.
     pub stop_on: Option<StopOn>,
+    /// The plan of which the search is to keep what it can, if one is named.
+    pub like: Option<LikeWords<'a>>,
 }
 
 /// The words that ask for a report to be shown.
@@ -82,6 +93,8 @@ pub enum Wanted<'a> {
     Plan(PlanWords<'a>),
     /// A report that stands, shown once more.
     Show(ShowWords<'a>),
+    /// Two plans, compared.
+    Compare(CompareWords<'a>),
 }
 
 /// The word for the folder of a plan.
@@ -92,7 +105,7 @@ fn out_word<'a>(alloc: Global) -> Arg<'a> {
 }
 
 /// The word for the instance.
-fn instance_word<'a>(alloc: Global) -> Arg<'a> {
+pub(crate) fn instance_word<'a>(alloc: Global) -> Arg<'a> {
     Arg::new(alloc, "INSTANCE")
         .required(true)
         .help("The file of the instance document")
@@ -162,6 +175,8 @@ fn plan_command<'a>(alloc: Global) -> Result<Command<'a>, AllocError> {
         .arg(workers_word(alloc))?
         .arg(out_word(alloc))?
         .arg(stop_word(alloc))?
+        .arg(like_word(alloc)?)?
+        .arg(of_word(alloc)?)?
         .arg(anew_word(alloc))
 }
 
@@ -190,7 +205,8 @@ fn program<'a>(alloc: Global) -> Command<'a> {
 fn command<'a>(alloc: Global) -> Result<Command<'a>, AllocError> {
     let plan = plan_command(alloc)?;
     let planning = program(alloc).subcommand(plan)?;
-    planning.subcommand(show_command(alloc)?)
+    let planning = planning.subcommand(show_command(alloc)?)?;
+    planning.subcommand(compare_command(alloc)?)
 }
 
 /// What ends a search, by its word.
@@ -218,6 +234,7 @@ fn plan_words<'a>(matches: &ArgMatches<'a>) -> PlanWords<'a>
         out: matches.get_str("out"),
         anew: matches.get_flag("anew"),
         stop_on: matches.get_str("stop-on").map(stop_on),
+        like: like_words(matches),
     }
 }
 
@@ -234,8 +251,9 @@ fn show_words<'a>(matches: &ArgMatches<'a>) -> ShowWords<'a> {
 /// What the words of a command line ask for, the program's name first among them. The error is what clap says of other words, and the help
 /// where that is asked for.
 ///
-/// The words are `plan INSTANCE [--journal FILE] [--seconds T] [--workers W] [--out FOLDER] [--stop-on line|enter] [--anew]` or
-/// `show INSTANCE REPORT [--out FOLDER]`. T is at most 4,000,000 and 60 where it isn't given, W is from 1 to 16 and 4 where it isn't
+/// The words are `plan INSTANCE [--journal FILE] [--seconds T] [--workers W] [--out FOLDER] [--stop-on line|enter] [--anew]
+/// [--like REPORT --of OLD_INSTANCE]`, `show INSTANCE REPORT [--out FOLDER]` or
+/// `compare INSTANCE REPORT OTHER_INSTANCE OTHER_REPORT`. T is at most 4,000,000 and 60 where it isn't given, W is from 1 to 16 and 4 where it isn't
 /// given.
 pub fn wanted_by<'a>(alloc: Global, words: &'a [String]) -> Result<Wanted<'a>, Error>
     ensures { IfOk result IsWithin }
@@ -243,8 +261,9 @@ pub fn wanted_by<'a>(alloc: Global, words: &'a [String]) -> Result<Wanted<'a>, E
     let matches = command(alloc)?.try_get_matches_from(words)?;
     match matches.subcommand() {
         Some(("show", behind)) => Ok(Wanted::Show(show_words(behind))),
+        Some(("compare", behind)) => Ok(Wanted::Compare(compare_words(behind))),
         Some((_, behind)) => Ok(Wanted::Plan(plan_words(behind))),
-        // one of the two is required
+        // one of the commands is required
         None => Ok(Wanted::Plan(plan_words(&matches))),
     }
 }

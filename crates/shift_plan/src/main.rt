@@ -1,8 +1,10 @@
 //! Shift plans for people: `shift_plan plan INSTANCE` searches for a cheapest plan within a time and writes it to a folder, and
-//! `shift_plan show INSTANCE REPORT` does so with the plan of a report that stands.
+//! `shift_plan show INSTANCE REPORT` does so with the plan of a report that stands. `shift_plan compare` tells two plans apart.
 #![tactic(auto)]
 
+mod comparing;
 mod journals;
+mod keeping;
 mod listening;
 mod planning;
 mod showing;
@@ -50,6 +52,7 @@ fn answer<R: Threads + Wait + Sync>(
     match wanted {
         Wanted::Plan(words) => planning::plan(host, rt, &words)?,
         Wanted::Show(words) => showing::show(host, &words)?,
+        Wanted::Compare(words) => comparing::compare(host, &words)?,
     }
     Ok(0)
 }

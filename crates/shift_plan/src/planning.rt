@@ -3,16 +3,18 @@
 ghost use Rattle.std.specs.Prelude.{◌<◌, ◌^◌};
 
 use crate::journals::locked_journal;
+use crate::keeping::{rows_to_keep, tell_kept};
 use crate::listening::{listen, stop_of};
 use crate::telling::{Beginning, shown_on, tell_end, warn};
 use advice::Adviser;
+use kept_duties::Keeping;
 use planning_files::LockedJournal;
 use planning_progress::{Progress, Shown, Until, Watched};
 use planning_refusals::{Cause, Refusal, read_document};
 use planning_runs::{Plan, Planned, search_plan};
 use planning_sheets::{ready_folder, show_plan};
 use planning_words::{PlanWords, StopOn, folder_beside};
-use shift_instance::Instance;
+use shift_instance::{Instance, Rows};
 use solve_runs::Request;
 use std::alloc::{AllocError, Global};
 use std::sync::{Arc, Wait};
@@ -67,19 +69,38 @@ fn steps_of(seconds: u32) -> u64
     if seconds == 0 { 0 } else { STEPS_MOST }
 }
 
-/// The adviser of a worker, which searches thoroughly for plans of the instance with a seed of its own and tells how far the search has come.
+/// The adviser of a worker, which searches thoroughly for plans of the instance with a seed of its own. It begins with the rows to keep,
+/// where there are any, and its plans keep what they can of them.
+fn keeping(
+    host: HostRuntime,
+    instance: &Instance,
+    progress: &Arc<Progress>,
+    worker: u16,
+    wanted: &Rows,
+) -> Result<Keeping<Thorough<Until<HostRuntime>>>, Refusal> {
+    let alloc = host.alloc();
+    let until = Until::new(Arc::try_clone(progress)?, host);
+    let seed = u64::from(worker) + 1;
+    let thorough = if wanted.is_empty() {
+        Thorough::of(alloc, instance, seed, until)?
+    } else {
+        Thorough::from_plan(alloc, instance, wanted.clone()?, seed, until)?
+    };
+    Ok(Keeping::new(alloc, thorough, wanted.clone()?))
+}
+
+/// The same adviser, which tells how far the search has come.
 fn watched(
     host: HostRuntime,
     instance: &Instance,
     progress: &Arc<Progress>,
     worker: u16,
+    wanted: &Rows,
     shown: Shown,
-) -> Result<Watched<Thorough<Until<HostRuntime>>, HostRuntime>, Refusal> {
-    let alloc = host.alloc();
-    let until = Until::new(Arc::try_clone(progress)?, host);
-    let thorough = Thorough::of(alloc, instance, u64::from(worker) + 1, until)?;
+) -> Result<Watched<Keeping<Thorough<Until<HostRuntime>>>, HostRuntime>, Refusal> {
+    let adviser = keeping(host, instance, progress, worker, wanted)?;
     let seen = Arc::try_clone(progress)?;
-    Ok(Watched::new(alloc, thorough, worker, seen, host, shown))
+    Ok(Watched::new(host.alloc(), adviser, worker, seen, host, shown))
 }
 
 /// The plan of a search by these advisers until the search is finished, its time is over, or it is asked to end.
@@ -123,6 +144,7 @@ fn search_by<R: Threads + Wait + Sync>(
     instance: Instance,
     journal: &LockedJournal<HostRuntime>,
     progress: &Arc<Progress>,
+    wanted: &Rows,
     enter_ends: bool,
 ) -> Result<Plan, Refusal>
     requires some { 0 < words.now.workers }
@@ -131,7 +153,7 @@ fn search_by<R: Threads + Wait + Sync>(
     let shown = shown_on(host, enter_ends);
     let mut advisers: Vec<Box<dyn Adviser + Send>> = Vec::new(alloc);
     for worker in 0..words.workers {
-        let adviser = watched(host, &instance, progress, worker, shown)?;
+        let adviser = watched(host, &instance, progress, worker, wanted, shown)?;
         advisers.push(Box::new(alloc, adviser)?)?;
     }
     advised(host, rt, words, instance, journal, progress, advisers)
@@ -143,6 +165,7 @@ fn searched<R: Threads + Wait + Sync>(
     rt: &R,
     words: &PlanWords,
     instance: Instance,
+    wanted: &Rows,
     journal: &LockedJournal<HostRuntime>,
 ) -> Result<Plan, Refusal>
     requires some { 0 < words.now.workers }
@@ -151,7 +174,9 @@ fn searched<R: Threads + Wait + Sync>(
     let stop_on = stop_of(host, words.stop_on);
     let listens = words.seconds != 0 && stop_on.is_some() && listen(host, rt, &progress);
     let enter_ends = listens && stop_on == Some(StopOn::Enter);
-    search_by(host, rt, words, instance, journal, &progress, enter_ends)
+    search_by(
+        host, rt, words, instance, journal, &progress, wanted, enter_ends,
+    )
 }
 
 /// Searches for a plan as the words say, and writes it.
@@ -167,8 +192,10 @@ pub(crate) fn plan<R: Threads + Wait + Sync>(
     let document = read_document(host, words.instance)?;
     let instance = instance_in(alloc, document.as_slice())?;
     warn(host, &instance)?;
+    let wanted = rows_to_keep(host, words.like, &instance)?;
     let journals = locked_journal(host, words)?;
     ready_folder(host, folder.as_str())?;
-    let plan = searched(host, rt, words, instance, &journals.now)?;
+    let plan = searched(host, rt, words, instance, &wanted, &journals.now)?;
+    tell_kept(host, &plan, &wanted);
     show_plan(host, words.instance, folder.as_str(), &plan)
 }

@@ -8,7 +8,7 @@ use crate::splits::HeadSplit;
 use advice::{Advice, Adviser, Ask, Splitting, Stop, Told};
 use break_rules::{Breaks, NoMemory};
 use head_splits::{Class, Cuts, range};
-use rota_cost::Costed;
+use rota_cost::{Costed, legal_rows};
 use shift_instance::{Instance, Rows};
 use std::alloc::Global;
 use std::marker::Model;
@@ -49,7 +49,7 @@ fn rows_below(instance: &Instance, plan: Costed, best: u64) -> Option<Rows>
     None
 }
 
-/// The greedy plan where it was made in this advice and the search has none that is cheaper, and else the best plan of the search,
+/// The plan to begin with where it wasn't advised yet and the search has none that is cheaper, and else the best plan of the search,
 /// if it is legal and cheaper than `best`.
 fn cheaper_plan<S: Stop + Drop>(
     kept: &mut Kept<S>,
@@ -59,8 +59,8 @@ fn cheaper_plan<S: Stop + Drop>(
     ensures legal { IfOk result (λ plan. IfSome plan (λ rows. IsTrue (are_legal_rows instance.now rows))) }
     ensures cheaper { IfOk result (λ plan. IfSome plan (λ rows. cost instance.now (rota_of rows) < best)) }
 {
-    let plan = match kept.take_greedy(instance) {
-        Some(greedy) => Some(greedy),
+    let plan = match kept.take_first(instance) {
+        Some(first) => Some(first),
         None => kept.best_plan_below(instance, best)?,
     };
     match plan {
@@ -115,6 +115,25 @@ impl<S: Stop + Clone> Thorough<S> {
     {
         let mut thorough = Thorough::new(alloc, seed, stop);
         let kept = thorough.take_kept(instance)?;
+        thorough.kept = Some(kept);
+        Ok(thorough)
+    }
+
+    /// The adviser of an instance that begins with these rows, where they are a legal plan.
+    pub fn from_plan(
+        alloc: Global,
+        instance: &Instance,
+        rows: Rows,
+        seed: u64,
+        stop: S,
+    ) -> Result<Thorough<S>, NoMemory>
+        ensures { IfOk result (λ t. t ≡ record { told = 0; last = None }) }
+    {
+        let mut thorough = Thorough::new(alloc, seed, stop);
+        let mut kept = thorough.take_kept(instance)?;
+        if legal_rows(instance, &rows).is_ok() {
+            kept.begin_with(rows)?;
+        }
         thorough.kept = Some(kept);
         Ok(thorough)
     }

@@ -39,8 +39,8 @@ pub(crate) struct Kept<S: Stop + Drop> {
     offered: u64,
     /// Whether the greedy plan was made.
     is_greedy_made: bool,
-    /// The rows of the greedy plan, where it wasn't advised yet.
-    greedy: Option<Rows>,
+    /// The rows of a plan to begin with, where they weren't advised yet: those of the greedy plan, or of one that was given.
+    first: Option<Rows>,
     /// The work on plans when the best one was found.
     work_at_best: u64,
     /// The work of climbs when plans were looked for last.
@@ -100,7 +100,7 @@ impl<S: Stop + Drop> Kept<S> {
             climb,
             offered: u64::MAX,
             is_greedy_made: false,
-            greedy: None,
+            first: None,
             work_at_best: 0,
             climbed: 0,
         })
@@ -125,15 +125,17 @@ impl<S: Stop + Drop> Kept<S> {
         self.plans.best_plan(instance)
     }
 
-    /// The greedy plan, with its cost, judged, where it was made and not taken out yet.
-    pub(crate) fn take_greedy(&mut self, instance: &Instance) -> Option<Costed>
+    /// The plan to begin with, with its cost, judged, where there is one that wasn't taken out yet, and the search has none that is
+    /// cheaper.
+    pub(crate) fn take_first(&mut self, instance: &Instance) -> Option<Costed>
         ensures { IfSome result (λ c. c.instance ≡ instance.now) }
     {
-        let rows = self.greedy.take()?;
-        match cost_rows(instance, rows) {
-            Ok(plan) => Some(plan),
-            Err(_) => None,
+        let rows = self.first.take()?;
+        let plan = cost_rows(instance, rows).ok()?;
+        if self.is_cheaper_than(plan.cost()) {
+            return None;
         }
+        Some(plan)
     }
 
     /// Has the plan search go on from the hint's rows, where they are legal and cheaper than its best and than all that it was
@@ -188,8 +190,13 @@ impl<S: Stop + Drop> Kept<S> {
         if self.is_cheaper_than(recount(instance, &rows)) {
             return Ok(());
         }
+        self.begin_with(rows)
+    }
+
+    /// Has the adviser begin with a plan: it is advised first, and offered to the plan search.
+    pub(crate) fn begin_with(&mut self, rows: Rows) -> Result<(), NoMemory> {
         self.plans.offer(&self.tables, &rows)?;
-        self.greedy = Some(rows);
+        self.first = Some(rows);
         Ok(())
     }
 
