@@ -11,7 +11,7 @@ use Rattle.shift_instance.specs.Kind.{Kind}
 use Rattle.shift_instance.specs.Names.{has_name}
 use Rattle.shift_instance.specs.Problem.{Problem, shift_list, below}
 use Rattle.carried_rows.specs.declared.obstacles.Obstacle.{Obstacle}
-use Rattle.carried_rows.specs.declared.obstacles.Obstacle.TheVariants.{Slots, Type, Start, Length, Day, Breaks}
+use Rattle.carried_rows.specs.declared.obstacles.Obstacle.TheVariants.{Slots, Name, Start, Length, Day, Breaks}
 
 -- the name of a shift's type
 abbrev pub name_of : Problem → Shift → List ℕ
@@ -28,7 +28,7 @@ shift_causes j k x r =
 
 -- what keeps a row of a shift from standing in a plan of another instance, whose type of its name is given, if there is one
 abbrev pub obstacle_in : Problem → Shift → Row → Option Kind → Option Obstacle
-obstacle_in j x r None = Some Type
+obstacle_in j x r None = Some Name
 obstacle_in j x r (Some k) = first_cause (shift_causes j k x r)
 
 -- what keeps a row of one instance from standing in a plan of another, if anything does

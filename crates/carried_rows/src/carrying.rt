@@ -29,9 +29,7 @@ fn goes_to(old: &Instance, new: &Instance, shift: u16, day: u8, row: &Row) -> bo
     requires after { shift < length (shift_list new.now) }
     ensures { result ≡ goes_to old.now new.now shift day row.now }
 {
-    row.day == day
-        && is_like(old, new, row.shift, shift)
-        && obstacle_of(old, new, row).is_none()
+    row.day == day && is_like(old, new, row.shift, shift) && obstacle_of(old, new, row).is_none()
 }
 
 /// A row of a shift with as many duties as there is room for.

@@ -15,7 +15,7 @@ pub enum Obstacle {
     /// The slots of the two instances aren't equally long.
     Slots,
     /// No type has the name of the row's type.
-    Type,
+    Name,
     /// The type of that name has no shift with the row's start.
     Start,
     /// The type of that name has no shift with the row's length.
@@ -80,6 +80,6 @@ pub fn obstacle_of(old: &Instance, new: &Instance, row: &Row) -> Option<Obstacle
     let kinds = new.parts().types.as_slice();
     match kind_named(kinds, name_of(old, shift)) {
         Some(kind) => obstacle_in(new, kind, shift, row),
-        None => Some(Obstacle::Type),
+        None => Some(Obstacle::Name),
     }
 }

@@ -13,7 +13,7 @@ const TOLD: usize = 20;
 fn why(obstacle: Obstacle) -> &'static str {
     match obstacle {
         Obstacle::Slots => "the slots of the two instances aren't equally long",
-        Obstacle::Type => "no type has this name any more",
+        Obstacle::Name => "no type has this name any more",
         Obstacle::Start => "its type has no shift any more that starts then",
         Obstacle::Length => "its type has no shift of this length any more",
         Obstacle::Day => "the planning period doesn't have this day any more",

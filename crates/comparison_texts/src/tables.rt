@@ -28,9 +28,7 @@ fn add_line(
 ) -> Result<(), NoMemory> {
     let line = format!(in alloc;
         "{name:>3}{:>10}{:>10}{:>10}\n",
-        changes.kept,
-        changes.gone,
-        changes.new
+        changes.kept, changes.gone, changes.new
     )?;
     text.push_str(line.as_str())
 }

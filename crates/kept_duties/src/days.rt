@@ -54,12 +54,7 @@ fn add_lacking(instance: &Instance, draft: &mut Draft, row: &Row) -> Result<(), 
 }
 
 /// Adds those duties of the wanted rows on a day that a plan lacks, as far as it allows them.
-fn fill_day(
-    instance: &Instance,
-    draft: &mut Draft,
-    wanted: &Rows,
-    day: u8,
-) -> Result<(), NoMemory>
+fn fill_day(instance: &Instance, draft: &mut Draft, wanted: &Rows, day: u8) -> Result<(), NoMemory>
     requires instance { draft.old.instance ≡ instance.now }
     ensures instance { draft.new.instance ≡ draft.old.instance }
 {

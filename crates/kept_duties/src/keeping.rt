@@ -12,12 +12,7 @@ use shift_instance::{Instance, Rows};
 use std::alloc::Global;
 
 /// The rows of a plan after whole days, and then single duties, came back from the wanted rows where that makes it no dearer.
-fn restored(
-    alloc: Global,
-    instance: &Instance,
-    rows: Rows,
-    wanted: &Rows,
-) -> Result<Rows, NoMemory>
+fn restored(alloc: Global, instance: &Instance, rows: Rows, wanted: &Rows) -> Result<Rows, NoMemory>
     requires legal { IsTrue (are_legal_rows instance.now rows) }
     ensures legal { IfOk result (λ new. IsTrue (are_legal_rows instance.now new)) }
     ensures cheap { IfOk result (λ new. cost instance.now (rota_of new) ≤ cost instance.now (rota_of rows)) }

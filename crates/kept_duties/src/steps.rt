@@ -33,11 +33,7 @@ fn has_moved(instance: &Instance, draft: &mut Draft, step: &Move) -> Result<bool
 }
 
 /// Adds a duty of a row, and says whether the plan allowed it.
-pub(crate) fn has_added(
-    instance: &Instance,
-    draft: &mut Draft,
-    row: &Row,
-) -> Result<bool, NoMemory>
+pub(crate) fn has_added(instance: &Instance, draft: &mut Draft, row: &Row) -> Result<bool, NoMemory>
     requires instance { draft.old.instance ≡ instance.now }
     ensures instance { draft.new.instance ≡ draft.old.instance }
 {

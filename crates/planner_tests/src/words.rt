@@ -90,9 +90,14 @@ fn a_report_is_shown(rt: HostRuntime) -> Result<(), Fail> {
 fn kept_at(alloc: Global, line: &str) -> Result<Option<String>, AllocError> {
     let words = words_of(alloc, line)?;
     match wanted_by(alloc, words.as_slice()) {
-        Ok(Wanted::Plan(PlanWords { like: Some(like), .. })) => {
-            Ok(Some(format!(in alloc; "{} {}", like.report, like.of)?))
-        }
+        Ok(
+            Wanted::Plan(
+                PlanWords {
+                    like: Some(like),
+                    ..
+                },
+            ),
+        ) => { Ok(Some(format!(in alloc; "{} {}", like.report, like.of)?)) }
         Ok(_) => Ok(Some(String::from_str(alloc, "-")?)),
         Err(_) => Ok(None),
     }

@@ -46,7 +46,9 @@ fn write_table(rt: HostRuntime, folder: &str, name: &str, bytes: &[u8]) -> Resul
     match write_kept(&rt, folder, name, bytes) {
         Ok(None) => Ok(()),
         Ok(Some(aside)) => {
-            let _ = eprintln!(rt; "shift_plan: {name} was edited in the folder {folder}; it is kept as {aside}");
+            let _ = eprintln!(rt;
+                "shift_plan: {name} was edited in the folder {folder}; it is kept as {aside}"
+            );
             Ok(())
         }
         Err(why) => {
