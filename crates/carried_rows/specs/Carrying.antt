@@ -1,6 +1,6 @@
 -- Which rows of a plan of one instance stand in a plan of another.
 -- Source: this project's profile.
-use Rattle.std.specs.Prelude.{ℕ, ◌-◌, Bool, false, not, ◌&&◌, ◌==◌, nat_lt, nat_le, List, [], ◌∷◌, length, min, filter, slice_get, is_none, Option, Some, None, if◌then◌else◌}
+use Rattle.std.specs.Prelude.{ℕ, ◌-◌, Bool, false, not, ◌&&◌, ◌==◌, nat_lt, nat_le, List, [], ◌∷◌, length, min, filter, slice_get, Option, Some, None, if◌then◌else◌}
 use Rattle.std.specs.Option.{option_map_or}
 use Rattle.std.specs.List.{find, flat_map}
 use Rattle.break_rules.specs.Breaks.{is_legal}
@@ -10,6 +10,7 @@ use Rattle.shift_instance.specs.declared.Row.{Row}
 use Rattle.shift_instance.specs.Kind.{Kind}
 use Rattle.shift_instance.specs.Names.{has_name}
 use Rattle.shift_instance.specs.Problem.{Problem, shift_list, below}
+use Rattle.shift_instance.specs.Rota.{is_list_of}
 use Rattle.carried_rows.specs.declared.obstacles.Obstacle.{Obstacle}
 use Rattle.carried_rows.specs.declared.obstacles.Obstacle.TheVariants.{Slots, Name, Start, Length, Day, Breaks}
 
@@ -46,9 +47,13 @@ is_same_shift i j x y = (x.start == y.start) && (x.len == y.len) && option_map_o
 abbrev pub is_like : Problem → Problem → ℕ → ℕ → Bool
 is_like i j s t = option_map_or (λ x. option_map_or (λ y. is_same_shift i j x.0 y.0) (slice_get (shift_list j) t) false) (slice_get (shift_list i) s) false
 
--- whether a row goes to a shift of the other instance on a day
-abbrev pub goes_to : Problem → Problem → ℕ → ℕ → Row → Bool
-goes_to i j t day r = (r.day == day) && is_like i j r.shift t && is_none (obstacle_of i j r)
+-- the first shift of one instance that is a shift of the other, by their numbers
+abbrev pub like_of : Problem → Problem → ℕ → Option ℕ
+like_of i j t = find (λ s. is_like i j s t) (below (length (shift_list i)))
+
+-- whether a row is of a shift s of one instance and on a day, and its breaks are legal for a shift t of the other
+abbrev pub goes_to : Problem → ℕ → ℕ → ℕ → Row → Bool
+goes_to j s t day r = (r.shift == s) && (r.day == day) && is_list_of j t r.breaks
 
 -- a row of a shift, with as many duties as there is room for
 abbrev pub moved : ℕ → ℕ → Row → Row
@@ -59,13 +64,17 @@ abbrev pub fitted : ℕ → ℕ → List Row → List Row
 fitted t room [] = []
 fitted t room (r ∷ rows) = if room == 0 then [] else moved t room r ∷ fitted t (room - r.count) rows
 
--- the carried rows of a shift on a day
-abbrev pub carried_on : Problem → Problem → List Row → ℕ → ℕ → List Row
-carried_on i j rows t day = fitted t j.heads (filter (goes_to i j t day) rows)
+-- the rows of a shift s on a day, as rows of a shift t of the other instance
+abbrev pub carried_on : Problem → List Row → ℕ → ℕ → ℕ → List Row
+carried_on j rows s t day = fitted t j.heads (filter (goes_to j s t day) rows)
 
--- the carried rows of a shift, day by day
+-- the same day by day
+abbrev pub carried_to : Problem → List Row → ℕ → ℕ → List Row
+carried_to j rows s t = flat_map (carried_on j rows s t) (below j.days)
+
+-- the rows that become rows of a shift of the other instance
 abbrev pub carried_of : Problem → Problem → List Row → ℕ → List Row
-carried_of i j rows t = flat_map (carried_on i j rows t) (below j.days)
+carried_of i j rows t = option_map_or (λ s. carried_to j rows s t) (like_of i j t) []
 
 -- the rows of a plan that are carried to another instance, by the shifts of its shift list
 abbrev pub carried : Problem → Problem → List Row → List Row

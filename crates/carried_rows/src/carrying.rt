@@ -1,11 +1,10 @@
 //! The rows of a plan that stand in a plan of another instance.
-ghost use Rattle.std.specs.Prelude.{◌≡◌, ◌<◌, ◌≤◌, ◌++◌, IfOk, IsTrue, OnOk, filter, length};
+ghost use Rattle.std.specs.Prelude.{◌≡◌, ◌<◌, ◌++◌, IfOk, IfSome, OnOk, length};
 ghost use Rattle.shift_instance.specs.Problem.{shift_list};
-ghost use Rattle.shift_instance.specs.Rota.{are_legal_rows};
-ghost use Rattle.carried_rows.specs.Carrying.{carried, carried_of, carried_on, fitted, goes_to, is_like, moved};
+ghost use Rattle.carried_rows.specs.Carrying.{carried, carried_of, carried_on, carried_to, goes_to, is_like, like_of, moved};
 
-use crate::obstacles::{is_named, name_of, obstacle_of};
-use break_rules::{Breaks, NoMemory};
+use crate::obstacles::{is_named, name_of};
+use break_rules::{Breaks, NoMemory, legal};
 use shift_instance::{Instance, Row, Rows};
 use std::alloc::Global;
 
@@ -23,13 +22,28 @@ fn is_like(old: &Instance, new: &Instance, before: u16, after: u16) -> bool
         && is_named(&kinds[usize::from(is.kind)], name_of(old, was))
 }
 
-/// Whether a row of the old instance goes to a shift of the new one, by its number, on a day.
-fn goes_to(old: &Instance, new: &Instance, shift: u16, day: u8, row: &Row) -> bool
-    requires before { row.now.shift < length (shift_list old.now) }
-    requires after { shift < length (shift_list new.now) }
-    ensures { result ≡ goes_to old.now new.now shift day row.now }
+/// The first shift of the old instance, by its number, that is a shift of the new one.
+fn like_of(old: &Instance, new: &Instance, shift: u16) -> Option<u16>
+    requires { shift < length (shift_list new.now) }
+    ensures like { result ≡ like_of old.now new.now shift }
+    ensures known { IfSome result (λ before. before < length (shift_list old.now)) }
 {
-    row.day == day && is_like(old, new, row.shift, shift) && obstacle_of(old, new, row).is_none()
+    let count = old.shifts().len() as u16;
+    for before in 0..count {
+        if is_like(old, new, before, shift) {
+            return Some(before);
+        }
+    }
+    None
+}
+
+/// Whether a row is of a shift of the old instance and on a day, and its breaks are legal for a shift of the new one.
+fn goes_to(new: &Instance, before: u16, shift: u16, day: u8, row: &Row) -> bool
+    requires { shift < length (shift_list new.now) }
+    ensures { result ≡ goes_to new.now before shift day row.now }
+{
+    let len = new.shift(shift).len;
+    row.shift == before && row.day == day && legal(new.rule_of(shift), len, row.breaks.as_slice())
 }
 
 /// A row of a shift with as many duties as there is room for.
@@ -44,23 +58,22 @@ fn moved(alloc: Global, shift: u16, room: u16, row: &Row) -> Result<Row, NoMemor
     })
 }
 
-/// Adds the rows that go to a shift of the new instance on a day, as far as there is room.
+/// Adds the rows of a shift of the old instance on a day as rows of a shift of the new one, as far as there is room.
 fn carry_on(
     list: &mut Vec<Row>,
     alloc: Global,
-    old: &Instance,
     new: &Instance,
     rows: &Rows,
+    before: u16,
     shift: u16,
     day: u8,
 ) -> Result<(), NoMemory>
-    requires legal { IsTrue (are_legal_rows old.now rows.now) }
-    requires shift { shift < length (shift_list new.now) }
-    ensures { OnOk result (list.new.items ≡ list.old.items ++ carried_on old.now new.now rows.now shift day) }
+    requires { shift < length (shift_list new.now) }
+    ensures { OnOk result (list.new.items ≡ list.old.items ++ carried_on new.now rows.now before shift day) }
 {
     let mut room = new.heads();
     for row in rows.as_slice() {
-        if room != 0 && goes_to(old, new, shift, day, row) {
+        if room != 0 && goes_to(new, before, shift, day, row) {
             list.push(moved(alloc, shift, room, row)?)?;
             room = room.saturating_sub(row.count);
         }
@@ -68,7 +81,25 @@ fn carry_on(
     Ok(())
 }
 
-/// Adds the rows that go to a shift of the new instance, day by day.
+/// Adds the rows of a shift of the old instance as rows of a shift of the new one, day by day.
+fn carry_to(
+    list: &mut Vec<Row>,
+    alloc: Global,
+    new: &Instance,
+    rows: &Rows,
+    before: u16,
+    shift: u16,
+) -> Result<(), NoMemory>
+    requires { shift < length (shift_list new.now) }
+    ensures { OnOk result (list.new.items ≡ list.old.items ++ carried_to new.now rows.now before shift) }
+{
+    for day in 0..new.days() {
+        carry_on(list, alloc, new, rows, before, shift, day)?;
+    }
+    Ok(())
+}
+
+/// Adds the rows that become rows of a shift of the new instance.
 fn carry_of(
     list: &mut Vec<Row>,
     alloc: Global,
@@ -77,14 +108,13 @@ fn carry_of(
     rows: &Rows,
     shift: u16,
 ) -> Result<(), NoMemory>
-    requires legal { IsTrue (are_legal_rows old.now rows.now) }
-    requires shift { shift < length (shift_list new.now) }
+    requires { shift < length (shift_list new.now) }
     ensures { OnOk result (list.new.items ≡ list.old.items ++ carried_of old.now new.now rows.now shift) }
 {
-    for day in 0..new.days() {
-        carry_on(list, alloc, old, new, rows, shift, day)?;
+    match like_of(old, new, shift) {
+        Some(before) => carry_to(list, alloc, new, rows, before, shift),
+        None => Ok(()),
     }
-    Ok(())
 }
 
 /// The rows of a plan of the old instance that stand in a plan of the new one: those of a type of the same name, with the same start,
@@ -95,7 +125,6 @@ pub fn carried_rows(
     new: &Instance,
     rows: &Rows,
 ) -> Result<Rows, NoMemory>
-    requires legal { IsTrue (are_legal_rows old.now rows.now) }
     ensures carried { IfOk result (λ list. list ≡ carried old.now new.now rows.now) }
 {
     let mut list = Vec::new(alloc);

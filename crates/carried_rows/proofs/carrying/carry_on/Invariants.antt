@@ -5,5 +5,5 @@ use Rattle.carried_rows.proofs.carrying.carry_on.Given as goal
 -- the rows so far and those that fit of what is left are those of all
 abbrev pub invariant-loop-row : goal.invariant-loop-row
 invariant-loop-row l =
-    l.list.items ++ fitted l.shift l.room (filter (goes_to l.old l.new l.shift l.day) (drop l.row-index l.rows))
-    ≡ l.fn.list.items ++ carried_on l.old l.new l.rows l.shift l.day
+    l.list.items ++ fitted l.shift l.room (filter (goes_to l.new l.before l.shift l.day) (drop l.row-index l.rows))
+    ≡ l.fn.list.items ++ carried_on l.new l.rows l.before l.shift l.day
