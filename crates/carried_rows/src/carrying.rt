@@ -1,6 +1,7 @@
 //! The rows of a plan that stand in a plan of another instance.
-ghost use Rattle.std.specs.Prelude.{◌≡◌, ◌<◌, ◌++◌, IfOk, IfSome, OnOk, length};
+ghost use Rattle.std.specs.Prelude.{◌≡◌, ◌<◌, ◌++◌, IfOk, IfSome, IsTrue, OnOk, length};
 ghost use Rattle.shift_instance.specs.Problem.{shift_list};
+ghost use Rattle.shift_instance.specs.Rota.{are_legal_rows};
 ghost use Rattle.carried_rows.specs.Carrying.{carried, carried_of, carried_on, carried_to, goes_to, is_like, like_of, moved};
 
 use crate::obstacles::{is_named, name_of};
@@ -118,7 +119,8 @@ fn carry_of(
 }
 
 /// The rows of a plan of the old instance that stand in a plan of the new one: those of a type of the same name, with the same start,
-/// length, day and breaks, where these are legal there, each with as many duties as the new instance's greatest heads leave room for.
+/// length, day and breaks, where these are legal there, each with as many duties as the new instance's greatest heads leave room for. Of a
+/// legal plan they are a legal plan.
 pub fn carried_rows(
     alloc: Global,
     old: &Instance,
@@ -126,6 +128,7 @@ pub fn carried_rows(
     rows: &Rows,
 ) -> Result<Rows, NoMemory>
     ensures carried { IfOk result (λ list. list ≡ carried old.now new.now rows.now) }
+    ensures legal { IsTrue (are_legal_rows old.now rows.now) → IfOk result (λ list. IsTrue (are_legal_rows new.now list)) }
 {
     let mut list = Vec::new(alloc);
     let shifts = new.shifts().len() as u16;
