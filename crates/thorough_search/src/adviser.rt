@@ -129,13 +129,21 @@ impl<S: Stop + Clone> Thorough<S> {
     ) -> Result<Thorough<S>, NoMemory>
         ensures { IfOk result (λ t. t ≡ record { told = 0; last = None }) }
     {
-        let mut thorough = Thorough::new(alloc, seed, stop);
-        let mut kept = thorough.take_kept(instance)?;
+        let mut thorough = Thorough::of(alloc, instance, seed, stop)?;
         if legal_rows(instance, &rows).is_ok() {
-            kept.begin_with(rows)?;
+            thorough.begin_with(rows)?;
         }
-        thorough.kept = Some(kept);
         Ok(thorough)
+    }
+
+    /// Has the adviser begin with a legal plan of its instance.
+    fn begin_with(&mut self, rows: Rows) -> Result<(), NoMemory>
+        ensures { self.new ≡ self.old }
+    {
+        match &mut self.kept {
+            Some(kept) => kept.begin_with(rows),
+            None => Ok(()),
+        }
     }
 
     /// What is kept, taken out, or made of this instance now.
