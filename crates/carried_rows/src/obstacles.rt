@@ -1,5 +1,6 @@
 //! Why a row of a plan can't stand in a plan of another instance.
-ghost use Rattle.std.specs.Prelude.{◌≡◌, ◌<◌, length, option_map, slice_get};
+ghost use Rattle.std.specs.Prelude.{◌≡◌, ◌<◌, false, length, option_map, slice_get};
+ghost use Rattle.std.specs.Option.{option_map_or};
 ghost use Rattle.std.specs.List.{find};
 ghost use Rattle.break_rules.specs.Causes.{first_cause};
 ghost use Rattle.shift_instance.specs.Problem.{shift_list};
@@ -27,7 +28,7 @@ pub enum Obstacle {
 }
 
 /// Whether a type has a name.
-pub(crate) fn is_named(kind: &TypeParts, name: &[u8]) -> bool
+fn is_named(kind: &TypeParts, name: &[u8]) -> bool
     ensures { result ≡ has_name name.now kind.now }
 {
     kind.name.as_bytes() == name
@@ -47,6 +48,15 @@ pub(crate) fn name_of(instance: &Instance, shift: Shift) -> &[u8]
 {
     let parts = instance.parts();
     parts.types[usize::from(shift.kind)].name.as_bytes()
+}
+
+/// Whether a shift's type has a name.
+pub(crate) fn has_name(instance: &Instance, shift: Shift, name: &[u8]) -> bool
+    requires { shift.kind < length instance.now.kinds }
+    ensures { result ≡ option_map_or (has_name name.now) (slice_get instance.now.kinds shift.kind) false }
+{
+    let parts = instance.parts();
+    is_named(&parts.types[usize::from(shift.kind)], name)
 }
 
 /// What keeps a row of a shift from standing among the shifts of a type.

@@ -9,14 +9,14 @@ use std::test::Fail;
 
 /// How many of two wanted duties, with breaks after three and after four hours, a plan has, and what it costs, before and after it was made
 /// to keep more of them: a plan of three duties with breaks after two hours.
-fn kept_at_night(alloc: Global) -> Result<((u64, u64), (u64, u64)), Fail> {
+fn kept_at_night(alloc: Global) -> Result<((u128, u64), (u128, u64)), Fail> {
     let night = instance_of(alloc, NIGHT)?;
     let wanted = rows_of(alloc, &[(0, 0, Some(3), 1), (0, 0, Some(4), 1)])?;
     let plan = plan_of(alloc, &night, &[(0, 0, Some(2), 3)])?;
-    let before = (kept_duties(&night, &wanted, plan.rows()), plan.cost());
+    let before = (kept_duties(&wanted, plan.rows()), plan.cost());
     let rows = with_more_kept(alloc, &night, plan.into_rows(), &wanted)?;
     let plan = cost_rows(&night, rows).ok().ok_or("not legal")?;
-    let after = (kept_duties(&night, &wanted, plan.rows()), plan.cost());
+    let after = (kept_duties(&wanted, plan.rows()), plan.cost());
     Ok((before, after))
 }
 

@@ -41,7 +41,7 @@ pub fn with_more_kept(
     ensures kept { IfOk result (λ new. kept_duties wanted.now rows ≤ kept_duties wanted.now new) }
 {
     let other = restored(alloc, instance, rows.clone()?, wanted)?;
-    if kept_duties(instance, wanted, &other) < kept_duties(instance, wanted, &rows) {
+    if kept_duties(wanted, &other) < kept_duties(wanted, &rows) {
         return Ok(rows);
     }
     Ok(other)

@@ -1,6 +1,6 @@
 //! Duties that two plans have in common, and those that one of them has alone.
-ghost use Rattle.std.specs.Prelude.{◌≡◌, ◌≤◌, ◌*◌, IfOk, IsTrue, length, min};
-ghost use Rattle.shift_instance.specs.Rota.{are_legal_rows, duty_of, same_duty};
+ghost use Rattle.std.specs.Prelude.{◌≡◌, ◌≤◌, ◌*◌, IfOk, length, min};
+ghost use Rattle.shift_instance.specs.Rota.{duty_of, same_duty};
 ghost use Rattle.plan_comparison.specs.Changes.{changes, day_changes, duties_on, kept_duties, kept_on, times_in};
 
 use break_rules::NoMemory;
@@ -12,11 +12,11 @@ use std::alloc::Global;
 #[derive(Clone, Copy, Debug, PartialEq, Eq, Drop)]
 pub struct DayChanges {
     /// How many duties of the old plan stand in the new one.
-    pub kept: u64,
+    pub kept: u128,
     /// How many duties of the old plan don't stand in the new one.
-    pub gone: u64,
+    pub gone: u128,
     /// How many duties of the new plan didn't stand in the old one.
-    pub new: u64,
+    pub new: u128,
 }
 
 /// Whether the duties of two rows are the same.
@@ -41,34 +41,33 @@ fn times_in(rows: &Rows, row: &Row) -> u128
 }
 
 /// How many duties of a row other rows have too.
-fn shared(others: &Rows, row: &Row) -> u64
-    ensures { result ≡ min row.now.count (times_in others.now row.now) }
+fn shared(others: &Rows, row: &Row) -> u128
+    ensures shared { result ≡ min row.now.count (times_in others.now row.now) }
+    ensures few { result ≤ 65535 }
 {
-    times_in(others, row).min(u128::from(row.count)) as u64
+    u128::from(row.count).min(times_in(others, row))
 }
 
 /// How many duties rows have on a day.
-fn duties_on(instance: &Instance, rows: &Rows, day: u8) -> u64
-    requires { IsTrue (are_legal_rows instance.now rows.now) }
-    ensures { result ≡ duties_on rows.now day }
+fn duties_on(rows: &Rows, day: u8) -> u128
+    ensures duties { result ≡ duties_on rows.now day }
+    ensures few { result ≤ 65535 * length rows.now }
 {
-    let _valid = instance.slots();
-    let mut duties = 0;
+    let mut duties = 0u128;
     for row in rows.as_slice() {
         if row.day == day {
-            duties += u64::from(row.count);
+            duties += u128::from(row.count);
         }
     }
     duties
 }
 
-/// How many duties of a plan on a day other rows have too.
-fn kept_on(instance: &Instance, others: &Rows, rows: &Rows, day: u8) -> u64
-    requires { IsTrue (are_legal_rows instance.now rows.now) }
-    ensures { result ≡ kept_on others.now rows.now day }
+/// How many duties of rows on a day other rows have too.
+fn kept_on(others: &Rows, rows: &Rows, day: u8) -> u128
+    ensures kept { result ≡ kept_on others.now rows.now day }
+    ensures few { result ≤ 65535 * length rows.now }
 {
-    let _valid = instance.slots();
-    let mut kept = 0;
+    let mut kept = 0u128;
     for row in rows.as_slice() {
         if row.day == day {
             kept += shared(others, row);
@@ -77,13 +76,12 @@ fn kept_on(instance: &Instance, others: &Rows, rows: &Rows, day: u8) -> u64
     kept
 }
 
-/// How many duties of a plan other rows have too.
-pub fn kept_duties(instance: &Instance, others: &Rows, rows: &Rows) -> u64
-    requires { IsTrue (are_legal_rows instance.now rows.now) }
-    ensures { result ≡ kept_duties others.now rows.now }
+/// How many duties of rows other rows have too. It takes no memory.
+pub fn kept_duties(others: &Rows, rows: &Rows) -> u128
+    ensures kept { result ≡ kept_duties others.now rows.now }
+    ensures few { result ≤ 65535 * length rows.now }
 {
-    let _valid = instance.slots();
-    let mut kept = 0;
+    let mut kept = 0u128;
     for row in rows.as_slice() {
         kept += shared(others, row);
     }
@@ -91,23 +89,14 @@ pub fn kept_duties(instance: &Instance, others: &Rows, rows: &Rows) -> u64
 }
 
 /// What became of the duties of a day, where `carried` are the rows of the old plan that stand in a plan of the new instance.
-fn day_changes(
-    old: &Instance,
-    new: &Instance,
-    carried: &Rows,
-    before: &Rows,
-    after: &Rows,
-    day: u8,
-) -> DayChanges
-    requires before { IsTrue (are_legal_rows old.now before.now) }
-    requires after { IsTrue (are_legal_rows new.now after.now) }
+fn day_changes(carried: &Rows, before: &Rows, after: &Rows, day: u8) -> DayChanges
     ensures { result ≡ day_changes carried.now before.now after.now day }
 {
-    let kept = kept_on(new, carried, after, day);
+    let kept = kept_on(carried, after, day);
     DayChanges {
         kept,
-        gone: duties_on(old, before, day).saturating_sub(kept),
-        new: duties_on(new, after, day).saturating_sub(kept),
+        gone: duties_on(before, day).saturating_sub(kept),
+        new: duties_on(after, day).saturating_sub(kept),
     }
 }
 
@@ -120,15 +109,13 @@ pub fn changes(
     before: &Rows,
     after: &Rows,
 ) -> Result<Vec<DayChanges>, NoMemory>
-    requires before { IsTrue (are_legal_rows old.now before.now) }
-    requires after { IsTrue (are_legal_rows new.now after.now) }
     ensures { IfOk result (λ list. list.items ≡ changes old.now new.now before.now after.now) }
 {
     let carried = carried_rows(alloc, old, new, before)?;
     let days = old.days().max(new.days());
     let mut list = Vec::new(alloc);
     for day in 0..days {
-        list.push(day_changes(old, new, &carried, before, after, day))?;
+        list.push(day_changes(&carried, before, after, day))?;
     }
     Ok(list)
 }

@@ -104,7 +104,7 @@ pub(crate) fn tell_kept(rt: HostRuntime, plan: &Plan, wanted: &Rows) {
         return;
     }
     if let Some((_, rows)) = &plan.cert.plan {
-        let kept = kept_duties(&plan.instance, wanted, rows);
+        let kept = kept_duties(wanted, rows);
         let _ = eprintln!(rt;
             "shift_plan: keeps {kept} of these {} duties",
             duties(wanted)
