@@ -4,7 +4,7 @@ ghost use Rattle.shift_instance.specs.Problem.{shift_list};
 ghost use Rattle.shift_instance.specs.Rota.{are_legal_rows};
 ghost use Rattle.carried_rows.specs.Carrying.{carried, carried_of, carried_on, carried_to, goes_to, is_like, like_of, moved};
 
-use crate::obstacles::{has_name, name_of};
+use crate::obstacles::{has_type_named, name_of};
 use break_rules::{Breaks, NoMemory, legal};
 use shift_instance::{Instance, Row, Rows};
 use std::alloc::Global;
@@ -17,7 +17,7 @@ fn is_like(old: &Instance, new: &Instance, before: u16, after: u16) -> bool
 {
     let was = old.shift(before);
     let is = new.shift(after);
-    was.start == is.start && was.len == is.len && has_name(new, is, name_of(old, was))
+    was.start == is.start && was.len == is.len && has_type_named(new, is, name_of(old, was))
 }
 
 /// The first shift of the old instance, by its number, that is a shift of the new one.

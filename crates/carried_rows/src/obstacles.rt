@@ -51,7 +51,7 @@ pub(crate) fn name_of(instance: &Instance, shift: Shift) -> &[u8]
 }
 
 /// Whether a shift's type has a name.
-pub(crate) fn has_name(instance: &Instance, shift: Shift, name: &[u8]) -> bool
+pub(crate) fn has_type_named(instance: &Instance, shift: Shift, name: &[u8]) -> bool
     requires { shift.kind < length instance.now.kinds }
     ensures { result ≡ option_map_or (has_name name.now) (slice_get instance.now.kinds shift.kind) false }
 {

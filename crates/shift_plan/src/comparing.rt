@@ -51,10 +51,10 @@ fn comparison(
     old: &Plan,
     new: &Plan,
 ) -> Result<Option<String>, NoMemory> {
-    let Some((_, before)) = &old.cert.plan else {
+    let Some(before) = old.rows() else {
         return Ok(None);
     };
-    let Some((_, after)) = &new.cert.plan else {
+    let Some(after) = new.rows() else {
         return Ok(None);
     };
     let text = compared(alloc, words, &old.instance, before, &new.instance, after)?;

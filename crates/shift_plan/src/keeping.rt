@@ -36,8 +36,8 @@ fn carried<'p>(
     old: &'p Plan,
     new: &Instance,
 ) -> Result<Option<(&'p Rows, Rows)>, NoMemory> {
-    match &old.cert.plan {
-        Some((_, rows)) => {
+    match old.rows() {
+        Some(rows) => {
             let kept = carried_rows(alloc, &old.instance, new, rows)?;
             Ok(Some((rows, kept)))
         }
@@ -103,7 +103,7 @@ pub(crate) fn tell_kept(rt: HostRuntime, plan: &Plan, wanted: &Rows) {
     if wanted.is_empty() {
         return;
     }
-    if let Some((_, rows)) = &plan.cert.plan {
+    if let Some(rows) = plan.rows() {
         let kept = kept_duties(wanted, rows);
         let _ = eprintln!(rt;
             "shift_plan: keeps {kept} of these {} duties",
