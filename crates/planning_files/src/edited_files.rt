@@ -17,7 +17,7 @@ fn path_in(alloc: Global, folder: &str, name: &str) -> Result<PathBuf, AllocErro
 }
 
 /// The bytes of a file; none where it can't be read.
-fn bytes_in<R: Files<File = File> + Alloc<A = Global>>(
+fn bytes_in<R: Files<File = File> + AllocGlobal>(
     rt: &R,
     folder: &str,
     name: &str,
@@ -30,7 +30,7 @@ fn bytes_in<R: Files<File = File> + Alloc<A = Global>>(
 }
 
 /// Whether a file of a folder stands there with other bytes than these, and than those that were written there last.
-fn is_edited<R: Files<File = File> + Alloc<A = Global>>(
+fn is_edited<R: Files<File = File> + AllocGlobal>(
     rt: &R,
     folder: &str,
     copies: &str,
@@ -51,7 +51,7 @@ fn is_edited<R: Files<File = File> + Alloc<A = Global>>(
 
 /// Writes a file of a folder that people may edit, whole or not at all. Where the one that stands has other bytes than were written there
 /// last, it gets another name first, which is answered.
-pub fn write_kept<R: Files<File = File> + Alloc<A = Global>>(
+pub fn write_kept<R: Files<File = File> + AllocGlobal>(
     rt: &R,
     folder: &str,
     name: &str,
