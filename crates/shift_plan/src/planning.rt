@@ -71,7 +71,7 @@ fn steps_of(seconds: u32) -> u64
 
 /// The adviser of a worker, which searches thoroughly for plans of the instance with a seed of its own. It begins with the rows to keep,
 /// where there are any, and its plans keep what they can of them.
-fn keeping(
+fn keeping_adviser(
     host: HostRuntime,
     instance: &Instance,
     progress: &Arc<Progress>,
@@ -98,7 +98,7 @@ fn watched(
     wanted: &Rows,
     shown: Shown,
 ) -> Result<Watched<Keeping<Thorough<Until<HostRuntime>>>, HostRuntime>, Refusal> {
-    let adviser = keeping(host, instance, progress, worker, wanted)?;
+    let adviser = keeping_adviser(host, instance, progress, worker, wanted)?;
     let seen = Arc::try_clone(progress)?;
     Ok(Watched::new(host.alloc(), adviser, worker, seen, host, shown))
 }
