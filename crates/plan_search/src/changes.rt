@@ -7,13 +7,16 @@ use shift_tables::Tables;
 use working_plan::Placed;
 
 /// The duties of a shift on each day.
-type Heads = [usize; 7];
+pub(crate) type Heads = [usize; 7];
 
 /// How often a change of the set is polished.
 const POLISHES: u32 = 4;
 
 /// The most moves of a repair.
 const REPAIRS: u32 = 300;
+
+/// After how many moves of a repair days take the duties of cheaper ones.
+const SPREAD: u32 = 100;
 
 /// The part of the changes that is repaired, those that raise the cost least.
 const REPAIRED: f64 = 0.03;
@@ -41,15 +44,31 @@ fn halved(heads: &Heads) -> (Heads, Heads) {
 }
 
 impl<S: Stop + Drop> PlanSearch<S> {
-    /// Takes all duties of a shift on a day out, and tells how many there were.
-    fn drop_day(&mut self, tables: &Tables, shift: u16, day: usize) -> Result<usize, NoMemory> {
-        let count = self.plan.duties(tables, shift, day).len();
+    /// Takes so many duties of a shift on a day out, the last ones first, and tells how many these are.
+    pub(crate) fn drop_some(
+        &mut self,
+        tables: &Tables,
+        shift: u16,
+        day: usize,
+        count: usize,
+    ) -> Result<usize, NoMemory> {
         for _ in 0..count {
             if let Some(pauses) = self.plan.duties(tables, shift, day).last().copied() {
                 self.take(tables, Placed { shift, day, pauses })?;
             }
         }
         Ok(count)
+    }
+
+    /// Takes all duties of a shift on a day out, and tells how many there were.
+    pub(crate) fn drop_day(
+        &mut self,
+        tables: &Tables,
+        shift: u16,
+        day: usize,
+    ) -> Result<usize, NoMemory> {
+        let count = self.plan.duties(tables, shift, day).len();
+        self.drop_some(tables, shift, day, count)
     }
 
     /// Takes all duties of a shift out, and tells how many there were on each day.
@@ -247,6 +266,9 @@ impl<S: Stop + Drop> PlanSearch<S> {
         let cool = unit.min(temperature);
         let from = self.plan.cost;
         for k in 0..REPAIRS {
+            if k % SPREAD == 0 {
+                self.spread(tables)?;
+            }
             let cost = self.plan.cost;
             let is_slow = threshold < cost && (from - cost) * 2.0 < from - threshold;
             if self.is_spent() || (k == REPAIRS / 4 && is_slow) {

@@ -2,8 +2,10 @@
 
 use crate::chains::Chain;
 use crate::chance::Chance;
+use crate::copies::Likeness;
 use crate::guide::Guide;
 use crate::nearness::Nearness;
+use crate::pool::Pool;
 use advice::Stop;
 use break_rules::NoMemory;
 use shift_tables::{ListGraph, Pauses, Tables};
@@ -41,6 +43,7 @@ pub struct PlanSearch<S: Stop + Drop> {
     /// Small numbers that are added to prices, so that equals are told apart at random.
     noise: Vec<f64>,
     near: Nearness,
+    pub(crate) likeness: Likeness,
     pub(crate) guide: Guide,
     /// What the running move did.
     pub(crate) log: Vec<Change>,
@@ -49,6 +52,11 @@ pub struct PlanSearch<S: Stop + Drop> {
     pub(crate) order: Vec<u16>,
     /// Duties that a move chooses from.
     pub(crate) near_duties: Vec<(u16, usize)>,
+    /// The duties of a day that are copied to another one.
+    pub(crate) copied: Vec<Placed>,
+    /// The shifts of which it is tried what the plan costs without them.
+    pub(crate) removals: Vec<u16>,
+    pub(crate) pool: Pool,
     pub(crate) best: Vec<Placed>,
     pub(crate) best_cost: f64,
     pub(crate) chain: Chain,
@@ -146,11 +154,15 @@ impl<S: Stop + Drop> PlanSearch<S> {
             },
             noise: noise(alloc, seed)?,
             near: Nearness::new(alloc, tables)?,
+            likeness: Likeness::new(alloc, tables)?,
             guide: Guide::none(alloc),
             log: Vec::new(alloc),
             plan,
             order: Vec::new(alloc),
             near_duties: Vec::new(alloc),
+            copied: Vec::new(alloc),
+            removals: Vec::new(alloc),
+            pool: Pool::new(alloc),
             best: Vec::new(alloc),
             best_cost: f64::INFINITY,
             chain: Chain::ended(),
