@@ -65,8 +65,10 @@ impl<S: Stop + Drop> PlanSearch<S> {
     /// Lists the duties of the running plan on a day, to be copied.
     fn list_running(&mut self, tables: &Tables, day: usize) -> Result<(), NoMemory> {
         self.copied.clear();
-        for shift in &self.plan.used {
-            self.plan.list_day(tables, *shift, day, &mut self.copied)?;
+        for k in 0..self.plan.used.len() {
+            if let Some(shift) = self.plan.used.get(k).copied() {
+                self.plan.list_day(tables, shift, day, &mut self.copied)?;
+            }
         }
         Ok(())
     }
