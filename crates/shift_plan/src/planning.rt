@@ -4,7 +4,7 @@ ghost use Rattle.std.specs.Prelude.{◌<◌, ◌^◌};
 
 use crate::journals::locked_journal;
 use crate::listening::{listen, stop_of};
-use crate::telling::{Beginning, shown_on, tell_end, warn};
+use crate::telling::{Beginning, say_rules, shown_on, tell_end, warn};
 use advice::Adviser;
 use planning_files::LockedJournal;
 use planning_progress::{Progress, Shown, Until, Watched};
@@ -166,6 +166,7 @@ pub(crate) fn plan<R: Threads + Wait + Sync>(
     let folder = folder_of(alloc, words.out, words.instance)?;
     let document = read_document(host, words.instance)?;
     let instance = instance_in(alloc, document.as_slice())?;
+    say_rules(host, &instance)?;
     warn(host, &instance)?;
     let journals = locked_journal(host, words)?;
     ready_folder(host, folder.as_str())?;

@@ -5,6 +5,7 @@ use journal_texts::full_sentence;
 use plan_tables::Hours;
 use planning_progress::{Progress, Shown};
 use planning_refusals::Refusal;
+use rule_sentences::rules_text;
 use shift_instance::Instance;
 use solve_runs::SearchEnd;
 use std::alloc::{AllocError, Global};
@@ -40,6 +41,13 @@ pub(crate) fn hours_wanted(alloc: Global, instance: &Instance) -> Result<String,
     } else {
         format!(in alloc; "{least}-{most}")
     }
+}
+
+/// Says the rules of an instance back before it is searched.
+pub(crate) fn say_rules(rt: HostRuntime, instance: &Instance) -> Result<(), Refusal> {
+    let rules = rules_text(rt.alloc(), instance)?;
+    let _ = eprint!(rt; "{}", rules.as_str());
+    Ok(())
 }
 
 /// Says what a planner should know of an instance before it is searched.
