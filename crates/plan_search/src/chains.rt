@@ -1,20 +1,41 @@
 //! Chains of moves, each from a start of its own, from hot to cold.
 
-use crate::search::PlanSearch;
+use crate::search::{PlanSearch, Task};
 use advice::Stop;
 use break_rules::NoMemory;
 use shift_tables::Tables;
+use std::num::{nearest_u64_to_f64, saturating_f64_to_u64};
 
-/// A chain of moves: how many it has, how many of them are done, and its first temperature.
+/// A chain of moves: the work at which it began, how much work it takes, and its first temperature.
 #[derive(Clone, Copy)]
 pub(crate) struct Chain {
-    length: f64,
-    done: f64,
+    begun: u64,
+    length: u64,
     hot: f64,
 }
 
+/// How a chain begins.
+#[derive(Clone, Copy)]
+enum Start {
+    /// From nothing, or from the guide.
+    Fresh,
+    /// From a plan mixed of others.
+    Mixed,
+    /// From a plan near the best one, or near one of the pool.
+    Near,
+}
+
 /// Each so manieth chain begins anew.
-const FRESH: u32 = 8;
+const ANEW: u32 = 8;
+
+/// What a chain takes for each of its moves where there is one shift to choose from.
+const MOVE: f64 = 230.0;
+
+/// The work after which chains are twice as long as at first.
+const DOUBLED: f64 = 80_000_000.0;
+
+/// Chains begin from mixed plans once the pool has so many.
+const MIXABLE: usize = 3;
 
 /// How much work a move that is under way may do beyond what was allowed for a run.
 const BEYOND: u64 = 1 << 24;
@@ -23,25 +44,27 @@ impl Chain {
     /// A chain that has ended.
     pub(crate) fn ended() -> Chain {
         Chain {
-            length: 0.0,
-            done: 0.0,
+            begun: 0,
+            length: 0,
             hot: 0.0,
         }
     }
 
     /// The chain ends here.
     pub(crate) fn end(&mut self) {
-        self.length = 0.0;
+        self.length = 0;
     }
 
-    /// Whether all its moves are done.
-    fn is_over(self) -> bool {
-        self.length <= self.done
+    /// Whether it has taken all its work, by the work that was done so far.
+    fn is_over(self, work: u64) -> bool {
+        self.length <= work.saturating_sub(self.begun)
     }
 
-    /// The temperature now, on a geometric way down to a last one.
-    fn temperature(self, last: f64) -> f64 {
-        let left = ((self.length - self.done) / self.length).max(0.0);
+    /// The temperature after so much work, on a geometric way down to a last one.
+    fn temperature(self, work: u64, last: f64) -> f64 {
+        let done = nearest_u64_to_f64(work.saturating_sub(self.begun));
+        let whole = nearest_u64_to_f64(self.length.max(1));
+        let left = (1.0 - done / whole).max(0.0);
         (left * self.hot.ln() + (1.0 - left) * last.ln()).exp()
     }
 }
@@ -128,9 +151,30 @@ impl<S: Stop + Drop> PlanSearch<S> {
         Ok(())
     }
 
-    /// Begins from the best plan, after one or two changes of its shifts.
-    fn begin_near_best(&mut self, tables: &Tables) -> Result<(), NoMemory> {
-        self.restore_best(tables)?;
+    /// Puts a plan of the pool in place of the running one, or else the best one: so many times in 100 one of the pool.
+    fn restore_some(&mut self, tables: &Tables, pooled: usize) -> Result<(), NoMemory> {
+        if self.pool.len() == 0 || pooled <= self.chance.below(100) {
+            return self.restore_best(tables);
+        }
+        let number = self.chance.below(self.pool.len());
+        self.restore_pooled(tables, number)
+    }
+
+    /// Begins from a mixed plan: a union of two of the pool, or one that grew.
+    fn begin_mixed(&mut self, tables: &Tables) -> Result<(), NoMemory> {
+        if self.chance.is_once_in(2) {
+            self.begin_union(tables)?;
+        } else {
+            self.restore_some(tables, 67)?;
+            self.grow(tables)?;
+        }
+        self.log.clear();
+        Ok(())
+    }
+
+    /// Begins from the best plan, or one of the pool, after one or two changes of its shifts.
+    fn begin_near(&mut self, tables: &Tables) -> Result<(), NoMemory> {
+        self.restore_some(tables, 30)?;
         let kicks = self.chance.below(2).saturating_add(1);
         for _ in 0..kicks {
             self.kick(tables)?;
@@ -139,35 +183,71 @@ impl<S: Stop + Drop> PlanSearch<S> {
         Ok(())
     }
 
+    /// Offers the running plan and the best one to the pool.
+    fn pool_plans(&mut self, tables: &Tables) -> Result<(), NoMemory> {
+        self.copied.clear();
+        self.plan.list_into(tables, &mut self.copied)?;
+        self.pool.offer(&self.copied, self.plan.cost)?;
+        self.pool.offer(&self.best, self.best_cost)
+    }
+
+    /// How the next chain begins.
+    fn next_start(&mut self) -> Start {
+        if self.best.is_empty() || self.chains % ANEW == 0 {
+            Start::Fresh
+        } else if MIXABLE <= self.pool.len() && self.chance.below(100) < 40 {
+            Start::Mixed
+        } else {
+            Start::Near
+        }
+    }
+
+    /// How many moves of a small instance the next chain takes at first.
+    fn moves_from(&self, start: Start) -> f64 {
+        let part = match self.chains % 3 {
+            0 => 0.4,
+            1 => 1.0,
+            _ => 3.0,
+        };
+        match start {
+            Start::Fresh if self.chains / ANEW % 2 == 0 => 3000.0,
+            Start::Fresh => 9000.0,
+            Start::Mixed => 300.0 * part,
+            Start::Near => 600.0 * part,
+        }
+    }
+
+    /// How much work the next chain takes: the more, the more shifts there are to choose from, and the more work was done.
+    fn length_from(&self, tables: &Tables, start: Start) -> u64 {
+        let shifts = nearest_u64_to_f64(tables.usable.len() as u64);
+        let growth = 1.0 + nearest_u64_to_f64(self.work) / DOUBLED;
+        saturating_f64_to_u64(self.moves_from(start) * MOVE * shifts.sqrt() * growth)
+    }
+
+    /// Makes the running plan the one that the next chain begins from.
+    fn begin_from(&mut self, tables: &Tables, start: Start) -> Result<(), NoMemory> {
+        match start {
+            Start::Fresh => self.begin(tables)?,
+            Start::Mixed => self.begin_mixed(tables)?,
+            Start::Near => self.begin_near(tables)?,
+        }
+        self.note_best(tables)
+    }
+
     /// Begins the next chain.
     fn begin_chain(&mut self, tables: &Tables) -> Result<(), NoMemory> {
-        let number = self.chains;
+        self.pool_plans(tables)?;
+        let start = self.next_start();
+        let length = self.length_from(tables, start);
         self.chains = self.chains.saturating_add(1);
-        let is_fresh = self.best.is_empty() || number % FRESH == 0;
-        if is_fresh {
-            self.begin(tables)?;
-        } else {
-            self.begin_near_best(tables)?;
-        }
-        self.note_best(tables)?;
-        let (moves, heat) = if is_fresh {
-            let moves = if number / FRESH % 2 == 0 {
-                3000.0
-            } else {
-                9000.0
-            };
-            (moves, 0.02)
-        } else {
-            let moves = match number % 3 {
-                0 => 400.0,
-                1 => 1000.0,
-                _ => 3000.0,
-            };
-            (moves, 0.01)
+        self.begin_from(tables, start)?;
+        let heat = match start {
+            Start::Fresh => 0.02,
+            _ => 0.01,
         };
         self.chain = Chain {
-            length: moves * (1.0 + f64::from(number) / 100.0),
-            done: 0.0,
+            begun: self.work,
+            length,
             hot: (heat * self.best_cost).max(unit(tables)),
         };
         Ok(())
@@ -183,14 +263,27 @@ impl<S: Stop + Drop> PlanSearch<S> {
                 self.log.clear();
             }
         }
-        let temperature = self.chain.temperature(0.15 * unit(tables));
+        let temperature = self.chain.temperature(self.work, 0.15 * unit(tables));
         let way = self.chance.below(100);
         match way.checked_sub(55) {
             Some(way) => self.move_set(tables, way, temperature)?,
             None => self.move_duties(tables, temperature)?,
         }
-        self.chain.done += 1.0;
         Ok(())
+    }
+
+    /// Goes on with what the search is at, by a move, or begins the next chain.
+    fn go_on(&mut self, tables: &Tables) -> Result<(), NoMemory> {
+        match self.task {
+            Task::Pruning(pruning) => {
+                self.prune_on(tables, pruning)?;
+                self.chain.begun = self.work;
+                Ok(())
+            }
+            Task::Repair(repair) => self.repair_on(tables, repair),
+            Task::Moves if self.chain.is_over(self.work) => self.begin_chain(tables),
+            Task::Moves => self.step(tables),
+        }
     }
 
     /// Goes on for some work, counted in edges of graphs and in slots, and a little more: the move that is under way then is
@@ -205,10 +298,7 @@ impl<S: Stop + Drop> PlanSearch<S> {
             if until <= self.work || self.stop().is_asked() {
                 break;
             }
-            if self.chain.is_over() {
-                self.begin_chain(tables)?;
-            }
-            self.step(tables)?;
+            self.go_on(tables)?;
         }
         Ok(())
     }

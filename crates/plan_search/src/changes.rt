@@ -1,13 +1,13 @@
 //! Moves on the set of used shifts.
 
-use crate::search::PlanSearch;
+use crate::search::{PlanSearch, Task};
 use advice::Stop;
 use break_rules::NoMemory;
 use shift_tables::Tables;
 use working_plan::Placed;
 
 /// The duties of a shift on each day.
-type Heads = [usize; 7];
+pub(crate) type Heads = [usize; 7];
 
 /// How often a change of the set is polished.
 const POLISHES: u32 = 4;
@@ -15,8 +15,24 @@ const POLISHES: u32 = 4;
 /// The most moves of a repair.
 const REPAIRS: u32 = 300;
 
+/// After how many moves of a repair days take the duties of cheaper ones.
+const SPREAD: u32 = 100;
+
 /// The part of the changes that is repaired, those that raise the cost least.
 const REPAIRED: f64 = 0.03;
+
+/// The repair of a change of the set that is under way.
+#[derive(Clone, Copy)]
+pub(crate) struct Repair {
+    /// What the plan may cost in the end.
+    threshold: f64,
+    /// The temperature of its moves.
+    cool: f64,
+    /// What the plan cost at first.
+    from: f64,
+    /// How many moves were made.
+    moves: u32,
+}
 
 /// The duties of two shifts together, by day.
 fn joined(a: &Heads, b: &Heads) -> Heads {
@@ -41,15 +57,31 @@ fn halved(heads: &Heads) -> (Heads, Heads) {
 }
 
 impl<S: Stop + Drop> PlanSearch<S> {
-    /// Takes all duties of a shift on a day out, and tells how many there were.
-    fn drop_day(&mut self, tables: &Tables, shift: u16, day: usize) -> Result<usize, NoMemory> {
-        let count = self.plan.duties(tables, shift, day).len();
+    /// Takes so many duties of a shift on a day out, the last ones first, and tells how many these are.
+    pub(crate) fn drop_some(
+        &mut self,
+        tables: &Tables,
+        shift: u16,
+        day: usize,
+        count: usize,
+    ) -> Result<usize, NoMemory> {
         for _ in 0..count {
             if let Some(pauses) = self.plan.duties(tables, shift, day).last().copied() {
                 self.take(tables, Placed { shift, day, pauses })?;
             }
         }
         Ok(count)
+    }
+
+    /// Takes all duties of a shift on a day out, and tells how many there were.
+    pub(crate) fn drop_day(
+        &mut self,
+        tables: &Tables,
+        shift: u16,
+        day: usize,
+    ) -> Result<usize, NoMemory> {
+        let count = self.plan.duties(tables, shift, day).len();
+        self.drop_some(tables, shift, day, count)
     }
 
     /// Takes all duties of a shift out, and tells how many there were on each day.
@@ -236,25 +268,49 @@ impl<S: Stop + Drop> PlanSearch<S> {
         }
     }
 
-    /// Moves on duties after a change of the set, as long as they promise to bring the cost to a threshold.
-    fn repair(
-        &mut self,
-        tables: &Tables,
-        threshold: f64,
-        temperature: f64,
-    ) -> Result<(), NoMemory> {
+    /// Has the next moves repair a change of the set: moves on duties, as long as they promise to bring the cost to a threshold.
+    fn repair(&mut self, tables: &Tables, threshold: f64, temperature: f64) {
         let unit = tables.excess.min(tables.shortage);
-        let cool = unit.min(temperature);
-        let from = self.plan.cost;
-        for k in 0..REPAIRS {
-            let cost = self.plan.cost;
-            let is_slow = threshold < cost && (from - cost) * 2.0 < from - threshold;
-            if self.is_spent() || (k == REPAIRS / 4 && is_slow) {
-                break;
-            }
-            self.move_duties(tables, cool)?;
+        self.task = Task::Repair(Repair {
+            threshold,
+            cool: unit.min(temperature),
+            from: self.plan.cost,
+            moves: 0,
+        });
+    }
+
+    /// Whether a repair goes on.
+    fn is_repairing(&self, repair: Repair) -> bool {
+        let cost = self.plan.cost;
+        let is_slow = repair.threshold < cost
+            && (repair.from - cost) * 2.0 < repair.from - repair.threshold;
+        repair.moves < REPAIRS && !self.is_spent() && !(repair.moves == REPAIRS / 4 && is_slow)
+    }
+
+    /// One move of a repair, or its end.
+    pub(crate) fn repair_on(&mut self, tables: &Tables, repair: Repair) -> Result<(), NoMemory> {
+        if repair.moves < REPAIRS && repair.moves % SPREAD == 0 {
+            self.spread(tables)?;
         }
-        Ok(())
+        if !self.is_repairing(repair) {
+            self.task = Task::Moves;
+            return self.end_change(tables, repair.threshold);
+        }
+        self.task = Task::Repair(Repair {
+            moves: repair.moves.saturating_add(1),
+            ..repair
+        });
+        self.move_duties(tables, repair.cool)
+    }
+
+    /// Keeps a change of the set where the cost is at most a threshold, and else undoes it.
+    fn end_change(&mut self, tables: &Tables, threshold: f64) -> Result<(), NoMemory> {
+        if self.plan.cost <= threshold {
+            self.log.clear();
+        } else {
+            self.undo_to(tables, 0)?;
+        }
+        self.note_best(tables)
     }
 
     /// Whether a change of the set is among those that are repaired; follows the law of their rises.
@@ -265,7 +321,8 @@ impl<S: Stop + Drop> PlanSearch<S> {
         is_low
     }
 
-    /// A move on the set of used shifts, kept where it ends below a threshold that is drawn beforehand.
+    /// A move on the set of used shifts, kept where it ends below a threshold that is drawn beforehand. Where it is to be repaired, the
+    /// next moves do that.
     pub(crate) fn move_set(
         &mut self,
         tables: &Tables,
@@ -285,14 +342,10 @@ impl<S: Stop + Drop> PlanSearch<S> {
         self.polish(tables, POLISHES, cap)?;
         let rise = self.plan.cost - before;
         if self.is_repaired(tables, rise) || self.plan.cost <= threshold {
-            self.repair(tables, threshold, temperature)?;
+            self.repair(tables, threshold, temperature);
+            return self.note_best(tables);
         }
-        if self.plan.cost <= threshold {
-            self.log.clear();
-        } else {
-            self.undo_to(tables, 0)?;
-        }
-        self.note_best(tables)
+        self.end_change(tables, threshold)
     }
 
     /// Adds so many candidates.

@@ -6,6 +6,9 @@ use break_rules::NoMemory;
 use shift_tables::Tables;
 use working_plan::Placed;
 
+/// Of so many moves on duties one copies a whole day.
+const COPIED: usize = 50;
+
 /// The days that a move touches.
 type Touched = [bool; 7];
 
@@ -90,13 +93,21 @@ impl<S: Stop + Drop> PlanSearch<S> {
         Ok(())
     }
 
-    /// Some duties near a slot that hasn't just the employees that are wanted are taken out, and the best duties of the used
-    /// shifts put in; the change is kept as the temperature allows.
+    /// A move on duties: seldom a day takes all duties of another one, and else some duties are exchanged.
     pub(crate) fn move_duties(
         &mut self,
         tables: &Tables,
         temperature: f64,
     ) -> Result<(), NoMemory> {
+        if self.chance.is_once_in(COPIED) {
+            return self.move_day(tables, temperature);
+        }
+        self.exchange_duties(tables, temperature)
+    }
+
+    /// Some duties near a slot that hasn't just the employees that are wanted are taken out, and the best duties of the used
+    /// shifts put in; the change is kept as the temperature allows.
+    fn exchange_duties(&mut self, tables: &Tables, temperature: f64) -> Result<(), NoMemory> {
         let mark = self.log.len();
         let before = self.plan.cost;
         self.count(tables.slots);

@@ -4,9 +4,12 @@
 mod chains;
 mod chance;
 mod changes;
+mod copies;
 mod days;
 mod guide;
+mod mixing;
 mod nearness;
+mod pool;
 mod rows;
 mod search;
 mod sweeps;

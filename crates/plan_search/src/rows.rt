@@ -1,7 +1,7 @@
 //! Plans as rows, and rows as plans.
 ghost use Rattle.std.specs.Prelude.{◌≡◌, IfOk, IfSome};
 
-use crate::search::PlanSearch;
+use crate::search::{PlanSearch, Task};
 use advice::Stop;
 use break_rules::{Breaks, NoMemory};
 use rota_cost::{Costed, cost_rows};
@@ -57,6 +57,7 @@ impl<S: Stop + Drop> PlanSearch<S> {
         self.plan.clear(tables);
         self.log.clear();
         self.chain.end();
+        self.task = Task::Moves;
         for row in rows.as_slice() {
             let Some(pauses) = Pauses::of(row.breaks.as_slice()) else {
                 return Ok(());

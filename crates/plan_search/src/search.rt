@@ -2,8 +2,12 @@
 
 use crate::chains::Chain;
 use crate::chance::Chance;
+use crate::changes::Repair;
+use crate::copies::Likeness;
 use crate::guide::Guide;
+use crate::mixing::Pruning;
 use crate::nearness::Nearness;
+use crate::pool::Pool;
 use advice::Stop;
 use break_rules::NoMemory;
 use shift_tables::{ListGraph, Pauses, Tables};
@@ -21,6 +25,17 @@ const TURNS: usize = 256;
 pub(crate) struct Change {
     placed: Placed,
     is_put: bool,
+}
+
+/// What a search is at. All but a move itself may be left at the end of a run, and the next run goes on with it.
+#[derive(Clone, Copy)]
+pub(crate) enum Task {
+    /// Moves of the running chain.
+    Moves,
+    /// The pruning that the running chain begins with.
+    Pruning(Pruning),
+    /// The repair of a change of the set of shifts.
+    Repair(Repair),
 }
 
 /// What a walk along a graph of break lists reads and writes.
@@ -41,6 +56,7 @@ pub struct PlanSearch<S: Stop + Drop> {
     /// Small numbers that are added to prices, so that equals are told apart at random.
     noise: Vec<f64>,
     near: Nearness,
+    pub(crate) likeness: Likeness,
     pub(crate) guide: Guide,
     /// What the running move did.
     pub(crate) log: Vec<Change>,
@@ -49,6 +65,12 @@ pub struct PlanSearch<S: Stop + Drop> {
     pub(crate) order: Vec<u16>,
     /// Duties that a move chooses from.
     pub(crate) near_duties: Vec<(u16, usize)>,
+    /// The duties of a day that are copied to another one.
+    pub(crate) copied: Vec<Placed>,
+    /// The shifts of which it is tried what the plan costs without them.
+    pub(crate) removals: Vec<u16>,
+    pub(crate) task: Task,
+    pub(crate) pool: Pool,
     pub(crate) best: Vec<Placed>,
     pub(crate) best_cost: f64,
     pub(crate) chain: Chain,
@@ -146,11 +168,16 @@ impl<S: Stop + Drop> PlanSearch<S> {
             },
             noise: noise(alloc, seed)?,
             near: Nearness::new(alloc, tables)?,
+            likeness: Likeness::new(alloc, tables)?,
             guide: Guide::none(alloc),
             log: Vec::new(alloc),
             plan,
             order: Vec::new(alloc),
             near_duties: Vec::new(alloc),
+            copied: Vec::new(alloc),
+            removals: Vec::new(alloc),
+            task: Task::Moves,
+            pool: Pool::new(alloc),
             best: Vec::new(alloc),
             best_cost: f64::INFINITY,
             chain: Chain::ended(),

@@ -176,6 +176,24 @@ impl Levels {
         cost
     }
 
+    /// What the cover of a slot costs.
+    fn cost_at(&self, tables: &Tables, slot: usize) -> f64 {
+        let off = self.off(slot);
+        let width = self.widths.get(slot).copied().unwrap_or(0);
+        let over = tables.excess * f64::from(off.wrapping_sub(width));
+        let under = -tables.shortage * f64::from(off);
+        over.max(under).max(0.0)
+    }
+
+    /// What the cover of the slots from one to the one before another costs.
+    pub fn cost_between(&self, tables: &Tables, from: usize, to: usize) -> f64 {
+        let mut cost = 0.0;
+        for slot in from..to {
+            cost += self.cost_at(tables, slot);
+        }
+        cost
+    }
+
     /// The slot that a place stands for, in a table that goes twice around.
     fn wrapped(&self, place: usize) -> usize {
         let slots = self.off.len();

@@ -184,7 +184,7 @@ impl Plan {
     }
 
     /// Adds the duties of a shift on a day to a list.
-    fn list_day(
+    pub fn list_day(
         &self,
         tables: &Tables,
         shift: u16,
