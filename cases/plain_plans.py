@@ -1,6 +1,6 @@
 #!/usr/bin/env python3
 """Reads what `shift_plan` writes and says, by docs/DEFINITIONS.md alone: of some examples and of random small instances the report is accepted,
-`duties.csv` and `cover.csv` hold its rows, the bands and the cover, and the cost that they add up to is the one that is printed; `show` writes
+`duties.csv`, `rota.csv` and `cover.csv` hold its rows, its duties, the bands and the cover, and the cost that they add up to is the one that is printed; `show` writes
 the same files once more. Then runs that meet something in their way: another run's lock, a killed run, journals of all kinds, folders. Prints
 what is wrong, and last `N passed, M failed`, counted in instances and runs. Build the programs first."""
 import collections
@@ -25,9 +25,11 @@ from plain_reading import Reading, Trial, read_report
 
 TOP = pathlib.Path(__file__).resolve().parent.parent
 EXAMPLES = ("ward_week", "call_day", "airport_day")
-FILES = ("report", "duties.csv", "cover.csv", "plan.html")
+FILES = ("report", "rota.csv", "duties.csv", "cover.csv", "plan.html")
+LEFT = {*FILES, ".written"}
 INSTANCES = 10
 DUTY_COLUMNS, SLOT_COLUMNS = "day start end type employees breaks", "day time need need_max working on_break over under"
+ROTA_COLUMNS = "day start end next_day type paid worked"
 
 
 def program(name):
@@ -79,6 +81,10 @@ class Folder:
             lines = list(csv.reader(source))
         return lines[1:] if lines[0] == columns.split() else []
 
+    def lines(self, name):
+        with open(self.path / "week.plan" / name, newline="") as source:
+            return list(csv.reader(source))
+
     def period(self, first, length):
         return "%s-%s" % (clock(first * self.minutes), clock((first + length) * self.minutes))
 
@@ -93,6 +99,22 @@ class Folder:
             line = [first // self.reading.day_slots + 1, *self.period(start, length).split("-"), names[row.shift], row.count, breaks]
             found.append((first, list(map(str, line))))
         return [line for _, line in sorted(found, key=lambda one: one[0])]
+
+    def rota(self, rows):
+        """The lines of `rota.csv` for these rows, with the names of its columns."""
+        names = [kind["name"] for kind in self.document["types"] for _ in range((kind["start_max"] - kind["start_min"] + 1) * (kind["len_max"] - kind["len_min"] + 1))]
+        most, found = max([len(row.breaks) for row in rows], default=0), []
+        for row in rows:
+            _, length, start = self.reading.shifts[row.shift]
+            first = (row.day * self.reading.day_slots + start) % len(self.reading.need)
+            worked = length - sum(size for _, size in row.breaks)
+            paid, worked = ("%d:%02d" % divmod(slots * self.minutes, 60) for slots in (length, worked))
+            late = "yes" if start % self.reading.day_slots + length >= self.reading.day_slots else "no"
+            times = [time for begin, size in row.breaks for time in self.period(start + begin, size).split("-")]
+            line = [first // self.reading.day_slots + 1, *self.period(start, length).split("-"), late, names[row.shift], paid, worked, *times]
+            found += [(first, list(map(str, line)) + [""] * (2 * most - len(times)))] * row.count
+        columns = ["break_%d_%s" % (number + 1, end) for number in range(most) for end in ("start", "end")]
+        return [ROTA_COLUMNS.split() + columns, *(line for _, line in sorted(found, key=lambda one: one[0]))]
 
     def cover(self, rows):
         """The lines of `cover.csv` for these rows."""
@@ -130,11 +152,12 @@ class Folder:
             ("the report isn't accepted", accepted == 0),
             ("the rows aren't legal at their cost", self.reading.are_legal(report.rows) and self.reading.cost(report.rows) == report.cost),
             ("duties.csv holds something else than the rows", self.table("duties.csv", DUTY_COLUMNS) == self.duties(report.rows)),
+            ("rota.csv holds something else than the duties", self.lines("rota.csv") == self.rota(report.rows)),
             ("cover.csv holds something else than need and cover", self.table("cover.csv", SLOT_COLUMNS) == list(self.cover(report.rows))),
             ("the printed cost is another one", re.search(r"^cost +(\d+)$", said, re.M).group(1) == str(self.added_up()) == str(report.cost)),
             ("the page takes something from elsewhere", not re.search(r"<script|https?://(?!www\.w3\.org/)|url\((?!#)|<link", page)),
             ("the page has another cost", "<td>%d</td>" % report.cost in page),
-            ("another name is left in the folder", {path.name for path in (self.path / "week.plan").iterdir()} == set(FILES)),
+            ("another name is left in the folder", {path.name for path in (self.path / "week.plan").iterdir()} == LEFT),
             ("the report is shown otherwise", (shown, said_again, self.written()) == (0, said, files)),
         ]
         return [fault for fault, holds in found if not holds]
@@ -197,9 +220,11 @@ def journal_of_another_instance(folder):
     folder.plan("--seconds", "1")
     before = (folder.path / "week.journal").read_bytes()
     (folder.path / "week.json").write_text(folder.text.replace('"max_heads": ', '"max_heads": 1', 1).replace('"max_heads":1', '"max_heads":2', 1))
+    heads = json.loads(folder.text)["max_heads"], json.loads((folder.path / "week.json").read_text())["max_heads"]
     run = folder.plan("--seconds", "1")
     same = (folder.path / "week.journal").read_bytes() == before
-    return ends(run, 9, "another instance") + ([] if same else ["the journal was changed"])
+    told = "the two differ first at max_heads: it is %d in the document, and %d in the journal's instance" % heads[::-1]
+    return ends(run, 9, "another instance", told) + ([] if same else ["the journal was changed"])
 
 
 def damaged_journal(folder):
@@ -251,6 +276,13 @@ def journal_of_the_instance(folder):
     return ends(folder.plan("--journal", "week.json"), 2, "would be the same file")
 
 
+def document_with_a_namesake(folder):
+    (folder.path / "week.txt").write_text(folder.text)
+    faults = ends(folder.run("plan", "week.txt", "--seconds", "1"), 2, "would have one journal and one folder")
+    named = folder.run("plan", "week.txt", "--seconds", "1", "--journal", "other", "--out", "shown")
+    return faults + ends(named, 0) + ([] if (folder.path / "shown" / "report").exists() else ["no plan was written"])
+
+
 def bent_report(folder):
     folder.plan("--seconds", "1")
     path = folder.path / "week.plan" / "report"
@@ -260,6 +292,42 @@ def bent_report(folder):
     run = folder.run("show", "week.json", "week.plan/report", "--out", "shown")
     faults = ends(run, 1, "the report isn't accepted: it claims the cost %d" % claimed)
     return faults + (["a refused report was shown"] if (folder.path / "shown").exists() else [])
+
+
+def edited_table(folder):
+    folder.plan("--seconds", "1")
+    table = folder.path / "week.plan" / "rota.csv"
+    written = table.read_bytes()
+    table.write_bytes(written + b"by hand\n")
+    run = folder.run("show", "week.json", "week.plan/report")
+    kept = (folder.path / "week.plan" / "rota.csv.1").read_bytes() == written + b"by hand\n" and table.read_bytes() == written
+    again = folder.run("show", "week.json", "week.plan/report")
+    quiet = "was edited" not in again[2] and not (folder.path / "week.plan" / "rota.csv.2").exists()
+    return ends(run, 0, "rota.csv was edited in the folder week.plan; it is kept as week.plan/rota.csv.1") + ([] if kept and quiet else ["the table isn't kept"])
+
+
+def cheaper_plan_in_the_folder(folder):
+    folder.plan("--seconds", "1")
+    before = folder.written()
+    cost = int(re.search(rb"^cost (\d+)$", before["report"], re.M).group(1))
+    empty = folder.reading.cost([])
+    (folder.path / "empty").write_text("shift-report 1\nstatus stopped\ncost %d\nbound 0\nrows 0\nproof 0\nend\n" % empty)
+    status, said, error = folder.run("show", "week.json", "empty")
+    told = "The folder week.plan has a cheaper plan of this document, which costs %d: it stays" % cost in said
+    faults = ends((status, said, error), 0) + ([] if cost < empty and told and folder.written() == before else ["the cheaper plan was written over: " + said])
+    elsewhere = folder.run("show", "week.json", "empty", "--out", "other")
+    return faults + ends(elsewhere, 0) + ([] if (folder.path / "other" / "report").exists() else ["the plan isn't in the other folder"])
+
+
+def days_with_names(folder):
+    folder.plan("--seconds", "1", "--from", "2026-12-31")
+    dated = (folder.path / "week.plan" / "plan.html").read_text()
+    folder.run("show", "week.json", "week.plan/report", "--first-day", "sunday")
+    named = (folder.path / "week.plan" / "plan.html").read_text()
+    folder.run("show", "week.json", "week.plan/report")
+    plain = (folder.path / "week.plan" / "plan.html").read_text()
+    right = "<h2>Day 1, Thursday 2026-12-31</h2>" in dated and "<h2>Day 1, Sunday</h2>" in named and "<h2>Day 1</h2>" in plain
+    return [] if right and "Friday" not in plain else ["days have other names"]
 
 
 def words_in_the_wrong_order(folder):
@@ -290,6 +358,13 @@ def short_time(folder):
     return ends(run, 0) + (["3 seconds took %.1f" % taken] if taken > 6 else [])
 
 
+def search_without_a_cheaper_plan(folder):
+    began = time.monotonic()
+    run = folder.plan("--seconds", "100", "--until-quiet", "1")
+    taken = time.monotonic() - began
+    return ends(run, 0, "no cheaper plan for as long as --until-quiet says") + (["it took %.1f seconds" % taken] if taken > 90 else [])
+
+
 ASKED = "the search ends early, as it was asked to"
 
 
@@ -301,7 +376,7 @@ def ended(folder, run, status, *texts, given=b""):
         run.kill()
         return ["it doesn't end"]
     names = {path.name for path in (folder.path / "week.plan").iterdir()}
-    return ends((run.returncode, "", said.decode()), status, *texts) + (["no plan is written whole"] if status == 0 and names != set(FILES) else [])
+    return ends((run.returncode, "", said.decode()), status, *texts) + (["no plan is written whole"] if status == 0 and names != LEFT else [])
 
 
 def line_in_mid_search(folder):
@@ -443,8 +518,9 @@ def journal_without_room(folder):
 
 MEETINGS = (
     lock_in_use, killed_run, search_gone_on_with, begun_anew, no_search_to_show, journal_that_is_a_folder, journal_of_another_instance, damaged_journal, torn_journal,
-    journal_on_a_full_device, folder_below_a_file, folder_that_is_a_file, instance_that_isnt_there, instance_that_is_a_folder, journal_of_the_instance, bent_report,
-    words_in_the_wrong_order, report_that_is_none, closed_output, short_time, line_in_mid_search, end_of_input_in_mid_search, line_before_the_search,
+    journal_on_a_full_device, folder_below_a_file, folder_that_is_a_file, instance_that_isnt_there, instance_that_is_a_folder, journal_of_the_instance, document_with_a_namesake, bent_report, edited_table,
+    cheaper_plan_in_the_folder, days_with_names,
+    words_in_the_wrong_order, report_that_is_none, closed_output, short_time, search_without_a_cheaper_plan, line_in_mid_search, end_of_input_in_mid_search, line_before_the_search,
     input_meant_for_others, enter_at_a_terminal, interrupted_as_it_begins, terminated_in_mid_search, interrupted_while_it_writes, interrupted_as_it_ends,
     interrupted_twice, interrupted_with_a_word, line_given_to_run, program_killed_below_run, journal_without_room,
 )

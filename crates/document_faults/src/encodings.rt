@@ -1,4 +1,5 @@
 //! Why a text isn't JSON: its bytes, and the place where it departs from JSON, with what stands there.
+use crate::texts::Within;
 use serde_json::{Error, Value};
 use std::alloc::{AllocError, Global};
 use std::str::from_utf8;
@@ -22,7 +23,7 @@ fn encoding_of(document: &[u8]) -> Option<&'static str> {
 }
 
 /// The line and the column of a byte, both from 1 on; a column is a character.
-fn line_and_column(document: &[u8], at: usize) -> (u64, u64) {
+pub(crate) fn line_and_column(document: &[u8], at: usize) -> (u64, u64) {
     let mut line = 1u64;
     let mut column = 1u64;
     for byte in document.iter().take(at) {
@@ -108,15 +109,64 @@ fn cause(before: Option<u8>, byte: u8) -> &'static str {
     }
 }
 
+/// The places of the brackets and quotes before a place that aren't closed before it, the first opened first.
+fn open_before(alloc: Global, document: &[u8], end: usize) -> Result<Vec<usize>, AllocError> {
+    let mut open = Vec::new(alloc);
+    let mut within = Within::Rest;
+    for (at, byte) in document.iter().enumerate().take(end) {
+        let next = within.behind(*byte);
+        match (within, next, *byte) {
+            (Within::Rest, Within::Text, _) | (Within::Rest, _, b'{' | b'[') => open.push(at)?,
+            (Within::Text, Within::Rest, _) | (Within::Rest, _, b'}' | b']') => {
+                let _ = open.pop();
+            }
+            _ => {}
+        }
+        within = next;
+    }
+    Ok(open)
+}
+
+/// What is said of a document that ends before its object does.
+fn ends_early(alloc: Global, document: &[u8]) -> Result<String, AllocError> {
+    let open = open_before(alloc, document, document.len())?;
+    let Some(at) = open.last().copied() else {
+        return String::from_str(alloc, " ends too early: a value is missing");
+    };
+    let (line, column) = line_and_column(document, at);
+    let sign = char::from(document.get(at).copied().unwrap_or(b'{'));
+    format!(in alloc;
+        " ends too early: the `{sign}` at line {line}, column {column} (both from 1 on) isn't closed"
+    )
+}
+
+/// Whether the object of a document ends before a place.
+fn is_behind_the_end(alloc: Global, document: &[u8], at: usize) -> Result<bool, AllocError> {
+    let is_closed = matches!(last_ink(document, at), Some(b'}' | b']'));
+    Ok(is_closed && open_before(alloc, document, at)?.is_empty())
+}
+
+/// What is said of a document that goes on behind its object.
+fn ends_late(alloc: Global, document: &[u8], at: usize) -> Result<String, AllocError> {
+    let (line, column) = line_and_column(document, at);
+    let sign = char::from(document.get(at).copied().unwrap_or(b'}'));
+    format!(in alloc;
+        " ends too late: its object ends before line {line}, column {column} (both from 1 on), where another `{sign}` stands; take out what is behind the object, or a bracket before closes it too early"
+    )
+}
+
 /// What is said of a text that departs from JSON at a place.
 fn departure(alloc: Global, document: &[u8], fault: &Error) -> Result<String, AllocError> {
+    if fault.is_eof() {
+        return ends_early(alloc, document);
+    }
     let at = byte_at(document, fault.line(), fault.column());
     let Some((from, byte)) = first_ink(document, at) else {
-        return String::from_str(
-            alloc,
-            " ends too early: a bracket or a quote isn't closed, or a value is missing",
-        );
+        return ends_early(alloc, document);
     };
+    if byte.is_ascii_graphic() && is_behind_the_end(alloc, document, from)? {
+        return ends_late(alloc, document, from);
+    }
     let (line, column) = line_and_column(document, from);
     let why = cause(last_ink(document, from), byte);
     let sign = char::from(byte);

@@ -50,7 +50,12 @@ const LETTERS_MOST: usize = 2;
 /// What is said of a field that is missing.
 pub(crate) fn missing(alloc: Global, field: &str) -> Result<String, AllocError> {
     let meaning = meaning(field);
-    format!(in alloc; " is missing; it stands for {meaning}")
+    let hint = if OF_BREAKS.iter().any(|of_breaks| *of_breaks == field) {
+        ". A type without breaks has null in place of the object: \"breaks\": null"
+    } else {
+        ""
+    };
+    format!(in alloc; " is missing; it stands for {meaning}{hint}")
 }
 
 /// The field that a name is likely meant for, if one is near.
@@ -181,6 +186,21 @@ fn no_numbers(alloc: Global, value: Option<&Value>, field: &str) -> Result<Strin
     }
 }
 
+/// What is said of a need that isn't a list of numbers. Lists of numbers within the list are likely meant as days.
+fn no_need(alloc: Global, value: Option<&Value>, field: &str) -> Result<String, AllocError> {
+    let days = entries(value);
+    match days.first() {
+        Some(Value::Array(first)) => {
+            let len = days.len();
+            let numbers = first.len();
+            format!(in alloc;
+                " is a list of {len} lists, the first of them of {numbers}; put the numbers of all days end to end, in one list: [.., ..] in place of [[..], [..]]"
+            )
+        }
+        _ => no_numbers(alloc, value, field),
+    }
+}
+
 /// Whether a value is a list of that many whole numbers.
 fn is_row(row: &Value, wide: usize) -> bool {
     match row.as_array() {
@@ -266,7 +286,7 @@ pub(crate) fn misshapen(
                 " is {found}, and must be an object with name, start_min, start_max, len_min, len_max and breaks"
             )
         }
-        "need" | "need_max" => no_numbers(alloc, value, field),
+        "need" | "need_max" => no_need(alloc, value, field),
         "totals" => no_rows(alloc, value, field, 2),
         "lunches" => no_rows(alloc, value, field, 4),
         "name" | "types" | "weights" | "breaks" => other_kind(alloc, "", value, field),

@@ -1,4 +1,6 @@
 //! What is said of numbers out of their ranges.
+ghost use Rattle.std.specs.Prelude.{◌<◌};
+
 use crate::found::{entries, member, minutes_of, number, number_of, shown, type_at};
 use crate::rules::ill_formed;
 use serde_json::Value;
@@ -68,6 +70,26 @@ fn weight(alloc: Global, document: Option<&Value>) -> Result<String, AllocError>
     )
 }
 
+/// A hint that a start before the first one was meant on the next day, where it has room there.
+fn next_day_hint(alloc: Global, minutes: u64, low: u64, high: u64) -> Result<String, AllocError>
+    requires { 0 < minutes }
+{
+    let day = DAY / minutes;
+    if low <= high || day <= high {
+        return Ok(String::new(alloc));
+    }
+    let time = high.saturating_mul(minutes) % DAY;
+    let (hour, minute) = (time / 60, time % 60);
+    let next = high.saturating_add(day);
+    format!(in alloc;
+        ". Starts on the next day go on behind the slots of a day: {}{}:{}{} on the next day is {next}",
+        hour / 10,
+        hour % 10,
+        minute / 10,
+        minute % 10
+    )
+}
+
 /// What is said of the starts of a type that are no range.
 fn starts(alloc: Global, document: Option<&Value>, kind: u64) -> Result<String, AllocError> {
     let parts = type_at(document, kind);
@@ -75,8 +97,9 @@ fn starts(alloc: Global, document: Option<&Value>, kind: u64) -> Result<String, 
     let minutes = minutes_of(document);
     let most = (2 * DAY / minutes).saturating_sub(1);
     let hint = minutes_hint(alloc, document, high, most)?;
+    let next_day = next_day_hint(alloc, minutes, low, high)?;
     format!(in alloc;
-        " is {low} and start_max is {high}; they are slots of {minutes} minutes counted from midnight, with start_min at most start_max and start_max at most {most}{hint}"
+        " is {low} and start_max is {high}; they are slots of {minutes} minutes counted from midnight, with start_min at most start_max and start_max at most {most}{hint}{next_day}"
     )
 }
 

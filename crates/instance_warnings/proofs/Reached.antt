@@ -18,7 +18,7 @@ use Rattle.break_rules.specs.Breaks.{works_at}
 use Rattle.shift_instance.specs.declared.Duty.{Duty}
 use Rattle.shift_instance.specs.declared.Shift.{Shift}
 use Rattle.shift_instance.specs.AllDuties.{all_duties}
-use Rattle.shift_instance.specs.Problem.{Problem, slots, need_at, need_max_at, shift_list, slot_of, below}
+use Rattle.shift_instance.specs.Problem.{Problem, slots, need_at, shift_list, slot_of, below}
 use Rattle.shift_instance.proofs.Shifts.{some_at, is_some_and_at, is_some_and_from}
 use Rattle.shift_instance.specs.Rota.{is_legal_duty, is_legal_rota, is_list_of, works, cover, slot_cost, cost}
 use Rattle.shift_instance.specs.Worth.{price_of, earned, worth, IsBest}
@@ -240,7 +240,6 @@ unreached_few i valid =
     let few : cost i [] < 1000000000000000 = costs_below i [] valid refl in
     omega arith
 
--- the greatest number of wanted employees of one slot more
-pub greatest_next : (i : Problem) (t : ℕ) → fold (λ most s. max most (need_max_at i s)) 0 (below (t + 1)) ≡ max (fold (λ most s. max most (need_max_at i s)) 0 (below t)) (need_max_at i t)
-greatest_next i t =
-    ap (fold (λ most s. max most (need_max_at i s)) 0) (below_next t) ∙ fold-append (λ most s. max most (need_max_at i s)) 0 (below t) (t ∷ [])
+-- the greatest number of one slot more
+pub greatest_next : (f : ℕ → ℕ) (t : ℕ) → fold (λ most s. max most (f s)) 0 (below (t + 1)) ≡ max (fold (λ most s. max most (f s)) 0 (below t)) (f t)
+greatest_next f t = ap (fold (λ most s. max most (f s)) 0) (below_next t) ∙ fold-append (λ most s. max most (f s)) 0 (below t) (t ∷ [])

@@ -1,3 +1,4 @@
 pub mod Breaks
 pub mod Reached
+pub mod Odd
 pub mod Warnings

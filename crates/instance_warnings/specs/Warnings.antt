@@ -1,11 +1,12 @@
 -- What a planner is warned of. Source: this project's profile.
-use Rattle.std.specs.Prelude.{ℕ, ◌*◌, ◌==◌, Bool, nat_lt, max, List, [], ◌∷◌, ◌++◌, fold, if◌then◌else◌}
+use Rattle.std.specs.Prelude.{ℕ, ◌*◌, ◌==◌, nat_lt, max, List, [], ◌∷◌, ◌++◌, fold, if◌then◌else◌}
 use Rattle.std.specs.List.{flat_map, enumerate_from}
 use Rattle.shift_instance.specs.Kind.{Kind}
 use Rattle.shift_instance.specs.Problem.{Problem, slots, need_max_at, below}
 use Rattle.instance_warnings.specs.declared.telling.Warning.{Warning}
 use Rattle.instance_warnings.specs.declared.telling.Warning.TheVariants.{NoBreaks, Unreached, Heads, NoExcess, NoShortage, NoShift}
 use Rattle.instance_warnings.specs.Breaks.{has_lists, culprit}
+use Rattle.instance_warnings.specs.Odd.{warning_if, excess_warnings, few_heads_warnings, greatest_need, short_warnings, hour_warnings, odd_kinds}
 use Rattle.instance_warnings.specs.Reached.{unreached, unreached_cost}
 
 -- the warning of a type, by its number, where no length of it has a legal break list
@@ -31,14 +32,14 @@ most_wanted i = fold (λ most t. max most (need_max_at i t)) 0 (below (slots i))
 abbrev pub head_warnings : Problem → List Warning
 head_warnings i = if nat_lt (2 * most_wanted i) i.heads then Heads i.heads (most_wanted i) ∷ [] else []
 
--- a warning where there is cause for it
-abbrev pub warning_if : Bool → Warning → List Warning
-warning_if cause warning = if cause then warning ∷ [] else []
-
 -- the warnings of weights that are 0
 abbrev pub weight_warnings : Problem → List Warning
 weight_warnings i = warning_if (i.excess == 0) NoExcess ++ (warning_if (i.shortage == 0) NoShortage ++ warning_if (i.shift == 0) NoShift)
 
+-- the warnings of what is legal and odd
+abbrev pub odd_warnings : Problem → List Warning
+odd_warnings i = excess_warnings i ++ (few_heads_warnings i (greatest_need i) ++ (short_warnings i ++ (hour_warnings i ++ odd_kinds i)))
+
 -- all warnings, in their order
 abbrev pub warnings_of : Problem → List Warning
-warnings_of i = kind_warnings i ++ (slot_warnings i ++ (head_warnings i ++ weight_warnings i))
+warnings_of i = kind_warnings i ++ (slot_warnings i ++ (head_warnings i ++ (weight_warnings i ++ odd_warnings i)))

@@ -6,9 +6,13 @@ ghost use Rattle.shift_instance.specs.declared.Duty.{Duty};
 ghost use Rattle.shift_instance.specs.Listing.{IsListed};
 ghost use Rattle.shift_instance.specs.Rota.{cost, is_legal_rota};
 ghost use Rattle.instance_warnings.specs.Reached.{unreached, unreached_cost};
-ghost use Rattle.instance_warnings.specs.Warnings.{most_wanted, kind_warning, slot_warnings, head_warnings, weight_warnings, warning_if, warnings_of};
+ghost use Rattle.instance_warnings.specs.Odd.{odd_kind};
+ghost use Rattle.instance_warnings.specs.Warnings.{most_wanted, kind_warning, slot_warnings, head_warnings, weight_warnings, odd_warnings, warnings_of};
 
 use crate::breaks::{culprit, has_lists};
+use crate::oddities::{
+    greatest_need, push_excess, push_few_heads, push_hours, push_if, push_odd, push_short,
+};
 use crate::reaching::unreached;
 use crate::slots::Slots;
 use crate::telling::Warning;
@@ -61,14 +65,19 @@ fn cost_of(instance: &Instance, slots: &[u16]) -> u64
     sum
 }
 
-/// Adds the warning of slots that no duty can reach.
-fn push_slots(alloc: Global, instance: &Instance, list: &mut Vec<Warning>) -> Result<(), NoMemory>
+/// Adds the warning of slots that no duty can reach, where there are any.
+fn push_slots(
+    alloc: Global,
+    instance: &Instance,
+    slots: &[u16],
+    list: &mut Vec<Warning>,
+) -> Result<(), NoMemory>
+    requires { slots.now ≡ unreached instance.now }
     ensures { OnOk result (list.new.items ≡ list.old.items ++ slot_warnings instance.now) }
 {
-    let slots = unreached(alloc, instance)?;
     if !slots.is_empty() {
-        let least = cost_of(instance, &slots);
-        let slots = Slots::new(slots);
+        let least = cost_of(instance, slots);
+        let slots = Slots::new(slots.to_vec(alloc)?);
         list.push(Warning::Unreached { slots, least })?;
     }
     Ok(())
@@ -98,16 +107,6 @@ fn push_heads(instance: &Instance, list: &mut Vec<Warning>) -> Result<(), NoMemo
     Ok(())
 }
 
-/// Adds a warning where there is cause for it.
-fn push_if(list: &mut Vec<Warning>, cause: bool, warning: Warning) -> Result<(), NoMemory>
-    ensures { OnOk result (list.new.items ≡ list.old.items ++ warning_if cause warning) }
-{
-    if cause {
-        list.push(warning)?;
-    }
-    Ok(())
-}
-
 /// Adds the warnings of weights that are 0.
 fn push_weights(instance: &Instance, list: &mut Vec<Warning>) -> Result<(), NoMemory>
     ensures { OnOk result (list.new.items ≡ list.old.items ++ weight_warnings instance.now) }
@@ -118,18 +117,53 @@ fn push_weights(instance: &Instance, list: &mut Vec<Warning>) -> Result<(), NoMe
     push_if(list, shift == 0, Warning::NoShift)
 }
 
+/// Adds the warnings of what is odd in types, where a day has so many slots.
+fn push_odd_kinds(
+    per_day: u16,
+    kinds: &[TypeParts],
+    list: &mut Vec<Warning>,
+) -> Result<(), NoMemory>
+    requires { length kinds.now ≤ 16 }
+    ensures { OnOk result (list.new.items ≡ list.old.items ++ flat_map (odd_kind per_day) (enumerate_from 0 kinds.now)) }
+{
+    for (k, kind) in kinds.iter().enumerate() {
+        push_odd(per_day, k as u16, kind, list)?;
+    }
+    Ok(())
+}
+
+/// Adds the warnings of what is legal and odd, where these are the slots with a need that no duty can reach.
+fn push_odd_warnings(
+    instance: &Instance,
+    slots: &[u16],
+    list: &mut Vec<Warning>,
+) -> Result<(), NoMemory>
+    requires { slots.now ≡ unreached instance.now }
+    ensures { OnOk result (list.new.items ≡ list.old.items ++ odd_warnings instance.now) }
+{
+    push_excess(instance, list)?;
+    push_few_heads(instance, greatest_need(instance), list)?;
+    push_short(instance, list)?;
+    push_hours(instance, slots, list)?;
+    let parts = instance.parts();
+    push_odd_kinds(1440 / parts.slot_minutes, parts.types.as_slice(), list)
+}
+
 /// What a planner should know of an instance before it is searched: the types without a legal break list, in their order;
-/// the slots with a need that no duty can reach; a greatest number of duties that is more than twice the greatest number of wanted
-/// employees; and weights of 0. The list is empty where there is nothing to say. Running out of memory is the one refusal.
+/// the slots with a need that no duty can reach; a greatest number of duties that is more than twice the greatest number of
+/// wanted employees; weights of 0; and what is legal and odd. The list is empty where there is nothing to say. Running out of
+/// memory is the one refusal.
 pub fn warnings(alloc: Global, instance: &Instance) -> Result<Vec<Warning>, NoMemory>
     ensures { IfOk result (λ list. list.items ≡ warnings_of instance.now) }
 {
     let mut list = Vec::new(alloc);
     let parts = instance.parts();
     push_kinds(alloc, parts.types.as_slice(), &mut list)?;
-    push_slots(alloc, instance, &mut list)?;
+    let slots = unreached(alloc, instance)?;
+    push_slots(alloc, instance, &slots, &mut list)?;
     push_heads(instance, &mut list)?;
     push_weights(instance, &mut list)?;
+    push_odd_warnings(instance, &slots, &mut list)?;
     Ok(list)
 }
 

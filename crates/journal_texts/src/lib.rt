@@ -5,6 +5,9 @@ ghost use Rattle.std.specs.Prelude.{◌≡◌, ◌++◌, ℕ, List, codes, IfOk,
 ghost use Rattle.search_book.specs.OpenFaultText.{open_fault_text};
 ghost use Rattle.journal_texts.specs.Full.{full_text};
 
+mod differences;
+
+pub use differences::difference;
 use recovery::Why;
 use search_book::OpenFault;
 use search_core::StepFault;

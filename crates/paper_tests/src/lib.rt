@@ -1,4 +1,4 @@
-//! Tests of the lines of text for a plan, and of its page.
+//! Tests of the lines of text for a plan, of its page and of its rota.
 #![tactic(auto)]
 
 #[cfg(test)]
@@ -7,3 +7,5 @@ mod fixtures;
 mod lines;
 #[cfg(test)]
 mod pages;
+#[cfg(test)]
+mod rotas;

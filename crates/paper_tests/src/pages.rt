@@ -1,24 +1,47 @@
 //! The page of the plan.
 use crate::fixtures::{banded, instance, judge, rows};
-use plan_page::plan_page;
-use std::alloc::Global;
+use plan_page::{PageTexts, Section, plan_page};
+use std::alloc::{AllocError, Global};
 use std::process::Abort;
 use std::test::Fail;
+
+/// A text of its own.
+fn section(alloc: Global, title: &str, text: &str) -> Result<Section, AllocError> {
+    Ok(Section {
+        title: String::from_str(alloc, title)?,
+        text: String::from_str(alloc, text)?,
+    })
+}
+
+/// What a page says beside its plan, below a heading: the first of the days alone has a name.
+fn texts(alloc: Global, heading: &str) -> Result<PageTexts, AllocError> {
+    let mut texts = PageTexts {
+        heading: String::from_str(alloc, heading)?,
+        standing: String::from_str(alloc, "no bound")?,
+        days: Vec::new(alloc),
+        above: Vec::new(alloc),
+        below: Vec::new(alloc),
+    };
+    texts.days.push(String::from_str(alloc, "Mon<day>")?)?;
+    texts.above.push(section(alloc, "A & B", "a  <b>\n")?)?;
+    texts.below.push(section(alloc, "C", "c\n")?)?;
+    Ok(texts)
+}
 
 /// The page of the plan, below a heading with signs that mean something in hypertext.
 fn page(rt: &impl Abort, alloc: Global) -> Result<String, Fail> {
     let instance = instance(alloc)?;
     let rows = rows(alloc)?;
     judge(rt, &instance, &rows);
-    Ok(plan_page(alloc, &instance, &rows, "ward & <desk>", "no bound")?)
+    Ok(plan_page(alloc, &instance, &rows, &texts(alloc, "ward & <desk>")?)?)
 }
 
 #[test]
 fn texts_are_escaped(rt: HostRuntime) -> Result<(), Fail> {
     let page = page(&rt, rt.alloc())?;
     assert!(rt; page.as_str().contains("<h1>ward &amp; &lt;desk&gt;</h1>"));
-    assert!(rt; page.as_str().contains(" M&lt;&amp;&gt;</span>"));
-    assert!(rt; page.as_str().contains(" N,&quot;x&quot;</span>"));
+    assert!(rt; page.as_str().contains(" M&lt;&amp;&gt;<br>"));
+    assert!(rt; page.as_str().contains(" N,&quot;x&quot;<br>"));
     assert!(rt; !page.as_str().contains("M<"));
     Ok(())
 }
@@ -65,7 +88,7 @@ fn bands_are_shown_as_ranges_and_as_a_strip(rt: HostRuntime) -> Result<(), Fail>
     let instance = banded(alloc)?;
     let rows = rows(alloc)?;
     judge(&rt, &instance, &rows);
-    let page = plan_page(alloc, &instance, &rows, "ward", "no bound")?;
+    let page = plan_page(alloc, &instance, &rows, &texts(alloc, "ward")?)?;
     for line in [
         "<th scope=\"row\">Excess</th><td>9</td><td>1</td><td>9</td>",
         "<td>5</td><td>17:00-21:00</td><td>20:00</td><td>9:00</td><td>9:00</td>",
@@ -78,6 +101,26 @@ fn bands_are_shown_as_ranges_and_as_a_strip(rt: HostRuntime) -> Result<(), Fail>
     }
     // What the strip means, and the strip of the first day.
     assert_eq!(rt; page.as_str().matches("\"band\"").count(), 2);
+    Ok(())
+}
+
+#[test]
+fn days_have_names_and_texts_stand_above_and_below_them(rt: HostRuntime) -> Result<(), Fail> {
+    let page = page(&rt, rt.alloc())?;
+    let above = page
+        .as_str()
+        .find("<h2>A &amp; B</h2>\n<pre>a  &lt;b&gt;\n</pre>")
+        .ok_or("above")?;
+    let first = page
+        .as_str()
+        .find("<h2>Day 1, Mon&lt;day&gt;</h2>")
+        .ok_or("first day")?;
+    let second = page.as_str().find("<h2>Day 2</h2>").ok_or("second day")?;
+    let below = page
+        .as_str()
+        .find("<h2>C</h2>\n<pre>c\n</pre>")
+        .ok_or("below")?;
+    assert!(rt; above < first && first < second && second < below);
     Ok(())
 }
 

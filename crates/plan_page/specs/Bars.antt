@@ -1,5 +1,5 @@
 -- The rows of a plan on a day, each as a bar with its breaks. A day is given by its first slot.
-use Rattle.std.specs.Prelude.{ℕ, ◌+◌, ◌-◌, ◌*◌, nat_lt, Bool, true, false, not, ◌&&◌, ◌||◌, if◌then◌else◌, is_some, Option, Some, None, List, [], ◌++◌, codes, max, min, slice_get}
+use Rattle.std.specs.Prelude.{ℕ, ◌+◌, ◌-◌, ◌*◌, nat_lt, Bool, true, false, not, ◌&&◌, ◌||◌, if◌then◌else◌, is_some, Option, Some, None, List, [], ◌∷◌, ◌++◌, codes, max, min, slice_get}
 use Rattle.std.specs.Option.{option_map_or}
 use Rattle.std.specs.List.{flat_map}
 use Rattle.std.specs.Fmt.{decimal}
@@ -56,17 +56,40 @@ label_begin = codes "<div class=\"row\"><span>"
 unfoldable pub label_count : ℕ → List ℕ
 label_count count = codes " x" ++ decimal count ++ codes " "
 
-unfoldable pub label_end : Bool → List ℕ
-label_end true = codes "</span>"
-label_end false = codes " (from the day before)</span>"
+unfoldable pub label_note : Bool → List ℕ
+label_note true = codes "<br>"
+label_note false = codes " (from the day before)<br>"
 
--- what a row of a shift is: its time, how many employees, its type, and a note where its duties started on the day before
-unfoldable pub label : Problem → Bool → Shift → ℕ → List ℕ
-label i starting x count = label_begin ++ period_text i x.start x.len ++ label_count count ++ escaped (name_of i x.kind) ++ label_end starting
+unfoldable pub label_end : List ℕ
+label_end = codes "</span>"
 
--- what stands before the boxes of the duties, before those of the breaks, and behind them
+-- when the employees of a shift work, how many they are, their type, and a note where their duties started on the day before
+unfoldable pub label_crew : Problem → Bool → Shift → ℕ → List ℕ
+label_crew i starting x count = period_text i x.start x.len ++ label_count count ++ escaped (name_of i x.kind) ++ label_note starting
+
+-- when a break of a shift that starts at a slot is
+unfoldable pub rest_time : Problem → ℕ → Break → List ℕ
+rest_time i start b = codes " " ++ period_text i (start + b.start) b.len
+
+-- when the breaks of a shift that starts at a slot are, or that there are none
+unfoldable pub rest_times : Problem → ℕ → List Break → List ℕ
+rest_times i start [] = codes "no breaks"
+rest_times i start (b ∷ bs) = codes "breaks" ++ flat_map (rest_time i start) (b ∷ bs)
+
+-- what a row of a shift is: its time, how many employees, its type, and its breaks
+unfoldable pub label : Problem → Bool → Shift → Row → List ℕ
+label i starting x r = label_begin ++ label_crew i starting x r.count ++ rest_times i x.start r.breaks ++ label_end
+
+-- what stands before the title of a bar, between its times and its breaks, before the boxes of the duties, before those of the breaks, and
+-- behind them
+unfoldable pub bar_begin : List ℕ
+bar_begin = codes "<svg class=\"bar\" viewBox=\"0 0 1440 16\" preserveAspectRatio=\"none\"><title>"
+
+unfoldable pub title_between : List ℕ
+title_between = codes ", "
+
 unfoldable pub work_begin : List ℕ
-work_begin = codes "<svg class=\"bar\" viewBox=\"0 0 1440 16\" preserveAspectRatio=\"none\"><path class=\"work\" d=\""
+work_begin = codes "</title><path class=\"work\" d=\""
 
 unfoldable pub breaks_begin : List ℕ
 breaks_begin = codes "\"/><path class=\"break\" d=\""
@@ -74,15 +97,22 @@ breaks_begin = codes "\"/><path class=\"break\" d=\""
 unfoldable pub bar_end : List ℕ
 bar_end = codes "\"/></svg></div>\n"
 
+-- the title of the bar of a row of a shift: its time and its breaks
+unfoldable pub bar_title : Problem → Shift → Row → List ℕ
+bar_title i x r = bar_begin ++ period_text i x.start x.len ++ title_between ++ rest_times i x.start r.breaks
+
 -- the boxes of what lies in a day of the breaks of duties that start in a slot
 unfoldable pub break_boxes : Problem → ℕ → ℕ → List Break → List ℕ
 break_boxes i day first breaks = flat_map (λ b. boxes i day 4 8 (rest_of first b)) breaks
 
--- a row of a shift as a bar with its breaks
+-- the bar of a row of a shift, with its breaks
+unfoldable pub bar_shape : Problem → ℕ → Shift → Row → List ℕ
+bar_shape i day x r =
+    work_begin ++ boxes i day 2 12 (work_of i x r) ++ breaks_begin ++ break_boxes i day (first_slot i r.shift r.day) r.breaks ++ bar_end
+
+-- a row of a shift: what it is, and its bar below a title
 unfoldable pub bar : Problem → ℕ → Bool → Shift → Row → List ℕ
-bar i day starting x r =
-    label i starting x r.count ++ work_begin ++ boxes i day 2 12 (work_of i x r)
-    ++ breaks_begin ++ break_boxes i day (first_slot i r.shift r.day) r.breaks ++ bar_end
+bar i day starting x r = label i starting x r ++ bar_title i x r ++ bar_shape i day x r
 
 -- the bar of a row of a shift, and nothing where it isn't shown on the day
 unfoldable pub shown_bar : Problem → ℕ → Bool → Shift → Row → List ℕ

@@ -1,6 +1,6 @@
 -- The picture of a day's slots: the need as a line over the employees as bars, and where bands differ from the need, the bands too. A day
 -- is given by its first slot.
-use Rattle.std.specs.Prelude.{ℕ, ◌+◌, ◌-◌, ◌*◌, nat_lt, Bool, true, false, if◌then◌else◌, List, [], ◌++◌, codes, fold, max, min}
+use Rattle.std.specs.Prelude.{ℕ, ◌+◌, ◌-◌, ◌*◌, ◌/◌, nat_lt, Bool, true, false, if◌then◌else◌, List, [], ◌++◌, codes, fold, max, min}
 use Rattle.std.specs.List.{flat_map}
 use Rattle.std.specs.Fmt.{decimal}
 use Rattle.shift_instance.specs.declared.Duty.{Duty}
@@ -77,12 +77,35 @@ unfoldable pub band_path : Problem → List Duty → ℕ → ℕ → Bool → Li
 band_path i rota most first true = layer_path i rota most first Band ++ need_path i most first Most
 band_path i rota most first false = []
 
--- up to how many employees the picture shows, and the lines at every third hour
-unfoldable pub chart_head : ℕ → List ℕ
-chart_head most = codes "<div class=\"row\"><span>up to " ++ decimal most ++ codes " employees</span>"
+-- the numbers beside the picture: the most employees at its top, half of them where they stand in it, and none at its bottom
+unfoldable pub axis_top : ℕ → List ℕ
+axis_top most = codes "<div class=\"row\"><span class=\"axis\"><span>" ++ decimal most ++ codes " employees</span>"
 
-unfoldable pub grid_text : List ℕ
-grid_text = GRID.now
+unfoldable pub mark_begin : ℕ → List ℕ
+mark_begin part = codes "<span style=\"top:" ++ decimal part ++ codes "%\">"
+
+unfoldable pub axis_mark : ℕ → ℕ → List ℕ
+axis_mark employees part = mark_begin part ++ decimal employees ++ codes "</span>"
+
+unfoldable pub axis_half : ℕ → List ℕ
+axis_half most = if nat_lt 1 most then axis_mark (most / 2) (depth most (most / 2) * 100 / 240) else []
+
+unfoldable pub axis_end : List ℕ
+axis_end = codes "<span>0</span></span>"
+
+unfoldable pub axis : ℕ → List ℕ
+axis most = axis_top most ++ axis_half most ++ axis_end
+
+-- the line at half the employees
+unfoldable pub half_line : ℕ → List ℕ
+half_line top = codes "<path class=\"grid\" d=\"M0 " ++ decimal top ++ codes "H1440\"/>\n"
+
+-- the lines at every third hour, and that at half the employees
+unfoldable pub hour_lines : List ℕ
+hour_lines = GRID.now
+
+unfoldable pub grid_text : ℕ → List ℕ
+grid_text most = hour_lines ++ half_line (depth most (most / 2))
 
 -- the hours below the picture
 unfoldable pub hours_text : List ℕ
@@ -91,6 +114,6 @@ hours_text = HOURS.now
 -- the picture of a day, which shows up to so many employees, and the bands where there are some on the day
 unfoldable pub chart : Problem → List Duty → ℕ → ℕ → Bool → List ℕ
 chart i rota most first banded =
-    chart_head most ++ grid_text
+    axis most ++ grid_text most
     ++ layer_path i rota most first Covered ++ layer_path i rota most first Over ++ layer_path i rota most first Under
     ++ band_path i rota most first banded ++ need_path i most first Least ++ hours_text

@@ -1,11 +1,12 @@
 //! The rows of a plan on a day, each as a bar with its breaks.
 ghost use Rattle.std.specs.Prelude.{◌≡◌, ◌^◌, ◌<◌, ◌++◌, OnOk, All, length, map, string_bytes};
+ghost use Rattle.std.specs.List.{flat_map};
 ghost use Rattle.rota_writer.specs.Table.{name_of, period_text};
 ghost use Rattle.shift_instance.specs.Problem.{shift_list};
 ghost use Rattle.shift_instance.specs.Valid.{IsShift};
 ghost use Rattle.plan_tables.specs.Starting.{IsKnown};
 ghost use Rattle.plan_tables.specs.Tallies.{first_slot};
-ghost use Rattle.plan_page.specs.Bars.{bar, bar_end, bars, boxes, break_boxes, breaks_begin, is_shown, label, label_begin, label_count, label_end, part_box, rest_of, row_bar, shown_bar, work_begin, work_of};
+ghost use Rattle.plan_page.specs.Bars.{bar, bar_begin, bar_end, bar_shape, bar_title, bars, boxes, break_boxes, breaks_begin, is_shown, label, label_begin, label_count, label_crew, label_end, label_note, part_box, rest_of, rest_time, rest_times, row_bar, shown_bar, title_between, work_begin, work_of};
 ghost use Rattle.plan_page.specs.Escaping.{escaped};
 
 use crate::escaping::add_escaped;
@@ -97,26 +98,131 @@ fn add_kind(page: &mut String, instance: &Instance, kind: u16) -> Result<(), NoM
     add_escaped(page, kind.name.as_str())
 }
 
-/// Ends what a row is, with a note where its duties started on the day before.
-#[tactic(auto, unfolding(crate::specs::Bars::label_end))]
-fn end_label(page: &mut String, starting: bool) -> Result<(), NoMemory>
-    ensures { OnOk result (string_bytes page.new ≡ string_bytes page.old ++ label_end starting) }
+/// Adds a note where the duties of a row started on the day before.
+#[tactic(auto, unfolding(crate::specs::Bars::label_note))]
+fn add_note(page: &mut String, starting: bool) -> Result<(), NoMemory>
+    ensures { OnOk result (string_bytes page.new ≡ string_bytes page.old ++ label_note starting) }
 {
     if starting {
-        page.push_str("</span>")
+        page.push_str("<br>")
     } else {
-        page.push_str(" (from the day before)</span>")
+        page.push_str(" (from the day before)<br>")
     }
 }
 
-/// Begins the bar of a row.
+/// Ends what a row is.
+#[tactic(auto, unfolding(crate::specs::Bars::label_end))]
+fn end_label(page: &mut String) -> Result<(), NoMemory>
+    ensures { OnOk result (string_bytes page.new ≡ string_bytes page.old ++ label_end) }
+{
+    page.push_str("</span>")
+}
+
+/// Adds when the employees of a shift work, how many they are, their type, and a note where their duties started on the day before.
+#[tactic(auto, unfolding(crate::specs::Bars::label_crew))]
+fn add_crew(
+    page: &mut String,
+    instance: &Instance,
+    starting: bool,
+    shift: Shift,
+    count: u16,
+) -> Result<(), NoMemory>
+    requires { IsShift instance.now shift }
+    ensures { OnOk result (string_bytes page.new ≡ string_bytes page.old ++ label_crew instance.now starting shift count) }
+{
+    add_period(page, instance, shift)?;
+    add_count(page, count)?;
+    add_kind(page, instance, shift.kind)?;
+    add_note(page, starting)
+}
+
+/// Adds when a break of a shift that starts at a slot is.
+#[tactic(auto, unfolding(crate::specs::Bars::rest_time))]
+fn add_rest_time(
+    page: &mut String,
+    instance: &Instance,
+    start: u16,
+    rest: &Break,
+) -> Result<(), NoMemory>
+    ensures { OnOk result (string_bytes page.new ≡ string_bytes page.old ++ rest_time instance.now start rest.now) }
+{
+    let first = u32::from(start) + u32::from(rest.start);
+    let period = Period::of_slots(instance, first, rest.len);
+    write!(page, " {period}")
+}
+
+/// Adds when each break of a shift that starts at a slot is.
+fn add_each_rest(
+    page: &mut String,
+    instance: &Instance,
+    start: u16,
+    breaks: &[Break],
+) -> Result<(), NoMemory>
+    ensures { OnOk result (string_bytes page.new ≡ string_bytes page.old ++ flat_map (rest_time instance.now start) breaks.now) }
+{
+    for rest in breaks {
+        add_rest_time(page, instance, start, rest)?;
+    }
+    Ok(())
+}
+
+/// Adds when the breaks of a shift that starts at a slot are, or that there are none.
+#[tactic(auto, unfolding(crate::specs::Bars::rest_times))]
+fn add_rest_times(
+    page: &mut String,
+    instance: &Instance,
+    start: u16,
+    breaks: &[Break],
+) -> Result<(), NoMemory>
+    ensures { OnOk result (string_bytes page.new ≡ string_bytes page.old ++ rest_times instance.now start breaks.now) }
+{
+    match breaks {
+        [] => page.push_str("no breaks"),
+        _ => {
+            page.push_str("breaks")?;
+            add_each_rest(page, instance, start, breaks)
+        }
+    }
+}
+
+/// Begins a bar, with what stands before its title.
+#[tactic(auto, unfolding(crate::specs::Bars::bar_begin))]
+fn begin_bar(page: &mut String) -> Result<(), NoMemory>
+    ensures { OnOk result (string_bytes page.new ≡ string_bytes page.old ++ bar_begin) }
+{
+    page.push_str("<svg class=\"bar\" viewBox=\"0 0 1440 16\" preserveAspectRatio=\"none\"><title>")
+}
+
+/// Adds what stands between the time and the breaks of a title.
+#[tactic(auto, unfolding(crate::specs::Bars::title_between))]
+fn part_title(page: &mut String) -> Result<(), NoMemory>
+    ensures { OnOk result (string_bytes page.new ≡ string_bytes page.old ++ title_between) }
+{
+    page.push_str(", ")
+}
+
+/// Begins the bar of a row of a shift, with its time and its breaks as its title.
+#[tactic(auto, unfolding(crate::specs::Bars::bar_title))]
+fn add_bar_title(
+    page: &mut String,
+    instance: &Instance,
+    shift: Shift,
+    row: &Row,
+) -> Result<(), NoMemory>
+    ensures { OnOk result (string_bytes page.new ≡ string_bytes page.old ++ bar_title instance.now shift row.now) }
+{
+    begin_bar(page)?;
+    add_period(page, instance, shift)?;
+    part_title(page)?;
+    add_rest_times(page, instance, shift.start, row.breaks.as_slice())
+}
+
+/// Ends the title of a bar and begins the work of its row.
 #[tactic(auto, unfolding(crate::specs::Bars::work_begin))]
 fn begin_work(page: &mut String) -> Result<(), NoMemory>
     ensures { OnOk result (string_bytes page.new ≡ string_bytes page.old ++ work_begin) }
 {
-    page.push_str(
-        "<svg class=\"bar\" viewBox=\"0 0 1440 16\" preserveAspectRatio=\"none\"><path class=\"work\" d=\"",
-    )
+    page.push_str("</title><path class=\"work\" d=\"")
 }
 
 /// Begins the breaks of a bar.
@@ -211,19 +317,39 @@ fn add_label(
     instance: &Instance,
     starting: bool,
     shift: Shift,
-    count: u16,
+    row: &Row,
 ) -> Result<(), NoMemory>
     requires { IsShift instance.now shift }
-    ensures { OnOk result (string_bytes page.new ≡ string_bytes page.old ++ label instance.now starting shift count) }
+    ensures { OnOk result (string_bytes page.new ≡ string_bytes page.old ++ label instance.now starting shift row.now) }
 {
     begin_label(page)?;
-    add_period(page, instance, shift)?;
-    add_count(page, count)?;
-    add_kind(page, instance, shift.kind)?;
-    end_label(page, starting)
+    add_crew(page, instance, starting, shift, row.count)?;
+    add_rest_times(page, instance, shift.start, row.breaks.as_slice())?;
+    end_label(page)
 }
 
-/// Adds a row of a shift as a bar with its breaks.
+/// Adds the bar of a row of a shift, with its breaks.
+#[tactic(auto, unfolding(crate::specs::Bars::bar_shape))]
+fn add_shape(
+    page: &mut String,
+    instance: &Instance,
+    day: u32,
+    shift: Shift,
+    row: &Row,
+) -> Result<(), NoMemory>
+    requires day { day < 2 ^ 16 }
+    requires listed { row.now.shift < length (shift_list instance.now) }
+    ensures { OnOk result (string_bytes page.new ≡ string_bytes page.old ++ bar_shape instance.now day shift row.now) }
+{
+    let work = work_of(instance, shift, row);
+    begin_work(page)?;
+    add_boxes(page, instance, day, 2, 12, work)?;
+    begin_breaks(page)?;
+    add_breaks(page, instance, day, work.first, row.breaks.as_slice())?;
+    end_bar(page)
+}
+
+/// Adds a row of a shift: what it is, and its bar below a title.
 #[tactic(auto, unfolding(crate::specs::Bars::bar))]
 fn add_bar(
     page: &mut String,
@@ -238,13 +364,9 @@ fn add_bar(
     requires shift { IsShift instance.now shift }
     ensures { OnOk result (string_bytes page.new ≡ string_bytes page.old ++ bar instance.now day starting shift row.now) }
 {
-    let work = work_of(instance, shift, row);
-    add_label(page, instance, starting, shift, row.count)?;
-    begin_work(page)?;
-    add_boxes(page, instance, day, 2, 12, work)?;
-    begin_breaks(page)?;
-    add_breaks(page, instance, day, work.first, row.breaks.as_slice())?;
-    end_bar(page)
+    add_label(page, instance, starting, shift, row)?;
+    add_bar_title(page, instance, shift, row)?;
+    add_shape(page, instance, day, shift, row)
 }
 
 /// Adds the bar of a row of a shift, where it is shown on the day.

@@ -2,7 +2,7 @@
 ghost use Rattle.std.specs.Prelude.{◌≡◌, ◌+◌, ◌<◌, ◌≤◌, ◌++◌, OnOk, max, string_bytes};
 ghost use Rattle.std.specs.List.{flat_map};
 ghost use Rattle.shift_instance.specs.Problem.{below, day_slots, slots};
-ghost use Rattle.plan_page.specs.Chart.{band_path, bar_text, chart, chart_head, edge_at, grid_text, hours_text, layer_ends, layer_name, layer_path, most_employees, need_begin, need_end, need_path, need_step, path_begin, path_end, slot_bar};
+ghost use Rattle.plan_page.specs.Chart.{axis, axis_end, axis_half, axis_mark, axis_top, band_path, bar_text, chart, edge_at, grid_text, half_line, hour_lines, hours_text, layer_ends, layer_name, layer_path, mark_begin, most_employees, need_begin, need_end, need_path, need_step, path_begin, path_end, slot_bar};
 
 use crate::pictures::{add_box, depth};
 use break_rules::NoMemory;
@@ -304,23 +304,92 @@ fn add_bands(
     }
 }
 
-/// Adds up to how many employees a picture shows.
-#[tactic(auto, unfolding(crate::specs::Chart::chart_head))]
-fn add_chart_head(page: &mut String, most: u32) -> Result<(), NoMemory>
-    ensures { OnOk result (string_bytes page.new ≡ string_bytes page.old ++ chart_head most) }
+/// Begins the numbers beside a picture, with the most employees at its top.
+#[tactic(auto, unfolding(crate::specs::Chart::axis_top))]
+fn begin_axis(page: &mut String, most: u32) -> Result<(), NoMemory>
+    ensures { OnOk result (string_bytes page.new ≡ string_bytes page.old ++ axis_top most) }
 {
     write!(
         page,
-        "<div class=\"row\"><span>up to {most} employees</span>"
+        "<div class=\"row\"><span class=\"axis\"><span>{most} employees</span>"
     )
 }
 
+/// Begins a number that stands so many hundredths of the picture below its top.
+#[tactic(auto, unfolding(crate::specs::Chart::mark_begin))]
+fn begin_mark(page: &mut String, part: u64) -> Result<(), NoMemory>
+    ensures { OnOk result (string_bytes page.new ≡ string_bytes page.old ++ mark_begin part) }
+{
+    write!(page, "<span style=\"top:{part}%\">")
+}
+
+/// Adds a number of employees so many hundredths of the picture below its top.
+#[tactic(auto, unfolding(crate::specs::Chart::axis_mark))]
+fn add_mark(page: &mut String, employees: u32, part: u64) -> Result<(), NoMemory>
+    ensures { OnOk result (string_bytes page.new ≡ string_bytes page.old ++ axis_mark employees part) }
+{
+    begin_mark(page, part)?;
+    write!(page, "{employees}</span>")
+}
+
+/// Adds half of the most employees where they stand, unless the most is one.
+#[tactic(auto, unfolding(crate::specs::Chart::axis_half))]
+fn add_half(page: &mut String, most: u32) -> Result<(), NoMemory>
+    requires { 0 < most }
+    ensures { OnOk result (string_bytes page.new ≡ string_bytes page.old ++ axis_half most) }
+{
+    if 1 < most {
+        let top = depth(most / 2, most);
+        add_mark(page, most / 2, top * 100 / 240)
+    } else {
+        Ok(())
+    }
+}
+
+/// Ends the numbers beside a picture, with none at its bottom.
+#[tactic(auto, unfolding(crate::specs::Chart::axis_end))]
+fn end_axis(page: &mut String) -> Result<(), NoMemory>
+    ensures { OnOk result (string_bytes page.new ≡ string_bytes page.old ++ axis_end) }
+{
+    page.push_str("<span>0</span></span>")
+}
+
+/// Adds the numbers beside a picture.
+#[tactic(auto, unfolding(crate::specs::Chart::axis))]
+fn add_axis(page: &mut String, most: u32) -> Result<(), NoMemory>
+    requires { 0 < most }
+    ensures { OnOk result (string_bytes page.new ≡ string_bytes page.old ++ axis most) }
+{
+    begin_axis(page, most)?;
+    add_half(page, most)?;
+    end_axis(page)
+}
+
 /// Begins the picture, with the lines at every third hour.
-#[tactic(auto, unfolding(crate::specs::Chart::grid_text))]
-fn add_grid(page: &mut String) -> Result<(), NoMemory>
-    ensures { OnOk result (string_bytes page.new ≡ string_bytes page.old ++ grid_text) }
+#[tactic(auto, unfolding(crate::specs::Chart::hour_lines))]
+fn add_hour_lines(page: &mut String) -> Result<(), NoMemory>
+    ensures { OnOk result (string_bytes page.new ≡ string_bytes page.old ++ hour_lines) }
 {
     page.push_str(GRID)
+}
+
+/// Adds the line at half the employees.
+#[tactic(auto, unfolding(crate::specs::Chart::half_line))]
+fn add_half_line(page: &mut String, top: u64) -> Result<(), NoMemory>
+    ensures { OnOk result (string_bytes page.new ≡ string_bytes page.old ++ half_line top) }
+{
+    write!(page, "<path class=\"grid\" d=\"M0 {top}H1440\"/>\n")
+}
+
+/// Begins the picture, with the lines at every third hour and that at half the employees.
+#[tactic(auto, unfolding(crate::specs::Chart::grid_text))]
+fn add_grid(page: &mut String, most: u32) -> Result<(), NoMemory>
+    requires { 0 < most }
+    ensures { OnOk result (string_bytes page.new ≡ string_bytes page.old ++ grid_text most) }
+{
+    let top = depth(most / 2, most);
+    add_hour_lines(page)?;
+    add_half_line(page, top)
 }
 
 /// Ends the picture, with the hours below it.
@@ -346,8 +415,8 @@ pub(crate) fn add_chart(
     requires within { first + day_slots instance.now ≤ slots instance.now }
     ensures { OnOk result (string_bytes page.new ≡ string_bytes page.old ++ chart instance.now attendance.now.duties most first banded) }
 {
-    add_chart_head(page, most)?;
-    add_grid(page)?;
+    add_axis(page, most)?;
+    add_grid(page, most)?;
     add_layer(page, instance, attendance, most, first, Layer::Covered)?;
     add_layer(page, instance, attendance, most, first, Layer::Over)?;
     add_layer(page, instance, attendance, most, first, Layer::Under)?;

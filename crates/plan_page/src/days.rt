@@ -1,15 +1,16 @@
 //! The days of a plan, each with its picture and its rows.
-ghost use Rattle.std.specs.Prelude.{◌≡◌, ◌+◌, ◌*◌, ◌^◌, ◌<◌, ◌≤◌, ◌++◌, All, OnOk, length, map, string_bytes};
+ghost use Rattle.std.specs.Prelude.{◌≡◌, ◌+◌, ◌*◌, ◌^◌, ◌<◌, ◌≤◌, ◌++◌, All, OnOk, length, map, slice_get, string_bytes};
 ghost use Rattle.std.specs.List.{enumerate_from, flat_map};
 ghost use Rattle.plan_tables.specs.Starting.{IsKnown};
 ghost use Rattle.plan_tables.specs.SummaryLines.{wanted_hours};
 ghost use Rattle.plan_tables.specs.Times.{span_text};
 ghost use Rattle.shift_instance.specs.Problem.{day_slots, slots};
 ghost use Rattle.plan_page.specs.Chart.{most_employees};
-ghost use Rattle.plan_page.specs.Page.{day_duties, day_end, day_hours, day_pictures, day_section, day_title, hours_end, over_begin, spans_text, wanted_worked};
+ghost use Rattle.plan_page.specs.Page.{day_begin, day_duties, day_end, day_hours, day_name, day_pictures, day_section, day_title, hours_end, over_begin, spans_text, title_end, wanted_worked};
 
 use crate::bars::add_bars;
 use crate::chart::{add_chart, most_employees};
+use crate::escaping::add_escaped;
 use crate::overview::has_bands;
 use break_rules::NoMemory;
 use plan_tables::{Attendance, DaySummary, Hours, Totals, day_slots};
@@ -17,11 +18,44 @@ use shift_instance::{Instance, Row};
 use std::fmt::Write;
 
 /// Adds the number of a day, counted from 1.
-#[tactic(auto, unfolding(crate::specs::Page::day_title))]
-fn add_title(page: &mut String, number: usize) -> Result<(), NoMemory>
-    ensures { OnOk result (string_bytes page.new ≡ string_bytes page.old ++ day_title number) }
+#[tactic(auto, unfolding(crate::specs::Page::day_begin))]
+fn begin_day(page: &mut String, number: usize) -> Result<(), NoMemory>
+    ensures { OnOk result (string_bytes page.new ≡ string_bytes page.old ++ day_begin number) }
 {
-    write!(page, "<section class=\"day\">\n<h2>Day {number}</h2>\n")
+    write!(page, "<section class=\"day\">\n<h2>Day {number}")
+}
+
+/// Adds the name of a day, if it has one.
+#[tactic(auto, unfolding(crate::specs::Page::day_name))]
+fn add_name(page: &mut String, names: &[String], k: usize) -> Result<(), NoMemory>
+    ensures { OnOk result (string_bytes page.new ≡ string_bytes page.old ++ day_name (slice_get names.now k)) }
+{
+    match names.get(k) {
+        None => Ok(()),
+        Some(name) => {
+            page.push_str(", ")?;
+            add_escaped(page, name.as_str())
+        }
+    }
+}
+
+/// Ends the title of a day.
+#[tactic(auto, unfolding(crate::specs::Page::title_end))]
+fn end_title(page: &mut String) -> Result<(), NoMemory>
+    ensures { OnOk result (string_bytes page.new ≡ string_bytes page.old ++ title_end) }
+{
+    page.push_str("</h2>\n")
+}
+
+/// Adds the title of a day, counted from 0.
+#[tactic(auto, unfolding(crate::specs::Page::day_title))]
+fn add_title(page: &mut String, names: &[String], k: usize) -> Result<(), NoMemory>
+    requires { k < 2 ^ 63 }
+    ensures { OnOk result (string_bytes page.new ≡ string_bytes page.old ++ day_title names.now k) }
+{
+    begin_day(page, k + 1)?;
+    add_name(page, names, k)?;
+    end_title(page)
 }
 
 /// Adds how many duties start on a day.
@@ -167,6 +201,7 @@ fn add_day(
     attendance: &Attendance,
     most: u32,
     rows: &[&Row],
+    names: &[String],
     k: usize,
     day: &DaySummary,
 ) -> Result<(), NoMemory>
@@ -175,11 +210,11 @@ fn add_day(
     requires some { 0 < most }
     requires listed { All (IsKnown instance.now) (map (λ r. r.now) rows.now) }
     requires day { k < instance.now.days }
-    ensures { OnOk result (string_bytes page.new ≡ string_bytes page.old ++ day_section instance.now attendance.now.duties (map (λ r. r.now) rows.now) (k, day.now)) }
+    ensures { OnOk result (string_bytes page.new ≡ string_bytes page.old ++ day_section instance.now attendance.now.duties (map (λ r. r.now) rows.now) names.now (k, day.now)) }
 {
     let _valid = instance.slots();
     let first = first_slot(instance, k as u8);
-    add_title(page, k + 1)?;
+    add_title(page, names, k)?;
     add_hours(page, instance, day)?;
     add_pictures(
         page,
@@ -193,22 +228,23 @@ fn add_day(
     end_day(page)
 }
 
-/// Adds the days, with one scale for the pictures of all.
+/// Adds the days under their names, with one scale for the pictures of all.
 pub(crate) fn add_days(
     page: &mut String,
     instance: &Instance,
     attendance: &Attendance,
     rows: &[&Row],
+    names: &[String],
     days: &[DaySummary],
 ) -> Result<(), NoMemory>
     requires instance { attendance.now.instance ≡ instance.now }
     requires listed { All (IsKnown instance.now) (map (λ r. r.now) rows.now) }
     requires days { length days.now ≡ instance.now.days }
-    ensures { OnOk result (string_bytes page.new ≡ string_bytes page.old ++ flat_map (day_section instance.now attendance.now.duties (map (λ r. r.now) rows.now)) (enumerate_from 0 days.now)) }
+    ensures { OnOk result (string_bytes page.new ≡ string_bytes page.old ++ flat_map (day_section instance.now attendance.now.duties (map (λ r. r.now) rows.now) names.now) (enumerate_from 0 days.now)) }
 {
     let most = most_employees(instance, attendance);
     for (k, day) in days.iter().enumerate() {
-        add_day(page, instance, attendance, most, rows, k, day)?;
+        add_day(page, instance, attendance, most, rows, names, k, day)?;
     }
     Ok(())
 }

@@ -37,11 +37,13 @@ svg{display:block;width:100%;overflow:hidden}
 .work{fill:#4a6c9b}.break{fill:#fff;stroke:#111;stroke-width:1;vector-effect:non-scaling-stroke}
 .row{display:grid;grid-template-columns:17em 1fr;gap:0 .6em;align-items:center;break-inside:avoid}
 .row>span{font-size:.87em;line-height:1.25;overflow-wrap:anywhere}
+.axis{position:relative;align-self:stretch;text-align:right}.axis>span{position:absolute;right:0;top:0}.axis>span[style]{transform:translateY(-50%)}.axis>span:last-child{top:auto;bottom:0}
+pre{font:.87em/1.35 monospace;white-space:pre-wrap;margin:.2em 0}
 .hours{display:grid;grid-template-columns:repeat(8,1fr);font-size:.75em;color:#333}
-.key{display:flex;flex-wrap:wrap;gap:.2em 1.2em;font-size:.87em}.key span{display:flex;align-items:center;gap:.4em}
+.key{margin-top:.8em;display:flex;flex-wrap:wrap;gap:.2em 1.2em;font-size:.87em}.key span{display:flex;align-items:center;gap:.4em}
 .key svg{width:28px;height:14px;flex:none}
 .day{break-inside:avoid-page}
-@media(max-width:640px){body{font-size:14px}.row{grid-template-columns:1fr}.tables{gap:.3em}th,td{padding:.1em .3em}.chart{height:150px}.bar{height:12px}}
+@media(max-width:640px){body{font-size:14px}.row{grid-template-columns:1fr}.axis>span{position:static}.axis>span+span{display:none}.tables{gap:.3em}th,td{padding:.1em .3em}.chart{height:150px}.bar{height:12px}}
 @media print{body{max-width:none}.covered,.over,.under,.work,.break{print-color-adjust:exact;-webkit-print-color-adjust:exact}}
 </style>
 </head>

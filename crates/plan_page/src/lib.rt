@@ -10,6 +10,8 @@ mod head;
 mod overview;
 mod page;
 mod pictures;
+mod sections;
 mod stretches;
 
-pub use page::plan_page;
+pub use page::{PageTexts, plan_page};
+pub use sections::Section;

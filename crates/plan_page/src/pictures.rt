@@ -1,5 +1,5 @@
 //! What pictures are drawn of: numbers of employees as heights, and boxes.
-ghost use Rattle.std.specs.Prelude.{◌≡◌, ◌<◌, ◌++◌, OnOk, string_bytes};
+ghost use Rattle.std.specs.Prelude.{◌≡◌, ◌<◌, ◌≤◌, ◌++◌, OnOk, string_bytes};
 ghost use Rattle.plan_page.specs.Pictures.{box_corner, box_sides, box_text, depth};
 
 use break_rules::NoMemory;
@@ -11,7 +11,8 @@ const HEIGHT: u64 = 240;
 /// How far below the top of the picture, which shows up to `most` employees, a number of employees stands.
 pub(crate) fn depth(employees: u32, most: u32) -> u64
     requires { 0 < most }
-    ensures { result ≡ depth most employees }
+    ensures depth { result ≡ depth most employees }
+    ensures within { result ≤ 240 }
 {
     let height = u64::from(employees) * HEIGHT / u64::from(most);
     HEIGHT.saturating_sub(height)

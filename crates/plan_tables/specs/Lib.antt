@@ -8,4 +8,3 @@ pub mod Starting
 pub mod Records
 pub mod SummaryLines
 pub mod DutyLines
-pub mod Written

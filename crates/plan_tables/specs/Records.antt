@@ -11,6 +11,7 @@ use Rattle.shift_instance.specs.declared.Shift.{Shift}
 use Rattle.shift_instance.specs.Problem.{Problem, day_slots, slots, need_at, need_max_at, shift_list, below}
 use Rattle.shift_instance.specs.Rota.{cover}
 use Rattle.rota_writer.specs.Table.{clock, break_text, day_number, name_of}
+use Rattle.table_records.specs.Guarding.{guarded}
 use Rattle.plan_tables.specs.Attendance.{on_break, over_at, under_at}
 use Rattle.plan_tables.specs.Starting.{by_start}
 
@@ -23,13 +24,13 @@ breaks_field i start (b ∷ bs) = break_text i start b ++ flat_map (λ next. cod
 abbrev pub duty_columns : List (List ℕ)
 duty_columns = codes "day" ∷ codes "start" ∷ codes "end" ∷ codes "type" ∷ codes "employees" ∷ codes "breaks" ∷ []
 
--- the fields of a row of a shift: the day on which its duties start, counted from 1, their start and end, their type, how many they are, and their breaks
+-- the fields of a row of a shift: the day on which its duties start, counted from 1, their start and end, their type, guarded, how many they are, and their breaks
 abbrev pub duty_fields : Problem → Shift → Row → List (List ℕ)
 duty_fields i x r =
     decimal (day_number i x r.day)
     ∷ clock (x.start * i.slot_minutes)
     ∷ clock ((x.start + x.len) * i.slot_minutes)
-    ∷ name_of i x.kind
+    ∷ guarded (name_of i x.kind)
     ∷ decimal r.count
     ∷ breaks_field i x.start r.breaks
     ∷ []

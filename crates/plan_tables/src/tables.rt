@@ -9,7 +9,6 @@ ghost use Rattle.shift_instance.specs.Valid.{IsShift, IsValid};
 ghost use Rattle.plan_tables.specs.Attendance.{on_break, over_at, under_at};
 ghost use Rattle.plan_tables.specs.Records.{breaks_field, cover_text, duties_text, duty_columns, duty_fields, duty_record, slot_columns, slot_fields};
 
-use crate::records::Records;
 use crate::starting::rows_by_start;
 use crate::tallies::day_slots;
 use crate::{Attendance, ClockTime, Period};
@@ -17,6 +16,7 @@ use break_rules::{Break, NoMemory};
 use shift_instance::{Instance, Row, Rows, Shift};
 use std::alloc::Global;
 use std::fmt::Write;
+use table_records::{Records, guarded};
 
 /// Adds the time of a break of a shift that starts at a slot.
 fn add_break(text: &mut String, instance: &Instance, start: u16, b: &Break) -> Result<(), NoMemory>
@@ -59,8 +59,8 @@ pub(crate) fn breaks_field(
     Ok(text)
 }
 
-/// The day on which a shift of a duty on a day starts, counted from 1.
-pub(crate) fn day_number(instance: &Instance, shift: Shift, day: u8) -> u32
+/// The day on which a shift of a duty on a day starts, counted from 1. It takes no memory.
+pub fn day_number(instance: &Instance, shift: Shift, day: u8) -> u32
     ensures { result ≡ day_number instance.now shift day }
 {
     let parts = instance.parts();
@@ -86,12 +86,13 @@ fn with_row_of(
     let start = period.begin.to_string(alloc)?;
     let end = period.end.to_string(alloc)?;
     let employees = row.count.to_string(alloc)?;
+    let name = guarded(alloc, kind.name.as_str())?;
     let breaks = breaks_field(alloc, instance, shift.start, row.breaks.as_slice())?;
     records.with(&[
         day.as_bytes(),
         start.as_bytes(),
         end.as_bytes(),
-        kind.name.as_bytes(),
+        name.as_bytes(),
         employees.as_bytes(),
         breaks.as_bytes(),
     ])
@@ -116,7 +117,7 @@ fn with_row(
 ///
 /// There is a line for each row, by the day and the time at which its duties start, and those that start together in their order.
 /// Days are counted from 1. Times are those of a clock. The breaks are their times with a space between two, as
-/// `10:00-10:15 12:00-12:30`, and nothing where there are none.
+/// `10:00-10:15 12:00-12:30`, and nothing where there are none. A name that a spreadsheet would calculate has an apostrophe before it.
 pub fn duties_csv(alloc: Global, instance: &Instance, rows: &Rows) -> Result<Vec<u8>, NoMemory>
     requires { IsTrue (are_legal_rows instance.now rows.now) }
     ensures { IfOk result (λ text. text.items ≡ duties_text instance.now rows.now) }

@@ -3,7 +3,7 @@
 use advice::Adviser;
 use advisers::Greedy;
 use plan_base::MemDisk;
-use planning_progress::{Progress, Until};
+use planning_progress::{Limits, Progress, Until};
 use planning_runs::{Plan, Planned, search_plan};
 use solve_runs::{Request, SearchEnd};
 use std::sync::{Arc, Wait};
@@ -16,10 +16,10 @@ use worker_gate::Open;
 const MORNING: &str =
     "{\"slot_minutes\":60,\"days\":1,\"need\":[0,0,0,0,0,0,0,0,1,1,1,1,0,0,0,0,0,0,0,0,0,0,0,0],\"max_heads\":1,\"weights\":{\"excess\":1,\"shortage\":2,\"shift\":3},\"types\":[{\"name\":\"M\",\"start_min\":8,\"start_max\":8,\"len_min\":4,\"len_max\":4,\"breaks\":null}]}";
 
-/// The progress of a run by one worker that begins now and has so many milliseconds.
-fn begun(rt: HostRuntime, limit: u64) -> Result<Arc<Progress>, Fail> {
+/// The progress of a run by one worker that begins now and may last so many milliseconds.
+fn begun(rt: HostRuntime, whole: u64, quiet: Option<u64>) -> Result<Arc<Progress>, Fail> {
     let began = Instant::now(&rt)?;
-    let progress = Progress::new(rt.alloc(), began, limit, 1)?;
+    let progress = Progress::new(rt.alloc(), began, Limits { whole, quiet }, 1)?;
     match Arc::new(rt.alloc(), progress) {
         Ok(progress) => Ok(progress),
         Err(_) => Err(Fail::from("no memory")),
@@ -52,15 +52,22 @@ fn morning<R: Threads + Wait + Sync>(
 
 #[test]
 fn a_search_whose_time_is_over_takes_no_step(rt: HostRuntime) -> Result<(), Fail> {
-    let (end, plan) = morning(rt, &rt, begun(rt, 0)?)?;
+    let (end, plan) = morning(rt, &rt, begun(rt, 0, None)?)?;
     assert!(rt; matches!(end, SearchEnd::Stopped));
     assert!(rt; plan.report.starts_with(b"shift-report 1\nstatus stopped\n"));
     Ok(())
 }
 
 #[test]
+fn a_search_without_a_cheaper_plan_for_too_long_ends(rt: HostRuntime) -> Result<(), Fail> {
+    let (end, _) = morning(rt, &rt, begun(rt, u64::MAX, Some(0))?)?;
+    assert!(rt; matches!(end, SearchEnd::Stopped));
+    Ok(())
+}
+
+#[test]
 fn a_search_ends_as_soon_as_it_is_asked_to(rt: HostRuntime) -> Result<(), Fail> {
-    let progress = begun(rt, u64::MAX)?;
+    let progress = begun(rt, u64::MAX, None)?;
     progress.ask_for_end();
     let (end, _) = morning(rt, &rt, progress)?;
     assert!(rt; matches!(end, SearchEnd::Stopped));
@@ -69,7 +76,7 @@ fn a_search_ends_as_soon_as_it_is_asked_to(rt: HostRuntime) -> Result<(), Fail> 
 
 #[test]
 fn a_search_within_its_time_is_finished(rt: HostRuntime) -> Result<(), Fail> {
-    let (end, plan) = morning(rt, &rt, begun(rt, u64::MAX)?)?;
+    let (end, plan) = morning(rt, &rt, begun(rt, u64::MAX, None)?)?;
     assert!(rt; matches!(end, SearchEnd::Finished));
     assert!(rt;
         plan.report

@@ -80,7 +80,7 @@ fn free_name<R: Files>(rt: &R, alloc: Global, path: &str) -> io::Result<String> 
     Err(io::ErrorKind::AlreadyExists.into())
 }
 
-/// Gives the file of a journal, which this run has locked, another name that no file has, and answers that name.
+/// Gives a file another name that no file has, and answers that name. A journal is locked by this run then.
 pub fn set_aside<R: Files>(rt: &R, alloc: Global, path: &str) -> io::Result<String> {
     let name = free_name(rt, alloc, path)?;
     fs::rename(rt, path, name.as_str())?;

@@ -7,6 +7,6 @@ mod until;
 mod watched;
 
 pub use line::{Reached, gap_of, progress_line};
-pub use progress::Progress;
+pub use progress::{Limits, Progress};
 pub use until::Until;
 pub use watched::{Shown, Watched};

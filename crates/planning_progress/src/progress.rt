@@ -30,19 +30,30 @@ impl Mark {
 #[derive(Drop)]
 pub struct Progress {
     began: Instant,
-    limit: u64,
+    limits: Limits,
     asked: AtomicBool,
     steps: AtomicU64,
     marks: Vec<Mark>,
     said: AtomicU64,
+    cheapest: AtomicU64,
+    cheaper_at: AtomicU64,
+}
+
+/// How long a search may last, in milliseconds.
+#[derive(Clone, Copy, PartialEq, Eq, Drop)]
+pub struct Limits {
+    /// Its whole time.
+    pub whole: u64,
+    /// Its time without a cheaper plan, if that is limited.
+    pub quiet: Option<u64>,
 }
 
 impl Progress {
-    /// The progress of a run by so many workers that begins now and has so many milliseconds.
+    /// The progress of a run by so many workers that begins now and may last so long.
     pub fn new(
         alloc: Global,
         began: Instant,
-        limit: u64,
+        limits: Limits,
         workers: u16,
     ) -> Result<Progress, AllocError> {
         let mut marks = Vec::with_capacity(alloc, usize::from(workers))?;
@@ -51,11 +62,13 @@ impl Progress {
         }
         Ok(Progress {
             began,
-            limit,
+            limits,
             asked: AtomicBool::new(false),
             steps: AtomicU64::new(0),
             marks,
             said: AtomicU64::new(0),
+            cheapest: AtomicU64::new(u64::MAX),
+            cheaper_at: AtomicU64::new(0),
         })
     }
 
@@ -75,9 +88,40 @@ impl Progress {
         self.asked.load(Ordering::SeqCst)
     }
 
-    /// Whether the search is to end: its time is over, someone has asked for its end, or the clock gives no time.
+    /// For how many milliseconds there was no cheaper plan.
+    fn quiet_at(&self, now: u64) -> u64 {
+        now.saturating_sub(self.cheaper_at.load(Ordering::SeqCst))
+    }
+
+    /// Whether there was no cheaper plan for as long as the search may last without one.
+    fn is_quiet_at(&self, now: u64) -> bool {
+        self.limits
+            .quiet
+            .is_some_and(|limit| limit <= self.quiet_at(now))
+    }
+
+    /// Whether the search is to end since there was no cheaper plan for too long.
+    pub fn is_quiet<C: Clock>(&self, clock: &C) -> bool {
+        self.now(clock).is_some_and(|now| self.is_quiet_at(now))
+    }
+
+    /// Whether the search is to end: its time is over, or that without a cheaper plan, someone has asked for its end, or the clock gives
+    /// no time.
     pub fn is_over<C: Clock>(&self, clock: &C) -> bool {
-        self.is_end_asked() || !self.now(clock).is_some_and(|now| now < self.limit)
+        let Some(now) = self.now(clock) else {
+            return true;
+        };
+        self.is_end_asked() || self.limits.whole <= now || self.is_quiet_at(now)
+    }
+
+    /// A worker knows of a plan of some cost, so many milliseconds after the run began, if the clock told it.
+    fn know(&self, cost: u64, now: Option<u64>) {
+        let before = self.cheapest.fetch_min(cost, Ordering::SeqCst);
+        if cost < before {
+            if let Some(now) = now {
+                self.cheaper_at.fetch_max(now, Ordering::SeqCst);
+            }
+        }
     }
 
     /// Counts the steps that the journal held before this run.
@@ -85,24 +129,26 @@ impl Progress {
         self.steps.fetch_add(steps, Ordering::SeqCst);
     }
 
-    /// A worker asks for a node.
-    pub(crate) fn see(&self, worker: u16, ask: &Ask) {
+    /// A worker asks for a node, so many milliseconds after the run began.
+    pub(crate) fn see(&self, worker: u16, ask: &Ask, now: Option<u64>) {
+        self.know(ask.best, now);
         if let Some(mark) = self.marks.get(usize::from(worker)) {
             mark.cost.store(ask.best, Ordering::SeqCst);
             mark.floor.store(ask.floor, Ordering::SeqCst);
         }
     }
 
-    /// A worker was told that a step of its was taken, after which the best plan has that cost.
-    pub(crate) fn count(&self, worker: u16, cost: u64) {
+    /// A worker was told, so many milliseconds after the run began, that a step of its was taken, after which the best plan has that cost.
+    pub(crate) fn count(&self, worker: u16, cost: u64, now: Option<u64>) {
+        self.know(cost, now);
         self.steps.fetch_add(1, Ordering::SeqCst);
         if let Some(mark) = self.marks.get(usize::from(worker)) {
             mark.cost.store(cost, Ordering::SeqCst);
         }
     }
 
-    /// How far the search has come.
-    pub fn reached(&self) -> Reached {
+    /// How far the search has come, so many milliseconds after the run began.
+    pub fn reached(&self, now: u64) -> Reached {
         let mut cost = u64::MAX;
         let mut bound = u64::MAX;
         for mark in self.marks.as_slice() {
@@ -112,6 +158,7 @@ impl Progress {
         Reached {
             steps: self.steps.load(Ordering::SeqCst),
             cost,
+            quiet: self.quiet_at(now) / 1_000,
             bound: bound.min(cost),
         }
     }

@@ -72,7 +72,7 @@ impl<A: Adviser, R: Clock + Eprint + Drop> Watched<A, R> {
         if !self.progress.takes_turn(now, self.shown.each()) {
             return;
         }
-        let Ok(line) = progress_line(self.alloc, now / 1_000, self.progress.reached()) else {
+        let Ok(line) = progress_line(self.alloc, now / 1_000, self.progress.reached(now)) else {
             return;
         };
         let _ = match self.shown {
@@ -91,13 +91,15 @@ impl<A: Adviser, R: Clock + Eprint + Drop> Adviser for Watched<A, R> {
     ghost last = { λ w. A.last w.adviser };
 
     fn advise(&mut self, instance: &Instance, ask: &Ask) -> Result<Advice, NoMemory> {
-        self.progress.see(self.worker, ask);
+        self.progress
+            .see(self.worker, ask, self.progress.now(&self.rt));
         self.say();
         self.adviser.advise(instance, ask)
     }
 
     fn learn(&mut self, news: &Told) {
-        self.progress.count(self.worker, news.best);
+        self.progress
+            .count(self.worker, news.best, self.progress.now(&self.rt));
         self.adviser.learn(news);
     }
 }

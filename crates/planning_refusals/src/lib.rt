@@ -5,5 +5,5 @@
 mod reading;
 mod refusal;
 
-pub use reading::{read_document, read_report};
+pub use reading::{read_document, read_report, read_table};
 pub use refusal::{Cause, Refusal};

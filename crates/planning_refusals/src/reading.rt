@@ -71,3 +71,14 @@ pub fn read_report(rt: HostRuntime, path: &str) -> Result<Vec<u8>, Refusal> {
         None => Err(Refusal::long_report(rt.alloc())),
     }
 }
+
+/// The most bytes that the file of a table may have.
+const TABLE_MAX: usize = 1_048_576;
+
+/// The bytes of the table in a file. It is refused where the file can't be read or is longer than tables may be.
+pub fn read_table(rt: HostRuntime, path: &str) -> Result<Vec<u8>, Refusal> {
+    match read_within(rt, Role::Table, path, TABLE_MAX)? {
+        Some(table) => Ok(table),
+        None => Err(Refusal::long_table(rt.alloc(), path, TABLE_MAX)),
+    }
+}

@@ -8,6 +8,7 @@ ghost use Rattle.planning_refusals.specs.Causes.{IsFor, cause_of, end_cause, num
 use cert_check::Refused;
 use certificate::{BUNDLE_MAX, CertText};
 use instance_json::ReadRefusal;
+use instance_tables::ImportRefusal;
 use journal_texts::journal_sentence;
 use planning_files::LockFault;
 use planning_runs::Unshown;
@@ -171,6 +172,28 @@ impl Refusal {
                 "the report has more than {BUNDLE_MAX} bytes, the most that a report may have"
             ),
         )
+    }
+
+    /// A table is longer than tables may be.
+    pub fn long_table(alloc: Global, path: &str, most: usize) -> Refusal
+        ensures { IsFor Document result }
+    {
+        Refusal::said(
+            Cause::Document,
+            format!(in alloc;
+                "the table `{path}` has more than {most} bytes, the most that a table may have"
+            ),
+        )
+    }
+
+    /// Tables are refused, with a sentence that says why.
+    pub fn tables(alloc: Global, why: &ImportRefusal) -> Refusal
+        ensures { IsFor Document result }
+    {
+        match why {
+            ImportRefusal::NoMemory => Refusal::from(AllocError),
+            ImportRefusal::Table(why) => Refusal::said(Cause::Document, format!(in alloc; "{why}")),
+        }
     }
 
     /// A report shows no plan for the instance of a document.

@@ -1,8 +1,10 @@
 //! The files of a plan that a report shows, and what is said of it.
 #![tactic(auto)]
 
+mod beside;
 mod sheets;
 mod standings;
 
+pub use beside::Beside;
 pub use sheets::{ready_folder, say, show_plan};
 pub use standings::standing;

@@ -1,8 +1,14 @@
-//! The words of the command line that ask for a plan, for a report to be shown or judged, or for the rules of an instance.
+//! The words of the command line that ask for a plan, for a report to be shown or judged, for two plans to be compared, for the rules of
+//! an instance, or for tables to be read or written.
 #![tactic(auto)]
 
+mod keeping;
 mod names;
+mod numbers;
+mod tables;
 mod wanted;
 
-pub use names::{folder_beside, is_same_file, journal_beside};
+pub use keeping::{CompareWords, LikeWords};
+pub use names::{document_beside, folder_beside, is_same_file, journal_beside};
+pub use tables::TableWords;
 pub use wanted::{CheckWords, PlanWords, RulesWords, ShowWords, StopOn, Wanted, wanted_by};

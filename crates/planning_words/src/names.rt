@@ -20,6 +20,13 @@ pub fn folder_beside(alloc: Global, instance: &str) -> Result<PathBuf, AllocErro
     Path::new(instance).with_extension(alloc, "plan")
 }
 
+/// The name of the JSON document beside an instance's file: that with the ending `.json` in place of its own.
+pub fn document_beside(alloc: Global, instance: &str) -> Result<PathBuf, AllocError>
+    ensures { IfOk result (λ path. IsWithExtension instance.now (codes "json") (path_buf_bytes path)) }
+{
+    Path::new(instance).with_extension(alloc, "json")
+}
+
 /// Whether two words name the same file as they stand.
 pub fn is_same_file(one: &str, other: &str) -> bool
     ensures { IsTrue result ↔ (one.now ≡ other.now) }

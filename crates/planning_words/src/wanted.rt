@@ -3,23 +3,29 @@
 ghost use Rattle.std.specs.Prelude.{◌≤◌, IfOk};
 ghost use Rattle.planning_words.specs.Wanted.{IsWithin};
 
-use clap::{Arg, ArgAction, ArgMatches, Command, Error, value_parser};
+use crate::keeping::{
+    CompareWords, LikeWords, compare_command, compare_words, like_word, like_words, of_word,
+};
+use crate::numbers::{ValueWord, first_of, quiet_of, seconds_of, workers_of};
+use crate::tables::{TableWords, export_command, import_command, table_words};
+use clap::error::ErrorKind;
+use clap::{Arg, ArgAction, ArgMatches, Command, Error};
+use day_names::NamedDay;
 use std::alloc::{AllocError, Global};
-
-/// How long a search lasts where the words don't say, in seconds.
-const SECONDS_UNSAID: u32 = 60;
-
-/// The longest search, in seconds.
-const SECONDS_MOST: u32 = 4_000_000;
-
-/// How many workers search where the words don't say.
-const WORKERS_UNSAID: u16 = 4;
-
-/// The most workers.
-const WORKERS_MOST: u16 = 16;
 
 /// The words for what ends a search.
 const STOPS: &[&str] = &["line", "enter"];
+
+/// The words for the weekday of the first day.
+const WEEKDAYS: &[&str] = &[
+    "monday",
+    "tuesday",
+    "wednesday",
+    "thursday",
+    "friday",
+    "saturday",
+    "sunday",
+];
 
 const ABOUT: &str =
     "Plans shifts: from the employees wanted in each slot to duties with their breaks.";
@@ -33,14 +39,26 @@ Examples:
   shift_plan plan week.json --seconds 600 --workers 8 --out rota
       Searches for ten minutes with eight workers and writes the plan to the folder rota.
 
-  shift_plan show week.json week.plan/report
-      Judges a report that stands and shows its plan once more.
+  shift_plan show week.json week.plan/report --from 2026-12-07
+      Judges a report that stands and shows its plan once more, with dates on its page.
 
   shift_plan check week.json week.plan/report
       Judges a report that stands and says what came of it.
 
+  shift_plan plan changed.json --like week.plan/report --of week.json
+      Searches for a plan of the changed instance that keeps what it can of the plan of week.json.
+
+  shift_plan compare week.json week.plan/report changed.json changed.plan/report
+      Says which duties the two plans have in common, and what each costs.
+
   shift_plan rules week.json
-      Says the rules of the instance back, in clock time.";
+      Says the rules of the instance back, in clock time.
+
+  shift_plan import tables week.json
+      Writes the document of the tables settings.csv, need.csv, types.csv and rules.csv in the folder tables.
+
+  shift_plan export week.json tables
+      Writes the tables of a document to the folder tables.";
 
 /// At what else than its time a search is to end.
 #[derive(Clone, Copy, PartialEq, Eq, Drop)]
@@ -68,6 +86,12 @@ pub struct PlanWords<'a> {
     pub anew: bool,
     /// At what else the search is to end, if it is said.
     pub stop_on: Option<StopOn>,
+    /// After how many seconds without a cheaper plan the search is to end, if it is said.
+    pub until_quiet: Option<u32>,
+    /// The plan of which the search is to keep what it can, if one is named.
+    pub like: Option<LikeWords<'a>>,
+    /// What the first day of the planning period is, if it is said.
+    pub first: Option<NamedDay>,
 }
 
 /// The words that ask for a report to be shown.
@@ -79,6 +103,8 @@ pub struct ShowWords<'a> {
     pub report: &'a str,
     /// The folder for the plan, if it is said.
     pub out: Option<&'a str>,
+    /// What the first day of the planning period is, if it is said.
+    pub first: Option<NamedDay>,
 }
 
 /// The words that ask for the rules of an instance.
@@ -106,8 +132,14 @@ pub enum Wanted<'a> {
     Show(ShowWords<'a>),
     /// A report that stands, judged.
     Check(CheckWords<'a>),
+    /// Two plans, compared.
+    Compare(CompareWords<'a>),
     /// The rules of an instance in words.
     Rules(RulesWords<'a>),
+    /// The document of tables.
+    Import(TableWords<'a>),
+    /// The tables of a document.
+    Export(TableWords<'a>),
 }
 
 /// The word for the folder of a plan.
@@ -118,7 +150,7 @@ fn out_word<'a>(alloc: Global) -> Arg<'a> {
 }
 
 /// The word for the instance.
-fn instance_word<'a>(alloc: Global) -> Arg<'a> {
+pub(crate) fn instance_word<'a>(alloc: Global) -> Arg<'a> {
     Arg::new(alloc, "INSTANCE")
         .required(true)
         .help("The file of the instance document")
@@ -139,7 +171,7 @@ fn seconds_word<'a>(alloc: Global) -> Arg<'a> {
     Arg::new(alloc, "seconds")
         .long("seconds")
         .value_name("T")
-        .value_parser(value_parser!(u32).range(0..=4_000_000))
+        .allow_hyphen_values(true)
         .help(
             "How long to search, in seconds; 0 writes the plan that the journal holds [default: 60]",
         )
@@ -150,7 +182,7 @@ fn workers_word<'a>(alloc: Global) -> Arg<'a> {
     Arg::new(alloc, "workers")
         .long("workers")
         .value_name("W")
-        .value_parser(value_parser!(u16).range(1..=16))
+        .allow_hyphen_values(true)
         .help("How many workers search at the same time, 1 to 16 [default: 4]")
 }
 
@@ -173,13 +205,40 @@ fn stop_word<'a>(alloc: Global) -> Arg<'a> {
         )
 }
 
+/// The word for the time without a cheaper plan after which a search ends.
+fn quiet_word<'a>(alloc: Global) -> Arg<'a> {
+    Arg::new(alloc, "until-quiet")
+        .long("until-quiet")
+        .value_name("T")
+        .allow_hyphen_values(true)
+        .help("End the search after so many seconds without a cheaper plan [default: never]")
+}
+
+/// The word for the weekday of the first day.
+fn weekday_word<'a>(alloc: Global) -> Result<Arg<'a>, AllocError> {
+    Arg::new(alloc, "first-day")
+        .long("first-day")
+        .value_name("WEEKDAY")
+        .value_parser(WEEKDAYS)
+        .help("The weekday of the first day, for the page of the plan")
+        .conflicts_with("from")
+}
+
+/// The word for the date of the first day.
+fn date_word<'a>(alloc: Global) -> Arg<'a> {
+    Arg::new(alloc, "from").long("from").value_name("DATE").help(
+        "The date of the first day, as 2026-12-01, for the page of the plan",
+    )
+}
+
 /// The command `plan` with the words for what is read and how long is searched.
 fn timed_command<'a>(alloc: Global) -> Result<Command<'a>, AllocError> {
     Command::new(alloc, "plan")
         .about("Searches for a cheapest plan and writes it")
         .arg(instance_word(alloc))?
         .arg(journal_word(alloc))?
-        .arg(seconds_word(alloc))
+        .arg(seconds_word(alloc))?
+        .arg(quiet_word(alloc))
 }
 
 /// The words behind `plan`.
@@ -187,7 +246,11 @@ fn plan_command<'a>(alloc: Global) -> Result<Command<'a>, AllocError> {
     timed_command(alloc)?
         .arg(workers_word(alloc))?
         .arg(out_word(alloc))?
+        .arg(weekday_word(alloc)?)?
+        .arg(date_word(alloc))?
         .arg(stop_word(alloc))?
+        .arg(like_word(alloc)?)?
+        .arg(of_word(alloc)?)?
         .arg(anew_word(alloc))
 }
 
@@ -204,7 +267,9 @@ fn show_command<'a>(alloc: Global) -> Result<Command<'a>, AllocError> {
         .about("Judges a report that stands and shows its plan")
         .arg(instance_word(alloc))?
         .arg(report_word(alloc))?
-        .arg(out_word(alloc))
+        .arg(out_word(alloc))?
+        .arg(weekday_word(alloc)?)?
+        .arg(date_word(alloc))
 }
 
 /// The words behind `rules`.
@@ -231,13 +296,21 @@ fn program<'a>(alloc: Global) -> Command<'a> {
         .arg_required_else_help(true)
 }
 
-/// The whole command line.
-fn command<'a>(alloc: Global) -> Result<Command<'a>, AllocError> {
+/// The program with the commands for plans.
+fn planning_command<'a>(alloc: Global) -> Result<Command<'a>, AllocError> {
     let plan = plan_command(alloc)?;
     let planning = program(alloc).subcommand(plan)?;
     let showing = planning.subcommand(show_command(alloc)?)?;
     let checking = showing.subcommand(check_command(alloc)?)?;
-    checking.subcommand(rules_command(alloc)?)
+    let comparing = checking.subcommand(compare_command(alloc)?)?;
+    comparing.subcommand(rules_command(alloc)?)
+}
+
+/// The whole command line.
+fn command<'a>(alloc: Global) -> Result<Command<'a>, AllocError> {
+    let planning = planning_command(alloc)?;
+    let importing = planning.subcommand(import_command(alloc)?)?;
+    importing.subcommand(export_command(alloc)?)
 }
 
 /// What ends a search, by its word.
@@ -248,34 +321,39 @@ fn stop_on(word: &str) -> StopOn {
     }
 }
 
-/// What the words behind `plan` ask for.
-fn plan_words<'a>(matches: &ArgMatches<'a>) -> PlanWords<'a>
-    ensures seconds { result.seconds ≤ SECONDS_MOST }
-    ensures some { 1 ≤ result.workers }
-    ensures sixteen { result.workers ≤ WORKERS_MOST }
+/// What the words behind `plan` ask for, or the first word that has a value which it doesn't take.
+fn plan_words<'a>(matches: &ArgMatches<'a>) -> Result<PlanWords<'a>, ValueWord>
+    ensures { IfOk result (λ words. IsWithin (Wanted.Plan words)) }
 {
-    let seconds = matches.get_one::<u32>("seconds").unwrap_or(SECONDS_UNSAID);
-    let workers = matches.get_one::<u16>("workers").unwrap_or(WORKERS_UNSAID);
-    PlanWords {
+    let seconds = seconds_of(matches)?;
+    let workers = workers_of(matches)?;
+    let until_quiet = quiet_of(matches)?;
+    let first = first_of(matches)?;
+    Ok(PlanWords {
         // a required word is there
         instance: matches.get_str("INSTANCE").unwrap_or(""),
         journal: matches.get_str("journal"),
-        seconds: seconds.min(SECONDS_MOST),
-        workers: workers.clamp(1, WORKERS_MOST),
+        seconds,
+        workers,
         out: matches.get_str("out"),
         anew: matches.get_flag("anew"),
         stop_on: matches.get_str("stop-on").map(stop_on),
-    }
+        until_quiet,
+        like: like_words(matches),
+        first,
+    })
 }
 
-/// What the words behind `show` ask for.
-fn show_words<'a>(matches: &ArgMatches<'a>) -> ShowWords<'a> {
-    ShowWords {
+/// What the words behind `show` ask for, or the word that has a value which it doesn't take.
+fn show_words<'a>(matches: &ArgMatches<'a>) -> Result<ShowWords<'a>, ValueWord> {
+    let first = first_of(matches)?;
+    Ok(ShowWords {
         // required words are there
         instance: matches.get_str("INSTANCE").unwrap_or(""),
         report: matches.get_str("REPORT").unwrap_or(""),
         out: matches.get_str("out"),
-    }
+        first,
+    })
 }
 
 /// What the words behind `rules` ask for.
@@ -295,22 +373,53 @@ fn check_words<'a>(matches: &ArgMatches<'a>) -> CheckWords<'a> {
     }
 }
 
+/// What is said where a word has a value that it doesn't take, as clap says what is wrong with words.
+fn no_value(alloc: Global, matches: &ArgMatches, word: ValueWord) -> Result<Error, AllocError> {
+    let sentence = word.refusal(alloc, matches)?;
+    let mut whole = command(alloc)?;
+    whole.error(ErrorKind::ValueValidation, sentence.as_str())
+}
+
+/// What the words behind `plan` ask for, or what is said of the first value that its word doesn't take.
+fn wanted_plan<'a>(alloc: Global, behind: &ArgMatches<'a>) -> Result<Wanted<'a>, Error>
+    ensures { IfOk result IsWithin }
+{
+    match plan_words(behind) {
+        Ok(words) => Ok(Wanted::Plan(words)),
+        Err(word) => Err(no_value(alloc, behind, word)?),
+    }
+}
+
+/// What the words behind `show` ask for, or what is said of a value that its word doesn't take.
+fn wanted_show<'a>(alloc: Global, behind: &ArgMatches<'a>) -> Result<Wanted<'a>, Error>
+    ensures { IfOk result IsWithin }
+{
+    match show_words(behind) {
+        Ok(words) => Ok(Wanted::Show(words)),
+        Err(word) => Err(no_value(alloc, behind, word)?),
+    }
+}
+
 /// What the words of a command line ask for, the program's name first among them. The error is what clap says of other words, and the help
 /// where that is asked for.
 ///
-/// The words are `plan INSTANCE [--journal FILE] [--seconds T] [--workers W] [--out FOLDER] [--stop-on line|enter] [--anew]`,
-/// `show INSTANCE REPORT [--out FOLDER]`, `check INSTANCE REPORT` or `rules INSTANCE`. T is at most 4,000,000 and 60 where it isn't given, W is from 1 to 16 and 4 where it isn't
-/// given.
+/// The words are `plan INSTANCE [--journal FILE] [--seconds T] [--until-quiet T] [--workers W] [--out FOLDER] [--first-day WEEKDAY|--from DATE]
+/// [--stop-on line|enter] [--like REPORT --of OLD_INSTANCE] [--anew]`, `show INSTANCE REPORT [--out FOLDER] [--first-day WEEKDAY|--from DATE]`, `check INSTANCE REPORT`,
+/// `compare INSTANCE REPORT OTHER_INSTANCE OTHER_REPORT`, `rules INSTANCE`, `import FOLDER INSTANCE` or `export INSTANCE FOLDER`. The T of `--seconds` is at most 4,000,000 and 60 where it isn't given, that of `--until-quiet` from 1 to as much, and W is
+/// from 1 to 16 and 4 where it isn't given.
 pub fn wanted_by<'a>(alloc: Global, words: &'a [String]) -> Result<Wanted<'a>, Error>
     ensures { IfOk result IsWithin }
 {
     let matches = command(alloc)?.try_get_matches_from(words)?;
     match matches.subcommand() {
-        Some(("show", behind)) => Ok(Wanted::Show(show_words(behind))),
+        Some(("show", behind)) => wanted_show(alloc, behind),
         Some(("check", behind)) => Ok(Wanted::Check(check_words(behind))),
+        Some(("compare", behind)) => Ok(Wanted::Compare(compare_words(behind))),
         Some(("rules", behind)) => Ok(Wanted::Rules(rules_words(behind))),
-        Some((_, behind)) => Ok(Wanted::Plan(plan_words(behind))),
+        Some(("import", behind)) => Ok(Wanted::Import(table_words(behind))),
+        Some(("export", behind)) => Ok(Wanted::Export(table_words(behind))),
+        Some((_, behind)) => wanted_plan(alloc, behind),
         // one of the commands is required
-        None => Ok(Wanted::Plan(plan_words(&matches))),
+        None => wanted_plan(alloc, &matches),
     }
 }

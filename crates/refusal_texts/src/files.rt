@@ -18,6 +18,10 @@ pub enum Role {
     Plan,
     /// The folder of a plan.
     Folder,
+    /// A table of an instance.
+    Table,
+    /// The folder of the tables of an instance.
+    TableFolder,
 }
 
 impl Role {
@@ -31,6 +35,8 @@ impl Role {
             Role::Journal => "the journal",
             Role::Plan => "the plan's file",
             Role::Folder => "the plan's folder",
+            Role::Table => "the table",
+            Role::TableFolder => "the folder of the tables",
         }
     }
 }

@@ -1,18 +1,34 @@
 //! The journal of a search, locked for its run.
 
+use instance_json::INSTANCE_MAX;
 use planning_files::{LockedJournal, set_aside};
 use planning_refusals::{Cause, Refusal};
-use planning_words::{PlanWords, is_same_file, journal_beside};
+use planning_words::{PlanWords, document_beside, is_same_file, journal_beside};
 use refusal_texts::Role;
 use std::alloc::{AllocError, Global};
-use std::fs;
+use std::fs::{self, File};
+use std::io::Read;
 
 /// The journal that the words name, or else the one beside the instance.
-fn journal_of(alloc: Global, words: &PlanWords) -> Result<String, AllocError> {
+pub(crate) fn journal_of(alloc: Global, words: &PlanWords) -> Result<String, AllocError> {
     match words.journal {
         Some(journal) => String::from_str(alloc, journal),
         None => String::from_str(alloc, journal_beside(alloc, words.instance)?.as_str()),
     }
+}
+
+/// The bytes of a journal before the text of its instance: its mark, and the text's length.
+const BEFORE_HEAD: usize = 12;
+
+/// The text of the instance in a journal's file, where it can be read.
+pub(crate) fn journal_head(rt: HostRuntime, path: &str) -> Option<Vec<u8>> {
+    let mut file = File::open(&rt, path).ok()?;
+    let mut before = [0u8; BEFORE_HEAD];
+    file.read_exact(&mut before).ok()?;
+    let len = u32::from_le_bytes([before[8], before[9], before[10], before[11]]) as usize;
+    let mut head = vec![in rt.alloc(); 0u8; len.min(INSTANCE_MAX)].ok()?;
+    file.read_exact(head.as_mut_slice()).ok()?;
+    Some(head)
 }
 
 /// The journal of a run, locked, and the old one in whose place it stands, which stays locked as long.
@@ -50,9 +66,33 @@ fn no_search(alloc: Global, path: &str) -> Refusal {
     )
 }
 
+/// Whether another document beside the instance would have the same journal or folder by its name.
+fn has_namesake(rt: HostRuntime, words: &PlanWords) -> Result<bool, AllocError> {
+    if words.journal.is_some() && words.out.is_some() {
+        return Ok(false);
+    }
+    let other = document_beside(rt.alloc(), words.instance)?;
+    let is_other = !is_same_file(other.as_str(), words.instance);
+    Ok(is_other && has_bytes(rt, other.as_str()))
+}
+
+/// The refusal of words whose journal and folder are those of another document.
+fn of_namesake(alloc: Global, words: &PlanWords) -> Refusal {
+    let instance = words.instance;
+    Refusal::said(
+        Cause::Words,
+        format!(in alloc;
+            "`{instance}` and the document of that name with the ending .json beside it would have one journal and one folder: name others with --journal and --out"
+        ),
+    )
+}
+
 /// The journal that the words name, locked for this run. Where they ask to begin again, the old one gets another name first.
 pub(crate) fn locked_journal(rt: HostRuntime, words: &PlanWords) -> Result<Journals, Refusal> {
     let alloc = rt.alloc();
+    if has_namesake(rt, words)? {
+        return Err(of_namesake(alloc, words));
+    }
     let path = journal_of(alloc, words)?;
     if is_same_file(path.as_str(), words.instance) {
         return Err(Refusal::said(

@@ -1,14 +1,18 @@
 //! Shift plans for people: `shift_plan plan INSTANCE` searches for a cheapest plan within a time and writes it to a folder, and
 //! `shift_plan show INSTANCE REPORT` does so with the plan of a report that stands; `shift_plan check INSTANCE REPORT` judges one, and
-//! `shift_plan rules INSTANCE` says the rules of an instance back.
+//! `shift_plan rules INSTANCE` says the rules of an instance back. `shift_plan import FOLDER INSTANCE` writes the document of a
+//! spreadsheet's tables, and `shift_plan export INSTANCE FOLDER` the tables of a document.
 #![tactic(auto)]
 
 mod checking;
+mod comparing;
 mod journals;
+mod keeping;
 mod listening;
 mod planning;
 mod ruling;
 mod showing;
+mod tables;
 mod telling;
 
 use planning_refusals::{Cause, Refusal};
@@ -54,7 +58,10 @@ fn answer<R: Threads + Wait + Sync>(
         Wanted::Plan(words) => planning::plan(host, rt, &words)?,
         Wanted::Show(words) => showing::show(host, &words)?,
         Wanted::Check(words) => checking::check(host, &words)?,
+        Wanted::Compare(words) => comparing::compare(host, &words)?,
         Wanted::Rules(words) => ruling::rules(host, &words)?,
+        Wanted::Import(words) => tables::import(host, &words)?,
+        Wanted::Export(words) => tables::export(host, &words)?,
     }
     Ok(0)
 }

@@ -2,18 +2,23 @@
 
 ghost use Rattle.std.specs.Prelude.{◌<◌, ◌^◌};
 
-use crate::journals::locked_journal;
+use crate::journals::{journal_head, journal_of, locked_journal};
+use crate::keeping::{rows_to_keep, tell_kept};
 use crate::listening::{listen, stop_of};
-use crate::telling::{Beginning, say_rules, shown_on, tell_end, warn};
+use crate::telling::{Beginning, notes_of, say_rules, shown_on, tell_end, warn};
 use advice::Adviser;
+use instance_json::canonical;
+use journal_texts::difference;
+use kept_duties::Keeping;
 use planning_files::LockedJournal;
-use planning_progress::{Progress, Shown, Until, Watched};
+use planning_progress::{Limits, Progress, Shown, Until, Watched};
 use planning_refusals::{Cause, Refusal, read_document};
 use planning_runs::{Plan, Planned, search_plan};
-use planning_sheets::{ready_folder, show_plan};
+use planning_sheets::{Beside, ready_folder, show_plan};
 use planning_words::{PlanWords, StopOn, folder_beside};
-use shift_instance::Instance;
-use solve_runs::Request;
+use search_book::OpenFault;
+use shift_instance::{Instance, Rows};
+use solve_runs::{Request, SearchEnd};
 use std::alloc::{AllocError, Global};
 use std::sync::{Arc, Wait};
 use std::thread::Threads;
@@ -55,8 +60,11 @@ fn progress_of(rt: HostRuntime, words: &PlanWords) -> Result<Arc<Progress>, Refu
             String::from_str(alloc, "the system doesn't tell the time"),
         ));
     };
-    let limit = u64::from(words.seconds) * SECOND;
-    let progress = Progress::new(alloc, began, limit, words.workers)?;
+    let limits = Limits {
+        whole: u64::from(words.seconds) * SECOND,
+        quiet: words.until_quiet.map(|quiet| u64::from(quiet) * SECOND),
+    };
+    let progress = Progress::new(alloc, began, limits, words.workers)?;
     Ok(Arc::new(alloc, progress)?)
 }
 
@@ -67,19 +75,53 @@ fn steps_of(seconds: u32) -> u64
     if seconds == 0 { 0 } else { STEPS_MOST }
 }
 
-/// The adviser of a worker, which searches thoroughly for plans of the instance with a seed of its own and tells how far the search has come.
+/// Says where a document and the instance of its journal differ first, where a search was refused since they do.
+fn tell_difference(rt: HostRuntime, words: &PlanWords, end: &SearchEnd) -> Result<(), Refusal> {
+    let alloc = rt.alloc();
+    let SearchEnd::Refused(OpenFault::OtherInstance { at }) = end else {
+        return Ok(());
+    };
+    let document = read_document(rt, words.instance)?;
+    let instance = instance_in(alloc, document.as_slice())?;
+    let ours = canonical(alloc, &instance)?;
+    let journal = journal_of(alloc, words)?;
+    let Some(theirs) = journal_head(rt, journal.as_str()) else {
+        return Ok(());
+    };
+    let sentence = difference(alloc, ours.as_slice(), theirs.as_slice(), *at)?;
+    let _ = eprintln!(rt;
+        "shift_plan: note that the journal belongs to another instance: {sentence}"
+    );
+    Ok(())
+}
+
+/// The adviser of a worker, which searches thoroughly for plans of the instance with a seed of its own. Where there are rows to keep, it begins
+/// with them, and its plans keep what they can of them.
+fn keeping_adviser(
+    host: HostRuntime,
+    instance: &Instance,
+    progress: &Arc<Progress>,
+    worker: u16,
+    wanted: &Rows,
+) -> Result<Keeping<Thorough<Until<HostRuntime>>>, Refusal> {
+    let alloc = host.alloc();
+    let until = Until::new(Arc::try_clone(progress)?, host);
+    let thorough = Thorough::of(alloc, instance, u64::from(worker) + 1, until)?;
+    Ok(Keeping::new(alloc, instance, thorough, wanted.clone()?)?)
+}
+
+/// The same adviser, which tells how far the search has come.
 fn watched(
     host: HostRuntime,
     instance: &Instance,
     progress: &Arc<Progress>,
     worker: u16,
+    wanted: &Rows,
     shown: Shown,
-) -> Result<Watched<Thorough<Until<HostRuntime>>, HostRuntime>, Refusal> {
-    let alloc = host.alloc();
-    let until = Until::new(Arc::try_clone(progress)?, host);
-    let thorough = Thorough::of(alloc, instance, u64::from(worker) + 1, until)?;
+) -> Result<Watched<Keeping<Thorough<Until<HostRuntime>>>, HostRuntime>, Refusal> {
+    let adviser = keeping_adviser(host, instance, progress, worker, wanted)?;
     let seen = Arc::try_clone(progress)?;
-    Ok(Watched::new(alloc, thorough, worker, seen, host, shown))
+    Ok(Watched::new(host.alloc(), adviser, worker, seen, host, shown))
 }
 
 /// The plan of a search by these advisers until the search is finished, its time is over, or it is asked to end.
@@ -109,6 +151,7 @@ fn advised<R: Threads + Wait + Sync>(
         rt, alloc, instance, request, disk, advisers, &gate, &until,
     );
     let Some(plan) = plan else {
+        tell_difference(host, words, &searched.end)?;
         return Err(Refusal::of_end(alloc, &searched.end).unwrap_or(Refusal::from(AllocError)));
     };
     tell_end(host, progress, &searched.end);
@@ -123,6 +166,7 @@ fn search_by<R: Threads + Wait + Sync>(
     instance: Instance,
     journal: &LockedJournal<HostRuntime>,
     progress: &Arc<Progress>,
+    wanted: &Rows,
     enter_ends: bool,
 ) -> Result<Plan, Refusal>
     requires some { 0 < words.now.workers }
@@ -131,7 +175,7 @@ fn search_by<R: Threads + Wait + Sync>(
     let shown = shown_on(host, enter_ends);
     let mut advisers: Vec<Box<dyn Adviser + Send>> = Vec::new(alloc);
     for worker in 0..words.workers {
-        let adviser = watched(host, &instance, progress, worker, shown)?;
+        let adviser = watched(host, &instance, progress, worker, wanted, shown)?;
         advisers.push(Box::new(alloc, adviser)?)?;
     }
     advised(host, rt, words, instance, journal, progress, advisers)
@@ -143,6 +187,7 @@ fn searched<R: Threads + Wait + Sync>(
     rt: &R,
     words: &PlanWords,
     instance: Instance,
+    wanted: &Rows,
     journal: &LockedJournal<HostRuntime>,
 ) -> Result<Plan, Refusal>
     requires some { 0 < words.now.workers }
@@ -151,7 +196,9 @@ fn searched<R: Threads + Wait + Sync>(
     let stop_on = stop_of(host, words.stop_on);
     let listens = words.seconds != 0 && stop_on.is_some() && listen(host, rt, &progress);
     let enter_ends = listens && stop_on == Some(StopOn::Enter);
-    search_by(host, rt, words, instance, journal, &progress, enter_ends)
+    search_by(
+        host, rt, words, instance, journal, &progress, wanted, enter_ends,
+    )
 }
 
 /// Searches for a plan as the words say, and writes it.
@@ -167,9 +214,18 @@ pub(crate) fn plan<R: Threads + Wait + Sync>(
     let document = read_document(host, words.instance)?;
     let instance = instance_in(alloc, document.as_slice())?;
     say_rules(host, &instance)?;
-    warn(host, &instance)?;
+    let notes = notes_of(alloc, document.as_slice(), &instance)?;
+    warn(host, notes.as_slice());
+    let wanted = rows_to_keep(host, words.like, &instance)?;
     let journals = locked_journal(host, words)?;
     ready_folder(host, folder.as_str())?;
-    let plan = searched(host, rt, words, instance, &journals.now)?;
-    show_plan(host, words.instance, folder.as_str(), &plan)
+    let plan = searched(host, rt, words, instance, &wanted, &journals.now)?;
+    tell_kept(host, &plan, &wanted);
+    let beside = Beside {
+        instance: words.instance,
+        document: document.as_slice(),
+        first: words.first,
+        notes: notes.as_slice(),
+    };
+    show_plan(host, &beside, folder.as_str(), &plan)
 }

@@ -1,7 +1,7 @@
 //! The rules of an instance, said back.
 
 use crate::planning::instance_in;
-use crate::telling::warn;
+use crate::telling::{notes_of, warn};
 use planning_refusals::{Cause, Refusal, read_document};
 use planning_words::RulesWords;
 use rule_sentences::rules_text;
@@ -25,5 +25,7 @@ pub(crate) fn rules(rt: HostRuntime, words: &RulesWords) -> Result<(), Refusal> 
             String::from_str(rt.alloc(), "standard output takes no more"),
         ));
     }
-    warn(rt, &instance)
+    let notes = notes_of(rt.alloc(), document.as_slice(), &instance)?;
+    warn(rt, notes.as_slice());
+    Ok(())
 }

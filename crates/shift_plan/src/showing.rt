@@ -1,9 +1,10 @@
 //! A report that stands, shown once more.
 
 use crate::planning::folder_of;
+use crate::telling::notes_of;
 use planning_refusals::{Refusal, read_document, read_report};
 use planning_runs::judged_plan;
-use planning_sheets::{ready_folder, show_plan};
+use planning_sheets::{Beside, ready_folder, show_plan};
 use planning_words::ShowWords;
 
 /// Judges the report that the words name and, where it is accepted, writes its plan.
@@ -17,5 +18,12 @@ pub(crate) fn show(rt: HostRuntime, words: &ShowWords) -> Result<(), Refusal> {
     };
     let folder = folder_of(alloc, words.out, words.instance)?;
     ready_folder(rt, folder.as_str())?;
-    show_plan(rt, words.instance, folder.as_str(), &plan)
+    let notes = notes_of(alloc, document.as_slice(), &plan.instance)?;
+    let beside = Beside {
+        instance: words.instance,
+        document: document.as_slice(),
+        first: words.first,
+        notes: notes.as_slice(),
+    };
+    show_plan(rt, &beside, folder.as_str(), &plan)
 }

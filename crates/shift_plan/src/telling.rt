@@ -1,6 +1,7 @@
 //! What is said of a search on standard error.
 
-use instance_warnings::warnings;
+use document_faults::repeated_names;
+use instance_warnings::{Told, warnings};
 use journal_texts::full_sentence;
 use plan_tables::Hours;
 use planning_progress::{Progress, Shown};
@@ -50,12 +51,28 @@ pub(crate) fn say_rules(rt: HostRuntime, instance: &Instance) -> Result<(), Refu
     Ok(())
 }
 
-/// Says what a planner should know of an instance before it is searched.
-pub(crate) fn warn(rt: HostRuntime, instance: &Instance) -> Result<(), Refusal> {
-    for warning in &warnings(rt.alloc(), instance)? {
-        let _ = eprintln!(rt; "shift_plan: note that {warning}");
+/// What a planner should know of an instance, and of the document that it stands in: a sentence each.
+pub(crate) fn notes_of(
+    alloc: Global,
+    document: &[u8],
+    instance: &Instance,
+) -> Result<Vec<String>, Refusal> {
+    let mut notes = Vec::new(alloc);
+    for name in &repeated_names(alloc, document)? {
+        notes.push(format!(in alloc; "{name}")?)?;
     }
-    Ok(())
+    for warning in &warnings(alloc, instance)? {
+        let told = Told { warning, instance };
+        notes.push(format!(in alloc; "{told}")?)?;
+    }
+    Ok(notes)
+}
+
+/// Says what a planner should know of an instance.
+pub(crate) fn warn(rt: HostRuntime, notes: &[String]) {
+    for note in notes {
+        let _ = eprintln!(rt; "shift_plan: note that {}", note.as_str());
+    }
 }
 
 /// The gate that says from how many steps a search goes on, if from any, and counts them.
@@ -93,6 +110,11 @@ pub(crate) fn tell_end(rt: HostRuntime, progress: &Progress, end: &SearchEnd) {
         SearchEnd::Stopped if progress.is_end_asked() => {
             let _ = eprintln!(rt;
                 "shift_plan: the search ends early, as it was asked to: its plan is written, and the same line goes on from there"
+            );
+        }
+        SearchEnd::Stopped if progress.is_quiet(&rt) => {
+            let _ = eprintln!(rt;
+                "shift_plan: the search ends early, since there was no cheaper plan for as long as --until-quiet says: its plan is written, and the same line goes on from there"
             );
         }
         _ => {}

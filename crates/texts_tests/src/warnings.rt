@@ -1,6 +1,6 @@
-//! What a planner is warned of where a break rule was written in minutes, so that there are no duties.
+//! What a planner is told of numbers that are odd.
 use instance_json::read;
-use instance_warnings::warnings;
+use instance_warnings::{Told, warnings};
 use std::alloc::Global;
 use std::test::Fail;
 
@@ -9,12 +9,38 @@ use std::test::Fail;
 const LATE_BREAKS: &str =
     "{\"slot_minutes\":60,\"days\":1,\"need\":[0,0,0,0,0,0,0,0,1,1,1,1,0,0,0,0,0,0,0,0,0,0,0,0],\"max_heads\":9,\"weights\":{\"excess\":1,\"shortage\":2,\"shift\":0},\"types\":[{\"name\":\"M\",\"start_min\":8,\"start_max\":8,\"len_min\":4,\"len_max\":5,\"breaks\":{\"lead\":30,\"tail\":1,\"work_min\":1,\"work_max\":3,\"long_work\":3,\"long_rest\":1,\"size_min\":1,\"size_max\":1,\"totals\":[[0,1]]}}]}";
 
-/// The warnings, each on a line of its own.
-const WARNED: &str =
-    "types[0] can have no duty: no length of it has a legal list of breaks, since lead and tail leave no room for the breaks
-slots with a need in which no duty can work: 4, the first of them need[8]; they cost every plan at least 8
-max_heads is 9, and no slot needs more than 1: each class of duties counts up to 9 times in a bound, so bounds get weak; twice the greatest need will do
+/// The warnings of it, each on a line of its own.
+const OF_LATE_BREAKS: &str =
+    "type M can have no duty: no length of it has a legal list of breaks, since lead and tail leave no room for the breaks
+slots with a need in which no duty can work: 4, the first of them on day 1 at 08:00; they cost every plan at least 8
+max_heads is 9, and no slot wants more than 1: each class of duties counts up to 9 times in a bound, so bounds get weak; twice that will do
 weights.shift is 0: shifts cost nothing, so plans may use all of them
+";
+
+/// A day of half hours that needs three employees at 08:00, and shifts that were written in hours, with limits in minutes.
+const HOURS: &str =
+    "{\"slot_minutes\":30,\"days\":1,\"need\":[0,0,0,0,0,0,0,0,0,0,0,0,0,0,0,0,3,0,0,0,0,0,0,0,0,0,0,0,0,0,0,0,0,0,0,0,0,0,0,0,0,0,0,0,0,0,0,0],\"max_heads\":2,\"weights\":{\"excess\":5,\"shortage\":1,\"shift\":2},\"types\":[{\"name\":\"day\",\"start_min\":8,\"start_max\":9,\"len_min\":2,\"len_max\":3,\"breaks\":{\"lead\":0,\"tail\":0,\"work_min\":1,\"work_max\":100,\"long_work\":40,\"long_rest\":1,\"size_min\":1,\"size_max\":1,\"totals\":[[3,1]],\"lunches\":[[3,1,1,2]]}}]}";
+
+/// The warnings of it.
+const OF_HOURS: &str =
+    "slots with a need in which no duty can work: 1, the first of them on day 1 at 08:00; they cost every plan at least 3
+weights.excess is 5 and shortage 1: one employee too many costs more than one too few, so plans leave slots short sooner than they have one too many
+max_heads is 2, and a slot needs 3: no shift alone can cover it
+no shift is as long as two hours: the longest has 3 slots of 30 minutes, 1:30; an hour is 2 of them
+starts and lengths look like hours, and a slot has 30 minutes: with them a shift that starts at 8 starts at 04:00
+type day: work_max is 100 slots, 50:00, and its longest shift has 3, 1:30, so it limits nothing; if minutes are meant, write 3
+type day: long_work is 40 slots, 20:00, and its longest shift has 3, 1:30, so it limits nothing; if minutes are meant, write 1
+type day: 1:00 shifts have no break, 1:30 shifts 30 minutes of breaks
+type day: 1:30 shifts have a lunch of 30 minutes, and 1:00 shifts don't have to
+";
+
+/// A day of hours that needs one employee at night, and a shift that goes on into the morning of the same day.
+const NIGHT: &str =
+    "{\"slot_minutes\":60,\"days\":1,\"need\":[1,1,0,0,0,0,0,0,0,0,0,0,0,0,0,0,0,0,0,0,0,0,1,1],\"max_heads\":1,\"weights\":{\"excess\":1,\"shortage\":2,\"shift\":3},\"types\":[{\"name\":\"N\",\"start_min\":22,\"start_max\":22,\"len_min\":4,\"len_max\":4,\"breaks\":null}]}";
+
+/// The warning of it.
+const OF_NIGHT: &str =
+    "type N: shifts of the last day may go on 2:00 into the first day, since the period goes round, and work there
 ";
 
 /// The warnings of a document, each on a line of its own.
@@ -23,15 +49,26 @@ fn warned(alloc: Global, document: &str) -> Result<String, Fail> {
     let list = warnings(alloc, &instance)?;
     let mut text = String::new(alloc);
     for warning in &list {
-        let line = format!(in alloc; "{warning}\n")?;
+        let told = Told {
+            warning,
+            instance: &instance,
+        };
+        let line = format!(in alloc; "{told}\n")?;
         text.push_str(line.as_str())?;
     }
     Ok(text)
 }
 
 #[test]
-fn warns_of_breaks_in_minutes(rt: HostRuntime) -> Result<(), Fail> {
-    let text = warned(rt.alloc(), LATE_BREAKS)?;
-    assert_eq!(rt; text.as_str(), WARNED);
+fn warns_of_what_is_odd(rt: HostRuntime) -> Result<(), Fail> {
+    let cases = [
+        (LATE_BREAKS, OF_LATE_BREAKS),
+        (HOURS, OF_HOURS),
+        (NIGHT, OF_NIGHT),
+    ];
+    for (document, wanted) in cases {
+        let text = warned(rt.alloc(), document)?;
+        assert_eq!(rt; text.as_str(), wanted);
+    }
     Ok(())
 }

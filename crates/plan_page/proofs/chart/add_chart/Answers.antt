@@ -7,7 +7,7 @@ pub returns : goal.returns
 unfolding chart
 returns c =
     let old = string_bytes c.args.page.now in
-    let one = joined old _ _ c.in_ok-add_chart_head.ensures c.in_ok-add_grid.ensures in
+    let one = joined old _ _ c.in_ok-add_axis.ensures c.in_ok-add_grid.ensures in
     let two = joined old _ _ one c.in_ok-add_layer.ensures in
     let three = joined old _ _ two c.in_ok-add_layer-2.ensures in
     let four = joined old _ _ three c.in_ok-add_layer-3.ensures in

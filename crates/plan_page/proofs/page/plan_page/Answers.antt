@@ -33,8 +33,7 @@ pub returns : goal.returns
 returns c =
     let i = c.args.instance.now in
     let rows = c.args.rows.now in
-    let heading = c.args.heading.now in
-    let standing = c.args.standing.now in
+    let texts = c.args.texts.now in
     let summary = c.in_ok-summary.summary in
     let f = λ (r : Bor Row). r.now in
     let same : map f c.as_slice.result.now ≡ by_start i rows = ap (λ (xs : List (Bor Row)). map f xs) c.as_slice.ensures.value ∙ c.in_ok-ordered.ensures in
@@ -44,6 +43,6 @@ returns c =
       sums = c.in_ok-summary.ensures.sums;
       bytes =
           c.in_ok-page.ensures
-          ∙ ap (λ (rota : List Duty). page_text i rota (map f c.as_slice.result.now) heading standing summary) duties
-          ∙ ap (λ (ordered : List Row). page_text i (rota_of rows) ordered heading standing summary) same;
+          ∙ ap (λ (rota : List Duty). page_text i rota (map f c.as_slice.result.now) texts summary) duties
+          ∙ ap (λ (ordered : List Row). page_text i (rota_of rows) ordered texts summary) same;
     }

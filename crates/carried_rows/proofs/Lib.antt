@@ -1,0 +1,4 @@
+pub mod Fitting
+pub mod Legal
+pub mod RowOrder
+pub mod Steps

@@ -1,0 +1,8 @@
+use Rattle.std.proofs.Common.{◌≡◌, ◌++◌, take, codes, string_bytes}
+use Rattle.std.specs.List.{flat_map}
+use Rattle.instance_tables.specs.RuleRows.{total_text}
+use Rattle.instance_tables.proofs.export_rules.add_totals.Given as goal
+
+abbrev pub invariant-loop-next : goal.invariant-loop-next
+invariant-loop-next l =
+    string_bytes l.text ≡ string_bytes l.fn.text ++ flat_map (λ e. codes " " ++ total_text l.slot_minutes e) (take l.next-index l.entries)

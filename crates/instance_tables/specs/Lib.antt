@@ -1,0 +1,4 @@
+pub mod Times
+pub mod Settings
+pub mod Types
+pub mod RuleRows

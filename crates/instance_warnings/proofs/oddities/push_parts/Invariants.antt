@@ -1,0 +1,7 @@
+use Rattle.std.proofs.Common.{◌≡◌, ◌++◌, drop}
+use Rattle.std.specs.List.{flat_map}
+use Rattle.instance_warnings.specs.Odd.{parted}
+use Rattle.instance_warnings.proofs.oddities.push_parts.Given as goal
+
+abbrev pub invariant-loop-entry : goal.invariant-loop-entry
+invariant-loop-entry l = l.list.items ++ flat_map (parted (l.number, l.kind)) (drop l.entry-index l.totals) ≡ l.fn.list.items ++ flat_map (parted (l.number, l.kind)) l.totals

@@ -1,0 +1,51 @@
+//! Plans that keep duties of another plan, worked out by hand.
+
+use crate::fixtures::{NIGHT, Spelled, TWINS, instance_of, plan_of, rows_of};
+use kept_duties::with_more_kept;
+use plan_comparison::kept_duties;
+use rota_cost::cost_rows;
+use shift_tables::Tables;
+use std::alloc::Global;
+use std::test::Fail;
+
+/// How many of some wanted duties a plan has, and what it costs, before and after it was made to keep more of them.
+fn kept_of(
+    alloc: Global,
+    document: &str,
+    plan: &[Spelled],
+    wanted: &[Spelled],
+) -> Result<((u128, u64), (u128, u64)), Fail> {
+    let instance = instance_of(alloc, document)?;
+    let tables = Tables::new(alloc, &instance)?;
+    let wanted = rows_of(alloc, wanted)?;
+    let plan = plan_of(alloc, &instance, plan)?;
+    let before = (kept_duties(&wanted, plan.rows()), plan.cost());
+    let rows = with_more_kept(alloc, &instance, &tables, plan.into_rows(), &wanted)?;
+    let plan = cost_rows(&instance, rows).ok().ok_or("not legal")?;
+    let after = (kept_duties(&wanted, plan.rows()), plan.cost());
+    Ok((before, after))
+}
+
+// In each hour of a break one employee less works than is needed: three breaks cost 2 each, wherever they are, and the shift 3.
+#[test]
+fn duties_come_back_where_they_cost_no_more(rt: HostRuntime) -> Result<(), Fail> {
+    let plan = [(0, 0, Some(2), 3)];
+    let wanted = [(0, 0, Some(3), 1), (0, 0, Some(4), 1)];
+    assert_eq!(rt;
+        kept_of(rt.alloc(), NIGHT, &plan, &wanted)?,
+        ((0, 9), (2, 9))
+    );
+    Ok(())
+}
+
+// A second shift costs 3 more, so the other one comes back on both days at once, or not at all.
+#[test]
+fn days_come_back_together(rt: HostRuntime) -> Result<(), Fail> {
+    let plan = [(0, 0, None, 1), (0, 1, None, 1)];
+    let wanted = [(1, 0, None, 1), (1, 1, None, 1)];
+    assert_eq!(rt;
+        kept_of(rt.alloc(), TWINS, &plan, &wanted)?,
+        ((0, 3), (2, 3))
+    );
+    Ok(())
+}

@@ -1,0 +1,6 @@
+use Rattle.std.proofs.Common.{◌≡◌, ◌≤◌, ◌*◌, take}
+use Rattle.plan_comparison.specs.Changes.{kept_duties}
+use Rattle.plan_comparison.proofs.comparing.kept_duties.Given as goal
+
+abbrev pub invariant-loop-row : goal.invariant-loop-row
+invariant-loop-row l = record { kept : l.kept ≡ kept_duties l.others (take l.row-index l.rows); few : l.kept ≤ 65535 * l.row-index }

@@ -1,0 +1,29 @@
+use Rattle.std.proofs.Common.{◌≡◌, ◌+◌, Bool, cond, count_by, take, sym, ap, ◌∙◌, arith}
+use Rattle.shift_instance.specs.Rota.{rota_of}
+use Rattle.plan_tables.specs.Tallies.{starts_on}
+use Rattle.rota_sheets.proofs.Counting.{counts_row}
+use Rattle.rota_sheets.proofs.heads.duties_on.Goals as goal
+use Rattle.rota_sheets.proofs.heads.duties_on.Goals.{then-row_starts_on, else-row_starts_on}
+
+pub row_starts_on-requires : goal.row_starts_on-requires
+row_starts_on-requires c = (counts_row c.args.instance.now (starts_on c.args.instance.now c.args.day) c.as_slice-row-items.result.now c.args.rows.now c.loop-row.row-index c.row-item.result c.as_slice-row-items.ensures c.slots-valid.ensures.valid c.requires c.loop-row-test.true c.row-item.is).shift
+
+pub loop-row-preserved : goal.loop-row-preserved
+loop-row-preserved c =
+    let i = c.args.instance.now in
+    let rows = c.args.rows.now in
+    let k = c.loop-row.row-index in
+    let x = c.row-item.result in
+    let p = starts_on i c.args.day in
+    let before = count_by p (rota_of (take k rows)) in
+    let r = counts_row i p c.as_slice-row-items.result.now rows k x c.as_slice-row-items.ensures c.slots-valid.ensures.valid c.requires c.loop-row-test.true c.row-item.is in
+    elim c.if-row_starts_on.branch [
+      | then-row_starts_on w ↦
+          let more : count_by p (rota_of (take (k + 1) rows)) ≡ before + x.count =
+          r.more ∙ ap (λ (b : Bool). before + cond b x.count 0) (sym c.row_starts_on.ensures ∙ w.if-row_starts_on.true) in
+          record { duties = omega (arith, more, c.loop-row.invariant); few = omega (arith, r.few, c.loop-row.invariant) }
+      | else-row_starts_on w ↦
+          let more : count_by p (rota_of (take (k + 1) rows)) ≡ before + 0 =
+          r.more ∙ ap (λ (b : Bool). before + cond b x.count 0) (sym c.row_starts_on.ensures ∙ w.if-row_starts_on.false) in
+          record { duties = omega (arith, more, c.loop-row.invariant); few = omega (arith, c.loop-row.invariant) }
+    ]

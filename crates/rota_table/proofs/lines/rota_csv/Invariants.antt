@@ -1,0 +1,10 @@
+use Rattle.std.proofs.Common.{◌≡◌, ◌++◌, map, take}
+use Rattle.std.specs.List.{flat_map}
+use Rattle.csv.specs.Writing.{default_writer, row_text}
+use Rattle.rota_table.specs.Fields.{rota_columns}
+use Rattle.rota_table.specs.Lines.{most_breaks, row_records}
+use Rattle.rota_table.proofs.lines.rota_csv.Given as goal
+
+abbrev pub invariant-loop-row : goal.invariant-loop-row
+invariant-loop-row l =
+    l.records ≡ row_text default_writer (rota_columns (most_breaks l.rows)) ++ flat_map (row_records l.instance (most_breaks l.rows)) (map (λ r. r.now) (take l.row-index l.row-items))

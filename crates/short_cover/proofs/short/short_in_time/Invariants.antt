@@ -1,0 +1,7 @@
+use Rattle.std.proofs.Common.{◌≡◌, filter, map}
+use Rattle.shift_instance.specs.Problem.{below}
+use Rattle.short_cover.specs.ShortSlots.{is_short, short_slot}
+use Rattle.short_cover.proofs.short.short_in_time.Given as goal
+
+abbrev pub invariant-loop-t : goal.invariant-loop-t
+invariant-loop-t l = l.found.items ≡ filter is_short (map (short_slot l.instance l.attendance.duties) (below l.t))

@@ -1,0 +1,2 @@
+pub mod ShortSlots
+pub mod LeastCovers
