@@ -7,12 +7,16 @@ use plan_tables::Hours;
 use planning_progress::{Progress, Shown};
 use planning_refusals::Refusal;
 use rule_sentences::rules_text;
-use shift_instance::Instance;
+use shift_instance::{Instance, Shift};
 use solve_runs::SearchEnd;
 use std::alloc::{AllocError, Global};
 use std::io::IsTerminal;
 use std::sync::Arc;
 use worker_gate::Gate;
+
+/// What is said where the plan will be empty.
+const NEVER_WORTH: &str =
+    "no shift could end as much shortage as it costs, so a plan without duties is a best one: raise shortage, or lower shift";
 
 /// Where and how often the line of the search is said.
 pub(crate) fn shown_on(rt: HostRuntime, enter_ends: bool) -> Shown {
@@ -51,6 +55,45 @@ pub(crate) fn say_rules(rt: HostRuntime, instance: &Instance) -> Result<(), Refu
     Ok(())
 }
 
+/// How many employees are wanted at least in so many slots from a first one on, together; behind the last slot comes the first.
+fn need_from(need: &[u32], first: usize, slots: u16) -> u64 {
+    let mut sum = 0u64;
+    for k in 0..slots {
+        let t = first
+            .wrapping_add(usize::from(k))
+            .checked_rem(need.len())
+            .unwrap_or(0);
+        sum = sum.saturating_add(u64::from(need.get(t).copied().unwrap_or(0)));
+    }
+    sum
+}
+
+/// How many employees are wanted at least in the slots of a shift, together, on all days.
+fn need_of_shift(instance: &Instance, shift: Shift) -> u64 {
+    let parts = instance.parts();
+    let need = parts.need.as_slice();
+    let per_day = need.len().checked_div(usize::from(parts.days)).unwrap_or(0);
+    let mut sum = 0u64;
+    for day in 0..parts.days {
+        let midnight = usize::from(day).wrapping_mul(per_day);
+        let first = midnight.wrapping_add(usize::from(shift.start));
+        sum = sum.saturating_add(need_from(need, first, shift.len));
+    }
+    sum
+}
+
+/// Whether a shift costs something, and none could end as much shortage as it costs, so that a plan without duties is a best one though somebody
+/// is wanted.
+fn is_never_worth(instance: &Instance) -> bool {
+    let (_, shortage, cost) = instance.weights();
+    let mut most = 0u64;
+    for shift in instance.shifts() {
+        most = most.max(need_of_shift(instance, *shift));
+    }
+    let saved = u64::from(shortage).saturating_mul(most);
+    0 < saved && saved <= u64::from(cost)
+}
+
 /// What a planner should know of an instance, and of the document that it stands in: a sentence each.
 pub(crate) fn notes_of(
     alloc: Global,
@@ -64,6 +107,9 @@ pub(crate) fn notes_of(
     for warning in &warnings(alloc, instance)? {
         let told = Told { warning, instance };
         notes.push(format!(in alloc; "{told}")?)?;
+    }
+    if is_never_worth(instance) {
+        notes.push(String::from_str(alloc, NEVER_WORTH)?)?;
     }
     Ok(notes)
 }
