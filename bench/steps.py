@@ -1,6 +1,6 @@
 #!/usr/bin/env python3
 """Measures searches of many steps over a real journal file: `solve` of the usual week with 2,000 and with 20,000 steps, the opening
-of the journals that they leave (`--steps 0`), and `shift_check check` of their reports; the same of the call week with 2,000 steps. Seconds
+of the journals that they leave by one worker and by four (`--steps 0`, which also writes their report), and `shift_check check` of their reports; the same of the call week with 2,000 steps. Seconds
 and peak memory of the whole process. Build the programs first, by `./run --build shift_solve` and `./run --build shift_check`. Word: the
 folder for the journals (that for temporary files where none is given), so that a file system in memory can be measured too."""
 import os
@@ -13,6 +13,7 @@ TOP = os.path.dirname(os.path.dirname(os.path.abspath(__file__)))
 SOLVE = os.path.join(TOP, "crates", "shift_solve", "out", "shift_solve")
 CHECK = os.path.join(TOP, "crates", "shift_check", "out", "shift_check")
 EXAMPLES = os.path.join(TOP, "examples")
+OPENINGS = 3           # of a journal by so many workers; the quickest counts
 
 
 def timed(words, source, target):
@@ -40,7 +41,10 @@ def search(example, steps, folder):
     with open(report, "rb") as text:
         head = [next(text, b"").decode().strip() for _ in range(4)]
     print("    %s; journal %d bytes, report %d bytes" % (", ".join(head[1:]), os.path.getsize(journal), os.path.getsize(report)))
-    show("  its journal opened, 0 steps", timed([SOLVE, "solve", journal, "--workers", "1", "--steps", "0"], instance, os.path.join(folder, "again.report")))
+    for workers in ("1", "4"):
+        words = [SOLVE, "solve", journal, "--workers", workers, "--steps", "0"]
+        best = min(timed(words, instance, os.path.join(folder, "again.report")) for _ in range(OPENINGS))
+        show("  its journal opened, %s workers, 0 steps" % workers, best)
     show("  its report checked", timed([CHECK, "check", instance, report], instance, verdict))
     with open(verdict) as line:
         print("    " + line.read().strip())

@@ -1,107 +1,121 @@
 #!/usr/bin/env python3
-"""Measures thorough searches by one worker: of each instance of `examples/` and of the files given as words, plans and bounds after about
-so many processor seconds. Each instance is searched over new journals with growing budgets of steps, until one is known that takes
-about that time.
+"""Measures searches for plans: of each instance of `examples/`, of the airport day seven times and of the files given as words, plans and
+bounds of several seeds after so many processor seconds of each worker.
 
-    bench/thorough.py [--seconds N] [FILE..]
+    bench/thorough.py [--seconds N] [--workers W] [--seeds K] [--only NAME..] [--] [FILE..]
 
-N is 24 where it isn't given. A line for each instance has the steps, the bound, the cost, the least cost known (of
-`bench/best_known.json`, by the name of the file), the gap, which is the part of the cost by which the bound lies below it, and the processor
-seconds; where a search ended before its budget, the steps are those that posted prices. Then come the mean and the median of the gaps, and in
-how many steps the advised prices weren't lawful.
-Build the program first, by `./run --build shift_solve`."""
+N is 24, W is 1 and K is 5 where they aren't given. The seeds are 1, W + 1, 2 W + 1 and so on, so that no two workers draw alike. Each search
+has a new journal and is asked to end once the processor time of its process comes to N seconds for each worker, or ends by itself before. A
+line for each instance has the least cost known (of `best_known.json`, by the name of the file), the mean and the worst cost over it, the worst
+cost over the best, means of the steps, the bound, the gap (the part of the cost by which the bound lies below it) and the processor seconds,
+and the costs by seed. Then come the means over the instances and the worst of them, and in how many steps the advised prices weren't lawful.
+Build the program first, by `./run --build shift_plan`."""
 import argparse
 import json
 import os
+import pathlib
 import statistics
 import subprocess
 import sys
 import tempfile
+import time
 
-HERE = os.path.dirname(os.path.abspath(__file__))
-TOP = os.path.dirname(HERE)
-PROGRAM = os.path.join(TOP, "crates", "shift_solve", "out", "shift_solve")
-EXAMPLES = os.path.join(TOP, "examples")
-SPENT = 10  # the status of a search that took all its steps
+TOP = pathlib.Path(__file__).resolve().parent.parent
+PROGRAM = TOP / "crates" / "shift_plan" / "out" / "shift_plan"
+TICKS = os.sysconf("SC_CLK_TCK")
 SCALE = "10000"  # of the prices that are advised; a step whose prices aren't lawful has the price 0 at scale 1
+COLUMNS = "%-16s %6s %6s %6s %6s %8s %8s %7s %8s  %s"
+
+
+def processor_seconds(pid):
+    """The processor time of a process that runs, of all its threads; None where it has ended."""
+    try:
+        words = pathlib.Path("/proc/%d/stat" % pid).read_text().rpartition(")")[2].split()
+    except FileNotFoundError:
+        return None
+    return None if words[0] == "Z" else (int(words[11]) + int(words[12])) / TICKS
 
 
 class Search:
-    """One search of an instance over a new journal, of at most so many steps."""
+    """One search of an instance with a seed over a new journal, of at most so many processor seconds."""
 
-    def __init__(self, instance, budget, folder):
-        journal = os.path.join(folder, "search.journal")
-        report = os.path.join(folder, "search.report")
-        if os.path.exists(journal):
-            os.remove(journal)
-        words = [PROGRAM, "solve", journal, "--thorough", "--workers", "1", "--steps", str(budget)]
-        with open(instance, "rb") as source, open(report, "wb") as out:
-            child = subprocess.Popen(words, stdin=source, stdout=out, stderr=subprocess.PIPE)
-            said = child.stderr.read().decode().strip()
-            _, status, usage = os.wait4(child.pid, 0)
-        self.status = os.waitstatus_to_exitcode(status)
-        if self.status not in (0, 10, 11):
-            sys.exit("%s: status %d, %s" % (instance, self.status, said))
-        self.seconds = usage.ru_utime + usage.ru_stime
-        self.budget = budget
-        with open(report) as lines:
-                self.cost, self.bound, self.priced, self.unlawful = figures(lines)
+    def __init__(self, text, seed, workers, seconds):
+        with tempfile.TemporaryDirectory() as folder:
+            (pathlib.Path(folder) / "week.json").write_text(text)
+            words = ["plan", "week.json", "--seconds", "4000000", "--stop-on", "line", "--workers", str(workers), "--seed", str(seed)]
+            run = subprocess.Popen([PROGRAM, *words], cwd=folder, stdin=subprocess.PIPE, stdout=subprocess.DEVNULL, stderr=subprocess.PIPE)
+            self.seconds = awaited(run, workers * seconds)
+            said = run.communicate()[1].decode()
+            if run.returncode != 0:
+                sys.exit("shift_plan ends with %d: %s" % (run.returncode, said))
+            self.read((pathlib.Path(folder) / "week.plan" / "report").read_text().split("\n"))
 
-    def steps(self):
-        return self.budget if self.status == SPENT else self.priced
-
-    def gap(self):
-        return 1 - self.bound / self.cost if self.cost else 0.0
+    def read(self, lines):
+        self.cost, self.bound = int(lines[2][5:]), int(lines[3][6:])
+        scales = [line.split(" ")[2] for line in lines if line.startswith("priced ")]
+        self.steps, self.unlawful = len(scales), sum(scale != SCALE for scale in scales)
+        self.gap = 1 - self.bound / self.cost if self.cost else 0.0
 
 
-def figures(lines):
-    """The cost and the bound of a report, how many of its proof lines have prices, and how many of these another scale than the adviser's:
-    those of steps whose advised prices weren't lawful."""
-    cost, bound, priced, unlawful = 0, 0, 0, 0
-    for line in lines:
-        word, _, rest = line.partition(" ")
-        if word == "cost":
-            cost = int(rest)
-        elif word == "bound":
-            bound = int(rest)
-        elif word == "priced":
-            priced += 1
-            unlawful += rest.split(" ")[1] != SCALE
-    return cost, bound, priced, unlawful
+def awaited(run, seconds):
+    """Asks a search for its end once it has had so many processor seconds, and tells how many it had; its judgement and its files come after."""
+    spent = 0.0
+    while True:
+        now = processor_seconds(run.pid)
+        spent = spent if now is None else now
+        if now is None or seconds <= now:
+            return spent
+        time.sleep(0.02)
 
 
-def searched(instance, seconds, folder):
-    """A search that takes about so many seconds, or less where it ends before."""
-    search = Search(instance, 20, folder)
-    while search.status == SPENT and search.seconds < seconds / 3:
-        factor = seconds / max(search.seconds, 0.001) / 2
-        search = Search(instance, int(search.budget * min(max(factor, 2), 10)), folder)
-    if search.status == SPENT and search.seconds < seconds * 0.9:
-        search = Search(instance, int(search.budget * seconds / search.seconds), folder)
-    return search
+def instances(files):
+    for path in sorted((TOP / "examples").glob("*.json")):
+        yield path.stem, path.read_text()
+    day = json.loads((TOP / "examples" / "airport_day.json").read_text())
+    yield "airport_week", json.dumps({**day, "days": 7, "need": day["need"] * 7})
+    for path in map(pathlib.Path, files):
+        yield path.stem, path.read_text()
+
+
+def over(cost, least):
+    """How many times as dear as the least cost known a cost is."""
+    return cost / least if least else 1.0
+
+
+def line_of(name, known, searches):
+    """Prints the line of an instance, and gives the mean and the worst cost over the least one known, the worst over the best, and the mean gap."""
+    costs = [it.cost for it in searches]
+    least = min([known] * (known is not None) + costs)
+    mean, worst, spread = over(statistics.mean(costs), least), over(max(costs), least), over(max(costs), min(costs))
+    gap = statistics.mean(it.gap for it in searches)
+    steps, bound, seconds = (statistics.mean(getattr(it, field) for it in searches) for field in ("steps", "bound", "seconds"))
+    ratios = ["%.3f" % it for it in (mean, worst, spread)]
+    print(COLUMNS % (name, known or "-", *ratios, round(steps), round(bound), "%.1f%%" % (100 * gap), "%.1f" % seconds, " ".join(map(str, costs))), flush=True)
+    return mean, worst, spread, gap
 
 
 def main():
-    parser = argparse.ArgumentParser(description="Measures thorough searches.")
+    parser = argparse.ArgumentParser(description="Measures searches for plans.")
     parser.add_argument("--seconds", type=float, default=24)
+    parser.add_argument("--workers", type=int, default=1)
+    parser.add_argument("--seeds", type=int, default=5)
+    parser.add_argument("--only", nargs="*", help="the names of the instances that are measured")
     parser.add_argument("files", nargs="*")
     asked = parser.parse_args()
-    if not os.path.exists(PROGRAM):
-        sys.exit("build the program first: ./run --build shift_solve")
-    with open(os.path.join(HERE, "best_known.json")) as table:
-        known = json.load(table)
-    examples = [os.path.join(EXAMPLES, it) for it in sorted(os.listdir(EXAMPLES)) if it.endswith(".json")]
-    gaps, unlawful = [], 0
-    print("%-16s %8s %8s %8s %8s %7s %8s" % ("instance", "steps", "bound", "cost", "known", "gap", "seconds"))
-    with tempfile.TemporaryDirectory() as folder:
-        for instance in examples + asked.files:
-            name = os.path.splitext(os.path.basename(instance))[0]
-            search = searched(instance, asked.seconds, folder)
-            gaps.append(100 * search.gap())
-            unlawful += search.unlawful
-            line = (name, search.steps(), search.bound, search.cost, known.get(name, "-"), gaps[-1], search.seconds)
-            print("%-16s %8d %8d %8d %8s %6.1f%% %8.1f" % line, flush=True)
-    print("gap of %d instances: mean %.1f%%, median %.1f%%" % (len(gaps), statistics.mean(gaps), statistics.median(gaps)))
+    if not PROGRAM.exists():
+        sys.exit("build the program first: ./run --build shift_plan")
+    known = json.loads((TOP / "bench" / "best_known.json").read_text())
+    rows, unlawful = [], 0
+    print(COLUMNS % ("instance", "known", "mean", "worst", "spread", "steps", "bound", "gap", "seconds", "costs"))
+    for name, text in instances(asked.files):
+        if asked.only and name not in asked.only:
+            continue
+        searches = [Search(text, 1 + number * asked.workers, asked.workers, asked.seconds) for number in range(asked.seeds)]
+        rows.append(line_of(name, known.get(name), searches))
+        unlawful += sum(it.unlawful for it in searches)
+    means, worsts, spreads, gaps = zip(*rows)
+    print("cost over the least known: mean %.3f, worst %.3f; worst over best at most %.3f; gap: mean %.1f%%, median %.1f%%" %
+          (statistics.mean(means), max(worsts), max(spreads), 100 * statistics.mean(gaps), 100 * statistics.median(gaps)))
     print("%d steps had prices that weren't lawful" % unlawful)
 
 

@@ -5,6 +5,7 @@ the same files once more. Then runs that meet something in their way: another ru
 what is wrong, and last `N passed, M failed`, counted in instances and runs. Build the programs first."""
 import collections
 import csv
+import datetime
 import fcntl
 import hashlib
 import json
@@ -29,7 +30,7 @@ FILES = ("report", "rota.csv", "duties.csv", "cover.csv", "plan.html")
 LEFT = {*FILES, ".written"}
 INSTANCES = 10
 DUTY_COLUMNS, SLOT_COLUMNS = "day start end type employees breaks", "day time need need_max working on_break over under"
-ROTA_COLUMNS = "day start end next_day type paid worked"
+ROTA_COLUMNS = "day day_name start end next_day type paid worked"
 
 
 def program(name):
@@ -100,8 +101,8 @@ class Folder:
             found.append((first, list(map(str, line))))
         return [line for _, line in sorted(found, key=lambda one: one[0])]
 
-    def rota(self, rows):
-        """The lines of `rota.csv` for these rows, with the names of its columns."""
+    def rota(self, rows, names_of_days):
+        """The lines of `rota.csv` for these rows, with the names of its columns, and with the names that days have by their numbers."""
         names = [kind["name"] for kind in self.document["types"] for _ in range((kind["start_max"] - kind["start_min"] + 1) * (kind["len_max"] - kind["len_min"] + 1))]
         most, found = max([len(row.breaks) for row in rows], default=0), []
         for row in rows:
@@ -111,7 +112,8 @@ class Folder:
             paid, worked = ("%d:%02d" % divmod(slots * self.minutes, 60) for slots in (length, worked))
             late = "yes" if start % self.reading.day_slots + length >= self.reading.day_slots else "no"
             times = [time for begin, size in row.breaks for time in self.period(start + begin, size).split("-")]
-            line = [first // self.reading.day_slots + 1, *self.period(start, length).split("-"), late, names[row.shift], paid, worked, *times]
+            day = first // self.reading.day_slots + 1
+            line = [day, names_of_days.get(day, ""), *self.period(start, length).split("-"), late, names[row.shift], paid, worked, *times]
             found += [(first, list(map(str, line)) + [""] * (2 * most - len(times)))] * row.count
         columns = ["break_%d_%s" % (number + 1, end) for number in range(most) for end in ("start", "end")]
         return [ROTA_COLUMNS.split() + columns, *(line for _, line in sorted(found, key=lambda one: one[0]))]
@@ -152,7 +154,7 @@ class Folder:
             ("the report isn't accepted", accepted == 0),
             ("the rows aren't legal at their cost", self.reading.are_legal(report.rows) and self.reading.cost(report.rows) == report.cost),
             ("duties.csv holds something else than the rows", self.table("duties.csv", DUTY_COLUMNS) == self.duties(report.rows)),
-            ("rota.csv holds something else than the duties", self.lines("rota.csv") == self.rota(report.rows)),
+            ("rota.csv holds something else than the duties", self.lines("rota.csv") == self.rota(report.rows, {})),
             ("cover.csv holds something else than need and cover", self.table("cover.csv", SLOT_COLUMNS) == list(self.cover(report.rows))),
             ("the printed cost is another one", re.search(r"^cost +(\d+)$", said, re.M).group(1) == str(self.added_up()) == str(report.cost)),
             ("the page takes something from elsewhere", not re.search(r"<script|https?://(?!www\.w3\.org/)|url\((?!#)|<link", page)),
@@ -319,15 +321,82 @@ def cheaper_plan_in_the_folder(folder):
     return faults + ends(elsewhere, 0) + ([] if (folder.path / "other" / "report").exists() else ["the plan isn't in the other folder"])
 
 
+def searched_with_seed(folder, seed):
+    """The records of the journal of a short search by one worker with a seed, but for the last: the end of the time may have broken it off."""
+    journal = "seed.journal.%d" % len(list(folder.path.iterdir()))
+    folder.plan("--seconds", "2", "--workers", "1", "--seed", seed, "--journal", journal)
+    bytes_left = (folder.path / journal).read_bytes()
+    place, records = 12 + int.from_bytes(bytes_left[8:12], "little"), []
+    while bytes_left[place] == 1:
+        end = place + 5 + int.from_bytes(bytes_left[place + 1:place + 5], "little")
+        records.append(bytes_left[place:end])
+        place = end
+    return records[:-1]
+
+
+def searches_with_seeds(folder):
+    first, again, other = (searched_with_seed(folder, seed) for seed in ("7", "7", "8"))
+    both = min(len(first), len(again))
+    found = [("searches with one seed differ", first[:both] == again[:both]), ("searches with two seeds don't differ", both == 0 or first[:1] != other[:1])]
+    refused = "--seed takes a whole number from 0 to 4294967295, and not `%s`"
+    words = [ends(folder.plan("--seed", word), 2, refused % word) for word in ("luck", "-1", "4294967296")]
+    return sum(words, [fault for fault, holds in found if not holds])
+
+
+def duties_of(rows):
+    """How often each duty stands in rows."""
+    found = collections.Counter()
+    for row in rows:
+        found[row.shift, row.day, tuple(row.breaks)] += row.count
+    return found
+
+
+def week_with_another_need(folder):
+    """One more is wanted for an hour of the second day: the plan that is written costs, with 2 for each old duty that it lacks, no more than
+    the old one does there."""
+    folder.plan("--seconds", "1")
+    old = read_report((folder.path / "week.plan" / "report").read_text()).rows
+    changed = json.loads(folder.text)
+    noon = folder.reading.day_slots * 3 // 2
+    for slot in range(noon, noon + 60 // folder.minutes):
+        changed["need"][slot] += 1
+    (folder.path / "changed.json").write_text(json.dumps(changed))
+    run = folder.run("plan", "changed.json", "--seconds", "1", "--like", "week.plan/report", "--of", "week.json", "--change", "2")
+    report, reading = read_report((folder.path / "changed.plan" / "report").read_text()), Reading(changed)
+    wanted = duties_of(old)
+    kept, every = sum((wanted & duties_of(report.rows)).values()), sum(wanted.values())
+    found = [
+        ("the rows aren't legal at their cost", reading.are_legal(report.rows) and reading.cost(report.rows) == report.cost),
+        ("the old week would have been better", report.cost + 2 * (every - kept) <= reading.cost(old)),
+    ]
+    return ends(run, 0, "keeps %d of these %d duties" % (kept, every)) + [fault for fault, holds in found if not holds]
+
+
+def page_and_rota(folder):
+    """The page in the folder of the plan, and the lines of its rota."""
+    return (folder.path / "week.plan" / "plan.html").read_text(), folder.lines("rota.csv")
+
+
 def days_with_names(folder):
     folder.plan("--seconds", "1", "--from", "2026-12-31")
-    dated = (folder.path / "week.plan" / "plan.html").read_text()
+    rows = read_report((folder.path / "week.plan" / "report").read_text()).rows
+    dated, dated_rota = page_and_rota(folder)
     folder.run("show", "week.json", "week.plan/report", "--first-day", "sunday")
-    named = (folder.path / "week.plan" / "plan.html").read_text()
+    named, named_rota = page_and_rota(folder)
     folder.run("show", "week.json", "week.plan/report")
-    plain = (folder.path / "week.plan" / "plan.html").read_text()
+    plain, plain_rota = page_and_rota(folder)
     right = "<h2>Day 1, Thursday 2026-12-31</h2>" in dated and "<h2>Day 1, Sunday</h2>" in named and "<h2>Day 1</h2>" in plain
-    return [] if right and "Friday" not in plain else ["days have other names"]
+    weekdays = dict(enumerate("Sunday Monday Tuesday Wednesday Thursday Friday Saturday".split(), 1))
+    dates = {day: (datetime.date(2026, 12, 30) + datetime.timedelta(day)).strftime("%A %Y-%m-%d") for day in weekdays}
+    rotas = [folder.rota(rows, names) for names in (dates, weekdays, {})]
+    found = [("days have other names", right and "Friday" not in plain), ("the rota has other names of days", [dated_rota, named_rota, plain_rota] == rotas)]
+    return [fault for fault, holds in found if not holds]
+
+
+def heading_without_folders(folder):
+    folder.plan("--seconds", "1")
+    run = folder.run("show", str(folder.path / "week.json"), "week.plan/report", "--out", "week.plan")
+    return ends(run, 0) + ([] if ">week.json</h1>" in page_and_rota(folder)[0] else ["the page has another heading"])
 
 
 def words_in_the_wrong_order(folder):
@@ -519,7 +588,7 @@ def journal_without_room(folder):
 MEETINGS = (
     lock_in_use, killed_run, search_gone_on_with, begun_anew, no_search_to_show, journal_that_is_a_folder, journal_of_another_instance, damaged_journal, torn_journal,
     journal_on_a_full_device, folder_below_a_file, folder_that_is_a_file, instance_that_isnt_there, instance_that_is_a_folder, journal_of_the_instance, document_with_a_namesake, bent_report, edited_table,
-    cheaper_plan_in_the_folder, days_with_names,
+    cheaper_plan_in_the_folder, searches_with_seeds, week_with_another_need, days_with_names, heading_without_folders,
     words_in_the_wrong_order, report_that_is_none, closed_output, short_time, search_without_a_cheaper_plan, line_in_mid_search, end_of_input_in_mid_search, line_before_the_search,
     input_meant_for_others, enter_at_a_terminal, interrupted_as_it_begins, terminated_in_mid_search, interrupted_while_it_writes, interrupted_as_it_ends,
     interrupted_twice, interrupted_with_a_word, line_given_to_run, program_killed_below_run, journal_without_room,

@@ -175,15 +175,26 @@ FUNCTION = re.compile(r"\bfn\s+(\w+)")
 
 def owner_of(kind, head):
     """Returns how a check names the type of an impl or a trait by its head."""
+    own = []
     if kind == "impl":
         head = re.sub(r"\A\s*<", "<", head)
         if head.startswith("<"):
-            head = head[end_of_angles(head) :]
+            end = end_of_angles(head)
+            own = re.findall(r"[<,]\s*(\w+)", head[:end])
+            head = head[end:]
     head = re.split(r"\bwhere\b", head)[0]
     parts = [re.sub(r"[^\w].*", "", it.split("::")[-1].strip(), flags=re.S) for it in without_groups(head).split(" for ")]
     if kind == "trait":
         return re.match(r"\s*(\w+)", head)[1]
-    return "".join(reversed(parts))
+    return "".join([*reversed(parts), arguments_of(head, own)])
+
+
+def arguments_of(head, own):
+    """Returns how a check names the types that an impl gives its trait, by the impl's head and the names of its own parameters, which are left
+    out: `OutcomeUnit` for `<Outcome, ()>`."""
+    of_trait = re.match(r"\s*[\w:]+\s*<(.*)>\s+for\b", head, re.S)
+    names = [it for it in re.findall(r"\w+|\(\)", of_trait[1]) if it not in own] if of_trait else []
+    return "".join("Unit" if it == "()" else it[0].upper() + it[1:] for it in names)
 
 
 def end_of_angles(text):

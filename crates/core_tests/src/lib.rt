@@ -1,4 +1,4 @@
-//! Tests of the core of a run that crashes, and of what is known of a node before it is searched.
+//! Tests of the core of a run that crashes, of what is known of a node before it is searched, and of the state that many records make.
 #![tactic(auto)]
 
 #[cfg(test)]
@@ -7,3 +7,5 @@ mod crashes;
 mod fixtures;
 #[cfg(test)]
 mod hints;
+#[cfg(test)]
+mod many_records;

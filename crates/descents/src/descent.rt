@@ -44,7 +44,8 @@ fn descent_rows(alloc: Global, instance: &Instance, rounds: u16) -> Result<Rows,
 {
     let greedy = greedy_plan(alloc, instance)?;
     let low = descended(alloc, instance, greedy, rounds)?;
-    let even = evened(alloc, instance, low, rounds)?;
+    let none = Rows::new(Vec::new(alloc));
+    let even = evened(alloc, instance, low, rounds, &none)?;
     let rows = descended(alloc, instance, even, rounds)?;
     Ok(rows)
 }

@@ -10,7 +10,7 @@ use break_rules::{Breaks, NoMemory};
 use local_moves::{Draft, Move};
 use patterns::Pattern;
 use pricing::best_pattern;
-use shift_instance::{Duty, Instance, Rows};
+use shift_instance::{Duty, Instance, Row, Rows};
 use std::alloc::{AllocError, Global};
 
 /// The largest price that a slot may have.
@@ -183,8 +183,26 @@ fn even_with(
     }
 }
 
-/// Gives a duty of a row other breaks where that makes the plan more even and no dearer, and says whether it did.
-fn even_row(instance: &Instance, draft: &mut Draft, k: usize) -> Result<bool, NoMemory>
+/// Whether a row stands among others, whatever their counts are.
+fn is_among(others: &Rows, row: &Row) -> bool {
+    for other in others.as_slice() {
+        if other.shift == row.shift
+            && other.day == row.day
+            && other.breaks.as_slice() == row.breaks.as_slice()
+        {
+            return true;
+        }
+    }
+    false
+}
+
+/// Gives a duty of a row that isn't among fixed ones other breaks where that makes the plan more even and no dearer, and says whether it did.
+fn even_row(
+    instance: &Instance,
+    draft: &mut Draft,
+    k: usize,
+    fixed: &Rows,
+) -> Result<bool, NoMemory>
     requires instance { draft.old.instance ≡ instance.now }
     ensures instance { OnOk result (draft.new.instance ≡ draft.old.instance) }
     ensures evener { IfOk result (λ b. MatchBool b (IsEvener instance.now (rota_of draft.old.rows) (rota_of draft.new.rows)) (draft.new ≡ draft.old)) }
@@ -193,15 +211,25 @@ fn even_row(instance: &Instance, draft: &mut Draft, k: usize) -> Result<bool, No
     if rows.len() <= k {
         return Ok(false);
     }
-    let duty = duty_of(draft.allocator(), &rows[k])?;
+    let row = &rows[k];
+    if is_among(fixed, row) {
+        return Ok(false);
+    }
+    let duty = duty_of(draft.allocator(), row)?;
     match other_list(instance, draft, &duty)? {
         Some(to) => even_with(instance, draft, &duty, to),
         None => Ok(false),
     }
 }
 
-/// Goes through the rows of a plan once and takes moves that make it more even, at most `left` of them, which counts down.
-fn even_rows(instance: &Instance, draft: &mut Draft, left: &mut u16) -> Result<(), NoMemory>
+/// Goes through the rows of a plan that aren't among fixed ones once and takes moves that make it more even, at most `left` of them, which
+/// counts down.
+fn even_rows(
+    instance: &Instance,
+    draft: &mut Draft,
+    left: &mut u16,
+    fixed: &Rows,
+) -> Result<(), NoMemory>
     requires instance { draft.old.instance ≡ instance.now }
     ensures evened { OnOk result (IsEvenedBy instance.now draft.old draft.new left.old left.new) }
 {
@@ -210,7 +238,7 @@ fn even_rows(instance: &Instance, draft: &mut Draft, left: &mut u16) -> Result<(
         if *left == 0 {
             return Ok(());
         }
-        if even_row(instance, draft, k)? {
+        if even_row(instance, draft, k, fixed)? {
             *left -= 1;
         }
     }
@@ -218,8 +246,13 @@ fn even_rows(instance: &Instance, draft: &mut Draft, left: &mut u16) -> Result<(
 }
 
 /// Gives duties other breaks, one after another, for as long as that makes the plan more even and no dearer, at most `rounds`
-/// times, and says how often it did.
-pub fn even_out(instance: &Instance, draft: &mut Draft, rounds: u16) -> Result<u16, NoMemory>
+/// times, and says how often it did. A row that stands among `fixed` too, whatever its count is there, is left as it is.
+pub fn even_out(
+    instance: &Instance,
+    draft: &mut Draft,
+    rounds: u16,
+    fixed: &Rows,
+) -> Result<u16, NoMemory>
     requires instance { draft.old.instance ≡ instance.now }
     ensures instance { OnOk result (draft.new.instance ≡ draft.old.instance) }
     ensures cheap { OnOk result (cost instance.now (rota_of draft.new.rows) ≤ cost instance.now (rota_of draft.old.rows)) }
@@ -230,7 +263,7 @@ pub fn even_out(instance: &Instance, draft: &mut Draft, rounds: u16) -> Result<u
     let mut left = rounds;
     while 0 < left {
         let before = left;
-        even_rows(instance, draft, &mut left)?;
+        even_rows(instance, draft, &mut left, fixed)?;
         if left == before {
             return Ok(rounds - left);
         }
@@ -238,8 +271,15 @@ pub fn even_out(instance: &Instance, draft: &mut Draft, rounds: u16) -> Result<u
     Ok(rounds - left)
 }
 
-/// The rows of a legal plan after at most `rounds` moves that each made it more even and no dearer.
-pub fn evened(alloc: Global, instance: &Instance, rows: Rows, rounds: u16) -> Result<Rows, NoMemory>
+/// The rows of a legal plan after at most `rounds` moves that each made it more even and no dearer. None of them moves a duty of a row
+/// that stands among `fixed` too.
+pub fn evened(
+    alloc: Global,
+    instance: &Instance,
+    rows: Rows,
+    rounds: u16,
+    fixed: &Rows,
+) -> Result<Rows, NoMemory>
     requires { IsTrue (are_legal_rows instance.now rows) }
     ensures legal { IfOk result (λ new. IsTrue (are_legal_rows instance.now new)) }
     ensures cheap { IfOk result (λ new. cost instance.now (rota_of new) ≤ cost instance.now (rota_of rows)) }
@@ -247,6 +287,6 @@ pub fn evened(alloc: Global, instance: &Instance, rows: Rows, rounds: u16) -> Re
     ensures heads { IfOk result (λ new. (s day : ℕ) → heads_on (rota_of new) s day ≡ heads_on (rota_of rows) s day) }
 {
     let mut draft = Draft::new(alloc, instance, rows)?;
-    let _moves = even_out(instance, &mut draft, rounds)?;
+    let _moves = even_out(instance, &mut draft, rounds, fixed)?;
     Ok(draft.into_rows())
 }

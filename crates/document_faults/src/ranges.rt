@@ -19,11 +19,12 @@ pub(crate) fn minutes_hint(
 ) -> Result<String, AllocError> {
     let minutes = minutes_of(document);
     let slots = found / minutes;
-    if found <= most || most < slots {
+    if found <= most || slots == 0 || most < slots {
         return Ok(String::new(alloc));
     }
+    let noun = if slots == 1 { "slot" } else { "slots" };
     format!(in alloc;
-        ". Times are slots: {found} minutes would be {slots} slots of {minutes} minutes"
+        ". Times are slots: {found} minutes would be {slots} {noun} of {minutes} minutes"
     )
 }
 

@@ -46,7 +46,7 @@ fn run_four<R: Threads + Wait + Sync>(
 {
     let instance = morning(alloc, "2")?;
     let seats = greedy_seats(alloc)?;
-    match Book::open(alloc, &instance, disk, u64::from(steps), LIMIT) {
+    match Book::open(rt, alloc, &instance, disk, u64::from(steps), LIMIT, 4) {
         Ok(book) => {
             let (book, _, end) = run_workers(rt, alloc, &instance, book, seats, &Open, &Never);
             Ok(Some(Ran {

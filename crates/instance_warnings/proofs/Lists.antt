@@ -1,11 +1,11 @@
 -- Tests and sums along numbers from one on.
-use Rattle.std.proofs.Common.{◌≡◌, inl, inr, ℕ, ◌+◌, ◌<◌, ◌≤◌, Bool, true, false, cond, List, [], ◌∷◌, ◌++◌, filter, refl, sym, ap, ◌∙◌, arith, sum_by}
+use Rattle.std.proofs.Common.{◌≡◌, inl, inr, ℕ, suc, ◌+◌, ◌-◌, ◌<◌, ◌≤◌, max, Bool, true, false, cond, List, [], ◌∷◌, ◌++◌, filter, fold, refl, sym, ap, ◌∙◌, arith, sum_by}
 use Rattle.std.specs.List.{list_any, range_with_len}
 use Rattle.std.proofs.lemmas.Bool.{cases_Bool, false≢true}
-use Rattle.std.proofs.lemmas.List.Sums.{sum_by-cons}
+use Rattle.std.proofs.lemmas.List.Sums.{fold-append, sum_by-cons}
 use Rattle.break_rules.specs.Lists.{Has}
 use Rattle.break_rules.proofs.Lists.{any_some, any_at, Has-range, from_range}
-use Rattle.shift_instance.proofs.Ranges.{below_next}
+use Rattle.shift_instance.proofs.Ranges.{below_next, range_next}
 use Rattle.shift_instance.specs.Problem.{below}
 
 -- no element passes a test that each of them fails
@@ -46,3 +46,12 @@ sum_of_passing f g p (x ∷ xs) h =
           rw t (omega arith)
       | inr e ↦ rw e (omega arith)
     ]
+
+-- the greatest number of one element more of a range
+pub greatest_more : (f : ℕ → ℕ) (low at : ℕ) → low ≤ at → fold (λ most s. max most (f s)) 0 (range_with_len low (at + 1 - low)) ≡ max (fold (λ most s. max most (f s)) 0 (range_with_len low (at - low))) (f at)
+greatest_more f low at above =
+    let one : at + 1 - low ≡ suc (at - low) = omega arith in
+    let two : low + (at - low) ≡ at = omega arith in
+    let more : range_with_len low (at + 1 - low) ≡ range_with_len low (at - low) ++ at ∷ [] =
+    ap (range_with_len low) one ∙ range_next low (at - low) ∙ ap (λ (k : ℕ). range_with_len low (at - low) ++ k ∷ []) two in
+    ap (fold (λ most s. max most (f s)) 0) more ∙ fold-append (λ most s. max most (f s)) 0 (range_with_len low (at - low)) (at ∷ [])

@@ -1,20 +1,29 @@
 -- What a planner is warned of. Source: this project's profile.
-use Rattle.std.specs.Prelude.{ℕ, ◌*◌, ◌==◌, nat_lt, max, List, [], ◌∷◌, ◌++◌, fold, if◌then◌else◌}
-use Rattle.std.specs.List.{flat_map, enumerate_from}
+use Rattle.std.specs.Prelude.{ℕ, ◌*◌, ◌==◌, Bool, not, ◌&&◌, nat_lt, max, List, [], ◌∷◌, ◌++◌, fold, if◌then◌else◌}
+use Rattle.std.specs.List.{list_any, flat_map, enumerate_from}
 use Rattle.shift_instance.specs.Kind.{Kind}
 use Rattle.shift_instance.specs.Problem.{Problem, slots, need_max_at, below}
+use Rattle.rule_sentences.specs.Clauses.{has_no_break}
 use Rattle.instance_warnings.specs.declared.telling.Warning.{Warning}
-use Rattle.instance_warnings.specs.declared.telling.Warning.TheVariants.{NoBreaks, Unreached, Heads, NoExcess, NoShortage, NoShift}
-use Rattle.instance_warnings.specs.Breaks.{has_lists, culprit}
+use Rattle.instance_warnings.specs.declared.telling.Warning.TheVariants.{NoBreaks, NoTotals, Breakless, Unreached, Nobody, Heads, NoExcess, NoShortage, NoShift}
+use Rattle.instance_warnings.specs.Breaks.{has_lists, culprit, forgets_totals}
 use Rattle.instance_warnings.specs.Odd.{warning_if, excess_warnings, few_heads_warnings, greatest_need, short_warnings, hour_warnings, odd_kinds}
 use Rattle.instance_warnings.specs.Reached.{unreached, unreached_cost}
 
--- the warning of a type, by its number, where no length of it has a legal break list
-abbrev pub kind_warning : ℕ × Kind → List Warning
-kind_warning k = if has_lists k.1 k.1.rule then [] else NoBreaks k.0 (culprit k.1) ∷ []
+-- whether a shift of the type may have a break
+abbrev pub has_breaks : Kind → Bool
+has_breaks k = not (has_no_break k)
+
+-- the warning of a type without breaks, by its number: where it has a break rule without totals, and where some type has breaks
+abbrev pub breakless_warning : Bool → ℕ × Kind → List Warning
+breakless_warning others k = if forgets_totals k.1 then NoTotals k.0 ∷ [] else warning_if (others && has_no_break k.1) (Breakless k.0)
+
+-- the warning of a type, by its number, where no length of it has a legal break list, or where it has no breaks
+abbrev pub kind_warning : Bool → ℕ × Kind → List Warning
+kind_warning others k = if has_lists k.1 k.1.rule then breakless_warning others k else NoBreaks k.0 (culprit k.1) ∷ []
 
 abbrev pub kind_warnings : Problem → List Warning
-kind_warnings i = flat_map kind_warning (enumerate_from 0 i.kinds)
+kind_warnings i = flat_map (kind_warning (list_any has_breaks i.kinds)) (enumerate_from 0 i.kinds)
 
 -- the warning of some slots, where there are any
 abbrev pub slot_warning : ℕ → List ℕ → List Warning
@@ -28,9 +37,10 @@ slot_warnings i = slot_warning (unreached_cost i) (unreached i)
 abbrev pub most_wanted : Problem → ℕ
 most_wanted i = fold (λ most t. max most (need_max_at i t)) 0 (below (slots i))
 
--- the warning of a greatest number of duties that is more than twice the greatest number of wanted employees
+-- the warning of slots none of which wants anybody, and else of a greatest number of duties that is more than twice the greatest number of wanted
+-- employees
 abbrev pub head_warnings : Problem → List Warning
-head_warnings i = if nat_lt (2 * most_wanted i) i.heads then Heads i.heads (most_wanted i) ∷ [] else []
+head_warnings i = if most_wanted i == 0 then Nobody ∷ [] else warning_if (nat_lt (2 * most_wanted i) i.heads) (Heads i.heads (most_wanted i))
 
 -- the warnings of weights that are 0
 abbrev pub weight_warnings : Problem → List Warning

@@ -1,9 +1,10 @@
 //! How a planner is told of what is odd: types by their names, and times as on a clock.
+use crate::breaks::lacks_totals;
 use crate::relaxing::Part;
 use crate::slots::Slots;
 use crate::telling::{Limit, Warning};
-use rule_sentences::{Span, StartTime};
-use shift_instance::Instance;
+use rule_sentences::{Span, Spans, StartTime};
+use shift_instance::{Instance, TypeParts};
 use std::fmt;
 
 /// The minutes of a day.
@@ -52,12 +53,25 @@ fn write_total<W: fmt::Write>(total: Span, f: &mut fmt::Formatter<W>) -> fmt::Re
 }
 
 impl<'a> Told<'a> {
+    /// A type by its number.
+    fn kind(&self, kind: u16) -> Option<&TypeParts> {
+        let parts = self.instance.parts();
+        parts.types.get(usize::from(kind))
+    }
+
     /// The name of a type.
     fn name(&self, kind: u16) -> &str {
-        let parts = self.instance.parts();
-        match parts.types.get(usize::from(kind)) {
+        match self.kind(kind) {
             Some(kind) => kind.name.as_str(),
             None => "?",
+        }
+    }
+
+    /// Whether no entry of a type's totals holds for its shifts.
+    fn is_without_totals(&self, kind: u16) -> bool {
+        match self.kind(kind) {
+            Some(kind) => lacks_totals(kind),
+            None => false,
         }
     }
 
@@ -80,6 +94,9 @@ impl<'a> Told<'a> {
             "type {name} can have no duty: no length of it has a legal list of breaks, "
         )?;
         match part {
+            Some(Part::Totals) if self.is_without_totals(kind) => {
+                f.write_str("since totals has no entry for its shifts")
+            }
             Some(part) => write!(f, "since {}", part.fields()),
             None => f.write_str("and no one part of its rule alone forbids them"),
         }
@@ -123,12 +140,79 @@ impl<'a> Told<'a> {
             f,
             "type {name}: {field} is {slots} slots, {span}, and its longest shift has {longest}, {length}, so it limits nothing"
         )?;
+        self.write_meant(slots, longest, f)
+    }
+
+    /// Writes a warning of a greatest length of breaks that limits nothing, with what it would be if it was meant in minutes.
+    fn write_size_beyond<W: fmt::Write>(
+        &self,
+        kind: u16,
+        slots: u16,
+        most: u16,
+        f: &mut fmt::Formatter<W>,
+    ) -> fmt::Result {
+        let name = self.name(kind);
+        let span = self.span(slots);
+        let time = self.span(most);
+        write!(
+            f,
+            "type {name}: size_max is {slots} slots, {span}, and no shift has more than {most}, {time}, of breaks, so it limits nothing"
+        )?;
+        self.write_meant(slots, most, f)
+    }
+
+    /// Writes how many slots a number is if it was meant in minutes, where that is at most so many.
+    fn write_meant<W: fmt::Write>(
+        &self,
+        minutes: u16,
+        most: u16,
+        f: &mut fmt::Formatter<W>,
+    ) -> fmt::Result {
         let parts = self.instance.parts();
-        let meant = slots / parts.slot_minutes.max(1);
-        if 0 < meant && meant <= longest {
+        let meant = minutes / parts.slot_minutes.max(1);
+        if 0 < meant && meant <= most {
             write!(f, "; if minutes are meant, write {meant}")?;
         }
         Ok(())
+    }
+
+    /// Writes a warning of a type with times that look like hours.
+    fn write_type_hours<W: fmt::Write>(&self, kind: u16, f: &mut fmt::Formatter<W>) -> fmt::Result {
+        let Some(kind) = self.kind(kind) else {
+            return Ok(());
+        };
+        let parts = self.instance.parts();
+        let minutes = parts.slot_minutes;
+        let name = kind.name.as_str();
+        let first = StartTime::of_slot(minutes, kind.start_min);
+        let last = StartTime::of_slot(minutes, kind.start_max);
+        let lengths = Spans::of_slots(minutes, kind.len_min, kind.len_max);
+        write!(
+            f,
+            "starts and lengths of type {name} look like hours: they count slots of {minutes} minutes, so its shifts start "
+        )?;
+        if first == last {
+            write!(f, "{first} and are {lengths} long")
+        } else {
+            write!(f, "{first} to {last} and are {lengths} long")
+        }
+    }
+
+    /// Writes a warning of a type without breaks.
+    fn write_breakless<W: fmt::Write>(&self, f: &mut fmt::Formatter<W>) -> fmt::Result {
+        match self.warning {
+            Warning::NoTotals { kind } => write!(
+                f,
+                "type {} has a break rule, and its shifts have no breaks, since totals has no entry for them",
+                self.name(*kind)
+            ),
+            Warning::Breakless { kind } => write!(
+                f,
+                "type {} has no breaks, and other types have",
+                self.name(*kind)
+            ),
+            _ => Ok(()),
+        }
     }
 
     /// Writes a warning of lengths with different break times.
@@ -164,6 +248,23 @@ impl<'a> Told<'a> {
         write!(
             f,
             "type {name}: {longer} shifts have a lunch of {size}, and {shorter} shifts don't have to"
+        )
+    }
+
+    /// Writes a warning of a lunch that no length has.
+    fn write_lunch_beyond<W: fmt::Write>(
+        &self,
+        kind: u16,
+        len: u16,
+        longest: u16,
+        f: &mut fmt::Formatter<W>,
+    ) -> fmt::Result {
+        let name = self.name(kind);
+        let from = self.span(len);
+        let longest = self.span(longest);
+        write!(
+            f,
+            "a lunch of type {name} begins at shifts of {from}, and its longest shift has {longest}"
         )
     }
 
@@ -203,6 +304,13 @@ impl<'a> Told<'a> {
             Warning::LunchParted { kind, len, size } => {
                 self.write_lunch_parted(*kind, *len, *size, f)
             }
+            Warning::LunchBeyond { kind, len, longest } => {
+                self.write_lunch_beyond(*kind, *len, *longest, f)
+            }
+            Warning::TypeLikeHours { kind } => self.write_type_hours(*kind, f),
+            Warning::SizeBeyond { kind, slots, most } => {
+                self.write_size_beyond(*kind, *slots, *most, f)
+            }
             Warning::GoesRound { kind, end } => self.write_going_round(*kind, *end, f),
             _ => Ok(()),
         }
@@ -233,6 +341,9 @@ impl<'a> Told<'a> {
         let parts = self.instance.parts();
         let minutes = parts.slot_minutes;
         match self.warning {
+            Warning::Nobody => f.write_str(
+                "no slot wants anybody, so a plan without duties is a cheapest one",
+            ),
             Warning::Heads { most, need } => write!(
                 f,
                 "max_heads is {most}, and no slot wants more than {need}: each class of duties counts up to {most} times in a bound, so bounds get weak; twice that will do"
@@ -267,7 +378,9 @@ impl<'a> fmt::Display for Told<'a> {
             | Warning::NoShortage
             | Warning::NoShift
             | Warning::ExcessAbove { .. } => self.write_weights(f),
-            Warning::Heads { .. }
+            Warning::NoTotals { .. } | Warning::Breakless { .. } => self.write_breakless(f),
+            Warning::Nobody
+            | Warning::Heads { .. }
             | Warning::HeadsBelow { .. }
             | Warning::Short { .. }
             | Warning::LikeHours => self.write_sizes(f),

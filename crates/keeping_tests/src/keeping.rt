@@ -8,19 +8,21 @@ use shift_tables::Tables;
 use std::alloc::Global;
 use std::test::Fail;
 
-/// How many of some wanted duties a plan has, and what it costs, before and after it was made to keep more of them.
+/// How many of some wanted duties a plan has, and what it costs, before and after it was made to keep more of them where each may cost
+/// `change` more.
 fn kept_of(
     alloc: Global,
     document: &str,
     plan: &[Spelled],
     wanted: &[Spelled],
+    change: u32,
 ) -> Result<((u128, u64), (u128, u64)), Fail> {
     let instance = instance_of(alloc, document)?;
     let tables = Tables::new(alloc, &instance)?;
     let wanted = rows_of(alloc, wanted)?;
     let plan = plan_of(alloc, &instance, plan)?;
     let before = (kept_duties(&wanted, plan.rows()), plan.cost());
-    let rows = with_more_kept(alloc, &instance, &tables, plan.into_rows(), &wanted)?;
+    let rows = with_more_kept(alloc, &instance, &tables, plan.into_rows(), &wanted, change)?;
     let plan = cost_rows(&instance, rows).ok().ok_or("not legal")?;
     let after = (kept_duties(&wanted, plan.rows()), plan.cost());
     Ok((before, after))
@@ -32,7 +34,7 @@ fn duties_come_back_where_they_cost_no_more(rt: HostRuntime) -> Result<(), Fail>
     let plan = [(0, 0, Some(2), 3)];
     let wanted = [(0, 0, Some(3), 1), (0, 0, Some(4), 1)];
     assert_eq!(rt;
-        kept_of(rt.alloc(), NIGHT, &plan, &wanted)?,
+        kept_of(rt.alloc(), NIGHT, &plan, &wanted, 0)?,
         ((0, 9), (2, 9))
     );
     Ok(())
@@ -44,8 +46,24 @@ fn days_come_back_together(rt: HostRuntime) -> Result<(), Fail> {
     let plan = [(0, 0, None, 1), (0, 1, None, 1)];
     let wanted = [(1, 0, None, 1), (1, 1, None, 1)];
     assert_eq!(rt;
-        kept_of(rt.alloc(), TWINS, &plan, &wanted)?,
+        kept_of(rt.alloc(), TWINS, &plan, &wanted, 0)?,
         ((0, 3), (2, 3))
+    );
+    Ok(())
+}
+
+// The second shift costs 3 more for the one duty that comes back: so it does where a duty counts 3, and doesn't where it counts 2.
+#[test]
+fn a_duty_comes_back_for_what_it_counts(rt: HostRuntime) -> Result<(), Fail> {
+    let plan = [(0, 0, None, 1), (0, 1, None, 1)];
+    let wanted = [(1, 0, None, 1)];
+    assert_eq!(rt;
+        kept_of(rt.alloc(), TWINS, &plan, &wanted, 2)?,
+        ((0, 3), (0, 3))
+    );
+    assert_eq!(rt;
+        kept_of(rt.alloc(), TWINS, &plan, &wanted, 3)?,
+        ((0, 3), (1, 6))
     );
     Ok(())
 }

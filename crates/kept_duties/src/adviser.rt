@@ -11,15 +11,16 @@ use shift_tables::Tables;
 use std::alloc::Global;
 
 /// An adviser that gives another's advice, where each legal plan has more of the wanted duties and costs no more. The first that it
-/// advises, and that the other adviser goes on from, are the wanted rows, where they are a plan that is cheaper than the best so far.
+/// advises, and that the other adviser goes on from, are the rows to begin with, where they are a plan that is cheaper than the best so far.
 #[derive(Drop)]
 pub struct Keeping<A: Adviser> {
     alloc: Global,
     adviser: A,
     wanted: Rows,
+    begin: Rows,
     /// Tables of the instance; none where no row is wanted.
     tables: Option<Tables>,
-    /// Whether the wanted rows weren't advised yet.
+    /// Whether the rows to begin with weren't advised yet.
     is_fresh: bool,
 }
 
@@ -70,12 +71,14 @@ fn asked_with(ask: &Ask, rows: Rows, cost: u64) -> Result<Ask, NoMemory>
 }
 
 impl<A: Adviser> Keeping<A> {
-    /// The adviser that gives another's advice for an instance and keeps what it can of the wanted rows.
+    /// The adviser that gives another's advice for an instance, keeps what it can of the wanted rows and begins with others. Where no row is
+    /// wanted, it gives the other's advice as it is.
     pub fn new(
         alloc: Global,
         instance: &Instance,
         adviser: A,
         wanted: Rows,
+        begin: Rows,
     ) -> Result<Keeping<A>, NoMemory>
         ensures { IfOk result (λ k. ⟦<Keeping<A> as Adviser>⟧.told k ≡ A.told adviser) }
     {
@@ -84,20 +87,21 @@ impl<A: Adviser> Keeping<A> {
             alloc,
             adviser,
             wanted,
+            begin,
             tables,
             is_fresh: true,
         })
     }
 
-    /// The wanted rows, where they weren't advised yet and are a plan that is cheaper than `best`, with what they cost.
+    /// The rows to begin with, where they weren't advised yet and are a plan that is cheaper than `best`, with what they cost.
     fn first(&self, instance: &Instance, best: u64) -> Result<Option<(Rows, u64)>, NoMemory> {
         if !self.is_fresh || self.wanted.is_empty() {
             return Ok(None);
         }
-        Ok(cheaper(instance, self.wanted.clone()?, best))
+        Ok(cheaper(instance, self.begin.clone()?, best))
     }
 
-    /// The other adviser's advice; where the wanted rows are to be advised first, it goes on from them.
+    /// The other adviser's advice; where there are rows to be advised first, it goes on from them.
     fn advice_of(
         &mut self,
         instance: &Instance,
@@ -132,7 +136,7 @@ impl<A: Adviser> Keeping<A> {
         if legal_rows(instance, &rows).is_err() {
             return Ok(rows);
         }
-        with_more_kept(self.alloc, instance, tables, rows, &self.wanted)
+        with_more_kept(self.alloc, instance, tables, rows, &self.wanted, 0)
     }
 }
 

@@ -22,6 +22,8 @@ pub(crate) struct Sides<'a> {
     pub(crate) wanted: &'a [Placed],
     /// How many more wanted duties the plan has once it has the wanted ones of a day, for each day.
     pub(crate) gains: &'a [u128],
+    /// What a wanted duty counts that the plan doesn't have, as much as that cost.
+    pub(crate) change: f64,
 }
 
 /// A choice of the days that have their wanted duties, where the others have the plan's own.
@@ -29,7 +31,7 @@ pub(crate) struct Sides<'a> {
 struct Choice {
     /// The days, as bits: day 0 is the lowest.
     days: u8,
-    /// What the plan costs then.
+    /// What the plan costs then, less what the wanted duties count that it has more then.
     cost: f64,
     /// How many more of the wanted duties it has then.
     gain: u128,
@@ -67,6 +69,11 @@ fn gain_of(gains: &[u128], days: u8) -> u128 {
         }
     }
     sum
+}
+
+/// A number of duties as a factor. No plan has as many as the greatest that is given.
+fn as_float(duties: u128) -> f64 {
+    f64::from(u32::try_from(duties).unwrap_or(u32::MAX))
 }
 
 /// Takes the duties of a day out of a plan.
@@ -116,8 +123,8 @@ fn turn(plan: &mut Plan, tables: &Tables, sides: &Sides, from: u8, to: u8) -> Re
     Ok(())
 }
 
-/// Of all choices of days the one by which a plan, which has its own duties, is cheapest, and has the most of the wanted duties among
-/// the cheapest. The plan is as the last choice makes it then.
+/// Of all choices of days the one by which a plan, which has its own duties, is cheapest with what wanted duties count that it lacks, and has
+/// the most of them among the cheapest. The plan is as the last choice makes it then.
 fn best_choice(plan: &mut Plan, tables: &Tables, sides: &Sides) -> Result<Choice, NoMemory> {
     let mut best = Choice {
         days: 0,
@@ -126,10 +133,11 @@ fn best_choice(plan: &mut Plan, tables: &Tables, sides: &Sides) -> Result<Choice
     };
     for days in 1..CHOICES {
         turn(plan, tables, sides, days.saturating_sub(1), days)?;
+        let gain = gain_of(sides.gains, days);
         let choice = Choice {
             days,
-            cost: plan.cost,
-            gain: gain_of(sides.gains, days),
+            cost: plan.cost - sides.change * as_float(gain),
+            gain,
         };
         if choice.is_better_than(&best) {
             best = choice;

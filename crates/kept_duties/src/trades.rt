@@ -51,14 +51,14 @@ fn has_fitted(
     Ok(false)
 }
 
-/// Puts a wanted duty in place of another where the plan isn't dearer then, and says whether it did.
+/// Puts a wanted duty in place of another where the plan costs no more than `cost` then, and says whether it did.
 fn has_traded(
     plan: &mut Plan,
     tables: &Tables,
     other: &Placed,
     placed: &Placed,
+    cost: f64,
 ) -> Result<bool, NoMemory> {
-    let cost = plan.cost;
     plan.take(tables, other);
     if has_fitted(plan, tables, placed, cost)? {
         return Ok(true);
@@ -67,15 +67,16 @@ fn has_traded(
     Ok(false)
 }
 
-/// Puts a wanted duty in, or in place of one on its day that isn't wanted, where the plan isn't dearer then.
+/// Puts a wanted duty in, or in place of one on its day that isn't wanted, where the plan is dearer by at most `change` then.
 fn restore_duty(
     alloc: Global,
     plan: &mut Plan,
     tables: &Tables,
     wanted: &[Placed],
     placed: &Placed,
+    change: f64,
 ) -> Result<(), NoMemory> {
-    let cost = plan.cost;
+    let cost = plan.cost + change;
     if has_fitted(plan, tables, placed, cost)? {
         return Ok(());
     }
@@ -84,24 +85,25 @@ fn restore_duty(
     for other in &others {
         let is_spare = other.day == placed.day
             && times_wanted(wanted, other) < times_in(plan, tables, other);
-        if is_spare && has_traded(plan, tables, other, placed)? {
+        if is_spare && has_traded(plan, tables, other, placed, cost)? {
             return Ok(());
         }
     }
     Ok(())
 }
 
-/// Has wanted duties that a plan lacks come back one by one, each alone or in place of another on its day, where the plan isn't dearer
-/// then.
+/// Has wanted duties that a plan lacks come back one by one, each alone or in place of another on its day, where the plan is dearer by at most
+/// `change` then.
 pub(crate) fn restore_duties(
     alloc: Global,
     plan: &mut Plan,
     tables: &Tables,
     wanted: &[Placed],
+    change: f64,
 ) -> Result<(), NoMemory> {
     for placed in wanted {
         if times_in(plan, tables, placed) < times_wanted(wanted, placed) {
-            restore_duty(alloc, plan, tables, wanted, placed)?;
+            restore_duty(alloc, plan, tables, wanted, placed, change)?;
         }
     }
     Ok(())

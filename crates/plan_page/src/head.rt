@@ -14,7 +14,7 @@ pub(crate) const BEGINNING: &str = "\
 <meta name=\"viewport\" content=\"width=device-width,initial-scale=1\">
 <title>";
 
-/// How the page looks, on wide screens, on narrow ones and on paper, with stripes for employees too many and a lattice for
+/// How the page looks, on wide screens, on narrow ones and on paper, where each day begins a page, with stripes for employees too many and a lattice for
 /// employees too few. It stands between the title and the heading.
 pub(crate) const LOOKS: &str = "\
 </title>
@@ -35,7 +35,7 @@ svg{display:block;width:100%;overflow:hidden}
 .need{fill:none;stroke:#111;stroke-width:2;vector-effect:non-scaling-stroke}
 .grid{fill:none;stroke:#bbb;stroke-width:1;stroke-dasharray:2 3;vector-effect:non-scaling-stroke}
 .work{fill:#4a6c9b}.break{fill:#fff;stroke:#111;stroke-width:1;vector-effect:non-scaling-stroke}
-.row{display:grid;grid-template-columns:17em 1fr;gap:0 .6em;align-items:center;break-inside:avoid}
+.row{display:grid;grid-template-columns:17em 1fr;gap:0 .6em;align-items:center;padding:.14em 0;break-inside:avoid}
 .row>span{font-size:.87em;line-height:1.25;overflow-wrap:anywhere}
 .axis{position:relative;align-self:stretch;text-align:right}.axis>span{position:absolute;right:0;top:0}.axis>span[style]{transform:translateY(-50%)}.axis>span:last-child{top:auto;bottom:0}
 pre{font:.87em/1.35 monospace;white-space:pre-wrap;margin:.2em 0}
@@ -44,7 +44,8 @@ pre{font:.87em/1.35 monospace;white-space:pre-wrap;margin:.2em 0}
 .key svg{width:28px;height:14px;flex:none}
 .day{break-inside:avoid-page}
 @media(max-width:640px){body{font-size:14px}.row{grid-template-columns:1fr}.axis>span{position:static}.axis>span+span{display:none}.tables{gap:.3em}th,td{padding:.1em .3em}.chart{height:150px}.bar{height:12px}}
-@media print{body{max-width:none}.covered,.over,.under,.work,.break{print-color-adjust:exact;-webkit-print-color-adjust:exact}}
+@page{margin:10mm}
+@media print{body{max-width:none;font-size:12px}h2{margin:.3em 0 .1em;break-after:avoid}.day{break-before:page}.chart{height:110px}.bar{height:9px}.row{padding:1px 0}.row>span{font-size:.82em;line-height:1.2}.covered,.over,.under,.work,.break{print-color-adjust:exact;-webkit-print-color-adjust:exact}}
 </style>
 </head>
 <body>

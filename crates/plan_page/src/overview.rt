@@ -20,7 +20,7 @@ pub(crate) const NEED_SIGN: &str = "\
 
 /// What the strip of the bands means, and how it looks.
 pub(crate) const BAND_SIGN: &str = "\
-<span><svg viewBox=\"0 0 28 14\"><style>.band{fill:#111;fill-opacity:.2;print-color-adjust:exact;-webkit-print-color-adjust:exact}</style><path class=\"band\" d=\"M0 3h28v8h-28z\"/><path class=\"need\" d=\"M0 3H28M0 11H28\"/></svg>from the least to the most wanted</span>
+<span><svg viewBox=\"0 0 28 14\"><style>.band{fill:#111;fill-opacity:.2;print-color-adjust:exact;-webkit-print-color-adjust:exact}</style><path class=\"covered\" d=\"M14 3h14v11h-14z\"/><path class=\"band\" d=\"M0 3h28v8h-28z\"/><path class=\"need\" d=\"M0 3H28M0 11H28\"/></svg>from the least to the most wanted</span>
 ";
 
 /// What the other signs in the pictures mean.

@@ -24,8 +24,8 @@ fn kind_at(alloc: Global, line: &str) -> Result<Option<ErrorKind>, AllocError> {
     }
 }
 
-/// What a line asks for where it asks for a plan: its journal and folder, `-` where they aren't said, its seconds, its workers, whether
-/// it begins again, at what else it ends, and after how many seconds without a cheaper plan, 0 where that isn't said.
+/// What a line asks for where it asks for a plan: its journal and folder, `-` where they aren't said, its seconds, its workers, its seed,
+/// whether it begins again, at what else it ends, and after how many seconds without a cheaper plan, 0 where that isn't said.
 fn plan_at(alloc: Global, line: &str) -> Result<Option<String>, AllocError> {
     let words = words_of(alloc, line)?;
     match wanted_by(alloc, words.as_slice()) {
@@ -36,6 +36,7 @@ fn plan_at(alloc: Global, line: &str) -> Result<Option<String>, AllocError> {
                     journal,
                     seconds,
                     workers,
+                    seed,
                     out,
                     anew,
                     stop_on,
@@ -53,7 +54,7 @@ fn plan_at(alloc: Global, line: &str) -> Result<Option<String>, AllocError> {
             };
             let quiet = until_quiet.unwrap_or(0);
             Ok(Some(format!(in alloc;
-                "{instance} {journal} {seconds} {workers} {out} {anew} {end} {quiet}"
+                "{instance} {journal} {seconds} {workers} {seed} {out} {anew} {end} {quiet}"
             )?))
         }
         _ => Ok(None),
@@ -64,15 +65,15 @@ fn plan_at(alloc: Global, line: &str) -> Result<Option<String>, AllocError> {
 fn a_plan_has_its_words(rt: HostRuntime) -> Result<(), Fail> {
     let alloc = rt.alloc();
     let short = plan_at(alloc, "shift_plan plan w.json")?.ok_or("no plan")?;
-    assert_eq!(rt; short.as_str(), "w.json - 60 4 - false - 0");
+    assert_eq!(rt; short.as_str(), "w.json - 60 4 1 - false - 0");
     let long =
-        "shift_plan plan w.json --journal j --seconds 0 --workers=16 --out o --stop-on line --anew";
+        "shift_plan plan w.json --journal j --seconds 0 --workers=16 --seed=4294967295 --out o --stop-on line --anew";
     let long = plan_at(alloc, long)?.ok_or("no plan")?;
-    assert_eq!(rt; long.as_str(), "w.json j 0 16 o true line 0");
+    assert_eq!(rt; long.as_str(), "w.json j 0 16 4294967295 o true line 0");
     let quiet = plan_at(alloc, "shift_plan plan w.json --until-quiet 90")?.ok_or("no plan")?;
-    assert_eq!(rt; quiet.as_str(), "w.json - 60 4 - false - 90");
-    let told = plan_at(alloc, "shift_plan plan --stop-on=enter w.json")?.ok_or("no plan")?;
-    assert_eq!(rt; told.as_str(), "w.json - 60 4 - false enter 0");
+    assert_eq!(rt; quiet.as_str(), "w.json - 60 4 1 - false - 90");
+    let told = plan_at(alloc, "shift_plan plan --stop-on=enter --seed 0 w.json")?.ok_or("no plan")?;
+    assert_eq!(rt; told.as_str(), "w.json - 60 4 0 - false enter 0");
     Ok(())
 }
 
@@ -187,7 +188,10 @@ fn kept_at(alloc: Global, line: &str) -> Result<Option<String>, AllocError> {
                     ..
                 },
             ),
-        ) => { Ok(Some(format!(in alloc; "{} {}", like.report, like.of)?)) }
+        ) => {
+            let change = like.change.map_or(-1, i64::from);
+            Ok(Some(format!(in alloc; "{} {} {change}", like.report, like.of)?))
+        }
         Ok(_) => Ok(Some(String::from_str(alloc, "-")?)),
         Err(_) => Ok(None),
     }
@@ -197,11 +201,17 @@ fn kept_at(alloc: Global, line: &str) -> Result<Option<String>, AllocError> {
 fn a_plan_to_keep_is_named_with_its_instance(rt: HostRuntime) -> Result<(), Fail> {
     let alloc = rt.alloc();
     let found = kept_at(alloc, "shift_plan plan w.json --like r --of v.json")?;
-    assert_eq!(rt; found.as_ref().map_or("", String::as_str), "r v.json");
+    assert_eq!(rt; found.as_ref().map_or("", String::as_str), "r v.json -1");
+    let found = kept_at(
+        alloc,
+        "shift_plan plan w.json --like r --of v.json --change 7",
+    )?;
+    assert_eq!(rt; found.as_ref().map_or("", String::as_str), "r v.json 7");
     let found = kept_at(alloc, "shift_plan plan w.json")?;
     assert_eq!(rt; found.as_ref().map_or("", String::as_str), "-");
     assert!(rt; kept_at(alloc, "shift_plan plan w.json --like r")?.is_none());
     assert!(rt; kept_at(alloc, "shift_plan plan w.json --of v.json")?.is_none());
+    assert!(rt; kept_at(alloc, "shift_plan plan w.json --change 7")?.is_none());
     Ok(())
 }
 
@@ -225,6 +235,10 @@ fn other_words_are_refused(rt: HostRuntime) -> Result<(), Fail> {
     let kind = kind_at(alloc, "shift_plan plan")?;
     assert!(rt; matches!(kind, Some(ErrorKind::MissingRequiredArgument)));
     let kind = kind_at(alloc, "shift_plan plan w.json --workers 17")?;
+    assert!(rt; matches!(kind, Some(ErrorKind::ValueValidation)));
+    let kind = kind_at(alloc, "shift_plan plan w.json --seed 4294967296")?;
+    assert!(rt; matches!(kind, Some(ErrorKind::ValueValidation)));
+    let kind = kind_at(alloc, "shift_plan plan w.json --seed luck")?;
     assert!(rt; matches!(kind, Some(ErrorKind::ValueValidation)));
     let kind = kind_at(alloc, "shift_plan plan w.json --seconds ten")?;
     assert!(rt; matches!(kind, Some(ErrorKind::ValueValidation)));

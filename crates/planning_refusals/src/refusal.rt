@@ -119,6 +119,16 @@ impl Refusal {
         }
     }
 
+    /// The same refusal, said of a report that was to be read for an instance.
+    pub fn about_report(self, alloc: Global, report: &str, instance: &str) -> Refusal
+        ensures { IsFor self result }
+    {
+        let sentence = format!(in alloc;
+            "of the report `{report}` and its instance `{instance}`: {self}"
+        );
+        Refusal::said(self.cause, sentence)
+    }
+
     /// The number with which the program ends.
     pub fn number(&self) -> u8
         ensures { result ≡ number_of self.now }

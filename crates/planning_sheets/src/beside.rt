@@ -22,7 +22,7 @@ const OF_THE_GAP: &str =
 /// What is known of an instance beside its numbers.
 #[derive(Clone, Copy, Drop)]
 pub struct Beside<'a> {
-    /// The word that names the instance's file.
+    /// The path of the instance's file.
     pub instance: &'a str,
     /// The bytes of that file.
     pub document: &'a [u8],
@@ -141,6 +141,14 @@ fn below(
     Ok(sections)
 }
 
+/// The name of a file without its folders, by its path.
+fn file_name(path: &str) -> &str {
+    match path.rsplit_once('/') {
+        Some((_, name)) => name,
+        None => path,
+    }
+}
+
 /// What the page of legal rows says beside them, with a line on how the plan stands.
 pub(crate) fn page_texts(
     alloc: Global,
@@ -157,7 +165,7 @@ pub(crate) fn page_texts(
         line.push_str(OF_THE_GAP)?;
     }
     Ok(PageTexts {
-        heading: String::from_str(alloc, beside.instance)?,
+        heading: String::from_str(alloc, file_name(beside.instance))?,
         standing: line,
         days: beside.names_behind(alloc, instance)?,
         above: above(alloc, instance, rows)?,

@@ -111,7 +111,7 @@ impl Sheets {
     ) -> Result<Sheets, AllocError>
         requires { IsTrue (are_legal_rows instance.now rows.now) }
     {
-        let rota = rota_csv(alloc, instance, rows)?;
+        let rota = rota_csv(alloc, instance, rows, texts.days.as_slice())?;
         let duties = duties_csv(alloc, instance, rows)?;
         let cover = cover_csv(alloc, instance, rows)?;
         let page = plan_page(alloc, instance, rows, texts)?;

@@ -1,5 +1,6 @@
 //! The words that name an older plan: to keep what stands of it, or to compare it.
 
+use crate::numbers::{ValueWord, change_of};
 use crate::wanted::instance_word;
 use clap::{Arg, ArgMatches, Command};
 use std::alloc::{AllocError, Global};
@@ -11,6 +12,8 @@ pub struct LikeWords<'a> {
     pub report: &'a str,
     /// The file of its instance document.
     pub of: &'a str,
+    /// What each of its duties counts that isn't kept, if it is said: as much as that cost.
+    pub change: Option<u32>,
 }
 
 /// The words that ask for a comparison of two plans.
@@ -44,11 +47,27 @@ pub(crate) fn of_word<'a>(alloc: Global) -> Result<Arg<'a>, AllocError> {
         .requires_arg("like")
 }
 
+/// The word for what a duty counts that isn't kept.
+pub(crate) fn change_word<'a>(alloc: Global) -> Result<Arg<'a>, AllocError> {
+    Arg::new(alloc, "change")
+        .long("change")
+        .value_name("C")
+        .allow_hyphen_values(true)
+        .help(
+            "What each duty counts that isn't kept, beside the cost of the plan [default: excess, or 1]",
+        )
+        .requires_arg("like")
+}
+
 /// The plan of which a search is to keep what it can, if one is named.
-pub(crate) fn like_words<'a>(matches: &ArgMatches<'a>) -> Option<LikeWords<'a>> {
-    let report = matches.get_str("like")?;
-    let of = matches.get_str("of")?;
-    Some(LikeWords { report, of })
+pub(crate) fn like_words<'a>(matches: &ArgMatches<'a>) -> Result<Option<LikeWords<'a>>, ValueWord> {
+    let change = change_of(matches)?;
+    let Some(report) = matches.get_str("like") else {
+        return Ok(None);
+    };
+    // the word before requires this one
+    let of = matches.get_str("of").unwrap_or("");
+    Ok(Some(LikeWords { report, of, change }))
 }
 
 /// The word for a file that has to be named.

@@ -18,6 +18,12 @@ const WORKERS_UNSAID: u16 = 4;
 /// The most workers.
 const WORKERS_MOST: u16 = 16;
 
+/// The seed where the words don't say.
+const SEED_UNSAID: u32 = 1;
+
+/// The most that a duty counts which isn't kept.
+const CHANGE_MOST: u32 = 1_000_000;
+
 /// A word that takes a number or a date.
 #[derive(Clone, Copy, PartialEq, Eq, Drop)]
 pub(crate) enum ValueWord {
@@ -25,8 +31,12 @@ pub(crate) enum ValueWord {
     Seconds,
     /// How many workers search.
     Workers,
+    /// What the random draws begin from.
+    Seed,
     /// After how many seconds without a cheaper plan the search ends.
     UntilQuiet,
+    /// What a duty counts that isn't kept.
+    Change,
     /// The date of the first day.
     From,
 }
@@ -37,7 +47,9 @@ impl ValueWord {
         match self {
             ValueWord::Seconds => "seconds",
             ValueWord::Workers => "workers",
+            ValueWord::Seed => "seed",
             ValueWord::UntilQuiet => "until-quiet",
+            ValueWord::Change => "change",
             ValueWord::From => "from",
         }
     }
@@ -47,7 +59,9 @@ impl ValueWord {
         match self {
             ValueWord::Seconds => "a whole number of seconds from 0 to 4000000",
             ValueWord::Workers => "a whole number of workers from 1 to 16",
+            ValueWord::Seed => "a whole number from 0 to 4294967295",
             ValueWord::UntilQuiet => "a whole number of seconds from 1 to 4000000",
+            ValueWord::Change => "a whole number from 0 to 1000000",
             ValueWord::From => "a date such as 2026-12-01",
         }
     }
@@ -103,6 +117,17 @@ pub(crate) fn workers_of(matches: &ArgMatches) -> Result<u16, ValueWord>
     }
 }
 
+/// What the random draws of the first worker begin from.
+pub(crate) fn seed_of(matches: &ArgMatches) -> Result<u32, ValueWord> {
+    let Some(text) = matches.get_str("seed") else {
+        return Ok(SEED_UNSAID);
+    };
+    match number_within(text, 0, u32::MAX) {
+        Some(seed) => Ok(seed),
+        None => Err(ValueWord::Seed),
+    }
+}
+
 /// After how many seconds without a cheaper plan to end, if that is said.
 pub(crate) fn quiet_of(matches: &ArgMatches) -> Result<Option<u32>, ValueWord> {
     let Some(text) = matches.get_str("until-quiet") else {
@@ -111,6 +136,17 @@ pub(crate) fn quiet_of(matches: &ArgMatches) -> Result<Option<u32>, ValueWord> {
     match number_within(text, 1, SECONDS_MOST) {
         Some(seconds) => Ok(Some(seconds)),
         None => Err(ValueWord::UntilQuiet),
+    }
+}
+
+/// What each duty counts that isn't kept, if that is said.
+pub(crate) fn change_of(matches: &ArgMatches) -> Result<Option<u32>, ValueWord> {
+    let Some(text) = matches.get_str("change") else {
+        return Ok(None);
+    };
+    match number_within(text, 0, CHANGE_MOST) {
+        Some(change) => Ok(Some(change)),
+        None => Err(ValueWord::Change),
     }
 }
 

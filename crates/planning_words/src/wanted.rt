@@ -4,9 +4,10 @@ ghost use Rattle.std.specs.Prelude.{◌≤◌, IfOk};
 ghost use Rattle.planning_words.specs.Wanted.{IsWithin};
 
 use crate::keeping::{
-    CompareWords, LikeWords, compare_command, compare_words, like_word, like_words, of_word,
+    CompareWords, LikeWords, change_word, compare_command, compare_words, like_word, like_words,
+    of_word,
 };
-use crate::numbers::{ValueWord, first_of, quiet_of, seconds_of, workers_of};
+use crate::numbers::{ValueWord, first_of, quiet_of, seconds_of, seed_of, workers_of};
 use crate::tables::{TableWords, export_command, import_command, table_words};
 use clap::error::ErrorKind;
 use clap::{Arg, ArgAction, ArgMatches, Command, Error};
@@ -80,6 +81,8 @@ pub struct PlanWords<'a> {
     pub seconds: u32,
     /// How many workers search.
     pub workers: u16,
+    /// What the random draws of the first worker begin from; those of each other one begin from 1 more than those of the one before.
+    pub seed: u32,
     /// The folder for the plan, if it is said.
     pub out: Option<&'a str>,
     /// Whether to begin again, with the old journal under another name.
@@ -186,6 +189,17 @@ fn workers_word<'a>(alloc: Global) -> Arg<'a> {
         .help("How many workers search at the same time, 1 to 16 [default: 4]")
 }
 
+/// The word for what random draws begin from.
+fn seed_word<'a>(alloc: Global) -> Arg<'a> {
+    Arg::new(alloc, "seed")
+        .long("seed")
+        .value_name("S")
+        .allow_hyphen_values(true)
+        .help(
+            "What the random draws begin from, a whole number: another one may find another plan [default: 1]",
+        )
+}
+
 /// The word that asks for a new beginning.
 fn anew_word<'a>(alloc: Global) -> Arg<'a> {
     Arg::new(alloc, "anew")
@@ -231,26 +245,28 @@ fn date_word<'a>(alloc: Global) -> Arg<'a> {
     )
 }
 
-/// The command `plan` with the words for what is read and how long is searched.
+/// The command `plan` with the words for what is read, how long is searched and by how many workers.
 fn timed_command<'a>(alloc: Global) -> Result<Command<'a>, AllocError> {
     Command::new(alloc, "plan")
         .about("Searches for a cheapest plan and writes it")
         .arg(instance_word(alloc))?
         .arg(journal_word(alloc))?
         .arg(seconds_word(alloc))?
-        .arg(quiet_word(alloc))
+        .arg(quiet_word(alloc))?
+        .arg(workers_word(alloc))
 }
 
 /// The words behind `plan`.
 fn plan_command<'a>(alloc: Global) -> Result<Command<'a>, AllocError> {
     timed_command(alloc)?
-        .arg(workers_word(alloc))?
+        .arg(seed_word(alloc))?
         .arg(out_word(alloc))?
         .arg(weekday_word(alloc)?)?
         .arg(date_word(alloc))?
         .arg(stop_word(alloc))?
         .arg(like_word(alloc)?)?
         .arg(of_word(alloc)?)?
+        .arg(change_word(alloc)?)?
         .arg(anew_word(alloc))
 }
 
@@ -327,19 +343,22 @@ fn plan_words<'a>(matches: &ArgMatches<'a>) -> Result<PlanWords<'a>, ValueWord>
 {
     let seconds = seconds_of(matches)?;
     let workers = workers_of(matches)?;
+    let seed = seed_of(matches)?;
     let until_quiet = quiet_of(matches)?;
     let first = first_of(matches)?;
+    let like = like_words(matches)?;
     Ok(PlanWords {
         // a required word is there
         instance: matches.get_str("INSTANCE").unwrap_or(""),
         journal: matches.get_str("journal"),
         seconds,
         workers,
+        seed,
         out: matches.get_str("out"),
         anew: matches.get_flag("anew"),
         stop_on: matches.get_str("stop-on").map(stop_on),
         until_quiet,
-        like: like_words(matches),
+        like,
         first,
     })
 }
@@ -403,10 +422,10 @@ fn wanted_show<'a>(alloc: Global, behind: &ArgMatches<'a>) -> Result<Wanted<'a>,
 /// What the words of a command line ask for, the program's name first among them. The error is what clap says of other words, and the help
 /// where that is asked for.
 ///
-/// The words are `plan INSTANCE [--journal FILE] [--seconds T] [--until-quiet T] [--workers W] [--out FOLDER] [--first-day WEEKDAY|--from DATE]
-/// [--stop-on line|enter] [--like REPORT --of OLD_INSTANCE] [--anew]`, `show INSTANCE REPORT [--out FOLDER] [--first-day WEEKDAY|--from DATE]`, `check INSTANCE REPORT`,
-/// `compare INSTANCE REPORT OTHER_INSTANCE OTHER_REPORT`, `rules INSTANCE`, `import FOLDER INSTANCE` or `export INSTANCE FOLDER`. The T of `--seconds` is at most 4,000,000 and 60 where it isn't given, that of `--until-quiet` from 1 to as much, and W is
-/// from 1 to 16 and 4 where it isn't given.
+/// The words are `plan INSTANCE [--journal FILE] [--seconds T] [--until-quiet T] [--workers W] [--seed S] [--out FOLDER] [--first-day WEEKDAY|--from DATE]
+/// [--stop-on line|enter] [--like REPORT --of OLD_INSTANCE [--change C]] [--anew]`, `show INSTANCE REPORT [--out FOLDER] [--first-day WEEKDAY|--from DATE]`, `check INSTANCE REPORT`,
+/// `compare INSTANCE REPORT OTHER_INSTANCE OTHER_REPORT`, `rules INSTANCE`, `import FOLDER INSTANCE` or `export INSTANCE FOLDER`. The T of `--seconds` is at most 4,000,000 and 60 where it isn't given, that of `--until-quiet` from 1 to as much, W is
+/// from 1 to 16 and 4 where it isn't given, S is below 2^32 and 1 where it isn't given, and C is at most 1,000,000.
 pub fn wanted_by<'a>(alloc: Global, words: &'a [String]) -> Result<Wanted<'a>, Error>
     ensures { IfOk result IsWithin }
 {

@@ -1,3 +1,9 @@
+pub mod Bounded
+pub mod Copies
+pub mod CutTrees
+pub mod Folds
+pub mod NodesOf
 pub mod Rebuilt
 pub mod Taking
+pub mod Trees
 pub mod Unspelled

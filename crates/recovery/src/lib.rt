@@ -1,7 +1,11 @@
 //! The state of a search, made again from the records of its journal.
 #![tactic(auto)]
 
+mod adding;
+mod bounds;
+mod cut_tree;
 mod fault;
+mod reads;
 mod rebuilding;
 
 pub use fault::{RebuildFault, Why};

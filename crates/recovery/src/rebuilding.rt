@@ -1,33 +1,25 @@
-//! Records taken into a state, one after another.
-ghost use Rattle.std.specs.Prelude.{◌≡◌, ◌≤◌, map, List, IfOk, IfErr, OnOk};
+//! The state that the posts of records make, read and bounded by several workers at the same time.
+ghost use Rattle.std.specs.Prelude.{◌≡◌, ◌≤◌, fold, map, List, IfOk, IfErr, OnOk};
 ghost use Rattle.post_codec.specs.declared.post.Post.{Post as APost};
 ghost use Rattle.search_core.specs.Book.{Book};
-ghost use Rattle.recovery.specs.declared.fault.RebuildFault.TheVariants.{NoMemory};
+ghost use Rattle.recovery.specs.NodeCuts.{nodes_after, nodes_of};
+ghost use Rattle.recovery.specs.Reads.{all_posts, posts_in, AreReads, AreAllBounds};
 ghost use Rattle.recovery.specs.Records.{MakeBook};
 ghost use Rattle.recovery.specs.Refusals.{Refuses};
-ghost use Rattle.recovery.specs.Folding.{fault_at, RecordStops, TakesRecord};
+ghost use Rattle.recovery.specs.Folding.{fault_at};
 
+use crate::adding::add_record;
+use crate::bounds::PricedRecords;
+use crate::cut_tree::CutTree;
 use crate::fault::{RebuildFault, Why};
-use post_codec::{CodecFault, read};
-use search_core::{State, StepFault, add_posts};
+use crate::reads::{Outcome, Records};
+use break_rules::NoMemory;
+use job_pieces::do_all;
+use post_codec::{CodecFault, Post};
+use search_core::{State, StepFault};
 use shift_instance::Instance;
 use std::alloc::Global;
-
-/// Adds the posts of a record to a state, up to the first one that isn't allowed.
-fn add_record(
-    alloc: Global,
-    state: &mut State,
-    instance: &Instance,
-    bytes: &[u8],
-) -> Result<(), Why>
-    requires { instance.now ≡ state.old.instance }
-    ensures ok { OnOk result (TakesRecord state.old bytes.now state.new) }
-    ensures err { IfErr result (RecordStops instance.now state.old.book bytes.now) }
-{
-    let posts = read(alloc, bytes)?;
-    add_posts(state, instance, posts)?;
-    Ok(())
-}
+use std::thread::Threads;
 
 /// Why the records stop at one, by its number, that isn't taken for a reason.
 fn fault_at(at_record: u64, why: Why) -> RebuildFault
@@ -43,9 +35,86 @@ fn fault_at(at_record: u64, why: Why) -> RebuildFault
     }
 }
 
-/// The state whose history is the posts of the records, in their order. The number of workers, 1 to 16, doesn't change the
-/// answer.
-pub fn rebuild(
+/// Adds the two parts of the node that a post splits to a tree, where it splits one.
+fn add_parts(tree: &mut CutTree, post: &Post) -> Result<(), NoMemory>
+    ensures { OnOk result (tree.new ≡ nodes_after tree.old post.now) }
+{
+    match post {
+        Post::Split {
+            worker: _,
+            node,
+            class,
+            m,
+        } => tree.split(*node, class, *m),
+        _ => Ok(()),
+    }
+}
+
+/// Adds the nodes that posts make to a tree.
+fn add_nodes(tree: &mut CutTree, posts: &[Post]) -> Result<(), NoMemory>
+    ensures { OnOk result (tree.new ≡ fold nodes_after tree.old posts.now) }
+{
+    for post in posts {
+        add_parts(tree, post)?;
+    }
+    Ok(())
+}
+
+/// Adds the nodes that the posts of a record make to a tree, where it spells some.
+fn add_nodes_of(tree: &mut CutTree, outcome: &Outcome) -> Result<(), NoMemory>
+    ensures { OnOk result (tree.new ≡ fold nodes_after tree.old (posts_in outcome.now)) }
+{
+    match outcome {
+        Ok(posts) => add_nodes(tree, posts),
+        Err(_) => Ok(()),
+    }
+}
+
+/// The nodes that the posts of all records make.
+fn tree_of(alloc: Global, outcomes: &[Outcome]) -> Result<CutTree, NoMemory>
+    ensures { IfOk result (λ tree. tree ≡ nodes_of (all_posts outcomes.now)) }
+{
+    let mut tree = CutTree::root(alloc);
+    for outcome in outcomes {
+        add_nodes_of(&mut tree, outcome)?;
+    }
+    Ok(tree)
+}
+
+/// The state that the posts of records make, one record after another, with the bounds of their prices below the cuts that a
+/// tree has for their nodes.
+fn fold_records(
+    alloc: Global,
+    instance: &Instance,
+    records: &[Vec<u8>],
+    tree: &CutTree,
+    outcomes: Vec<Outcome>,
+    bounds: &[Vec<Option<u64>>],
+) -> Result<State, RebuildFault>
+    requires reads { AreReads records.now outcomes.items }
+    requires tree { tree.now ≡ nodes_of (all_posts outcomes.items) }
+    requires bounds { AreAllBounds instance.now tree.now outcomes.items bounds.now }
+    ensures instance { IfOk result (λ s. s.instance ≡ instance.now) }
+    ensures history { IfOk result (λ s. MakeBook instance.now (map (λ r. r.items) records.now) s.history s.book) }
+    ensures refused { IfErr result (Refuses instance.now (map (λ r. r.items) records.now)) }
+{
+    let mut state = State::new(alloc, instance)?;
+    let mut at = 0;
+    for outcome in outcomes {
+        let found = &bounds[at];
+        if let Err(why) = add_record(&mut state, instance, tree, outcome, found) {
+            return Err(fault_at(at as u64, why));
+        }
+        at += 1;
+    }
+    Ok(state)
+}
+
+/// The state whose history is the posts of the records, in their order. Up to `workers` workers, 1 to 16, read the records and find
+/// the bounds of their prices at the same time, a piece of the records after another; their number doesn't change the answer. A
+/// refusal is that of the first record that is rejected, whatever a worker found in those behind it.
+pub fn rebuild<R: Threads + Sync>(
+    rt: &R,
     alloc: Global,
     instance: &Instance,
     records: &[Vec<u8>],
@@ -57,13 +126,20 @@ pub fn rebuild(
     ensures history { IfOk result (λ s. MakeBook instance.now (map (λ r. r.items) records.now) s.history s.book) }
     ensures refused { IfErr result (Refuses instance.now (map (λ r. r.items) records.now)) }
     // Where the records spell posts that make a book, none is rejected.
-    ensures only { (posts : List APost) (book : Book) → MakeBook instance.now (map (λ r. r.items) records.now) posts book → IfErr result (λ fault. fault ≡ NoMemory) }
+    ensures only { (posts : List APost) (book : Book) → MakeBook instance.now (map (λ r. r.items) records.now) posts book → IfErr result (λ fault. fault ≡ RebuildFault.NoMemory) }
 {
-    let mut state = State::new(alloc, instance)?;
-    for (at, bytes) in records.iter().enumerate() {
-        if let Err(why) = add_record(alloc, &mut state, instance, bytes) {
-            return Err(fault_at(at as u64, why));
-        }
-    }
-    Ok(state)
+    let workers = workers as usize;
+    let outcomes = do_all(rt, alloc, &Records { records }, workers)?;
+    let tree = tree_of(alloc, &outcomes)?;
+    let bounds = do_all(
+        rt,
+        alloc,
+        &PricedRecords {
+            instance,
+            tree: &tree,
+            outcomes: &outcomes,
+        },
+        workers,
+    )?;
+    fold_records(alloc, instance, records, &tree, outcomes, &bounds)
 }

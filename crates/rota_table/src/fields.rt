@@ -6,7 +6,7 @@ ghost use Rattle.shift_instance.specs.Problem.{below};
 ghost use Rattle.shift_instance.specs.Rota.{duty_of};
 ghost use Rattle.shift_instance.specs.Valid.{IsShift};
 ghost use Rattle.table_records.specs.Guarding.{guarded};
-ghost use Rattle.rota_table.specs.Fields.{break_columns, break_fields, duty_fields, ends_next_day, first_columns, first_fields, lacking_fields, rota_columns, worked_slots};
+ghost use Rattle.rota_table.specs.Fields.{break_columns, break_fields, day_name, duty_fields, ends_next_day, first_columns, first_fields, lacking_fields, rota_columns, worked_slots};
 
 use break_rules::{Break, NoMemory};
 use plan_tables::{ClockTime, Hours, day_number};
@@ -20,6 +20,7 @@ fn first_columns(alloc: Global) -> Result<Vec<String>, NoMemory>
 {
     let mut names = Vec::new(alloc);
     names.push(String::from_str(alloc, "day")?)?;
+    names.push(String::from_str(alloc, "day_name")?)?;
     names.push(String::from_str(alloc, "start")?)?;
     names.push(String::from_str(alloc, "end")?)?;
     names.push(String::from_str(alloc, "next_day")?)?;
@@ -95,20 +96,33 @@ fn type_text(alloc: Global, instance: &Instance, shift: Shift) -> Result<String,
     guarded(alloc, kind.name.as_str())
 }
 
+/// The name of a day by its number, counted from 1, guarded, and nothing where the day has no name.
+fn day_name(alloc: Global, names: &[String], number: u32) -> Result<String, NoMemory>
+    ensures { IfOk result (λ text. string_bytes text ≡ day_name names.now number) }
+{
+    match names.get(number.saturating_sub(1) as usize) {
+        Some(name) => guarded(alloc, name.as_str()),
+        None => Ok(String::new(alloc)),
+    }
+}
+
 /// The fields of a duty of a row before those of its breaks.
 fn first_fields(
     alloc: Global,
     instance: &Instance,
+    names: &[String],
     shift: Shift,
     row: &Row,
 ) -> Result<Vec<String>, NoMemory>
     requires { IsShift instance.now shift }
-    ensures { IfOk result (λ fields. map string_bytes fields.items ≡ first_fields instance.now shift (duty_of row.now)) }
+    ensures { IfOk result (λ fields. map string_bytes fields.items ≡ first_fields instance.now names.now shift (duty_of row.now)) }
 {
+    let day = day_number(instance, shift, row.day);
     let start = u32::from(shift.start);
     let worked = worked_slots(shift.len, row.breaks.as_slice());
     let mut fields = Vec::new(alloc);
-    fields.push(day_number(instance, shift, row.day).to_string(alloc)?)?;
+    fields.push(day.to_string(alloc)?)?;
+    fields.push(day_name(alloc, names, day)?)?;
     fields.push(clock_text(alloc, instance, start)?)?;
     fields.push(clock_text(alloc, instance, start + u32::from(shift.len))?)?;
     fields.push(String::from_str(alloc, yes_or_no(ends_next_day(instance, shift)))?)?;
@@ -173,15 +187,16 @@ fn add_lacking(alloc: Global, fields: &mut Vec<String>, count: usize) -> Result<
 pub(crate) fn duty_fields(
     alloc: Global,
     instance: &Instance,
+    names: &[String],
     most: usize,
     shift: Shift,
     row: &Row,
 ) -> Result<Vec<String>, NoMemory>
     requires { IsShift instance.now shift }
-    ensures { IfOk result (λ fields. map string_bytes fields.items ≡ duty_fields instance.now most shift (duty_of row.now)) }
+    ensures { IfOk result (λ fields. map string_bytes fields.items ≡ duty_fields instance.now names.now most shift (duty_of row.now)) }
 {
     let breaks = row.breaks.as_slice();
-    let mut fields = first_fields(alloc, instance, shift, row)?;
+    let mut fields = first_fields(alloc, instance, names, shift, row)?;
     add_breaks(alloc, &mut fields, instance, shift.start, breaks)?;
     add_lacking(alloc, &mut fields, most.saturating_sub(breaks.len()))?;
     Ok(fields)

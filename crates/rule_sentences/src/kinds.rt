@@ -131,7 +131,7 @@ fn has_later_total(kind: &TypeParts, above: u16) -> bool
 }
 
 /// Whether no shift of a type has a break.
-fn has_no_break(kind: &TypeParts) -> bool
+pub fn has_no_break(kind: &TypeParts) -> bool
     ensures { result ≡ has_no_break kind.now }
 {
     first_total(kind) == 0 && !has_later_total(kind, 0)

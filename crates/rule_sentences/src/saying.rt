@@ -116,7 +116,7 @@ impl Said {
                 self.write_lunch(size, first, last, f)?;
                 write!(f, " from {} long on", self.span(from))
             }
-            _ => f.write_str("no limit on when a lunch is"),
+            _ => f.write_str("no lunch"),
         }
     }
 

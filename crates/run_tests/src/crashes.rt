@@ -10,6 +10,7 @@ use shift_instance::Instance;
 use std::alloc::Global;
 use std::process::Abort;
 use std::test::Fail;
+use std::thread::Threads;
 use worker_gate::{Open, run_seat};
 use workers_tests::fixtures::{LIMIT, morning, seat_with};
 
@@ -25,12 +26,17 @@ struct Found {
 }
 
 /// The disk of a run of two steps whose call of this number failed, and how many posts the book had at its end.
-fn stopped(alloc: Global, instance: &Instance, call: u64) -> Result<(MemDisk, Option<u64>), Fail>
+fn stopped<R: Threads + Sync>(
+    rt: &R,
+    alloc: Global,
+    instance: &Instance,
+    call: u64,
+) -> Result<(MemDisk, Option<u64>), Fail>
     requires { length (canonical_text instance.now) ≡ 372 }
 {
     let mut seat = seat_with(Box::new(alloc, Greedy::new(alloc))?);
     let disk = MemDisk::new(alloc, Vec::new(alloc), vec![in alloc; call; 1]?);
-    match Book::open(alloc, instance, disk, 2, LIMIT) {
+    match Book::open(rt, alloc, instance, disk, 2, LIMIT, 1) {
         Ok(mut book) => {
             run_seat(alloc, instance, &mut book, &mut seat, &Open, &Never);
             let posts = book.posts();
@@ -41,11 +47,16 @@ fn stopped(alloc: Global, instance: &Instance, call: u64) -> Result<(MemDisk, Op
 }
 
 /// How many posts the book has that a disk opens to; nothing where the disk holds no journal.
-fn posts_on(alloc: Global, instance: &Instance, disk: MemDisk) -> Result<Option<u64>, Fail>
+fn posts_on<R: Threads + Sync>(
+    rt: &R,
+    alloc: Global,
+    instance: &Instance,
+    disk: MemDisk,
+) -> Result<Option<u64>, Fail>
     requires size { length (canonical_text instance.now) ≡ 372 }
     requires calls { ⟦<MemDisk as Disk>⟧.calls disk ≡ 0 }
 {
-    match Book::open(alloc, instance, disk, 0, LIMIT) {
+    match Book::open(rt, alloc, instance, disk, 0, LIMIT, 4) {
         Ok(book) => Ok(Some(book.posts())),
         Err(unopened) if matches!(unopened.fault, OpenFault::NotAJournal) => Ok(None),
         Err(_) => Err("it isn't opened")?,
@@ -53,12 +64,12 @@ fn posts_on(alloc: Global, instance: &Instance, disk: MemDisk) -> Result<Option<
 }
 
 /// What there is after a crash at a call that failed, which was the last one, where that other byte is 255.
-fn found_after(rt: &impl Abort, alloc: Global, call: u64) -> Result<Found, Fail> {
+fn found_after<R: Abort + Threads + Sync>(rt: &R, alloc: Global, call: u64) -> Result<Found, Fail> {
     let instance = morning(alloc, "2")?;
-    let (disk, told) = stopped(alloc, &instance, call)?;
+    let (disk, told) = stopped(rt, alloc, &instance, call)?;
     assert!(rt; disk.calls() == call);
-    let written = posts_on(alloc, &instance, disk.image(None)?)?;
-    let lost = posts_on(alloc, &instance, disk.image(Some(255))?)?;
+    let written = posts_on(rt, alloc, &instance, disk.image(None)?)?;
+    let lost = posts_on(rt, alloc, &instance, disk.image(Some(255))?)?;
     Ok(Found {
         told,
         written,
@@ -67,7 +78,12 @@ fn found_after(rt: &impl Abort, alloc: Global, call: u64) -> Result<Found, Fail>
 }
 
 /// Whether this is what there is after a crash at each of two calls.
-fn is_found(rt: &impl Abort, alloc: Global, calls: [u64; 2], found: Found) -> Result<bool, Fail> {
+fn is_found<R: Abort + Threads + Sync>(
+    rt: &R,
+    alloc: Global,
+    calls: [u64; 2],
+    found: Found,
+) -> Result<bool, Fail> {
     let first = found_after(rt, alloc, calls[0])?;
     let second = found_after(rt, alloc, calls[1])?;
     Ok(first == found && second == found)

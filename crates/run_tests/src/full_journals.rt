@@ -6,16 +6,21 @@ use search_book::Book;
 use std::alloc::Global;
 use std::process::Abort;
 use std::test::Fail;
+use std::thread::Threads;
 use worker_gate::{Open, RunEnd, run_seat};
 use workers_tests::fixtures::{morning, seat_with};
 
 /// How a run of one step ends on a new journal of at most `limit` bytes, the node that the worker then holds, and how many bytes there are.
-fn ended(rt: &impl Abort, alloc: Global, limit: u32) -> Result<(RunEnd, Option<u32>, usize), Fail> {
+fn ended<R: Abort + Threads + Sync>(
+    rt: &R,
+    alloc: Global,
+    limit: u32,
+) -> Result<(RunEnd, Option<u32>, usize), Fail> {
     assert!(rt; 385 <= limit && limit < 1000);
     let instance = morning(alloc, "1")?;
     let mut seat = seat_with(Box::new(alloc, Greedy::new(alloc))?);
     let disk = MemDisk::new(alloc, Vec::new(alloc), Vec::new(alloc));
-    match Book::open(alloc, &instance, disk, 1, limit) {
+    match Book::open(rt, alloc, &instance, disk, 1, limit, 1) {
         Ok(mut book) => {
             let end = run_seat(alloc, &instance, &mut book, &mut seat, &Open, &Never);
             let held = book.held(0);

@@ -15,23 +15,31 @@ use crate::log_opening::{Unopened, open_log};
 use plan_base::Disk;
 use shift_instance::Instance;
 use std::alloc::Global;
+use std::thread::Threads;
 
 impl<D: Disk> Book<D> {
     /// Opens the book that a disk's file holds for an instance, or creates its journal in an empty file, by four calls. The
     /// file may have `limit` bytes, and workers may take `budget` steps. No step is taken, and no worker holds a node. A
-    /// refusal hands the disk back.
+    /// refusal hands the disk back. Up to `workers` workers, 1 to 16, read the records and bound their prices at the same time;
+    /// their number doesn't change the answer.
+    ///
+    /// Whatever bytes the disk holds and whatever it answers, what is opened is a sound book of the instance.
     ///
     /// `DiskFault` comes only where the disk failed. The others come where the file isn't empty, and the first of them that
     /// applies is answered: `NotAJournal`, `Damaged`, `OtherInstance`, and `Rejected` where a record spells no posts or has
     /// a post that isn't allowed. A refusal leaves on the disk what was there, or where the file was empty no more than the
     /// new journal.
-    pub fn open(
+    pub fn open<R: Threads + Sync>(
+        rt: &R,
         alloc: Global,
         instance: &Instance,
         disk: D,
         budget: u64,
         limit: u32,
+        workers: u32,
     ) -> Result<Book<D>, Unopened<D>>
+        requires some { 1 ≤ workers }
+        requires sixteen { workers ≤ 16 }
         requires count { D.calls disk < 2 ^ 62 }
         requires room { 13 + length (canonical_text instance.now) ≤ limit }
         requires most { limit ≤ 2 ^ 26 }
@@ -52,7 +60,7 @@ impl<D: Disk> Book<D> {
         ensures least { MatchResult result (λ book. D.calls disk ≤ D.calls book.log.disk) (λ e. D.calls disk ≤ D.calls e.disk) }
         ensures most { MatchResult result (λ book. D.calls book.log.disk ≤ D.calls disk + 2 ^ 33 + 2) (λ e. D.calls e.disk ≤ D.calls disk + 2 ^ 33 + 2) }
     {
-        match open_log(alloc, instance, disk, limit) {
+        match open_log(rt, alloc, instance, disk, limit, workers) {
             Ok(log) => Ok(Book::over(log, budget)),
             Err(unopened) => Err(unopened),
         }

@@ -22,6 +22,7 @@ use recovery::rebuild;
 use search_core::State;
 use shift_instance::Instance;
 use std::alloc::Global;
+use std::thread::Threads;
 
 /// What isn't opened: why, and the disk, handed back.
 #[derive(Drop)]
@@ -40,13 +41,18 @@ struct Rebuilt {
     state: State,
 }
 
-/// Opens or creates the journal of an instance, and makes the state of its posts, each of which has to be allowed.
-fn open_state<D: Disk>(
+/// Opens or creates the journal of an instance, and makes the state of its posts, each of which has to be allowed, by up to
+/// `workers` workers.
+fn open_state<D: Disk, R: Threads + Sync>(
+    rt: &R,
     alloc: Global,
     instance: &Instance,
     disk: &mut D,
     limit: u32,
+    workers: u32,
 ) -> Result<Rebuilt, OpenFault>
+    requires some { 1 ≤ workers }
+    requires sixteen { workers ≤ 16 }
     requires count { D.calls disk.old < 2 ^ 62 }
     requires room { 13 + length (canonical_text instance.now) ≤ limit }
     requires most { limit ≤ 2 ^ 26 }
@@ -70,7 +76,7 @@ fn open_state<D: Disk>(
     let _parts = instance.parts();
     let head = canonical(alloc, instance)?;
     let (journal, records) = open_head(alloc, disk, &head, limit)?;
-    let state = rebuild(alloc, instance, &records, 16)?;
+    let state = rebuild(rt, alloc, instance, &records, workers)?;
     let _cost = state.cost();
     Ok(Rebuilt {
         journal,
@@ -80,18 +86,23 @@ fn open_state<D: Disk>(
 }
 
 /// Opens the log of the posts that a disk's file holds for an instance, or creates its journal in an empty file, by four
-/// calls. The file may have `limit` bytes. A refusal hands the disk back.
+/// calls. The file may have `limit` bytes. The records are read and their prices bounded by up to `workers` workers. A refusal hands
+/// the disk back.
 ///
 /// `DiskFault` comes only where the disk failed. The others come where the file isn't empty, and the first of them that
 /// applies is answered: `NotAJournal`, `Damaged`, `OtherInstance`, and `Rejected` where a record spells no posts or has a
 /// post that isn't allowed. A refusal leaves on the disk what was there, or where the file was empty no more than the new
 /// journal.
-pub(crate) fn open_log<D: Disk>(
+pub(crate) fn open_log<D: Disk, R: Threads + Sync>(
+    rt: &R,
     alloc: Global,
     instance: &Instance,
     mut disk: D,
     limit: u32,
+    workers: u32,
 ) -> Result<PostLog<D>, Unopened<D>>
+    requires some { 1 ≤ workers }
+    requires sixteen { workers ≤ 16 }
     requires count { D.calls disk < 2 ^ 62 }
     requires room { 13 + length (canonical_text instance.now) ≤ limit }
     requires most { limit ≤ 2 ^ 26 }
@@ -110,7 +121,7 @@ pub(crate) fn open_log<D: Disk>(
     ensures least { MatchResult result (λ log. D.calls disk ≤ D.calls log.disk) (λ e. D.calls disk ≤ D.calls e.disk) }
     ensures most { MatchResult result (λ log. D.calls log.disk ≤ D.calls disk + 2 ^ 33 + 2) (λ e. D.calls e.disk ≤ D.calls disk + 2 ^ 33 + 2) }
 {
-    match open_state(alloc, instance, &mut disk, limit) {
+    match open_state(rt, alloc, instance, &mut disk, limit, workers) {
         Ok(
             Rebuilt {
                 journal,

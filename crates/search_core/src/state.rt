@@ -20,7 +20,7 @@ use crate::outline::{NodeState, Outline, least_floor, next_node};
 use crate::stepping::{draft_of, stays_open};
 use crate::{Hands, StepPosts};
 use break_rules::NoMemory;
-use dual_bound::{Buffers, Fixing, settle};
+use dual_bound::{Buffers, Fixing, Proved, settle};
 use head_splits::{Class, Cut, Cuts, Hint, Prices, Side, is_live_class, range};
 use post_codec::Post;
 use rota_cost::recount;
@@ -369,6 +369,31 @@ impl State {
         }
         let cuts = self.cuts_of(node)?;
         let proved = self.buffers.prove(instance, cuts, prices)?;
+        self.step_proved(instance, worker, node, proved)
+    }
+
+    /// Appends a worker's prices for an unsplit node, with the bound that is proved of them below its cuts, as a step with their
+    /// post does. It is refused only where the node isn't there or is split.
+    pub fn step_proved(
+        &mut self,
+        instance: &Instance,
+        worker: u16,
+        node: u32,
+        proved: Proved,
+    ) -> Result<(), StepFault>
+        requires instance { instance.now ≡ self.old.instance }
+        requires proved { proved.instance ≡ instance.now }
+        requires cuts { IfSome (slice_get self.old.book.nodes node) (λ n. proved.cuts ≡ n.cuts) }
+        ensures ok { OnOk result (Steps self.old self.new (Priced worker node proved.prices)) }
+        ensures unchanged { OnErr result (self.new ≡ self.old) }
+        ensures err { IfErr result (Refuses (unsplit_fault self.old.book node)) }
+        // That is the first cause of a step with the post.
+        ensures same { IfErr result (Refuses (step_fault self.old.instance self.old.book (Priced worker node proved.prices))) }
+    {
+        let _ = instance;
+        if let Some(fault) = self.unsplit_fault(node) {
+            return Err(fault);
+        }
         let bound = proved.bound();
         let (_cuts, prices) = proved.into_parts();
         self.reserve(1)?;

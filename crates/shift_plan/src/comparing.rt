@@ -1,6 +1,6 @@
 //! Two plans, compared.
 
-ghost use Rattle.std.specs.Prelude.{IsTrue};
+ghost use Rattle.std.specs.Prelude.{IfOk, IsTrue};
 ghost use Rattle.shift_instance.specs.Rota.{are_legal_rows};
 
 use crate::keeping::{plan_in, rows_in};
@@ -44,34 +44,35 @@ fn compared(
     format!(in alloc; "{}\n{}", table.as_str(), both.as_str())
 }
 
-/// What is said of two plans; none where one of them has no rows.
-fn comparison(
-    alloc: Global,
-    words: &CompareWords,
-    old: &Plan,
-    new: &Plan,
-) -> Result<Option<String>, NoMemory> {
-    let Some(before) = rows_in(old) else {
-        return Ok(None);
-    };
-    let Some(after) = rows_in(new) else {
-        return Ok(None);
-    };
-    let text = compared(alloc, words, &old.instance, before, &new.instance, after)?;
-    Ok(Some(text))
+/// The plan that a report shows for the instance of a document. A refusal says which of the reports it is about.
+fn plan_of(rt: HostRuntime, instance: &str, report: &str) -> Result<Plan, Refusal> {
+    match plan_in(rt, instance, report) {
+        Ok(plan) => Ok(plan),
+        Err(why) => Err(why.about_report(rt.alloc(), report, instance)),
+    }
+}
+
+/// The rows of a plan, which its report has to have.
+fn rows_of<'p>(alloc: Global, report: &str, plan: &'p Plan) -> Result<&'p Rows, Refusal>
+    ensures { IfOk result (λ rows. IsTrue (are_legal_rows plan.now.instance rows.now)) }
+{
+    match rows_in(plan) {
+        Some(rows) => Ok(rows),
+        None => Err(Refusal::said(
+            Cause::Report,
+            format!(in alloc; "the report `{report}` has no plan to compare"),
+        )),
+    }
 }
 
 /// Says which duties two plans have in common, and what each costs.
 pub(crate) fn compare(rt: HostRuntime, words: &CompareWords) -> Result<(), Refusal> {
     let alloc = rt.alloc();
-    let old = plan_in(rt, words.instance, words.report)?;
-    let new = plan_in(rt, words.other_instance, words.other_report)?;
-    let Some(text) = comparison(alloc, words, &old, &new)? else {
-        return Err(Refusal::said(
-            Cause::Report,
-            format!(in alloc; "one of the reports has no plan to compare"),
-        ));
-    };
+    let old = plan_of(rt, words.instance, words.report)?;
+    let new = plan_of(rt, words.other_instance, words.other_report)?;
+    let before = rows_of(alloc, words.report, &old)?;
+    let after = rows_of(alloc, words.other_report, &new)?;
+    let text = compared(alloc, words, &old.instance, before, &new.instance, after)?;
     say(rt, text.as_str());
     Ok(())
 }

@@ -1,17 +1,38 @@
 //! An older plan, of which a search keeps what it can.
 
-ghost use Rattle.std.specs.Prelude.{IfSome, IsTrue};
+ghost use Rattle.std.specs.Prelude.{IfOk, IfSome, IsTrue};
 ghost use Rattle.shift_instance.specs.Rota.{are_legal_rows};
 
 use break_rules::NoMemory;
 use carried_rows::carried_rows;
 use comparison_texts::left_lines;
+use descents::{descended, evened};
+use kept_duties::with_more_kept;
 use plan_comparison::kept_duties;
 use planning_refusals::{Cause, Refusal, read_document, read_report};
-use planning_runs::{Plan, judged_plan};
+use planning_runs::{Plan, judged_plan, with_rows};
 use planning_words::LikeWords;
+use rota_cost::{cost_rows, recount};
 use shift_instance::{Instance, Rows};
+use shift_tables::Tables;
 use std::alloc::Global;
+
+/// The most moves that make an older plan cheaper before a search.
+const DESCENT_MOST: u16 = 1_000;
+
+/// The most moves that make the plan of a search more even.
+const EVENING_MOST: u16 = 200;
+
+/// An older plan, of which a search keeps what it can.
+#[derive(Drop)]
+pub(crate) struct Older {
+    /// The duties that are to be kept; none where no older plan is named.
+    pub(crate) wanted: Rows,
+    /// The plan that the search begins with: these duties after moves that make it cheaper.
+    pub(crate) begin: Rows,
+    /// What each duty counts that isn't kept, as much as that cost.
+    change: u32,
+}
 
 /// The plan that a report shows for the instance of a document, both in files.
 pub(crate) fn plan_in(rt: HostRuntime, instance: &str, report: &str) -> Result<Plan, Refusal> {
@@ -98,29 +119,151 @@ fn rows_of(
     Ok(kept)
 }
 
-/// The rows that a search of an instance is to keep: none where the words name no older plan.
-pub(crate) fn rows_to_keep(
+/// The plan of wanted rows after moves that make it cheaper; no rows where they are no plan.
+fn begun(alloc: Global, instance: &Instance, wanted: &Rows) -> Result<Rows, NoMemory> {
+    match cost_rows(instance, wanted.clone()?) {
+        Ok(plan) => descended(alloc, instance, plan.into_rows(), DESCENT_MOST),
+        Err(_) => Ok(Rows::new(Vec::new(alloc))),
+    }
+}
+
+/// What each duty counts that isn't kept: as the words say, or else as much as one employee too many in one slot, and at least 1.
+fn change_of(words: &LikeWords, instance: &Instance) -> u32 {
+    let (excess, _, _) = instance.weights();
+    match words.change {
+        Some(change) => change,
+        None => excess.max(1),
+    }
+}
+
+/// The older plan that the words name, of which a search of an instance keeps what it can; one without duties where they name none.
+pub(crate) fn older_plan(
     rt: HostRuntime,
     like: Option<LikeWords>,
     instance: &Instance,
-) -> Result<Rows, Refusal> {
+) -> Result<Older, Refusal> {
+    let alloc = rt.alloc();
     let Some(words) = like else {
-        return Ok(Rows::new(Vec::new(rt.alloc())));
+        return Ok(Older {
+            wanted: Rows::new(Vec::new(alloc)),
+            begin: Rows::new(Vec::new(alloc)),
+            change: 0,
+        });
     };
     let old = plan_in(rt, words.of, words.report)?;
-    rows_of(rt, &words, &old, instance)
+    let wanted = rows_of(rt, &words, &old, instance)?;
+    let begin = begun(alloc, instance, &wanted)?;
+    Ok(Older {
+        wanted,
+        begin,
+        change: change_of(&words, instance),
+    })
 }
 
-/// Says how many of the duties that were to be kept a plan has.
-pub(crate) fn tell_kept(rt: HostRuntime, plan: &Plan, wanted: &Rows) {
-    if wanted.is_empty() {
+/// What a legal plan costs with what the duties count that it doesn't keep.
+fn weighed(instance: &Instance, rows: &Rows, older: &Older) -> u128
+    requires legal { IsTrue (are_legal_rows instance.now rows.now) }
+{
+    let kept = kept_duties(&older.wanted, rows);
+    let lost = u128::from(duties(&older.wanted)).saturating_sub(kept);
+    let counted = u128::from(older.change).saturating_mul(lost);
+    u128::from(recount(instance, rows)).saturating_add(counted)
+}
+
+/// The rows of a legal plan with more of the duties to keep, where each is worth what it costs more.
+fn with_kept(
+    alloc: Global,
+    instance: &Instance,
+    tables: &Tables,
+    rows: Rows,
+    older: &Older,
+) -> Result<Rows, NoMemory>
+    requires legal { IsTrue (are_legal_rows instance.now rows) }
+    ensures legal { IfOk result (λ new. IsTrue (are_legal_rows instance.now new)) }
+{
+    with_more_kept(alloc, instance, tables, rows, &older.wanted, older.change)
+}
+
+/// Of a legal plan and the one that the search began with, each with more of the duties to keep, the one that costs least with what the duties
+/// count that it doesn't keep.
+fn chosen(alloc: Global, instance: &Instance, rows: Rows, older: &Older) -> Result<Rows, NoMemory>
+    requires legal { IsTrue (are_legal_rows instance.now rows) }
+    ensures legal { IfOk result (λ new. IsTrue (are_legal_rows instance.now new)) }
+{
+    let tables = Tables::new(alloc, instance)?;
+    let found = with_kept(alloc, instance, &tables, rows, older)?;
+    let Ok(begin) = cost_rows(instance, older.begin.clone()?) else {
+        return Ok(found);
+    };
+    let begun = with_kept(alloc, instance, &tables, begin.into_rows(), older)?;
+    if weighed(instance, &begun, older) < weighed(instance, &found, older) {
+        return Ok(begun);
+    }
+    Ok(found)
+}
+
+/// The rows of a legal plan after moves that make it more even and no dearer, where it keeps as many duties then.
+fn evened_beside(
+    alloc: Global,
+    instance: &Instance,
+    rows: Rows,
+    wanted: &Rows,
+) -> Result<Rows, NoMemory>
+    requires legal { IsTrue (are_legal_rows instance.now rows) }
+    ensures legal { IfOk result (λ new. IsTrue (are_legal_rows instance.now new)) }
+{
+    let kept = kept_duties(wanted, &rows);
+    let even = evened(alloc, instance, rows.clone()?, EVENING_MOST, wanted)?;
+    if kept_duties(wanted, &even) < kept {
+        return Ok(rows);
+    }
+    Ok(even)
+}
+
+/// The plan of a search with other rows: those of the plan that costs least with what the duties count that it doesn't keep, as far as such a
+/// plan is found. Where no older plan is named, it stays as it is.
+pub(crate) fn plan_with_kept(alloc: Global, plan: Plan, older: &Older) -> Result<Plan, NoMemory> {
+    if older.wanted.is_empty() {
+        return Ok(plan);
+    }
+    let Some(rows) = rows_in(&plan) else {
+        return Ok(plan);
+    };
+    let rows = chosen(alloc, &plan.instance, rows.clone()?, older)?;
+    let rows = evened_beside(alloc, &plan.instance, rows, &older.wanted)?;
+    with_rows(alloc, plan, rows)
+}
+
+/// How many of the duties that were to be kept a plan has, and what it costs; none where it has no rows.
+pub(crate) fn kept_and_cost(plan: &Plan, wanted: &Rows) -> Option<(u128, u64)> {
+    match &plan.cert.plan {
+        Some((cost, rows)) => Some((kept_duties(wanted, rows), *cost)),
+        None => None,
+    }
+}
+
+/// Says how many of the duties that were to be kept the plan has that is written, and what a cheaper one has that was found, if there is one.
+pub(crate) fn tell_kept(
+    rt: HostRuntime,
+    older: &Older,
+    found: Option<(u128, u64)>,
+    written: Option<(u128, u64)>,
+) {
+    if older.wanted.is_empty() {
         return;
     }
-    if let Some(rows) = rows_in(plan) {
-        let kept = kept_duties(wanted, rows);
-        let _ = eprintln!(rt;
-            "shift_plan: keeps {kept} of these {} duties",
-            duties(wanted)
-        );
+    let Some((kept, cost)) = written else {
+        return;
+    };
+    let _ = eprintln!(rt;
+        "shift_plan: keeps {kept} of these {} duties",
+        duties(&older.wanted)
+    );
+    if let Some((fewer, less)) = found {
+        if less < cost {
+            let _ = eprintln!(rt;
+                "shift_plan: a plan of cost {less} was found that keeps {fewer} of them; it costs {cost} to keep more (--change 0 writes the cheaper one)"
+            );
+        }
     }
 }

@@ -3,7 +3,7 @@
 ghost use Rattle.std.specs.Prelude.{◌<◌, ◌^◌};
 
 use crate::journals::{journal_head, journal_of, locked_journal};
-use crate::keeping::{rows_to_keep, tell_kept};
+use crate::keeping::{Older, kept_and_cost, older_plan, plan_with_kept, tell_kept};
 use crate::listening::{listen, stop_of};
 use crate::telling::{Beginning, notes_of, say_rules, shown_on, tell_end, warn};
 use advice::Adviser;
@@ -17,7 +17,7 @@ use planning_runs::{Plan, Planned, search_plan};
 use planning_sheets::{Beside, ready_folder, show_plan};
 use planning_words::{PlanWords, StopOn, folder_beside};
 use search_book::OpenFault;
-use shift_instance::{Instance, Rows};
+use shift_instance::Instance;
 use solve_runs::{Request, SearchEnd};
 use std::alloc::{AllocError, Global};
 use std::sync::{Arc, Wait};
@@ -95,19 +95,25 @@ fn tell_difference(rt: HostRuntime, words: &PlanWords, end: &SearchEnd) -> Resul
     Ok(())
 }
 
-/// The adviser of a worker, which searches thoroughly for plans of the instance with a seed of its own. Where there are rows to keep, it begins
-/// with them, and its plans keep what they can of them.
+/// The adviser of a worker, which searches thoroughly for plans of the instance with this seed. Where there is an older plan, it begins
+/// with that, and its plans keep what they can of it.
 fn keeping_adviser(
     host: HostRuntime,
     instance: &Instance,
     progress: &Arc<Progress>,
-    worker: u16,
-    wanted: &Rows,
+    seed: u64,
+    older: &Older,
 ) -> Result<Keeping<Thorough<Until<HostRuntime>>>, Refusal> {
     let alloc = host.alloc();
     let until = Until::new(Arc::try_clone(progress)?, host);
-    let thorough = Thorough::of(alloc, instance, u64::from(worker) + 1, until)?;
-    Ok(Keeping::new(alloc, instance, thorough, wanted.clone()?)?)
+    let thorough = Thorough::of(alloc, instance, seed, until)?;
+    Ok(Keeping::new(
+        alloc,
+        instance,
+        thorough,
+        older.wanted.clone()?,
+        older.begin.clone()?,
+    )?)
 }
 
 /// The same adviser, which tells how far the search has come.
@@ -116,10 +122,11 @@ fn watched(
     instance: &Instance,
     progress: &Arc<Progress>,
     worker: u16,
-    wanted: &Rows,
+    seed: u64,
+    older: &Older,
     shown: Shown,
 ) -> Result<Watched<Keeping<Thorough<Until<HostRuntime>>>, HostRuntime>, Refusal> {
-    let adviser = keeping_adviser(host, instance, progress, worker, wanted)?;
+    let adviser = keeping_adviser(host, instance, progress, seed, older)?;
     let seen = Arc::try_clone(progress)?;
     Ok(Watched::new(host.alloc(), adviser, worker, seen, host, shown))
 }
@@ -166,7 +173,7 @@ fn search_by<R: Threads + Wait + Sync>(
     instance: Instance,
     journal: &LockedJournal<HostRuntime>,
     progress: &Arc<Progress>,
-    wanted: &Rows,
+    older: &Older,
     enter_ends: bool,
 ) -> Result<Plan, Refusal>
     requires some { 0 < words.now.workers }
@@ -175,7 +182,8 @@ fn search_by<R: Threads + Wait + Sync>(
     let shown = shown_on(host, enter_ends);
     let mut advisers: Vec<Box<dyn Adviser + Send>> = Vec::new(alloc);
     for worker in 0..words.workers {
-        let adviser = watched(host, &instance, progress, worker, wanted, shown)?;
+        let seed = u64::from(words.seed) + u64::from(worker);
+        let adviser = watched(host, &instance, progress, worker, seed, older, shown)?;
         advisers.push(Box::new(alloc, adviser)?)?;
     }
     advised(host, rt, words, instance, journal, progress, advisers)
@@ -187,7 +195,7 @@ fn searched<R: Threads + Wait + Sync>(
     rt: &R,
     words: &PlanWords,
     instance: Instance,
-    wanted: &Rows,
+    older: &Older,
     journal: &LockedJournal<HostRuntime>,
 ) -> Result<Plan, Refusal>
     requires some { 0 < words.now.workers }
@@ -197,7 +205,7 @@ fn searched<R: Threads + Wait + Sync>(
     let listens = words.seconds != 0 && stop_on.is_some() && listen(host, rt, &progress);
     let enter_ends = listens && stop_on == Some(StopOn::Enter);
     search_by(
-        host, rt, words, instance, journal, &progress, wanted, enter_ends,
+        host, rt, words, instance, journal, &progress, older, enter_ends,
     )
 }
 
@@ -216,11 +224,13 @@ pub(crate) fn plan<R: Threads + Wait + Sync>(
     say_rules(host, &instance)?;
     let notes = notes_of(alloc, document.as_slice(), &instance)?;
     warn(host, notes.as_slice());
-    let wanted = rows_to_keep(host, words.like, &instance)?;
+    let older = older_plan(host, words.like, &instance)?;
     let journals = locked_journal(host, words)?;
     ready_folder(host, folder.as_str())?;
-    let plan = searched(host, rt, words, instance, &wanted, &journals.now)?;
-    tell_kept(host, &plan, &wanted);
+    let found = searched(host, rt, words, instance, &older, &journals.now)?;
+    let before = kept_and_cost(&found, &older.wanted);
+    let plan = plan_with_kept(alloc, found, &older)?;
+    tell_kept(host, &older, before, kept_and_cost(&plan, &older.wanted));
     let beside = Beside {
         instance: words.instance,
         document: document.as_slice(),

@@ -81,6 +81,8 @@ fn write_file(
     match write_kept(rt, folder, name, bytes) {
         Ok(None) => Ok(()),
         Ok(Some(kept)) => {
+            let kept = kept.as_str();
+            let kept = kept.strip_prefix("./").unwrap_or(kept);
             let _ = eprintln!(rt; "shift_plan: another {name} stood there; it is {kept} now");
             Ok(())
         }

@@ -26,6 +26,7 @@ use plan_base::{Disk, Failed, MemDisk, Sink, write_all};
 use search_book::Book;
 use shift_instance::Instance;
 use std::alloc::{AllocError, Global};
+use std::thread::Threads;
 use worker_gate::{Gate, RunEnd, Seat, run_seat};
 
 /// The line of a demonstration, with its line feed: its number, whether no plan of its instance is cheaper than the best one found,
@@ -111,7 +112,12 @@ fn search_all<D: Disk, G: Gate>(
 }
 
 /// A book over a new journal in memory, in which so many steps may be taken.
-fn new_book(alloc: Global, instance: &Instance, steps: u64) -> Result<Book<MemDisk>, AllocError>
+fn new_book<R: Threads + Sync>(
+    rt: &R,
+    alloc: Global,
+    instance: &Instance,
+    steps: u64,
+) -> Result<Book<MemDisk>, AllocError>
     ensures new { IfOk result (λ book. IsNew instance.now steps (board_of ⟦<MemDisk as Disk>⟧.reads ⟦<MemDisk as Disk>⟧.calls ⟦<MemDisk as Disk>⟧.faults book)) }
     ensures same { IfOk result (λ book. book.log.instance ≡ instance.now) }
     ensures begun { IfOk result IsBegun }
@@ -119,7 +125,7 @@ fn new_book(alloc: Global, instance: &Instance, steps: u64) -> Result<Book<MemDi
 {
     canonical_text_is_short(instance);
     let disk = MemDisk::new(alloc, Vec::new(alloc), Vec::new(alloc));
-    match Book::open(alloc, instance, disk, steps, JOURNAL_MAX) {
+    match Book::open(rt, alloc, instance, disk, steps, JOURNAL_MAX, 1) {
         Ok(book) => Ok(book),
         // an empty disk in memory is refused by running out of memory alone
         Err(_) => Err(AllocError),
@@ -173,7 +179,8 @@ impl DemoEnd {
 }
 
 /// Searches an instance over a new journal in memory with the one adviser, and writes its line.
-fn demo_over<K: Sink, G: Gate>(
+fn demo_over<K: Sink, G: Gate, R: Threads + Sync>(
+    rt: &R,
     alloc: Global,
     instance: &Instance,
     number: u32,
@@ -196,7 +203,7 @@ fn demo_over<K: Sink, G: Gate>(
         result.status }
     ensures unwritten { EndsUnwritten result.status → out.new ≡ out.old }
 {
-    let Ok(mut book) = new_book(alloc, instance, steps) else {
+    let Ok(mut book) = new_book(rt, alloc, instance, steps) else {
         return DemoEnd::no_memory(advisers);
     };
     let how = search_all(alloc, instance, &mut book, &mut advisers, gate);
@@ -214,7 +221,8 @@ fn demo_over<K: Sink, G: Gate>(
 
 /// The run of `solve --demo N`, of at most so many steps: makes the instance of the number, searches it over a new journal in memory
 /// with the one adviser, and writes one line.
-pub(crate) fn run_demo<K: Sink, G: Gate>(
+pub(crate) fn run_demo<K: Sink, G: Gate, R: Threads + Sync>(
+    rt: &R,
     alloc: Global,
     number: u32,
     steps: u64,
@@ -236,7 +244,7 @@ pub(crate) fn run_demo<K: Sink, G: Gate>(
     ensures unwritten { EndsUnwritten result.status → out.new ≡ out.old }
 {
     match generate(alloc, number) {
-        Ok(instance) => demo_over(alloc, &instance, number, steps, out, advisers, gate),
+        Ok(instance) => demo_over(rt, alloc, &instance, number, steps, out, advisers, gate),
         Err(_) => DemoEnd::no_memory(advisers),
     }
 }

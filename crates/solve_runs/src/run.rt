@@ -180,7 +180,8 @@ fn run_over<S: Source, K: Sink, D: Disk + Send, G: Gate + Sync, R: Threads + Wai
 }
 
 /// The demonstration of a number by the one adviser, beside a disk that it doesn't call.
-fn run_beside<K: Sink, D: Disk, G: Gate>(
+fn run_beside<K: Sink, D: Disk, G: Gate, R: Threads + Sync>(
+    rt: &R,
     alloc: Global,
     number: u32,
     steps: u64,
@@ -204,7 +205,7 @@ fn run_beside<K: Sink, D: Disk, G: Gate>(
     ensures untouched { result.disk ≡ disk }
     ensures unopened { result.opened ≡ false }
 {
-    let end = run_demo(alloc, number, steps, out, advisers, gate);
+    let end = run_demo(rt, alloc, number, steps, out, advisers, gate);
     Ended {
         status: end.status,
         advisers: end.advisers,
@@ -287,7 +288,7 @@ pub fn run_command<
                 return Ended::early(alloc, Status::Workers { asked: 1, have }, disk);
             }
             advisers.truncate(1);
-            run_beside(alloc, number, steps, out, disk, advisers, gate)
+            run_beside(rt, alloc, number, steps, out, disk, advisers, gate)
         }
     }
 }

@@ -90,7 +90,8 @@ fn search_with<D: Disk + Send, G: Gate + Sync, S: Stop + Sync, R: Threads + Wait
     let Ok(mut seats) = Vec::<Seat>::with_capacity(alloc, advisers.len()) else {
         return Searched::unopened(SearchEnd::NoMemory, disk, advisers);
     };
-    match Book::open(alloc, instance, disk, steps, JOURNAL_MAX) {
+    let workers = advisers.len() as u32;
+    match Book::open(rt, alloc, instance, disk, steps, JOURNAL_MAX, workers) {
         Err(left) => Searched::unopened(end_unopened(left.fault), left.disk, advisers),
         Ok(book) => {
             seats_of(&mut advisers, &mut seats);

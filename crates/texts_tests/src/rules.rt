@@ -76,7 +76,7 @@ fn types_are_said_in_clock_time(rt: HostRuntime) -> Result<(), Fail> {
     let said = type_sentence(alloc, 15, &night(alloc)?)?;
     assert_eq!(rt;
         said.as_str(),
-        "night: starts 22:00 to 01:00 on the next day, 4:00 or 4:15 long, no break, 15 minutes of breaks from 4:15 long on, no limit on the length of a break, no limit on when a lunch is, no limit on work without a break, a break of at least 30 minutes after more than 2:30 of work, at least 30 minutes of work before, between and after breaks, no break in the first 1:00, whoever comes back from a break counts 15 minutes later"
+        "night: starts 22:00 to 01:00 on the next day, 4:00 or 4:15 long, no break, 15 minutes of breaks from 4:15 long on, no limit on the length of a break, no lunch, no limit on work without a break, a break of at least 30 minutes after more than 2:30 of work, at least 30 minutes of work before, between and after breaks, no break in the first 1:00, whoever comes back from a break counts 15 minutes later"
     );
     Ok(())
 }

@@ -43,6 +43,29 @@ const OF_NIGHT: &str =
     "type N: shifts of the last day may go on 2:00 into the first day, since the period goes round, and work there
 ";
 
+/// A day of quarters that needs one employee at noon, shifts with breaks of up to 30 slots, where 30 minutes are meant, a type
+/// that was written in hours, with a rule without totals and a lunch of longer shifts, and one without breaks.
+const FORGOTTEN: &str =
+    "{\"slot_minutes\":15,\"days\":1,\"need\":[0,0,0,0,0,0,0,0,0,0,0,0,0,0,0,0,0,0,0,0,0,0,0,0,0,0,0,0,0,0,0,0,0,0,0,0,0,0,0,0,0,0,0,0,0,0,0,0,1,0,0,0,0,0,0,0,0,0,0,0,0,0,0,0,0,0,0,0,0,0,0,0,0,0,0,0,0,0,0,0,0,0,0,0,0,0,0,0,0,0,0,0,0,0,0,0],\"max_heads\":1,\"weights\":{\"excess\":1,\"shortage\":90,\"shift\":2},\"types\":[{\"name\":\"full\",\"start_min\":32,\"start_max\":32,\"len_min\":32,\"len_max\":34,\"breaks\":{\"lead\":4,\"tail\":4,\"work_min\":4,\"work_max\":34,\"long_work\":34,\"long_rest\":1,\"size_min\":1,\"size_max\":30,\"totals\":[[16,4]]}},{\"name\":\"early\",\"start_min\":7,\"start_max\":9,\"len_min\":8,\"len_max\":8,\"breaks\":{\"lead\":2,\"tail\":2,\"work_min\":1,\"work_max\":8,\"long_work\":8,\"long_rest\":1,\"size_min\":1,\"size_max\":2,\"totals\":[[16,1]],\"lunches\":[[40,2,12,22]]}},{\"name\":\"lunch\",\"start_min\":40,\"start_max\":40,\"len_min\":24,\"len_max\":24,\"breaks\":{\"lead\":0,\"tail\":0,\"work_min\":1,\"work_max\":24,\"long_work\":24,\"long_rest\":1,\"size_min\":1,\"size_max\":2,\"totals\":[],\"lunches\":[[16,2,8,16]]}},{\"name\":\"short\",\"start_min\":44,\"start_max\":44,\"len_min\":16,\"len_max\":16,\"breaks\":null}]}";
+
+/// The warnings of it.
+const OF_FORGOTTEN: &str =
+    "type early has a break rule, and its shifts have no breaks, since totals has no entry for them
+type lunch can have no duty: no length of it has a legal list of breaks, since totals has no entry for its shifts
+type short has no breaks, and other types have
+type full: size_max is 30 slots, 7:30, and no shift has more than 4, 1:00, of breaks, so it limits nothing; if minutes are meant, write 2
+starts and lengths of type early look like hours: they count slots of 15 minutes, so its shifts start 01:45 to 02:15 and are 2:00 long
+a lunch of type early begins at shifts of 10:00, and its longest shift has 2:00
+";
+
+/// A day of hours on which nobody is wanted.
+const NOBODY: &str =
+    "{\"slot_minutes\":60,\"days\":1,\"need\":[0,0,0,0,0,0,0,0,0,0,0,0,0,0,0,0,0,0,0,0,0,0,0,0],\"max_heads\":9,\"weights\":{\"excess\":1,\"shortage\":2,\"shift\":3},\"types\":[{\"name\":\"M\",\"start_min\":8,\"start_max\":8,\"len_min\":4,\"len_max\":4,\"breaks\":null}]}";
+
+/// The warning of it.
+const OF_NOBODY: &str = "no slot wants anybody, so a plan without duties is a cheapest one
+";
+
 /// The warnings of a document, each on a line of its own.
 fn warned(alloc: Global, document: &str) -> Result<String, Fail> {
     let instance = read(alloc, document.as_bytes())?;
@@ -65,6 +88,8 @@ fn warns_of_what_is_odd(rt: HostRuntime) -> Result<(), Fail> {
         (LATE_BREAKS, OF_LATE_BREAKS),
         (HOURS, OF_HOURS),
         (NIGHT, OF_NIGHT),
+        (FORGOTTEN, OF_FORGOTTEN),
+        (NOBODY, OF_NOBODY),
     ];
     for (document, wanted) in cases {
         let text = warned(rt.alloc(), document)?;

@@ -2,6 +2,7 @@
 ghost use Rattle.std.specs.Prelude.{◌≡◌, IfOk, IfSome};
 
 use crate::prices::{SCALE, begin_prices, cut_prices, slot_prices};
+use crate::sharing::Sharing;
 use crate::splits::{HeadSplit, NodeView, best_split};
 use advice::{Ask, Stop};
 use break_rules::NoMemory;
@@ -15,12 +16,6 @@ use shift_tables::Tables;
 use std::alloc::Global;
 use std::cmp::OrderedFloat;
 use std::num::nearest_u64_to_f64;
-
-/// The work of a second, about.
-const SECOND: u64 = 80_000_000;
-
-/// The most work on plans at one advice, where the climb of that advice takes no more.
-const SLICE: u64 = 4_000_000;
 
 /// By how much a value that closes a node may lie below the least cost known: bounds are rounded up.
 const ROUNDED: f64 = 0.99;
@@ -41,10 +36,8 @@ pub(crate) struct Kept<S: Stop + Drop> {
     is_greedy_made: bool,
     /// The rows of the greedy plan, where it wasn't advised yet.
     greedy: Option<Rows>,
-    /// The work on plans when the best one was found.
-    work_at_best: u64,
-    /// The work of climbs when plans were looked for last.
-    climbed: u64,
+    /// How climbs and the plan search share the time.
+    sharing: Sharing,
 }
 
 /// The shifts whose averaged part isn't 0, the most used first.
@@ -101,8 +94,7 @@ impl<S: Stop + Drop> Kept<S> {
             offered: u64::MAX,
             is_greedy_made: false,
             greedy: None,
-            work_at_best: 0,
-            climbed: 0,
+            sharing: Sharing::new(),
         })
     }
 
@@ -136,42 +128,34 @@ impl<S: Stop + Drop> Kept<S> {
         }
     }
 
+    /// Notes that the best plan got cheaper, where it did.
+    fn note_gain(&mut self, before: f64) {
+        if self.plans.best_cost() < before {
+            self.sharing.gain(self.plans.work());
+        }
+    }
+
     /// Has the plan search go on from the hint's rows, where they are legal and cheaper than its best and than all that it was
     /// offered before.
     fn take_hint(&mut self, instance: &Instance, ask: &Ask) -> Result<(), NoMemory> {
-        if self.offered <= ask.best || self.is_cheaper_than(ask.best) {
+        let before = self.plans.best_cost();
+        if self.offered <= ask.best || before <= nearest_u64_to_f64(ask.best) {
             return Ok(());
         }
         self.offered = ask.best;
         if legal_rows(instance, &ask.hint.rows).is_ok() {
             self.plans.offer(&self.tables, &ask.hint.rows)?;
         }
+        self.note_gain(before);
         Ok(())
-    }
-
-    /// The work that is due on plans, at most a slice, or as much as the climb took: half of all work goes there at first and while
-    /// they gain, and later less.
-    fn due_work(&self) -> u64 {
-        let plans = self.plans.work();
-        let is_gaining = plans < SECOND.saturating_add(self.work_at_best.saturating_mul(2));
-        let share = if is_gaining {
-            self.climb.work()
-        } else {
-            self.climb.work() / 8
-        };
-        let climb = self.climb.work().saturating_sub(self.climbed);
-        share.saturating_sub(plans).min(SLICE.max(climb))
     }
 
     /// Searches for plans as long as it is due.
     fn search_plans(&mut self) -> Result<(), NoMemory> {
         let before = self.plans.best_cost();
-        let due = self.due_work();
-        self.climbed = self.climb.work();
+        let due = self.sharing.due(self.climb.work(), self.plans.work());
         self.plans.run(&self.tables, due)?;
-        if self.plans.best_cost() < before {
-            self.work_at_best = self.plans.work();
-        }
+        self.note_gain(before);
         Ok(())
     }
 

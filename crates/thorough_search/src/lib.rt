@@ -5,6 +5,7 @@
 mod adviser;
 mod kept;
 mod prices;
+mod sharing;
 mod splits;
 mod tightening;
 

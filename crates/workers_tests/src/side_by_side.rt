@@ -42,12 +42,12 @@ impl Gate for Meeting {
 }
 
 /// The bytes of the journal of a first step, which splits the root and leaves both parts open.
-fn parted(alloc: Global, instance: &Instance) -> Result<Vec<u8>, Fail>
+fn parted<R: Threads + Sync>(rt: &R, alloc: Global, instance: &Instance) -> Result<Vec<u8>, Fail>
     requires { length (canonical_text instance.now) ≡ 372 }
 {
     let mut seat = seat_with(Box::new(alloc, Greedy::new(alloc))?);
     let disk = MemDisk::new(alloc, Vec::new(alloc), Vec::new(alloc));
-    match Book::open(alloc, instance, disk, 1, LIMIT) {
+    match Book::open(rt, alloc, instance, disk, 1, LIMIT, 1) {
         Ok(mut book) => {
             run_seat(alloc, instance, &mut book, &mut seat, &Open, &Never);
             Ok(Vec::from_slice(alloc, book.into_disk().bytes())?)
@@ -79,7 +79,7 @@ fn run_two<R: Threads + Wait + Sync>(
 {
     let seats = two_seats(alloc)?;
     let disk = MemDisk::new(alloc, bytes, Vec::new(alloc));
-    match Book::open(alloc, instance, disk, 100, LIMIT) {
+    match Book::open(rt, alloc, instance, disk, 100, LIMIT, 2) {
         Ok(book) => {
             let (_book, _seats, end) = run_workers(rt, alloc, instance, book, seats, gate, &Never);
             Ok(end)
@@ -91,7 +91,7 @@ fn run_two<R: Threads + Wait + Sync>(
 /// How a run ends of two workers who go on from the first step, how many entered the gate, and how many missed each other there.
 fn meet<R: Threads + Wait + Sync>(rt: &R, alloc: Global) -> Result<(RunEnd, u64, u64), Fail> {
     let instance = morning(alloc, "2")?;
-    let bytes = parted(alloc, &instance)?;
+    let bytes = parted(rt, alloc, &instance)?;
     let gate = Meeting {
         entered: AtomicU64::new(0),
         missed: AtomicU64::new(0),

@@ -40,7 +40,8 @@ impl Stop for Countdown {
 }
 
 /// How a run of one worker ends over a journal of these bytes, the steps that it took, and the bytes afterwards.
-fn run_one<S: Stop>(
+fn run_one<S: Stop, R: Threads + Sync>(
+    rt: &R,
     alloc: Global,
     instance: &Instance,
     bytes: Vec<u8>,
@@ -50,7 +51,7 @@ fn run_one<S: Stop>(
 {
     let mut seat = seat_with(Box::new(alloc, Greedy::new(alloc))?);
     let disk = MemDisk::new(alloc, bytes, Vec::new(alloc));
-    match Book::open(alloc, instance, disk, 100, LIMIT) {
+    match Book::open(rt, alloc, instance, disk, 100, LIMIT, 1) {
         Ok(mut book) => {
             let end = run_seat(alloc, instance, &mut book, &mut seat, &Open, stop);
             let after = Vec::from_slice(alloc, book.into_disk().bytes())?;
@@ -71,7 +72,7 @@ fn run_two<R: Threads + Wait + Sync>(
     add_seat(&mut seats, Box::new(alloc, Greedy::new(alloc))?)?;
     add_seat(&mut seats, Box::new(alloc, Greedy::new(alloc))?)?;
     let disk = MemDisk::new(alloc, Vec::new(alloc), Vec::new(alloc));
-    match Book::open(alloc, &instance, disk, 100, LIMIT) {
+    match Book::open(rt, alloc, &instance, disk, 100, LIMIT, 2) {
         Ok(book) => {
             let (book, _seats, end) = run_workers(rt, alloc, &instance, book, seats, &Open, stop);
             Ok((end, book.taken()))
@@ -85,9 +86,9 @@ fn one_worker_takes_nothing_once_it_is_asked(rt: HostRuntime) -> Result<(), Fail
     let alloc = rt.alloc();
     let instance = morning(alloc, "2")?;
     let none = Vec::new(alloc);
-    let (end, steps, bytes) = run_one(alloc, &instance, none, &Countdown::new(0))?;
+    let (end, steps, bytes) = run_one(&rt, alloc, &instance, none, &Countdown::new(0))?;
     assert!(rt; end == RunEnd::Stopped && steps == 0);
-    let (end, steps, _) = run_one(alloc, &instance, bytes, &Countdown::new(1))?;
+    let (end, steps, _) = run_one(&rt, alloc, &instance, bytes, &Countdown::new(1))?;
     assert!(rt; end == RunEnd::Stopped && steps == 1);
     Ok(())
 }
@@ -97,9 +98,9 @@ fn one_worker_takes_nothing_once_it_is_asked(rt: HostRuntime) -> Result<(), Fail
 fn a_finished_search_that_is_asked_ends_finished(rt: HostRuntime) -> Result<(), Fail> {
     let alloc = rt.alloc();
     let instance = morning(alloc, "2")?;
-    let (end, _, bytes) = run_one(alloc, &instance, Vec::new(alloc), &Never)?;
+    let (end, _, bytes) = run_one(&rt, alloc, &instance, Vec::new(alloc), &Never)?;
     assert!(rt; end == RunEnd::Finished);
-    let (end, steps, _) = run_one(alloc, &instance, bytes, &Countdown::new(0))?;
+    let (end, steps, _) = run_one(&rt, alloc, &instance, bytes, &Countdown::new(0))?;
     assert!(rt; end == RunEnd::Finished && steps == 0);
     Ok(())
 }

@@ -1,7 +1,7 @@
 use Rattle.std.proofs.Common.{◌≡◌, ◌++◌, drop}
 use Rattle.std.specs.List.{flat_map}
-use Rattle.instance_warnings.specs.Odd.{lunch_parted}
+use Rattle.instance_warnings.specs.Odd.{odd_lunch}
 use Rattle.instance_warnings.proofs.oddities.push_lunches.Given as goal
 
 abbrev pub invariant-loop-lunch : goal.invariant-loop-lunch
-invariant-loop-lunch l = l.list.items ++ flat_map (lunch_parted (l.number, l.kind)) (drop l.lunch-index l.lunches) ≡ l.fn.list.items ++ flat_map (lunch_parted (l.number, l.kind)) l.lunches
+invariant-loop-lunch l = l.list.items ++ flat_map (odd_lunch l.kinds (l.number, l.kind)) (drop l.lunch-index l.lunches) ≡ l.fn.list.items ++ flat_map (odd_lunch l.kinds (l.number, l.kind)) l.lunches

@@ -1,24 +1,20 @@
-use Rattle.std.proofs.Common.{ℕ, List, Vec, Global, subst, map, arith}
-use Rattle.post_codec.proofs.Formats.{one_list}
-use Rattle.recovery.specs.Folding.{RecordStops, TakesRecord}
-use Rattle.recovery.proofs.Rebuilt.{rebuilt_more, rebuilt_stops}
-use Rattle.recovery.proofs.Unspelled.{never_rejected}
+use Rattle.std.proofs.Common.{ℕ, List, Vec, Global, Option, map, subst, sym}
+use Rattle.recovery.specs.PostBounds.{AreBoundsIn}
+use Rattle.recovery.specs.Reads.{posts_in, AreAllBounds, IsReadOf, Outcome}
+use Rattle.recovery.proofs.Folds.{none_rejected, zip_of}
 use Rattle.recovery.proofs.rebuilding.rebuild.Goals as goal
 
-pub returns-in-Err-clause-refused : goal.returns-in-Err-clause-refused
-returns-in-Err-clause-refused c =
-    let stop = subst (λ (l : List ℕ). RecordStops c.args.instance.now c.loop-at.state.book l c.in-Err.why) c.deref.ensures.value c.in-Err.ensures.err in
-    rw (c.fault_at.ensures)
-    (rebuilt_stops (λ (v : Vec ℕ Global). v.items) c.args.instance.now c.args.records.now c.loop-at.at c.index-records-at.result c.loop-at.state c.in-Err.why (omega arith) c.index-records-at.is c.loop-at.invariant stop)
+pub fold_records-requires-clause-reads : goal.fold_records-requires-clause-reads
+fold_records-requires-clause-reads g c = zip_of (λ (r : Vec ℕ Global) (o : Outcome). IsReadOf r.items o) _ _ c.in_ok-outcomes.ensures.count c.in_ok-outcomes.ensures.given
 
-pub returns-in-Err-clause-only : goal.returns-in-Err-clause-only
-returns-in-Err-clause-only c =
-    let stop = subst (λ (l : List ℕ). RecordStops c.args.instance.now c.loop-at.state.book l c.in-Err.why) c.deref.ensures.value c.in-Err.ensures.err in
-    rw (c.fault_at.ensures)
-    (λ posts book m. never_rejected one_list c.args.instance.now (map (λ (v : Vec ℕ Global). v.items) c.args.records.now) posts book _ m
-    (rebuilt_stops (λ (v : Vec ℕ Global). v.items) c.args.instance.now c.args.records.now c.loop-at.at c.index-records-at.result c.loop-at.state c.in-Err.why (omega arith) c.index-records-at.is c.loop-at.invariant stop))
+pub fold_records-requires-clause-bounds : goal.fold_records-requires-clause-bounds
+fold_records-requires-clause-bounds g c =
+    let i = c.args.instance.now in
+    let nodes = c.in_ok-tree.tree in
+    let found : AreAllBounds i nodes c.deref-2.result.now c.in_ok-bounds.bounds.items =
+    zip_of (λ (o : Outcome) (found : Vec (Option ℕ) Global). AreBoundsIn i nodes (posts_in o) found.items) _ _ c.in_ok-bounds.ensures.count c.in_ok-bounds.ensures.given in
+    subst (λ (l : List Outcome). AreAllBounds i nodes l c.deref-3.result.now) c.deref-2.ensures.value
+    (subst (λ (l : List (Vec (Option ℕ) Global)). AreAllBounds i nodes c.deref-2.result.now l) (sym c.deref-3.ensures.value) found)
 
-pub loop-at-preserved : goal.loop-at-preserved
-loop-at-preserved c =
-    let taken = subst (λ (l : List ℕ). TakesRecord c.loop-at.state l c.add_record.new.state) c.deref.ensures.value c.in_default.ensures.ok in
-    rebuilt_more (λ (v : Vec ℕ Global). v.items) c.args.instance.now c.args.records.now c.loop-at.at c.index-records-at.result c.loop-at.state c.add_record.new.state (omega arith) c.index-records-at.is c.loop-at.invariant taken
+pub returns-clause-only : goal.returns-clause-only
+returns-clause-only g c = none_rejected c.args.instance.now (map (λ (r : Vec ℕ Global). r.items) c.args.records.now) c.fold_records.result c.fold_records.ensures.refused

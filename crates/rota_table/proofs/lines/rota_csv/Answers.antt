@@ -22,25 +22,27 @@ with_row-requires c =
 pub loop-row-preserved : goal.loop-row-preserved
 loop-row-preserved c =
     let i = c.args.instance.now in
+    let names = c.args.names.now in
     let most = most_breaks c.args.rows.now in
     let head = row_text default_writer (rota_columns most) in
     c.in_ok-records-2.ensures
-    ∙ ap (λ (n : ℕ). c.loop-row.records ++ row_records i n c.row-item.result.now) c.most_breaks-most.ensures
-    ∙ ap (λ (text : List ℕ). text ++ row_records i most c.row-item.result.now) c.loop-row.invariant
-    ∙ text_more (row_records i most) (λ (r : Bor Row). r.now) c.deref-row-items.result.now c.loop-row.row-index c.row-item.result head c.loop-row-test.true c.row-item.is
+    ∙ ap (λ (n : ℕ). c.loop-row.records ++ row_records i names n c.row-item.result.now) c.most_breaks-most.ensures
+    ∙ ap (λ (text : List ℕ). text ++ row_records i names most c.row-item.result.now) c.loop-row.invariant
+    ∙ text_more (row_records i names most) (λ (r : Bor Row). r.now) c.deref-row-items.result.now c.loop-row.row-index c.row-item.result head c.loop-row-test.true c.row-item.is
 
 pub returns : goal.returns
 returns c =
     let i = c.args.instance.now in
     let rows = c.args.rows.now in
+    let names = c.args.names.now in
     let most = most_breaks rows in
     let head = row_text default_writer (rota_columns most) in
     let items = c.deref-row-items.result.now in
     let f = λ (r : Bor Row). r.now in
     let far : length items ≤ c.loop-row.row-index = c.loop-row-test.false in
     let same : map f items ≡ by_start i rows = ap (λ (xs : List (Bor Row)). map f xs) c.deref-row-items.ensures.value ∙ c.in_ok-ordered.ensures in
-    let all : c.loop-row.records ≡ rota_text i rows =
+    let all : c.loop-row.records ≡ rota_text i names rows =
     c.loop-row.invariant
-    ∙ ap (λ (xs : List (Bor Row)). head ++ flat_map (row_records i most) (map f xs)) (take_all c.loop-row.row-index items far)
-    ∙ ap (λ (xs : List Row). head ++ flat_map (row_records i most) xs) same in
+    ∙ ap (λ (xs : List (Bor Row)). head ++ flat_map (row_records i names most) (map f xs)) (take_all c.loop-row.row-index items far)
+    ∙ ap (λ (xs : List Row). head ++ flat_map (row_records i names most) xs) same in
     subst (λ (text : List ℕ). IfOk c.into_bytes.result (λ bytes. bytes.items ≡ text)) all c.into_bytes.ensures

@@ -5,4 +5,4 @@ use Rattle.rota_table.specs.Lines.{duty_record}
 use Rattle.rota_table.proofs.lines.with_row.Given as goal
 
 abbrev pub invariant-loop : goal.invariant-loop
-invariant-loop l = l.records ≡ l.fn.records ++ flat_map (duty_record l.instance l.most) (replicate l.counter (duty_of l.row))
+invariant-loop l = l.records ≡ l.fn.records ++ flat_map (duty_record l.instance l.names l.most) (replicate l.counter (duty_of l.row))

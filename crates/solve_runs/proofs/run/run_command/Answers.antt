@@ -78,7 +78,7 @@ run_beside-requires-clause-one g c =
     let before : List ℕ = map heard c.args.advisers.items in
     let all = have_same heard c.as_slice.result.now c.args.advisers.items c.workers_for-have.result c.workers_for-have.ensures c.as_slice.ensures.value in
     let served = served_are 1 c.workers_for-have.result (vec_len c.args.advisers) (vec_len c.truncate.new.self) before all (omega (arith, length-map c.args.advisers.items heard, c.args.advisers.ok)) (omega (arith, c.if-have-lt1.false)) c.truncate.ensures.len in
-    served.0
+    λ κs outlives. served.0
 
 pub returns-else-have-lt1-clause-status : goal.returns-else-have-lt1-clause-status
 returns-else-have-lt1-clause-status g c =

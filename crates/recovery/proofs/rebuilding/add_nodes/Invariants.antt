@@ -1,0 +1,6 @@
+use Rattle.std.proofs.Common.{◌≡◌, fold, take}
+use Rattle.recovery.specs.NodeCuts.{nodes_after}
+use Rattle.recovery.proofs.rebuilding.add_nodes.Given as goal
+
+abbrev pub invariant-loop-post : goal.invariant-loop-post
+invariant-loop-post l = l.tree ≡ fold nodes_after l.initial.tree (take l.post-index l.posts)
