@@ -1,0 +1,4 @@
+pub mod Run
+pub mod Branches
+pub mod Grafted
+pub mod Pins
