@@ -1,7 +1,7 @@
 -- A tree into which a run is grafted, line by line beside the run's own tree.
 use Rattle.std.proofs.Common.{◌≡◌, ◌⊎◌, inl, inr, ℕ, zero, suc, ◌+◌, ◌*◌, ◌<◌, ◌≤◌, max, true, false, cond, ◌&&◌, not, List, [], ◌∷◌, ◌++◌, length, map, set, refl, sym, ap, ◌∙◌, subst, append_assoc, arith, Option, Some, None}
 use Rattle.std.specs.Prelude.{slice_get}
-use Rattle.std.proofs.lemmas.Bool.{and_parts, cases_eq}
+use Rattle.std.proofs.lemmas.Bool.{and_parts, cases_eq, eq-eqb, ne_eqb}
 use Rattle.std.proofs.lemmas.List.{length-set, length_push}
 use Rattle.std.proofs.lemmas.Option.{slice_get_within}
 use Rattle.shift_instance.specs.Problem.{Problem}
@@ -23,14 +23,31 @@ use Rattle.report_grafts.proofs.Lines.{Good, cond_some, first_good, one_good}
 -- ---- numbers
 
 number_more : (node splits k : ℕ) → 0 < k → grafted_number node splits k ≡ k + 2 * splits
-number_more node splits zero h = absurd (omega arith)
-number_more node splits (suc k) h = refl
+number_more node splits k h = ap (λ b. cond b node (k + 2 * splits)) (ne_eqb k 0 (λ e. omega (arith, h, e)))
+
+number_zero : (node splits k : ℕ) → k ≡ 0 → grafted_number node splits k ≡ node
+number_zero node splits k h = ap (λ b. cond b node (k + 2 * splits)) (eq-eqb k 0 h)
 
 number_apart : (node splits j k : ℕ) → node ≤ 2 * splits → (j ≡ k → ⊥) → grafted_number node splits j ≡ grafted_number node splits k → ⊥
-number_apart node splits zero zero there h e = h refl
-number_apart node splits zero (suc k) there h e = let f : node ≡ suc k + 2 * splits = e in omega arith
-number_apart node splits (suc j) zero there h e = let f : suc j + 2 * splits ≡ node = e in omega arith
-number_apart node splits (suc j) (suc k) there h e = let f : suc j + 2 * splits ≡ suc k + 2 * splits = e in h (omega arith)
+number_apart node splits j k there h e =
+    elim (cases_eq j 0) [
+      | inl zero_j ↦
+          elim (cases_eq k 0) [
+            | inl zero_k ↦ h (zero_j ∙ sym zero_k)
+            | inr more_k ↦
+                let f : node ≡ k + 2 * splits = sym (number_zero node splits j zero_j) ∙ e ∙ number_more node splits k (omega (arith, more_k)) in
+                omega (arith, f, there, more_k)
+          ]
+      | inr more_j ↦
+          elim (cases_eq k 0) [
+            | inl zero_k ↦
+                let f : j + 2 * splits ≡ node = sym (number_more node splits j (omega (arith, more_j))) ∙ e ∙ number_zero node splits k zero_k in
+                omega (arith, f, there, more_j)
+            | inr more_k ↦
+                let f : j + 2 * splits ≡ k + 2 * splits = sym (number_more node splits j (omega (arith, more_j))) ∙ e ∙ number_more node splits k (omega (arith, more_k)) in
+                h (omega (arith, f))
+          ]
+    ]
 
 -- ---- the two trees
 

@@ -5,6 +5,7 @@ use Rattle.std.specs.List.{AllByRecursion}
 use Rattle.std.specs.Option.{option_and_then, option_map_or, unwrap_or}
 use Rattle.std.proofs.lemmas.Bool.{and_parts, leb-true, le-leb, not-true, not-false, cases_Bool}
 use Rattle.std.proofs.lemmas.List.{length-set, length-append}
+use Rattle.std.proofs.lemmas.List.Sums.{sum_by-cons}
 use Rattle.std.proofs.lemmas.Option.{slice_get_within}
 use Rattle.break_rules.specs.Lists.{Has}
 use Rattle.break_rules.proofs.Lists.{Has-append_cases}
@@ -206,8 +207,8 @@ counted_line i nodes next n (Settled k) e =
 pub divisions_cons : (line : Line) (lines : List Line) → divisions (line ∷ lines) ≡ divisions (line ∷ []) + divisions lines
 divisions_cons line lines =
     let d : ℕ = cond (is_division line) 1 0 in
-    let a : divisions (line ∷ lines) ≡ d + divisions lines = refl in
-    let b : divisions (line ∷ []) ≡ d + 0 = refl in
+    let a : divisions (line ∷ lines) ≡ d + divisions lines = sum_by-cons (λ x. cond (is_division x) 1 0) line lines in
+    let b : divisions (line ∷ []) ≡ d + 0 = sum_by-cons (λ x. cond (is_division x) 1 0) line [] in
     omega (arith, a, b)
 
 -- each split makes two nodes

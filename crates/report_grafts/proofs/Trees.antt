@@ -1,9 +1,9 @@
 -- The nodes that good lines make, by the splits among them.
-use Rattle.std.proofs.Common.{◌≡◌, ◌⊎◌, inl, inr, ℕ, zero, suc, ◌+◌, ◌*◌, ◌<◌, ◌≤◌, Bool, true, false, cond, ◌&&◌, ◌||◌, ◌==◌, not, nat_lt, nat_le, List, [], ◌∷◌, ◌++◌, length, set, reverse, refl, sym, ap, ◌∙◌, subst, append_assoc, arith, Option, Some, None}
+use Rattle.std.proofs.Common.{◌≡◌, ◌⊎◌, inl, inr, ℕ, zero, suc, ◌+◌, ◌-◌, ◌*◌, ◌/◌, ◌%◌, ◌<◌, ◌≤◌, Bool, true, false, cond, ◌&&◌, ◌||◌, ◌==◌, not, nat_lt, nat_le, List, [], ◌∷◌, ◌++◌, length, set, reverse, refl, sym, ap, ◌∙◌, subst, append_assoc, arith, Option, Some, None}
 use Rattle.std.specs.Prelude.{slice_get}
 use Rattle.std.specs.List.{list_any}
 use Rattle.std.specs.Option.{option_map_or}
-use Rattle.std.proofs.lemmas.Bool.{and_parts, leb-true, cases_eq, cases_lt, cases_Bool, eq-eqb, ne_eqb, or_left, or_right}
+use Rattle.std.proofs.lemmas.Bool.{and_parts, leb-true, cases_eq, cases_lt, cases_Bool, eq-eqb, ne_eqb, eqb-true, eqb-false, cond_both, or_left, or_right}
 use Rattle.std.proofs.lemmas.List.{length-set, length-append, length_push, append-nil, reverse-append}
 use Rattle.std.proofs.lemmas.List.Folds.{list_any-append}
 use Rattle.std.proofs.lemmas.Option.{slice_get_within, slice_get_past}
@@ -19,7 +19,7 @@ use Rattle.report_grafts.specs.Run.{divisions}
 use Rattle.report_grafts.specs.declared.branches.Branch.{Branch}
 use Rattle.report_grafts.specs.Branches.{branch_of, branches_of, cuts_at, is_split_at, at_most, at_least, MadeParts, MakeNodes, AreBranches}
 use Rattle.report_grafts.proofs.Places.{front_get, last_get, set_same, set_other, pushed_get, part_after_set, part_in_front}
-use Rattle.report_grafts.proofs.Lines.{Lifted, cond_some, first_good, priced_lifts, settled_lifts}
+use Rattle.report_grafts.proofs.Lines.{Lifted, cond_some, divisions_cons, first_good, priced_lifts, settled_lifts}
 
 abbrev names : ℕ → Branch → Bool
 names x b = b.node == x
@@ -173,7 +173,7 @@ pub branches_counted : (lines : List Line) → length (branches_of lines) ≡ di
 branches_counted [] = refl
 branches_counted (Split k class m ∷ lines) =
     let rest : length (branches_of lines) ≡ divisions lines = branches_counted lines in
-    let more : divisions (Split k class m ∷ lines) ≡ 1 + divisions lines = refl in
+    let more : divisions (Split k class m ∷ lines) ≡ 1 + divisions lines = divisions_cons (Split k class m) lines in
     omega (arith, rest, more)
 branches_counted (Priced k prices ∷ lines) = branches_counted lines
 branches_counted (Settled k ∷ lines) = branches_counted lines
@@ -204,3 +204,10 @@ node_falls base branches nodes at q false b h e is = let older : b.node < 2 * q 
 
 pub small_number : (branches : List Branch) (q : ℕ) (b : Branch) → AreBranches branches → slice_get branches q ≡ Some b → b.m ≤ 200
 small_number branches q b made e = (made.1.parts q b e).small
+
+-- the number of the split that made a node, and which of its parts that is
+pub halves : (at : ℕ) → 0 < at → at ≡ cond (at % 2 == 1) (2 * ((at - 1) / 2) + 1) (2 * ((at - 1) / 2) + 2)
+halves at h =
+    cond_both (at % 2 == 1) (2 * ((at - 1) / 2) + 1) (2 * ((at - 1) / 2) + 2) (λ z. at ≡ z)
+    (λ e. let odd : at % 2 ≡ 1 = eqb-true (at % 2) 1 e in omega arith)
+    (λ e. let even = eqb-false (at % 2) 1 e in omega (arith, even))

@@ -1,5 +1,5 @@
 -- The certificate that comes of a run below a node of another certificate. Source: this project's profile.
-use Rattle.std.specs.Prelude.{ℕ, ◌+◌, ◌*◌, List, [], ◌++◌, map, Option, Some, None, nat_lt, ◌==◌, if◌then◌else◌}
+use Rattle.std.specs.Prelude.{◌≡◌, ℕ, ◌+◌, ◌*◌, List, [], ◌++◌, map, Option, Some, None, nat_lt, ◌==◌, if◌then◌else◌}
 use Rattle.std.specs.Option.{unwrap_or}
 use Rattle.shift_instance.specs.declared.Row.{Row}
 use Rattle.shift_instance.specs.Problem.{Problem}
@@ -12,6 +12,10 @@ use Rattle.certificate.specs.declared.proof_lines.Line.{Line}
 use Rattle.certificate.specs.declared.proof_lines.Line.TheVariants.{Split, Priced, Settled}
 use Rattle.certificate.specs.Accepted.{nodes_of, least_floor}
 use Rattle.report_grafts.specs.Run.{divisions}
+
+-- lines that are good from the root on
+abbrev pub AreGood : Problem → List Line → Type 0
+AreGood i lines = (nodes : List Node) × (nodes_of i lines ≡ Some nodes)
 
 -- the nodes that lines make, and none where a line isn't good
 abbrev pub nodes_made : Problem → List Line → List Node

@@ -11,17 +11,17 @@ use std::alloc::Global;
 
 /// A split of a node by the number of a class's duties, into at most `m` and at least `m + 1`.
 #[derive(Drop)]
-pub struct Branch {
+pub(crate) struct Branch {
     /// The number of the node that is split.
-    pub node: u32,
+    pub(crate) node: u32,
     /// The class.
-    pub class: Class,
+    pub(crate) class: Class,
     /// The most of its duties in the first part.
-    pub m: u16,
+    pub(crate) m: u16,
 }
 
 /// The splits of proof lines, in their order.
-pub fn branches_of(alloc: Global, lines: &Lines) -> Result<Vec<Branch>, NoMemory>
+pub(crate) fn branches_of(alloc: Global, lines: &Lines) -> Result<Vec<Branch>, NoMemory>
     ensures { IfOk result (λ branches. branches.items ≡ branches_of lines.now) }
 {
     let mut branches = Vec::new(alloc);
@@ -35,7 +35,7 @@ pub fn branches_of(alloc: Global, lines: &Lines) -> Result<Vec<Branch>, NoMemory
 }
 
 /// Whether some split is of the node of that number.
-pub fn is_split(branches: &[Branch], node: u32) -> bool
+pub(crate) fn is_split(branches: &[Branch], node: u32) -> bool
     ensures { result ≡ list_any (λ b. b.node == node) branches.now }
 {
     branches.iter().any(|branch| branch.node == node)
@@ -63,7 +63,7 @@ fn part_of(branch: &Branch, is_first: bool) -> Result<Cut, NoMemory>
 }
 
 /// The cuts of the node of that number, from the root on, where the root has none.
-pub fn cuts_of(alloc: Global, branches: &[Branch], node: usize) -> Result<Cuts, NoMemory>
+pub(crate) fn cuts_of(alloc: Global, branches: &[Branch], node: usize) -> Result<Cuts, NoMemory>
     requires made { AreBranches branches.now }
     requires there { node ≤ 2 * length branches.now }
     ensures { IfOk result (λ cuts. (nodes : List Node) → MakeNodes [] branches.now nodes → cuts ≡ cuts_at nodes node) }

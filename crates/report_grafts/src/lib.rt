@@ -3,9 +3,16 @@
 #![tactic(auto)]
 
 mod branches;
+mod differing;
+mod exporting;
+mod fault;
+mod grafting;
+pub mod laws;
 mod pinning;
 mod sub_run;
 
-pub use branches::{branches_of, cuts_of, is_split, Branch};
+pub use exporting::export;
+pub use fault::GraftFault;
+pub use grafting::graft;
 pub use pinning::pins;
 pub use sub_run::SubRun;

@@ -39,7 +39,6 @@ fn add_pins(alloc: Global, list: &mut Vec<Cut>, shift: u16, day: u8, heads: u16)
 }
 
 /// How many duties legal rows have of a shift on a day, which are no more than there may be.
-#[tactic(auto, using(crate::proofs::Pinned::heads_few, head_splits::proofs::Duality::whole_class_count))]
 fn heads_on(alloc: Global, instance: &Instance, rows: &Rows, shift: u16, day: u8) -> u16
     requires { IsTrue (are_legal_rows instance.now rows.now) }
     ensures { result ≡ heads_on (rota_of rows.now) shift day }
