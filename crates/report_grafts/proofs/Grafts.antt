@@ -1,5 +1,5 @@
 -- A run that is grafted: its lines fit, and the certificate is accepted.
-use Rattle.std.proofs.Common.{◌≡◌, ℕ, ◌+◌, ◌*◌, ◌^◌, ◌<◌, ◌≤◌, true, cond, ◌&&◌, List, [], ◌∷◌, length, map, refl, sym, ap, ◌∙◌, subst, arith, Option, Some, None}
+use Rattle.std.proofs.Common.{◌≡◌, ℕ, suc, ◌+◌, ◌*◌, ◌^◌, ◌<◌, ◌≤◌, true, cond, ◌&&◌, List, [], ◌∷◌, ◌++◌, length, map, refl, sym, ap, ◌∙◌, subst, append_assoc, arith, Option, Some, None}
 use Rattle.std.specs.Prelude.{All}
 use Rattle.std.specs.List.{AllByRecursion}
 use Rattle.std.proofs.lemmas.Bool.{and_parts, and_from}
@@ -15,7 +15,7 @@ use Rattle.certificate.specs.declared.proof_lines.Line.TheVariants.{Split, Price
 use Rattle.certificate.specs.Accepted.{node_of, nodes_after, nodes_of, least_floor, is_bound, is_plan, is_accepted}
 use Rattle.report_grafts.specs.declared.branches.Branch.{Branch}
 use Rattle.report_grafts.specs.Run.{Run, IsSound, divisions}
-use Rattle.report_grafts.specs.Branches.{branches_of}
+use Rattle.report_grafts.specs.Branches.{branches_of, MakeNodes}
 use Rattle.report_grafts.specs.Faults.{HasEnd, HasOpenEnd}
 use Rattle.report_grafts.specs.Grafted.{nodes_made, grafted_line, grafted_lines, grafted_plan, found_by, AreGood}
 use Rattle.report_grafts.proofs.Lines.{counted_lines, divisions_cons, named_lines}
@@ -82,3 +82,35 @@ graft_better i whole node r c end s same lines bound =
     let is : c.bound ≡ least_floor g.0 = bound ∙ found_is i c.lines g.0 (ap (nodes_of i) lines ∙ g.1) in
     let low : whole.bound ≤ least_floor g.0 = g.2 in
     omega (arith, is, low)
+
+-- ---- one line after another
+
+pub grafted_more : (node splits : ℕ) (list pushed goal : List Line) (line : Line) (reader rest : List Line) → pushed ≡ list ++ grafted_line node splits line ∷ [] → reader ≡ line ∷ rest
+    → list ++ map (grafted_line node splits) reader ≡ goal → pushed ++ map (grafted_line node splits) rest ≡ goal
+grafted_more node splits list pushed goal line reader rest p r h =
+    ap (λ (ls : List Line). ls ++ map (grafted_line node splits) rest) p
+    ∙ append_assoc list (grafted_line node splits line ∷ []) (map (grafted_line node splits) rest)
+    ∙ ap (λ (ls : List Line). list ++ map (grafted_line node splits) ls) (sym r) ∙ h
+
+pub fit_rest : (splits : ℕ) (line : Line) (reader rest : List Line) → reader ≡ line ∷ rest → All (λ line. node_of line + 2 * splits < 2 ^ 32) reader → All (λ line. node_of line + 2 * splits < 2 ^ 32) rest
+fit_rest splits line reader rest r h =
+    let all : All (λ line. node_of line + 2 * splits < 2 ^ 32) (line ∷ rest) = subst (λ (ls : List Line). All (λ line. node_of line + 2 * splits < 2 ^ 32) ls) r h in
+    λ k d less. all (suc k) d (omega (arith, less))
+
+-- ---- what a graft has
+
+-- a place of the tree with as many splits as the certificate has gives the grafted lines
+pub lines_are : (whole : List Line) (node splits : ℕ) (run seen lines : List Line) → lines ≡ whole ++ map (grafted_line node splits) seen → seen ≡ run → splits ≡ divisions whole → lines ≡ grafted_lines whole node run
+lines_are whole node splits run seen lines is same number =
+    is ∙ ap (λ (ls : List Line). whole ++ map (grafted_line node splits) ls) same ∙ ap (λ n. whole ++ map (grafted_line node n) run) number
+
+-- the exported node has the run's cuts
+pub open_end : (i : Problem) (whole : Cert) (node : ℕ) (cuts base : List Cut) (branches : List Branch) → is_accepted i whole ≡ true → MakeNodes [] branches (nodes_made i whole.lines)
+    → ((nodes : List Node) → MakeNodes [] branches nodes → HasEnd nodes node cuts) → cuts ≡ base → HasOpenEnd i whole node base
+open_end i whole node cuts base branches accepted made end same =
+    (accepted, subst (HasEnd (nodes_made i whole.lines) node) same (end (nodes_made i whole.lines) made))
+
+pub splits_few : (whole : List Line) (branches : List Branch) (splits : ℕ) → branches ≡ branches_of whole → splits ≡ length branches → length whole ≤ 2 ^ 28 → splits ≤ 2 ^ 28
+splits_few whole branches splits is counted few =
+    let no_more : length branches ≤ length whole = branches_few whole branches is in
+    omega (arith, no_more, counted, few)
