@@ -1,5 +1,5 @@
 -- Which nodes of a tree are unsplit, and why a run isn't grafted.
-use Rattle.std.proofs.Common.{◌≡◌, ℕ, zero, suc, ◌+◌, ◌*◌, ◌<◌, ◌≤◌, Bool, true, false, ◌==◌, List, [], ◌∷◌, length, refl, sym, ap, ◌∙◌, subst, arith, Option, Some, None}
+use Rattle.std.proofs.Common.{◌≡◌, ℕ, zero, suc, ◌+◌, ◌*◌, ◌<◌, ◌≤◌, true, false, ◌==◌, List, [], ◌∷◌, length, refl, sym, ◌∙◌, subst, arith, Option, Some, None}
 use Rattle.std.specs.Prelude.{slice_get, IsSomeAnd}
 use Rattle.std.specs.List.{list_any}
 use Rattle.std.specs.Option.{option_map_or}
@@ -15,7 +15,7 @@ use Rattle.cert_check.specs.Judged.{cause_of, IsRefused}
 use Rattle.report_grafts.specs.declared.branches.Branch.{Branch}
 use Rattle.report_grafts.specs.declared.fault.GraftFault.{GraftFault}
 use Rattle.report_grafts.specs.declared.fault.GraftFault.TheVariants.{Refused as RefusedFault, NoNode, IsSplit, OtherCuts, NoRows, NoMemory as NoMemoryFault}
-use Rattle.report_grafts.specs.Branches.{branches_of, cuts_at, is_split_at, MakeNodes}
+use Rattle.report_grafts.specs.Branches.{branches_of, cuts_at, MakeNodes}
 use Rattle.report_grafts.specs.Faults.{HasEnd, IsEndFault, IsExportFault, IsGraftFault}
 use Rattle.report_grafts.specs.Grafted.{nodes_made}
 use Rattle.report_grafts.proofs.Plans.{tree_made}

@@ -1,9 +1,9 @@
 -- Good proof lines, one by one and one after another.
-use Rattle.std.proofs.Common.{◌≡◌, ◌⊎◌, inl, inr, ℕ, zero, suc, ◌+◌, ◌*◌, ◌<◌, ◌≤◌, min, max, Bool, true, false, cond, ◌&&◌, not, List, [], ◌∷◌, ◌++◌, length, set, fold, refl, sym, ap, ◌∙◌, subst, arith, nat_le, Option, Some, None}
-use Rattle.std.specs.Prelude.{slice_get, IsSome}
+use Rattle.std.proofs.Common.{◌≡◌, inl, inr, ℕ, ◌+◌, ◌*◌, ◌<◌, ◌≤◌, min, max, Bool, true, false, cond, ◌&&◌, not, List, [], ◌∷◌, ◌++◌, length, set, refl, sym, ap, ◌∙◌, subst, arith, Option, Some, None}
+use Rattle.std.specs.Prelude.{slice_get}
 use Rattle.std.specs.List.{AllByRecursion}
-use Rattle.std.specs.Option.{option_and_then, option_map_or, unwrap_or}
-use Rattle.std.proofs.lemmas.Bool.{and_parts, leb-true, le-leb, not-true, not-false, cases_Bool}
+use Rattle.std.specs.Option.{option_and_then}
+use Rattle.std.proofs.lemmas.Bool.{and_parts, not-true, not-false, cases_Bool}
 use Rattle.std.proofs.lemmas.List.{length-set, length-append}
 use Rattle.std.proofs.lemmas.List.Sums.{sum_by-cons}
 use Rattle.std.proofs.lemmas.Option.{slice_get_within}
@@ -18,11 +18,11 @@ use Rattle.head_splits.specs.declared.Side.TheVariants.{AtMost, AtLeast}
 use Rattle.head_splits.specs.Cuts.{meets}
 use Rattle.head_splits.specs.Bound.{are_prices, bound_of}
 use Rattle.head_splits.specs.Settled.{is_settled, is_empty, settled_plan}
-use Rattle.head_splits.specs.Nodes.{Node, new_node, child, with_floor, with_split, settled_floor}
-use Rattle.head_splits.proofs.Nodes.{NodesSound, Has-slice_get, from_set, root_sound, priced_sound, settled_sound, split_sound, floor_at, floor_from}
+use Rattle.head_splits.specs.Nodes.{Node, child, with_floor, with_split, settled_floor}
+use Rattle.head_splits.proofs.Nodes.{NodesSound, Has-slice_get, from_set, priced_sound, settled_sound, split_sound, floor_at, floor_from}
 use Rattle.certificate.specs.declared.proof_lines.Line.{Line}
 use Rattle.certificate.specs.declared.proof_lines.Line.TheVariants.{Split, Priced, Settled}
-use Rattle.certificate.specs.Accepted.{is_split, node_line, node_of, nodes_after, nodes_of, least_floor}
+use Rattle.certificate.specs.Accepted.{is_split, node_line, node_of, nodes_after, least_floor}
 use Rattle.report_grafts.specs.Run.{is_division, divisions, floor_up_to}
 
 pub cond_some : {X : Type 0} (c : Bool) (x y : X) → cond c (Some x) None ≡ Some y → (c ≡ true) × (x ≡ y)

@@ -1,15 +1,14 @@
 -- Cuts that fix how many duties each shift has on each day.
-use Rattle.std.proofs.Common.{◌≡◌, ◌↔◌, ◌⊎◌, inl, inr, ℕ, ◌+◌, ◌<◌, ◌≤◌, Bool, true, false, cond, not, List, [], ◌∷◌, ◌++◌, length, refl, sym, ap, ◌∙◌, subst, append_assoc, arith, Option, Some, None}
+use Rattle.std.proofs.Common.{◌≡◌, inl, inr, ℕ, ◌+◌, ◌<◌, ◌≤◌, Bool, true, false, cond, not, List, [], ◌∷◌, ◌++◌, length, refl, sym, ap, ◌∙◌, subst, arith, Option, Some, None}
 use Rattle.std.specs.Prelude.{slice_get, IsSomeAnd}
 use Rattle.std.specs.List.{flat_map, list_any}
 use Rattle.std.specs.Option.{option_map_or}
 use Rattle.std.proofs.lemmas.Bool.{and_parts, cases_Bool, leb-true, le-leb}
-use Rattle.std.proofs.lemmas.List.{append-nil, flat_map_more}
-use Rattle.break_rules.specs.declared.Break.{Break}
+use Rattle.std.proofs.lemmas.List.{flat_map_more}
 use Rattle.break_rules.specs.Lists.{Has}
 use Rattle.break_rules.proofs.Lists.{Has-flat_map, from_flat_map, Has-below, from_below, all_at, all_from}
 use Rattle.break_rules.specs.declared.Rule.{Rule}
-use Rattle.break_rules.specs.Breaks.{is_live, legal_lists, begins_with}
+use Rattle.break_rules.specs.Breaks.{is_live, legal_lists}
 use Rattle.shift_instance.specs.declared.Duty.{Duty}
 use Rattle.shift_instance.specs.declared.Row.{Row}
 use Rattle.shift_instance.specs.declared.Shift.{Shift}

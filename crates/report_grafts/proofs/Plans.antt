@@ -1,5 +1,5 @@
 -- The certificate of a run that is grafted into another certificate is accepted, and has no lesser bound.
-use Rattle.std.proofs.Common.{◌≡◌, ◌⊎◌, inl, inr, ℕ, zero, suc, ◌+◌, ◌*◌, ◌<◌, ◌≤◌, Bool, true, false, cond, ◌&&◌, ◌==◌, not, nat_le, nat_lt, List, [], ◌∷◌, ◌++◌, length, map, refl, sym, ap, ◌∙◌, subst, arith, Option, Some, None}
+use Rattle.std.proofs.Common.{◌≡◌, ◌⊎◌, inl, inr, ℕ, ◌+◌, ◌*◌, ◌<◌, ◌≤◌, Bool, true, false, cond, ◌==◌, nat_le, nat_lt, List, [], ◌∷◌, length, map, refl, sym, ap, ◌∙◌, subst, arith, Option, Some, None}
 use Rattle.std.specs.Prelude.{slice_get, IsSomeAnd, IfSome}
 use Rattle.std.specs.Option.{option_map_or, option_and_then, option_or, unwrap_or}
 use Rattle.std.proofs.lemmas.Bool.{and_parts, and_from, leb-true, le-leb, lt-leb, eqb-true, eqb-false, eq-eqb, ltb-true, ltb-false, cases_Bool, cond_both, false≢true}
@@ -7,21 +7,20 @@ use Rattle.shift_instance.specs.declared.Row.{Row}
 use Rattle.shift_instance.specs.declared.TheConstants.{TOP}
 use Rattle.shift_instance.specs.Problem.{Problem}
 use Rattle.shift_instance.specs.Rota.{cost, rota_of, are_legal_rows, is_legal_rota}
-use Rattle.shift_instance.proofs.Shifts.{is_some_and_at}
 use Rattle.rota_cost.specs.Costed.{Costing, IsCosted}
 use Rattle.head_splits.specs.declared.Cut.{Cut}
 use Rattle.head_splits.specs.Nodes.{Node, new_node}
 use Rattle.head_splits.proofs.Nodes.{root_sound}
 use Rattle.certificate.specs.declared.Cert.{Cert}
-use Rattle.certificate.specs.declared.CertStatus.TheVariants.{Optimal, Stopped, Bound}
+use Rattle.certificate.specs.declared.CertStatus.TheVariants.{Optimal, Stopped}
 use Rattle.certificate.specs.declared.proof_lines.Line.{Line}
-use Rattle.certificate.specs.Accepted.{node_line, node_of, nodes_after, nodes_of, least_floor, is_bound, is_plan, is_accepted}
+use Rattle.certificate.specs.Accepted.{nodes_after, nodes_of, least_floor, is_bound, is_plan, is_accepted}
 use Rattle.certificate.specs.Text.{AgreesWith}
 use Rattle.certificate.proofs.Acceptance.{bounds, plans}
 use Rattle.cert_check.specs.declared.judged.Refused.{Refused}
 use Rattle.cert_check.specs.declared.judged.Refused.TheVariants.{BadSplit, BadPrice, NotSettled, BoundTooHigh, BadPlan, WrongCost, NoMemory}
 use Rattle.cert_check.specs.Judged.{bad_line, line_cause, bound_cause, plan_cause, cause_of, IsRefused}
-use Rattle.report_grafts.specs.Run.{Run, IsSound, IsBest, divisions}
+use Rattle.report_grafts.specs.Run.{Run, IsBest, divisions}
 use Rattle.report_grafts.specs.Branches.{branches_of, MakeNodes}
 use Rattle.report_grafts.specs.Faults.{HasEnd, TellsBound}
 use Rattle.report_grafts.specs.Grafted.{nodes_made, grafted_line, grafted_lines, grafted_plan, found_by, status_of, AreGood}

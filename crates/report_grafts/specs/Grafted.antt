@@ -5,7 +5,6 @@ use Rattle.shift_instance.specs.declared.Row.{Row}
 use Rattle.shift_instance.specs.Problem.{Problem}
 use Rattle.rota_cost.specs.Costed.{Costing}
 use Rattle.head_splits.specs.Nodes.{Node}
-use Rattle.certificate.specs.declared.Cert.{Cert}
 use Rattle.certificate.specs.declared.CertStatus.{CertStatus}
 use Rattle.certificate.specs.declared.CertStatus.TheVariants.{Optimal, Stopped, Bound}
 use Rattle.certificate.specs.declared.proof_lines.Line.{Line}

@@ -70,7 +70,12 @@ fn add_lines(alloc: Global, list: &mut Vec<Line>, lines: &Lines) -> Result<(), N
 }
 
 /// Adds the lines of a run as those of the tree into which it is grafted.
-fn add_grafted(alloc: Global, list: &mut Vec<Line>, lines: &Lines, place: Place) -> Result<(), NoMemory>
+fn add_grafted(
+    alloc: Global,
+    list: &mut Vec<Line>,
+    lines: &Lines,
+    place: Place,
+) -> Result<(), NoMemory>
     requires { All (λ line. node_of line + 2 * place.splits < 2 ^ 32) lines.now }
     ensures { OnOk result (list.new.items ≡ list.old.items ++ map (grafted_line place.node place.splits) lines.now) }
 {

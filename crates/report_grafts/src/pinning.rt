@@ -22,7 +22,13 @@ fn whole_class(alloc: Global, shift: u16, day: u8) -> Class
 }
 
 /// Adds the cuts by which a shift has so many duties on a day.
-fn add_pins(alloc: Global, list: &mut Vec<Cut>, shift: u16, day: u8, heads: u16) -> Result<(), NoMemory>
+fn add_pins(
+    alloc: Global,
+    list: &mut Vec<Cut>,
+    shift: u16,
+    day: u8,
+    heads: u16,
+) -> Result<(), NoMemory>
     ensures { OnOk result (list.new.items ≡ list.old.items ++ pins_on shift day heads) }
 {
     list.push(Cut {

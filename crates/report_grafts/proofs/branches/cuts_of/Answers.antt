@@ -1,10 +1,7 @@
-use Rattle.std.proofs.Common.{◌≡◌, ℕ, ◌+◌, ◌-◌, ◌*◌, ◌/◌, ◌%◌, ◌<◌, ◌≤◌, Bool, ◌==◌, List, [], ◌∷◌, ◌++◌, length, refl, ap, ◌∙◌, arith, Some}
+use Rattle.std.proofs.Common.{◌≡◌, ℕ, ◌-◌, ◌/◌, ◌%◌, ◌<◌, Bool, ◌==◌, [], ◌∷◌, ◌++◌, length, refl, ap, ◌∙◌, arith, Some}
 use Rattle.std.specs.Prelude.{slice_get}
 use Rattle.std.proofs.lemmas.Option.{slice_get_read}
 use Rattle.head_splits.specs.declared.Cut.{Cut}
-use Rattle.head_splits.specs.Nodes.{Node}
-use Rattle.report_grafts.specs.declared.branches.Branch.{Branch}
-use Rattle.report_grafts.specs.Branches.{MakeNodes}
 use Rattle.report_grafts.proofs.Trees.{cuts_gone, halves, node_falls, part_cut, small_number}
 use Rattle.report_grafts.proofs.branches.cuts_of.Goals as goal
 

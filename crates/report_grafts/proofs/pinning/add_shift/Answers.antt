@@ -1,5 +1,4 @@
-use Rattle.std.proofs.Common.{◌≡◌, ℕ, List, ap, ◌++◌, ◌∙◌}
-use Rattle.head_splits.specs.declared.Cut.{Cut}
+use Rattle.std.proofs.Common.{ap, ◌++◌, ◌∙◌}
 use Rattle.shift_instance.specs.Rota.{heads_on, rota_of}
 use Rattle.report_grafts.specs.Pins.{pins_on}
 use Rattle.report_grafts.proofs.Pinned.{one_more}
