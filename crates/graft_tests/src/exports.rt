@@ -74,7 +74,8 @@ fn is_pinned(alloc: Global, instance: &Instance, whole: &Cert) -> Result<bool, F
     }
     let cuts = pins(alloc, instance, rows)?;
     let sides = match cuts.as_slice() {
-        [first, second] => (first.side, first.m) == (Side::AtMost, 1) && (second.side, second.m) == (Side::AtLeast, 1),
+        [first, second] => (first.side, first.m) == (Side::AtMost, 1)
+            && (second.side, second.m) == (Side::AtLeast, 1),
         _ => false,
     };
     Ok(sides)

@@ -80,10 +80,12 @@ pub fn one_step(
     }
     let below = base.clone()?;
     let proved = prove(alloc, instance, base, prices)?;
-    let lines = vec![in alloc; Line::Priced {
-        node: 0,
-        prices: proved.prices().clone()?,
-    }]?;
+    let lines = vec![in alloc;
+        Line::Priced {
+            node: 0,
+            prices: proved.prices().clone()?,
+        },
+    ]?;
     let lines = Lines::from_slice(alloc, &lines)?;
     let floor = limit.min(proved.bound());
     Ok(SubRun::new(instance, below, limit, None, lines, 1, floor))
