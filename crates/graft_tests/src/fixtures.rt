@@ -11,8 +11,8 @@ use shift_instance::Instance;
 use std::alloc::Global;
 use std::test::Fail;
 
-/// A day of hours that needs one employee from 8 to 12, with one shift of these hours and at most two duties. Excess costs 1, shortage 2 and the
-/// shift 3. One duty costs 3, none 8, and two 7.
+/// A day of hours that needs one employee from 8 to 12, with one shift of these hours and at most two duties. Excess costs 1,
+/// shortage 2 and the shift 3. One duty costs 3, none 8, and two 7.
 const MORNING: &str =
     "{\"slot_minutes\":60,\"days\":1,\"need\":[0,0,0,0,0,0,0,0,1,1,1,1,0,0,0,0,0,0,0,0,0,0,0,0],\"max_heads\":2,\"weights\":{\"excess\":1,\"shortage\":2,\"shift\":3},\"types\":[{\"name\":\"M\",\"start_min\":8,\"start_max\":8,\"len_min\":4,\"len_max\":4,\"breaks\":null}]}";
 

@@ -48,8 +48,8 @@ pub(crate) fn end_cuts(alloc: Global, branches: &[Branch], node: u32) -> Result<
     Ok(cuts_of(alloc, branches, at)?)
 }
 
-/// The cuts of an unsplit node of a report, from the root on. A search below them finds what lies below that node, and what it proves can be
-/// grafted into the report.
+/// The cuts of an unsplit node of a report, from the root on. A search below them finds what lies below that node, and what it
+/// proves can be grafted into the report.
 ///
 /// [`GraftFault`] says why there are none, each cause in its order. `NoMemory` comes only where it was out of memory.
 pub fn export(

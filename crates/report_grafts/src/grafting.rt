@@ -143,7 +143,8 @@ fn told_by(why: Refused) -> Result<u64, NoMemory>
     }
 }
 
-/// The bound that good lines show, with the lines given back. More is claimed of them than any lines show, so the checker tells what they do.
+/// The bound that good lines show, with the lines given back. More is claimed of them than any lines show, so the checker tells
+/// what they do.
 fn found_by(alloc: Global, instance: &Instance, lines: Lines) -> Result<(u64, Lines), NoMemory>
     requires { AreGood instance.now lines }
     ensures found { IfOk result (λ shown. shown.0 ≡ found_by instance.now lines) }
@@ -161,8 +162,9 @@ fn found_by(alloc: Global, instance: &Instance, lines: Lines) -> Result<(u64, Li
     }
 }
 
-/// The report after a run below one of its nodes: its lines and then those of the run, the cheaper plan of both, and the bound that the lines
-/// show together. No rota is asked for again: the run's lines go on from the node, whose cuts are those below which the run searched.
+/// The report after a run below one of its nodes: its lines and then those of the run, the cheaper plan of both, and the bound
+/// that the lines show together. No rota is asked for again: the run's lines go on from the node, whose cuts are those below
+/// which the run searched.
 ///
 /// [`GraftFault`] says why the run isn't grafted, each cause in its order. `NoMemory` comes only where it was out of memory.
 pub fn graft(

@@ -76,8 +76,8 @@ fn add_shift(
     Ok(())
 }
 
-/// The cuts by which each shift with a legal break list has on each day as many duties as in legal rows: first no more, then no fewer. A
-/// search below them plans the breaks of these duties anew, and nothing else.
+/// The cuts by which each shift with a legal break list has on each day as many duties as in legal rows: first no more, then no
+/// fewer. A search below them plans the breaks of these duties anew, and nothing else.
 pub fn pins(alloc: Global, instance: &Instance, rows: &Rows) -> Result<Cuts, NoMemory>
     requires { IsTrue (are_legal_rows instance.now rows.now) }
     ensures pins { IfOk result (λ cuts. cuts ≡ pins_of instance.now (rota_of rows.now)) }

@@ -12,8 +12,8 @@ use shift_instance::Instance;
 use std::marker::Model;
 use std::snapshot::Snapshot;
 
-/// What a search below some cuts found for an instance: its best rota, and proof lines by which no legal rota that meets the cuts costs less
-/// than its floor. The lines count nodes from 0 on, which is the node with these cuts.
+/// What a search below some cuts found for an instance: its best rota, and proof lines by which no legal rota that meets the cuts
+/// costs less than its floor. The lines count nodes from 0 on, which is the node with these cuts.
 #[derive(Drop)]
 pub struct SubRun {
     instance: Snapshot<Instance>,
@@ -52,7 +52,8 @@ impl Model for SubRun {
 }
 
 impl SubRun {
-    /// A run that found this below the cuts `base`. It looked for rotas cheaper than the limit; its lines price a node as often as `taken` says.
+    /// A run that found this below the cuts `base`. It looked for rotas cheaper than the limit; its lines price a node as often
+    /// as `taken` says.
     pub fn new(
         instance: &Instance,
         base: Cuts,
@@ -121,8 +122,8 @@ impl SubRun {
         self.floor
     }
 
-    /// Whether the run left no node open. Then no legal rota that meets the cuts is cheaper than the best one of the run, and where it has none, each
-    /// such rota costs at least the limit.
+    /// Whether the run left no node open. Then no legal rota that meets the cuts is cheaper than the best one of the run, and
+    /// where it has none, each such rota costs at least the limit.
     #[tactic(auto, using(crate::proofs::Runs::finished_enough))]
     pub fn is_finished(&self) -> bool
         ensures finished { result ≡ is_finished self.now }
