@@ -1,5 +1,6 @@
 //! A morning with two employees at most, a report of its search, and runs of one step.
-ghost use Rattle.std.specs.Prelude.{◌≡◌, ◌≤◌, ◌^◌, length, IfOk};
+ghost use Rattle.std.specs.Prelude.{◌≡◌, ◌≤◌, ◌^◌, ◌∷◌, [], length, IfOk};
+ghost use Rattle.certificate.specs.declared.proof_lines.Line.TheVariants.{Priced as PricedLine};
 
 use break_rules::NoMemory;
 use certificate::{Cert, Line, Lines};
@@ -65,6 +66,14 @@ pub fn prices(alloc: Global, hour: i64) -> Result<Prices, NoMemory> {
     })
 }
 
+/// The one proof line of a run that priced its node once.
+fn one_line(alloc: Global, prices: Prices) -> Result<Lines, NoMemory>
+    ensures { IfOk result (λ lines. lines ≡ PricedLine 0 prices ∷ []) }
+{
+    let lines = vec![in alloc; Line::Priced { node: 0, prices }]?;
+    Lines::from_slice(alloc, &lines)
+}
+
 /// A run below some cuts that priced its node once, and found no rota cheaper than the limit.
 pub fn one_step(
     alloc: Global,
@@ -78,15 +87,9 @@ pub fn one_step(
     if base.len() > 1 {
         return Err("there are more cuts".into());
     }
-    let below = base.clone()?;
     let proved = prove(alloc, instance, base, prices)?;
-    let lines = vec![in alloc;
-        Line::Priced {
-            node: 0,
-            prices: proved.prices().clone()?,
-        },
-    ]?;
-    let lines = Lines::from_slice(alloc, &lines)?;
     let floor = limit.min(proved.bound());
-    Ok(SubRun::new(instance, below, limit, None, lines, 1, floor))
+    let (base, prices) = proved.into_parts();
+    let lines = one_line(alloc, prices)?;
+    Ok(SubRun::new(instance, base, limit, None, lines, 1, floor))
 }
