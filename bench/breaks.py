@@ -1,6 +1,6 @@
 #!/usr/bin/env python3
 """Measures `shift_solve solve` on days of 5-minute slots with one shift of 96 slots, whose break rule has a great number of legal lists:
-12 slots of breaks in pieces of 1 to 6. Prints seconds and peak memory of the whole process, the best of some runs, beside those without breaks.
+12 slots of breaks in pieces of 1 to 6. Prints processor seconds and peak memory of the whole process, the best of some runs, beside those without breaks.
 Build the program first, by `./run --build shift_solve`."""
 import json
 import os

@@ -1,6 +1,6 @@
 #!/usr/bin/env python3
 """Measures how long `shift_solve solve` takes to read and refuse documents of 2^20 bytes, their limit: one long list of needs, one long name of a field,
-and one with as many types as fit. Seconds and peak memory of the whole process, the best of five runs. Build the program first, by
+and one with as many types as fit. Processor seconds and peak memory of the whole process, the best of five runs. Build the program first, by
 `./run --build shift_solve`."""
 import os
 import sys

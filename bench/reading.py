@@ -1,5 +1,5 @@
 #!/usr/bin/env python3
-"""Measures how long `shift_check recount` takes to read reports at their limit of 2^28 bytes, and how much memory: seconds and peak memory of the whole process.
+"""Measures how long `shift_check recount` takes to read reports at their limit of 2^28 bytes, and how much memory: processor seconds and peak memory of the whole process.
 The reports have proof lines with one-digit prices, with prices at scale 100, with splits alone or with settled nodes alone, or rows alone, of the usual week; and one
 byte too many. Build the program first, by `./run --build shift_check`. Words: the size in bytes (2^28 where none is given)."""
 import os
@@ -7,7 +7,6 @@ import random
 import subprocess
 import sys
 import tempfile
-import time
 
 TOP = os.path.dirname(os.path.dirname(os.path.abspath(__file__)))
 CHECK = os.path.join(TOP, "crates", "shift_check", "out", "shift_check")
@@ -57,16 +56,14 @@ def write(path, size, head, line, tail):
 
 
 def run(report):
-    """Seconds, peak memory in bytes, status and line of one recount."""
+    """Processor seconds, peak memory in bytes, status and line of one recount."""
     read, write_end = os.pipe()
-    begin = time.perf_counter()
     child = subprocess.Popen([CHECK, "recount", INSTANCE, report], stdout=write_end)
     _, status, usage = os.wait4(child.pid, 0)
-    seconds = time.perf_counter() - begin
     os.close(write_end)
     with os.fdopen(read) as line:
         said = line.read().strip()
-    return seconds, usage.ru_maxrss * 1024, os.waitstatus_to_exitcode(status), said
+    return usage.ru_utime + usage.ru_stime, usage.ru_maxrss * 1024, os.waitstatus_to_exitcode(status), said
 
 
 def show(what, report):

@@ -1,13 +1,12 @@
 #!/usr/bin/env python3
-"""Measures `shift_check recount` on a report of a thousand rows, and on the report that `shift_solve` writes for the week of week.py: seconds
-and peak memory of the whole process, the best of some runs. Build both programs first, by `./run --build shift_solve` and
+"""Measures `shift_check recount` on a report of a thousand rows, and on the report that `shift_solve` writes for the week of week.py: processor
+seconds and peak memory of the whole process, the best of some runs. Build both programs first, by `./run --build shift_solve` and
 `./run --build shift_check`."""
 import json
 import os
 import subprocess
 import sys
 import tempfile
-import time
 
 sys.path.insert(0, os.path.dirname(os.path.abspath(__file__)))
 import week
@@ -20,16 +19,14 @@ def program(name):
 
 
 def run(document, report):
-    """Seconds, peak memory in MB, status and line of one recount in a process of its own."""
+    """Processor seconds, peak memory in MB, status and line of one recount in a process of its own."""
     read, write = os.pipe()
-    begin = time.perf_counter()
     child = subprocess.Popen([program("shift_check"), "recount", document, report], stdout=write)
     _, status, usage = os.wait4(child.pid, 0)
-    seconds = time.perf_counter() - begin
     os.close(write)
     with os.fdopen(read) as line:
         said = line.read().strip()
-    return seconds, usage.ru_maxrss / 1024, os.waitstatus_to_exitcode(status), said
+    return usage.ru_utime + usage.ru_stime, usage.ru_maxrss / 1024, os.waitstatus_to_exitcode(status), said
 
 
 def thousand_rows():

@@ -1,12 +1,11 @@
 #!/usr/bin/env python3
-"""Measures `shift_solve solve` on the week of week.py: seconds and peak memory of the whole process, the best of some runs.
+"""Measures `shift_solve solve` on the week of week.py: processor seconds and peak memory of the whole process, the best of some runs.
 Build the program first, by `./run --build shift_solve`."""
 import json
 import os
 import subprocess
 import sys
 import tempfile
-import time
 
 sys.path.insert(0, os.path.dirname(os.path.abspath(__file__)))
 import week
@@ -16,18 +15,16 @@ PROGRAM = os.path.join(TOP, "crates", "shift_solve", "out", "shift_solve")
 
 
 def run(document, folder):
-    """Seconds, peak memory in MB, status and report of one run in a process of its own."""
+    """Processor seconds, peak memory in MB, status and report of one run in a process of its own."""
     journal = os.path.join(folder, "week.journal")
     if os.path.exists(journal):
         os.remove(journal)
     with open(document, "rb") as source, open(os.path.join(folder, "report"), "wb") as report:
-        begin = time.perf_counter()
         child = subprocess.Popen([PROGRAM, "solve", journal, "--workers", "1", "--steps", "1"], stdin=source, stdout=report, stderr=subprocess.DEVNULL)
         _, status, usage = os.wait4(child.pid, 0)
-        seconds = time.perf_counter() - begin
     with open(os.path.join(folder, "report")) as report:
         lines = report.read().split("\n")
-    return seconds, usage.ru_maxrss / 1024, os.waitstatus_to_exitcode(status), lines
+    return usage.ru_utime + usage.ru_stime, usage.ru_maxrss / 1024, os.waitstatus_to_exitcode(status), lines
 
 
 def main():

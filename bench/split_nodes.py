@@ -10,7 +10,10 @@ import tempfile
 import time
 
 TOP = os.path.join(os.path.dirname(os.path.abspath(__file__)), os.pardir)
-CRATES = ["break_rules", "break_graph", "patterns", "shift_instance", "rota_cost", "head_splits", "pricing", "bound_sums", "dual_bound", "post_codec", "search_core"]
+sys.path.insert(0, os.path.join(TOP, "tools"))
+from rooms import below, crates
+
+CRATES = below(crates(), "search_core")
 POSTS = 100000
 
 PROGRAM = """//! Splits the nodes of a search, from the root on: `split_nodes POSTS`.

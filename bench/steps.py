@@ -1,7 +1,7 @@
 #!/usr/bin/env python3
 """Measures searches of many steps over a real journal file: `solve` of the usual week with 2,000 and with 20,000 steps, the opening
-of the journals that they leave by one worker and by four (`--steps 0`, which also writes their report), and `shift_check check` of their reports; the same of the call week with 2,000 steps. Seconds
-and peak memory of the whole process. Build the programs first, by `./run --build shift_solve` and `./run --build shift_check`. Word: the
+of the journals that they leave by one worker and by four (`--steps 0`, which also writes their report), and `shift_check check` of their reports; the same of the call week with 2,000 steps. Elapsed
+seconds, processor seconds and peak memory of the whole process. Build the programs first, by `./run --build shift_solve` and `./run --build shift_check`. Word: the
 folder for the journals (that for temporary files where none is given), so that a file system in memory can be measured too."""
 import os
 import subprocess
@@ -17,16 +17,16 @@ OPENINGS = 3           # of a journal by so many workers; the quickest counts
 
 
 def timed(words, source, target):
-    """Seconds and peak memory in MB of one process."""
+    """Elapsed seconds, processor seconds and peak memory in MB of one process."""
     with open(source, "rb") as given, open(target, "wb") as out:
         begin = time.perf_counter()
         child = subprocess.Popen(words, stdin=given, stdout=out, stderr=subprocess.DEVNULL)
         _, _, usage = os.wait4(child.pid, 0)
-        return time.perf_counter() - begin, usage.ru_maxrss / 1024
+        return time.perf_counter() - begin, usage.ru_utime + usage.ru_stime, usage.ru_maxrss / 1024
 
 
 def show(what, measured):
-    print("%-44s %9.3f s %8.1f MB" % (what, measured[0], measured[1]), flush=True)
+    print("%-44s %9.3f s elapsed, %9.3f s of processors, %8.1f MB" % (what, *measured), flush=True)
 
 
 def search(example, steps, folder):

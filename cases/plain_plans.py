@@ -242,8 +242,15 @@ def damaged_journal(folder):
 def torn_journal(folder):
     folder.plan("--seconds", "1")
     path = folder.path / "week.journal"
-    path.write_bytes(path.read_bytes()[:10])
-    return ends(folder.plan("--seconds", "1"), 9, "anew") + ([] if path.stat().st_size == 10 else ["the journal was changed"])
+    whole, faults = path.read_bytes(), []
+    head = 12 + int.from_bytes(whole[8:12], "little")
+    for size in (4, 10, 12, head - 1, head):
+        path.write_bytes(whole[:size])
+        faults += ends(folder.plan("--seconds", "1"), 9, "no step of a search was in it, so --anew loses nothing")
+        faults += [] if path.stat().st_size == size else ["the journal was changed"]
+    path.write_bytes(whole[:head + 1] + whole[head + 1:head + 4])
+    other = folder.plan("--seconds", "1")
+    return faults + ends(other, 9) + (["a journal with the beginning of a record is called torn"] if "no step of a search" in other[2] else [])
 
 
 def no_search_to_show(folder):
@@ -306,6 +313,45 @@ def edited_table(folder):
     again = folder.run("show", "week.json", "week.plan/report")
     quiet = "was edited" not in again[2] and not (folder.path / "week.plan" / "rota.csv.2").exists()
     return ends(run, 0, "rota.csv was edited in the folder week.plan; it is kept as week.plan/rota.csv.1") + ([] if kept and quiet else ["the table isn't kept"])
+
+
+def folder_of_two_plans(folder):
+    """The tables and the page of another plan are left to be put in place, one of them is in its place, and one that stood was edited."""
+    folder.plan("--seconds", "1")
+    folder.run("show", "week.json", "week.plan/report", "--out", "other", "--first-day", "monday")
+    plan, other = folder.path / "week.plan", folder.path / "other"
+    new = {path.relative_to(other): path.read_bytes() for path in other.rglob("*") if path.is_file()}
+    for name, content in new.items():
+        (plan / name.with_name(name.name + ".new")).write_bytes(content)
+    (plan / "plan.html.new").rename(plan / "plan.html")
+    (plan / "duties.csv").write_bytes(new[pathlib.Path("duties.csv")] + b"by hand\n")
+    (plan / "UNFINISHED").write_text("")
+    told = folder.run("compare", "week.json", "week.plan/report", "week.json", "other/report")
+    finished = folder.run("show", "week.json", "week.plan/report", "--first-day", "monday")
+    found = {path.relative_to(plan): path.read_bytes() for path in plan.rglob("*") if path.is_file()}
+    edited = found.pop(pathlib.Path("duties.csv.1"), b"")
+    return ends(told, 0, "note that the folder week.plan isn't whole") + ends(finished, 0, "duties.csv was edited in the folder week.plan", "that plan is whole there now") + (
+        [] if found == new and edited.endswith(b"by hand\n") else ["the folder has " + ", ".join(sorted(map(str, found)))])
+
+
+def folder_in_use(folder):
+    folder.plan("--seconds", "1")
+    handle = os.open(folder.path / "week.plan", os.O_RDONLY)
+    fcntl.flock(handle, fcntl.LOCK_EX)
+    run = folder.run("show", "week.json", "week.plan/report")
+    os.close(handle)
+    return ends(run, 6, "the plan's folder `week.plan` is in use: another run has it") + ends(folder.run("show", "week.json", "week.plan/report"), 0)
+
+
+def table_that_is_a_folder(folder):
+    folder.plan("--seconds", "1")
+    before = folder.written()
+    (folder.path / "week.plan" / "cover.csv").unlink()
+    (folder.path / "week.plan" / "cover.csv").mkdir()
+    run = folder.run("show", "week.json", "week.plan/report", "--first-day", "monday")
+    same = all((folder.path / "week.plan" / name).read_bytes() == content for name, content in before.items() if name != "cover.csv")
+    left = {path.name for path in (folder.path / "week.plan").iterdir()} == LEFT
+    return ends(run, 6, "`week.plan/cover.csv` is a folder") + ([] if same and left else ["some file was written, or left"])
 
 
 def cheaper_plan_in_the_folder(folder):
@@ -588,7 +634,7 @@ def journal_without_room(folder):
 MEETINGS = (
     lock_in_use, killed_run, search_gone_on_with, begun_anew, no_search_to_show, journal_that_is_a_folder, journal_of_another_instance, damaged_journal, torn_journal,
     journal_on_a_full_device, folder_below_a_file, folder_that_is_a_file, instance_that_isnt_there, instance_that_is_a_folder, journal_of_the_instance, document_with_a_namesake, bent_report, edited_table,
-    cheaper_plan_in_the_folder, searches_with_seeds, week_with_another_need, days_with_names, heading_without_folders,
+    folder_of_two_plans, folder_in_use, table_that_is_a_folder, cheaper_plan_in_the_folder, searches_with_seeds, week_with_another_need, days_with_names, heading_without_folders,
     words_in_the_wrong_order, report_that_is_none, closed_output, short_time, search_without_a_cheaper_plan, line_in_mid_search, end_of_input_in_mid_search, line_before_the_search,
     input_meant_for_others, enter_at_a_terminal, interrupted_as_it_begins, terminated_in_mid_search, interrupted_while_it_writes, interrupted_as_it_ends,
     interrupted_twice, interrupted_with_a_word, line_given_to_run, program_killed_below_run, journal_without_room,

@@ -10,6 +10,13 @@ use std::marker::Model;
 use std::snapshot::Snapshot;
 use std::sync::Wait;
 use std::thread::yield_now;
+use std::time::Duration;
+
+/// How often in a row a thread that finds the lock taken lets others go on before it sleeps.
+const YIELDS: u32 = 16;
+
+/// The longest that it sleeps before it looks at the lock again, in microseconds: it is woken where the lock is freed before.
+const LONGEST_SLEEP: u64 = 1_000;
 
 /// A lock round a value. Contracts see it as its name, which no other lock has.
 pub struct Lock<T: Rooted> {
@@ -67,6 +74,17 @@ impl<T: Rooted> Lock<T> {
         self.table.shared.split_seat::<Copies>(pass)
     }
 
+    /// Waits a while at the lock, which was taken so many times in a row: at first it lets other threads go on, and later it sleeps until the
+    /// lock is freed, for a millisecond at most.
+    fn wait<R: Wait>(&self, rt: &R, times: u32) {
+        if times < YIELDS {
+            yield_now();
+            return;
+        }
+        let longest = Duration::from_micros(LONGEST_SLEEP);
+        self.table.shared.park_timeout(rt, 0, 1, longest);
+    }
+
     /// Waits until the lock is free, and takes the value out.
     pub fn enter<R: Wait>(&self, rt: &R, pass: &mut Pass<T, T::Root>) -> T
         requires { IsOutside self.now pass.old }
@@ -75,6 +93,7 @@ impl<T: Rooted> Lock<T> {
         ensures root { root_of pass.new ≡ root_of pass.old }
     {
         let shared = &self.table.shared;
+        let mut times = 0u32;
         for _ in rt.forever() {
             let found = shared.compare_exchange::<Tries<T>>(pass, 0, 0, 1);
             if found == 0 {
@@ -83,12 +102,13 @@ impl<T: Rooted> Lock<T> {
                 };
                 return value;
             }
-            yield_now();
+            self.wait(rt, times);
+            times = times.saturating_add(1);
         }
         unreachable!()
     }
 
-    /// Puts a value of the same root back, and frees the lock.
+    /// Puts a value of the same root back, frees the lock, and wakes a thread that sleeps at it.
     pub fn leave(&self, value: T, pass: &mut Pass<T, T::Root>)
         requires seat { IsInside self.now pass.old }
         requires root { T.root value ≡ root_of pass.old }
@@ -99,6 +119,7 @@ impl<T: Rooted> Lock<T> {
         let before = shared.exchange(pass, 0, Some(value));
         let None = before else { unreachable!() };
         shared.store::<Frees>(pass, 0, 0);
+        shared.wake_one(0);
     }
 
     /// Ends the lock, whose value is out.

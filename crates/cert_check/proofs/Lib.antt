@@ -7,3 +7,5 @@ pub mod ShiftTerms
 pub mod Passing
 pub mod KeptNodes
 pub mod Causes
+pub mod Lifted
+pub mod Batched

@@ -4,3 +4,5 @@ pub mod Below
 pub mod Passed
 pub mod Judged
 pub mod Tree
+pub mod Floors
+pub mod Batches

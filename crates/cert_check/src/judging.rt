@@ -2,19 +2,19 @@
 
 ghost use Rattle.std.specs.Prelude.{◌≡◌, ◌≤◌, ◌<◌, ◌&&◌, ◌∷◌, [], None, Some, true, length, not, slice_get, IfOk, IfErr, IsSomeAnd, OnOk, if◌then◌else◌};
 ghost use Rattle.std.specs.Option.{option_and_then};
-ghost use Rattle.head_splits.specs.Nodes.{new_node};
-ghost use Rattle.certificate.specs.declared.proof_lines.Line.TheVariants.{Priced, Settled, Split};
-ghost use Rattle.certificate.specs.Accepted.{is_split, nodes_after, nodes_of};
+ghost use Rattle.head_splits.specs.Nodes.{new_node, with_floor};
+ghost use Rattle.certificate.specs.declared.proof_lines.Line.TheVariants.{Split};
+ghost use Rattle.certificate.specs.Accepted.{is_split, node_of, nodes_after, nodes_of};
+ghost use Rattle.cert_check.specs.Floors.{given_floor, gives_floor, IsFindingOf};
 ghost use Rattle.cert_check.specs.Judged.{bad_line, line_cause, IsFirstBad};
 
+use crate::findings::{Finding, floor_by};
 use crate::judged::Refused;
-use crate::prices::are_prices;
-use crate::settled::settled_floor;
-use crate::terms::{WalkMemory, bound_by_walk};
+use crate::terms::WalkMemory;
 use crate::tree::Tree;
 use break_rules::NoMemory;
 use certificate::{Line, Lines};
-use head_splits::{Class, Prices};
+use head_splits::Class;
 use shift_instance::Instance;
 use std::alloc::Global;
 
@@ -31,7 +31,7 @@ fn is_split(instance: &Instance, class: &Class, m: u16) -> bool
 }
 
 /// Whether a node is there and unsplit and may be split so. If so, it is.
-fn split_node(
+pub(crate) fn split_node(
     instance: &Instance,
     tree: &mut Tree,
     node: u32,
@@ -48,17 +48,33 @@ fn split_node(
     Ok(true)
 }
 
-/// Whether a node is there and unsplit and the prices are a price set for its cuts. If so, its floor is raised to their bound.
-fn price_node(
+/// Gives a node the floor that a proof line gives it: that of prices where it is greater than the one that it has, and that of a
+/// settled node.
+fn give_floor(tree: &mut Tree, node: usize, line: &Line, floor: u64)
+    requires { node < length tree.old }
+    ensures { IsSomeAnd (slice_get tree.old node) (λ n. tree.new ≡ with_floor tree.old node n (given_floor n line.now floor)) }
+{
+    match line {
+        Line::Priced { node: _, prices: _ } => tree.raise_floor(node, floor),
+        _ => tree.set_floor(node, floor),
+    }
+}
+
+/// Whether a node is there and unsplit and a proof line gives it a floor. If so, it has it.
+fn lift_node(
     alloc: Global,
     instance: &Instance,
     memory: &mut WalkMemory,
     tree: &mut Tree,
     node: u32,
-    prices: &Prices,
+    line: &Line,
+    found: &Option<Finding>,
 ) -> Result<bool, NoMemory>
     requires memory { memory.old ≡ instance.now }
-    ensures nodes { IfOk result (λ good. nodes_after instance.now tree.old (Priced node prices.now ∷ []) ≡ (if good then Some tree.new else None)) }
+    requires found { IsFindingOf instance.now line.now found.now }
+    requires names { node_of line.now ≡ node }
+    requires gives { gives_floor line.now ≡ true }
+    ensures nodes { IfOk result (λ good. nodes_after instance.now tree.old (line.now ∷ []) ≡ (if good then Some tree.new else None)) }
     ensures memory { memory.new ≡ memory.old }
 {
     let node = node as usize;
@@ -66,58 +82,41 @@ fn price_node(
         return Ok(false);
     }
     let cuts = tree.cuts_of(node)?;
-    if !are_prices(instance, &cuts, prices) {
-        return Ok(false);
-    }
-    let bound = bound_by_walk(alloc, memory, instance, &cuts, prices)?;
-    tree.raise_floor(node, bound);
-    Ok(true)
-}
-
-/// Whether a node is there, unsplit and settled. If so, its floor becomes that of its plan.
-fn settle_node(
-    alloc: Global,
-    instance: &Instance,
-    tree: &mut Tree,
-    node: u32,
-) -> Result<bool, NoMemory>
-    ensures { IfOk result (λ good. nodes_after instance.now tree.old (Settled node ∷ []) ≡ (if good then Some tree.new else None)) }
-{
-    let node = node as usize;
-    if !tree.is_unsplit(node) {
-        return Ok(false);
-    }
-    let cuts = tree.cuts_of(node)?;
-    match settled_floor(alloc, instance, &cuts)? {
+    match floor_by(alloc, instance, memory, &cuts, line, found)? {
         Some(floor) => {
-            tree.set_floor(node, floor);
+            give_floor(tree, node, line, floor);
             Ok(true)
         }
         None => Ok(false),
     }
 }
 
-/// Whether a proof line is good for the nodes that those before it make. If so, the nodes become what it makes of them.
-fn judge_line(
+/// Whether a proof line is good for the nodes that those before it make. If so, the nodes become what it makes of them. What was
+/// found of the line before serves where it was found for the cuts of the line's node.
+pub(crate) fn judge_line(
     alloc: Global,
     instance: &Instance,
     memory: &mut WalkMemory,
     tree: &mut Tree,
     line: &Line,
+    found: &Option<Finding>,
 ) -> Result<bool, NoMemory>
     requires memory { memory.old ≡ instance.now }
+    requires found { IsFindingOf instance.now line.now found.now }
     ensures nodes { IfOk result (λ good. nodes_after instance.now tree.old (line.now ∷ []) ≡ (if good then Some tree.new else None)) }
     ensures memory { memory.new ≡ memory.old }
 {
     match line {
         Line::Split { node, class, m } => split_node(instance, tree, *node, class, *m),
-        Line::Priced { node, prices } => price_node(alloc, instance, memory, tree, *node, prices),
-        Line::Settled { node } => settle_node(alloc, instance, tree, *node),
+        Line::Priced { node, prices: _ } => {
+            lift_node(alloc, instance, memory, tree, *node, line, found)
+        }
+        Line::Settled { node } => lift_node(alloc, instance, memory, tree, *node, line, found),
     }
 }
 
 /// What is answered of a proof line that isn't good.
-fn bad_line(line: &Line, number: u64) -> Refused
+pub(crate) fn bad_line(line: &Line, number: u64) -> Refused
     ensures { result ≡ bad_line line.now number }
 {
     match line {
@@ -141,7 +140,7 @@ pub fn judge_lines(alloc: Global, instance: &Instance, lines: &Lines) -> Result<
     let mut memory = WalkMemory::new(alloc, instance);
     let mut reader = lines.reader();
     while let Some(line) = reader.next_line(alloc)? {
-        if !judge_line(alloc, instance, &mut memory, &mut tree, &line)? {
+        if !judge_line(alloc, instance, &mut memory, &mut tree, &line, &None)? {
             let number = lines.len() - reader.len();
             return Err(bad_line(&line, number as u64));
         }

@@ -2,8 +2,11 @@
 //! tables of its own: along the graph of a shift, and by layers where none is kept.
 #![tactic(auto)]
 
+mod batches;
 mod below;
 mod checking;
+mod findings;
+mod floors;
 mod judged;
 mod judging;
 mod layers;
@@ -15,5 +18,5 @@ mod terms;
 mod tree;
 mod walks;
 
-pub use checking::check;
+pub use checking::{check, check_by};
 pub use judged::{Accepted, Refused};

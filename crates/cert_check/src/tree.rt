@@ -98,6 +98,13 @@ impl Tree {
         Ok(Tree { alloc, kept })
     }
 
+    /// How many nodes there are.
+    pub fn len(&self) -> usize
+        ensures { result ≡ length self.now }
+    {
+        self.kept.len()
+    }
+
     /// Whether a node of that number is there and unsplit.
     pub fn is_unsplit(&self, node: usize) -> bool
         ensures { result ≡ option_map_or (λ n. not n.split) (slice_get self.now node) false }

@@ -1,5 +1,6 @@
 //! Pieces of jobs, which one worker does.
-ghost use Rattle.std.specs.Prelude.{◌≤◌, All};
+ghost use Rattle.std.specs.Prelude.{◌≡◌, ◌≤◌, All};
+ghost use Rattle.std.specs.Int.{div_ceil};
 
 use crate::{Jobs, PIECE};
 use std::alloc::{AllocError, Global};
@@ -10,6 +11,13 @@ use std::sync::atomic::{AtomicU64, Ordering};
 pub(crate) struct Done<O> {
     pub(crate) at: usize,
     pub(crate) output: O,
+}
+
+/// In how many pieces so many jobs are cut.
+pub(crate) fn pieces_of(count: usize) -> usize
+    ensures { result ≡ div_ceil count 64 }
+{
+    count.div_ceil(PIECE)
 }
 
 /// Does the jobs from one number up to another.
@@ -62,7 +70,7 @@ pub(crate) fn do_pieces<J: Jobs<O, K>, O: Drop, K: Drop>(
     ensures { All (λ d. J.gives jobs.now d.at d.output) result.items }
 {
     let mut done = Vec::new(alloc);
-    let pieces = jobs.count().div_ceil(PIECE) as u64;
+    let pieces = pieces_of(jobs.count()) as u64;
     let mut kept = jobs.begin(alloc);
     for _ in 0..pieces {
         let piece = next.fetch_add(1, Ordering::SeqCst);

@@ -1,7 +1,7 @@
 //! Plans that keep duties of another plan, worked out by hand.
 
 use crate::fixtures::{NIGHT, Spelled, TWINS, instance_of, plan_of, rows_of};
-use kept_duties::with_more_kept;
+use kept_duties::{least_changed, with_more_kept};
 use plan_comparison::kept_duties;
 use rota_cost::cost_rows;
 use shift_tables::Tables;
@@ -65,5 +65,34 @@ fn a_duty_comes_back_for_what_it_counts(rt: HostRuntime) -> Result<(), Fail> {
         kept_of(rt.alloc(), TWINS, &plan, &wanted, 3)?,
         ((0, 3), (1, 6))
     );
+    Ok(())
+}
+
+/// What a plan costs of a plan and another one, by the choice of the one that weighs less where each wanted duty counts `change`.
+fn cost_of_chosen(
+    alloc: Global,
+    plan: &[Spelled],
+    other: &[Spelled],
+    wanted: &[Spelled],
+    change: u32,
+) -> Result<u64, Fail> {
+    let instance = instance_of(alloc, TWINS)?;
+    let rows = plan_of(alloc, &instance, plan)?.into_rows();
+    let other = rows_of(alloc, other)?;
+    let wanted = rows_of(alloc, wanted)?;
+    let chosen = least_changed(alloc, &instance, rows, other, &wanted, change)?;
+    let chosen = cost_rows(&instance, chosen).ok().ok_or("not legal")?;
+    Ok(chosen.cost())
+}
+
+// Nobody costs 16, one shift on both days 3. Rows of two duties where one may be are no plan, so they count for nothing.
+#[test]
+fn the_cheaper_of_two_plans_is_chosen(rt: HostRuntime) -> Result<(), Fail> {
+    let alloc = rt.alloc();
+    let full = [(0, 0, None, 1), (0, 1, None, 1)];
+    let crowded = [(0, 0, None, 2), (0, 1, None, 2)];
+    assert_eq!(rt; cost_of_chosen(alloc, &[], &full, &[], 0)?, 3);
+    assert_eq!(rt; cost_of_chosen(alloc, &full, &[], &[], 0)?, 3);
+    assert_eq!(rt; cost_of_chosen(alloc, &[], &crowded, &[], 0)?, 16);
     Ok(())
 }

@@ -1,7 +1,8 @@
-//! Plans that keep more duties of another plan and cost no more, and the adviser whose plans do so.
+//! Plans that keep more duties of another plan and cost no more, the choice between two of them, and the adviser whose plans do so.
 #![tactic(auto)]
 
 mod adviser;
+mod choosing;
 mod days;
 mod keeping;
 mod placing;
@@ -9,5 +10,6 @@ mod sends;
 mod trades;
 
 pub use adviser::Keeping;
+pub use choosing::least_changed;
 pub use keeping::with_more_kept;
 pub use sends::sent;

@@ -1,5 +1,5 @@
 //! Duties that two plans have in common, and those that one of them has alone.
-ghost use Rattle.std.specs.Prelude.{◌≡◌, ◌≤◌, ◌*◌, IfOk, length, map, min};
+ghost use Rattle.std.specs.Prelude.{◌≡◌, ◌<◌, ◌≤◌, ◌*◌, ◌^◌, IfOk, length, map, min};
 ghost use Rattle.shift_instance.specs.Problem.{below};
 ghost use Rattle.shift_instance.specs.Rota.{duty_of, same_duty};
 ghost use Rattle.plan_comparison.specs.Changes.{changes, day_changes, duties_on, kept_duties, kept_on, times_in};
@@ -81,6 +81,7 @@ pub fn kept_on(others: &Rows, rows: &Rows, day: u8) -> u128
 pub fn kept_duties(others: &Rows, rows: &Rows) -> u128
     ensures kept { result ≡ kept_duties others.now rows.now }
     ensures few { result ≤ 65535 * length rows.now }
+    ensures small { result < 2 ^ 80 }
 {
     let mut kept = 0u128;
     for row in rows.as_slice() {

@@ -21,7 +21,7 @@ enum Start {
     Fresh,
     /// From a plan mixed of others.
     Mixed,
-    /// From a plan near the best one, or near one of the pool.
+    /// From a plan near the best one of the leg, or near one of the pool.
     Near,
 }
 
@@ -31,7 +31,7 @@ const ANEW: u32 = 8;
 /// What a chain takes for each of its moves where there is one shift to choose from.
 const MOVE: f64 = 230.0;
 
-/// The work after which chains are twice as long as at first.
+/// The work of a leg after which its chains are twice as long as at first.
 const DOUBLED: f64 = 80_000_000.0;
 
 /// Chains begin from mixed plans once the pool has so many.
@@ -75,15 +75,15 @@ fn unit(tables: &Tables) -> f64 {
 }
 
 impl<S: Stop + Drop> PlanSearch<S> {
-    /// Puts the best plan so far in place of the running one.
+    /// Puts the best plan of the leg in place of the running one.
     fn restore_best(&mut self, tables: &Tables) -> Result<(), NoMemory> {
         self.plan.clear(tables);
-        for k in 0..self.best.len() {
-            if let Some(placed) = self.best.get(k).copied() {
+        for k in 0..self.leg.best.len() {
+            if let Some(placed) = self.leg.best.get(k).copied() {
                 self.plan.put(tables, &placed)?;
             }
         }
-        let work = self.best.len().saturating_mul(32);
+        let work = self.leg.best.len().saturating_mul(32);
         self.count(work);
         self.log.clear();
         Ok(())
@@ -183,17 +183,18 @@ impl<S: Stop + Drop> PlanSearch<S> {
         Ok(())
     }
 
-    /// Offers the running plan and the best one to the pool.
+    /// Offers the running plan and the best one of the leg to the pool.
     fn pool_plans(&mut self, tables: &Tables) -> Result<(), NoMemory> {
         self.copied.clear();
         self.plan.list_into(tables, &mut self.copied)?;
         self.pool.offer(&self.copied, self.plan.cost)?;
-        self.pool.offer(&self.best, self.best_cost)
+        self.pool.offer(&self.leg.best, self.leg.cost)
     }
 
     /// How the next chain begins.
     fn next_start(&mut self) -> Start {
-        if self.best.is_empty() || self.chains % ANEW == 0 {
+        let is_due = self.chains % ANEW == 0 && !self.leg.is_united;
+        if self.leg.best.is_empty() || is_due {
             Start::Fresh
         } else if MIXABLE <= self.pool.len() && self.chance.below(100) < 40 {
             Start::Mixed
@@ -217,10 +218,10 @@ impl<S: Stop + Drop> PlanSearch<S> {
         }
     }
 
-    /// How much work the next chain takes: the more, the more shifts there are to choose from, and the more work was done.
+    /// How much work the next chain takes: the more, the more shifts there are to choose from, and the more work was done in the leg.
     fn length_from(&self, tables: &Tables, start: Start) -> u64 {
         let shifts = nearest_u64_to_f64(tables.usable.len() as u64);
-        let growth = 1.0 + nearest_u64_to_f64(self.work) / DOUBLED;
+        let growth = 1.0 + nearest_u64_to_f64(self.leg.work(self.work)) / DOUBLED;
         saturating_f64_to_u64(self.moves_from(start) * MOVE * shifts.sqrt() * growth)
     }
 
@@ -234,9 +235,12 @@ impl<S: Stop + Drop> PlanSearch<S> {
         self.note_best(tables)
     }
 
-    /// Begins the next chain.
+    /// Begins the next chain, and a leg with it where one is over.
     fn begin_chain(&mut self, tables: &Tables) -> Result<(), NoMemory> {
         self.pool_plans(tables)?;
+        if self.leg.is_over(self.work) {
+            self.begin_leg()?;
+        }
         let start = self.next_start();
         let length = self.length_from(tables, start);
         self.chains = self.chains.saturating_add(1);
@@ -248,7 +252,7 @@ impl<S: Stop + Drop> PlanSearch<S> {
         self.chain = Chain {
             begun: self.work,
             length,
-            hot: (heat * self.best_cost).max(unit(tables)),
+            hot: (heat * self.leg.cost).max(unit(tables)),
         };
         Ok(())
     }

@@ -177,7 +177,7 @@ impl<S: Stop + Drop> PlanSearch<S> {
     }
 
     /// The usable shift from one slot of the day to another.
-    fn usable_between(&self, tables: &Tables, start: u16, end: u16) -> Option<u16> {
+    pub(crate) fn usable_between(&self, tables: &Tables, start: u16, end: u16) -> Option<u16> {
         for shift in &tables.usable {
             if let Some(place) = tables.shifts.get(usize::from(*shift)) {
                 if place.start == start && place.start.saturating_add(place.len) == end {
@@ -257,13 +257,14 @@ impl<S: Stop + Drop> PlanSearch<S> {
     /// Changes the set of used shifts in one of the ways, as a number from 0 to 44 tells.
     fn change_set(&mut self, tables: &Tables, shift: u16, way: usize) -> Result<(), NoMemory> {
         match way {
-            0..=24 => self.become_other(tables, shift),
-            25..=30 => {
+            0..=21 => self.move_boundary(tables, shift),
+            22..=33 => self.become_other(tables, shift),
+            34..=36 => {
                 let _ = self.drop_shift(tables, shift)?;
                 Ok(())
             }
-            31..=35 => self.add_candidate(tables, shift),
-            36..=39 => self.exchange_ends(tables, shift),
+            37..=39 => self.add_candidate(tables, shift),
+            40..=41 => self.exchange_ends(tables, shift),
             _ => self.join_or_split(tables, shift),
         }
     }

@@ -1,12 +1,14 @@
 //! Plans by annealing over the set of used shifts.
 #![tactic(auto)]
 
+mod boundaries;
 mod chains;
 mod chance;
 mod changes;
 mod copies;
 mod days;
 mod guide;
+mod legs;
 mod mixing;
 mod nearness;
 mod pool;

@@ -51,6 +51,19 @@ impl Pool {
         self.plans.len()
     }
 
+    /// Forgets all plans.
+    pub(crate) fn clear(&mut self) {
+        self.plans.clear();
+    }
+
+    /// What the plan of a number costs.
+    pub(crate) fn cost(&self, number: usize) -> f64 {
+        match self.plans.get(number) {
+            Some(plan) => plan.cost,
+            None => f64::INFINITY,
+        }
+    }
+
     /// The duties of the plan of a number, shift by shift.
     pub(crate) fn duties(&self, number: usize) -> &[Placed] {
         match self.plans.get(number) {

@@ -1,10 +1,12 @@
 //! The state of a plan search, and what its moves are made of.
 
+use crate::boundaries::Successor;
 use crate::chains::Chain;
 use crate::chance::Chance;
 use crate::changes::Repair;
 use crate::copies::Likeness;
 use crate::guide::Guide;
+use crate::legs::Leg;
 use crate::mixing::Pruning;
 use crate::nearness::Nearness;
 use crate::pool::Pool;
@@ -69,10 +71,17 @@ pub struct PlanSearch<S: Stop + Drop> {
     pub(crate) copied: Vec<Placed>,
     /// The shifts of which it is tried what the plan costs without them.
     pub(crate) removals: Vec<u16>,
+    /// The used shifts whose ends move.
+    pub(crate) successors: Vec<Successor>,
     pub(crate) task: Task,
     pub(crate) pool: Pool,
     pub(crate) best: Vec<Placed>,
     pub(crate) best_cost: f64,
+    pub(crate) leg: Leg,
+    /// The best plans of the legs before.
+    pub(crate) elite: Pool,
+    /// How many legs ended.
+    pub(crate) legs: u32,
     pub(crate) chain: Chain,
     /// How many chains began.
     pub(crate) chains: u32,
@@ -176,10 +185,14 @@ impl<S: Stop + Drop> PlanSearch<S> {
             near_duties: Vec::new(alloc),
             copied: Vec::new(alloc),
             removals: Vec::new(alloc),
+            successors: Vec::new(alloc),
             task: Task::Moves,
             pool: Pool::new(alloc),
             best: Vec::new(alloc),
             best_cost: f64::INFINITY,
+            leg: Leg::begun(alloc, 0),
+            elite: Pool::new(alloc),
+            legs: 0,
             chain: Chain::ended(),
             chains: 0,
             repaired_rise: 0.0,
@@ -328,8 +341,13 @@ impl<S: Stop + Drop> PlanSearch<S> {
         Ok(())
     }
 
-    /// Keeps the plan where it is the best so far.
+    /// Keeps the plan where it is the best of the running leg, or of all.
     pub(crate) fn note_best(&mut self, tables: &Tables) -> Result<(), NoMemory> {
+        if self.plan.cost < self.leg.cost {
+            self.leg.best.clear();
+            self.plan.list_into(tables, &mut self.leg.best)?;
+            self.leg.note_gain(self.plan.cost, self.work);
+        }
         if self.plan.cost < self.best_cost {
             self.best.clear();
             self.plan.list_into(tables, &mut self.best)?;

@@ -2,7 +2,7 @@
 
 use clap::error::ErrorKind;
 use day_names::{NamedDay, day_names};
-use planning_words::{PlanWords, StopOn, Wanted, wanted_by};
+use planning_words::{PlanWords, StopOn, Unasked, Wanted, wanted_by};
 use std::alloc::{AllocError, Global};
 use std::test::Fail;
 
@@ -20,7 +20,8 @@ fn kind_at(alloc: Global, line: &str) -> Result<Option<ErrorKind>, AllocError> {
     let words = words_of(alloc, line)?;
     match wanted_by(alloc, words.as_slice()) {
         Ok(_) => Ok(None),
-        Err(error) => Ok(Some(error.kind())),
+        Err(Unasked::Said(error)) => Ok(Some(error.kind())),
+        Err(Unasked::NoMemory) => Err(AllocError),
     }
 }
 

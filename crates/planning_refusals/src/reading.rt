@@ -3,7 +3,9 @@
 use crate::refusal::Refusal;
 use instance_json::{INSTANCE_MAX, ReadRefusal};
 use plan_base::{FileSource, ReadEnd, read_all};
+use planning_files::is_unfinished;
 use refusal_texts::Role;
+use std::alloc::AllocError;
 use std::fs::{self, File};
 use std::io::{self, Read};
 
@@ -33,7 +35,7 @@ fn read_within(
         Ok(bytes) => Ok(Some(bytes)),
         Err(ReadEnd::TooLong) => Ok(None),
         Err(ReadEnd::ReadFault) => Err(Refusal::unread(alloc, role, path, why_unread(rt, path))),
-        Err(ReadEnd::NoMemory) => Err(Refusal::from(std::alloc::AllocError)),
+        Err(ReadEnd::NoMemory) => Err(Refusal::from(AllocError)),
     }
 }
 
@@ -63,8 +65,34 @@ pub fn read_document(rt: HostRuntime, path: &str) -> Result<Vec<u8>, Refusal> {
     }
 }
 
-/// The bytes of the report in a file. It is refused where the file can't be read or is longer than reports may be.
+/// The folder of a file, by its path.
+fn folder_of(path: &str) -> &str {
+    match path.rsplit_once('/') {
+        Some(("", _)) => "/",
+        Some((folder, _)) => folder,
+        None => ".",
+    }
+}
+
+/// Says where the folder of a report isn't whole.
+fn tell_unfinished(rt: HostRuntime, path: &str) -> Result<(), Refusal> {
+    let folder = folder_of(path);
+    match is_unfinished(rt, folder) {
+        Ok(true) => {
+            let _ = eprintln!(rt;
+                "shift_plan: note that the folder {folder} isn't whole: a run ended while it put a plan there, so the report may be of another plan than the page and the tables; the next plan or show that writes there finishes it"
+            );
+            Ok(())
+        }
+        Err(why) if why.kind() == io::ErrorKind::OutOfMemory => Err(Refusal::from(AllocError)),
+        _ => Ok(()),
+    }
+}
+
+/// The bytes of the report in a file. It is refused where the file can't be read or is longer than reports may be. Where its folder isn't whole
+/// that is said on standard error.
 pub fn read_report(rt: HostRuntime, path: &str) -> Result<Vec<u8>, Refusal> {
+    tell_unfinished(rt, path)?;
     let limit = usize::try_from(certificate::BUNDLE_MAX).unwrap_or(usize::MAX);
     match read_within(rt, Role::Report, path, limit)? {
         Some(report) => Ok(report),

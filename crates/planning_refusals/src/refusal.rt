@@ -3,6 +3,7 @@
 ghost use Rattle.std.specs.Prelude.{◌≡◌, MatchOption, MatchResult, None, Some};
 ghost use Rattle.planning_refusals.specs.declared.refusal.Cause.{Cause};
 ghost use Rattle.planning_refusals.specs.declared.refusal.Cause.TheVariants.{Document, NoMemory, Report, System, Unread, Unwritten};
+ghost use Rattle.std_io.specs.declared.io.kind.ErrorKind.TheVariants.{OutOfMemory};
 ghost use Rattle.planning_refusals.specs.Causes.{IsFor, cause_of, end_cause, number_of};
 
 use cert_check::Refused;
@@ -136,18 +137,31 @@ impl Refusal {
         self.cause.number()
     }
 
-    /// A file can't be read.
-    pub fn unread(alloc: Global, role: Role, path: &str, kind: io::ErrorKind) -> Refusal
-        ensures { IsFor Unread result }
+    /// The refusal for a file on which a call failed.
+    fn of_file(cause: Cause, alloc: Global, role: Role, path: &str, kind: io::ErrorKind) -> Refusal
+        ensures cause { IsFor cause result }
+        ensures memory { kind ≡ OutOfMemory → result ≡ NoMemory }
     {
-        Refusal::said(Cause::Unread, file_sentence(alloc, role, path, kind))
+        match kind {
+            io::ErrorKind::OutOfMemory => Refusal::from(AllocError),
+            _ => Refusal::said(cause, file_sentence(alloc, role, path, kind)),
+        }
     }
 
-    /// A file or the folder of the plan can't be written.
-    pub fn unwritten(alloc: Global, role: Role, path: &str, kind: io::ErrorKind) -> Refusal
-        ensures { IsFor Unwritten result }
+    /// A file can't be read. Where the call on it failed for want of memory, that is the cause.
+    pub fn unread(alloc: Global, role: Role, path: &str, kind: io::ErrorKind) -> Refusal
+        ensures cause { IsFor Unread result }
+        ensures memory { kind ≡ OutOfMemory → result ≡ NoMemory }
     {
-        Refusal::said(Cause::Unwritten, file_sentence(alloc, role, path, kind))
+        Refusal::of_file(Cause::Unread, alloc, role, path, kind)
+    }
+
+    /// A file or the folder of the plan can't be written. Where the call on it failed for want of memory, that is the cause.
+    pub fn unwritten(alloc: Global, role: Role, path: &str, kind: io::ErrorKind) -> Refusal
+        ensures cause { IsFor Unwritten result }
+        ensures memory { kind ≡ OutOfMemory → result ≡ NoMemory }
+    {
+        Refusal::of_file(Cause::Unwritten, alloc, role, path, kind)
     }
 
     /// The instance document is refused.
@@ -231,7 +245,9 @@ impl Refusal {
             LockFault::InUse => format!(in alloc;
                 "another run has the journal `{path}`: wait until it ends, or name another one with --journal"
             ),
-            LockFault::Unopened(why) => file_sentence(alloc, Role::Journal, path, why.kind()),
+            LockFault::Unopened(why) => {
+                return Refusal::of_file(Cause::System, alloc, Role::Journal, path, why.kind());
+            }
             LockFault::Unlocked(why) => format!(in alloc;
                 "the journal `{path}` can't be locked where it is ({why}): name one on another disk with --journal"
             ),

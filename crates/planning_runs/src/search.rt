@@ -25,7 +25,7 @@ pub struct Planned<D: Disk> {
 }
 
 /// Searches for a plan of an instance over the journal on a disk until the search is finished, its steps are taken, it is asked to stop or
-/// something fails, and judges the plan of its book, however it ended. All that is said of `run_search` is said of the search: what a crash
+/// something fails, and judges the plan of its book by as many workers, however it ended. All that is said of `run_search` is said of the search: what a crash
 /// at any moment leaves holds each step that was acknowledged, and whole steps alone.
 pub fn search_plan<D: Disk + Send, G: Gate + Sync, S: Stop + Sync, R: Threads + Wait + Sync>(
     rt: &R,
@@ -45,9 +45,10 @@ pub fn search_plan<D: Disk + Send, G: Gate + Sync, S: Stop + Sync, R: Threads + 
     ensures stopped { result.searched.end ≡ SearchEnd.Stopped → S.can_ask stop.now ≡ true }
     ensures plan { MatchResult result.searched.book (λ book. IfSome result.plan (IsOfBook instance book)) (λ disk. result.plan ≡ None) }
 {
+    let workers = u32::from(request.workers);
     let searched = run_search(rt, alloc, &instance, request, disk, advisers, gate, stop);
     let plan = match &searched.book {
-        Ok(book) => plan_of(alloc, instance, book).ok(),
+        Ok(book) => plan_of(rt, alloc, instance, book, workers).ok(),
         Err(_) => None,
     };
     Planned { searched, plan }

@@ -2,9 +2,11 @@
 #![tactic(auto)]
 
 mod beside;
+mod placing;
 mod sheets;
 mod standings;
 
 pub use beside::Beside;
+pub use placing::finish_folder;
 pub use sheets::{ready_folder, say, show_plan};
 pub use standings::standing;

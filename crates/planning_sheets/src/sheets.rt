@@ -4,11 +4,12 @@ ghost use Rattle.std.specs.Prelude.{IsTrue};
 ghost use Rattle.shift_instance.specs.Rota.{are_legal_rows};
 
 use crate::beside::{Beside, page_texts};
+use crate::placing::{opened, put_files};
 use crate::standings::{standing, why_empty};
-use certificate::CertStatus;
+use certificate::{CertStatus, CertText};
 use plan_page::{PageTexts, plan_page};
 use plan_tables::{Attendance, Summary, cover_csv, duties_csv, duties_table, summary_text};
-use planning_files::{make_folder, write_edited, write_whole};
+use planning_files::{PLAN_FILES, PlanFile, make_folder};
 use planning_refusals::{Cause, Refusal};
 use planning_runs::{Plan, judged_plan};
 use refusal_texts::Role;
@@ -32,55 +33,51 @@ pub fn ready_folder(rt: HostRuntime, folder: &str) -> Result<(), Refusal> {
     }
 }
 
-/// Writes one file of a plan to its folder, whole or not at all.
-fn write_file(rt: HostRuntime, folder: &str, name: &str, bytes: &[u8]) -> Result<(), Refusal> {
-    let alloc = rt.alloc();
-    match write_whole(&rt, alloc, folder, name, bytes) {
-        Ok(()) => Ok(()),
-        Err(why) => {
-            let path = format!(in alloc; "{folder}/{name}")?;
-            Err(Refusal::unwritten(alloc, Role::Plan, path.as_str(), why.kind()))
-        }
-    }
-}
-
-/// Writes a table of a plan to its folder. One that was edited since it was written is kept under another name, which is said.
-fn write_table(rt: HostRuntime, folder: &str, name: &str, bytes: &[u8]) -> Result<(), Refusal> {
-    let alloc = rt.alloc();
-    match write_edited(&rt, folder, name, bytes) {
-        Ok(None) => Ok(()),
-        Ok(Some(aside)) => {
-            let _ = eprintln!(rt;
-                "shift_plan: {name} was edited in the folder {folder}; it is kept as {aside}"
-            );
-            Ok(())
-        }
-        Err(why) => {
-            let path = format!(in alloc; "{folder}/{name}")?;
-            Err(Refusal::unwritten(alloc, Role::Plan, path.as_str(), why.kind()))
-        }
-    }
-}
-
 /// What a report claims that its plan costs, where it can be read and has one.
-fn claimed_cost(alloc: Global, report: &[u8]) -> Option<u64> {
-    let cert = certificate::read(alloc, report).ok()?;
-    let (cost, _rows) = cert.plan.as_ref()?;
-    Some(*cost)
+fn claimed_cost(alloc: Global, report: &[u8]) -> Result<Option<u64>, AllocError> {
+    match certificate::read(alloc, report) {
+        Ok(cert) => Ok(cert.plan.as_ref().map(|(cost, _rows)| *cost)),
+        Err(CertText::NoMemory) => Err(AllocError),
+        Err(_) => Ok(None),
+    }
+}
+
+/// The bytes of the report in a folder, where it can be read.
+fn report_in(rt: HostRuntime, folder: &str) -> Result<Option<Vec<u8>>, AllocError> {
+    let path = format!(in rt.alloc(); "{folder}/report")?;
+    match fs::read(&rt, path.as_str()) {
+        Ok(report) => Ok(Some(report)),
+        Err(why) if why.kind() == io::ErrorKind::OutOfMemory => Err(AllocError),
+        Err(_) => Ok(None),
+    }
 }
 
 /// What the plan of a document costs whose report stands in a folder, where it costs less than `cost`. A report that claims no lesser cost isn't
 /// judged.
-fn cheaper_cost(rt: HostRuntime, document: &[u8], folder: &str, cost: u64) -> Option<u64> {
+fn cheaper_cost(
+    rt: HostRuntime,
+    document: &[u8],
+    folder: &str,
+    cost: u64,
+) -> Result<Option<u64>, Refusal> {
     let alloc = rt.alloc();
-    let path = format!(in alloc; "{folder}/report").ok()?;
-    let report = fs::read(&rt, path.as_str()).ok()?;
-    if cost <= claimed_cost(alloc, report.as_slice())? {
-        return None;
+    let Some(report) = report_in(rt, folder)? else {
+        return Ok(None);
+    };
+    match claimed_cost(alloc, report.as_slice())? {
+        Some(claimed) if claimed < cost => {}
+        _ => return Ok(None),
     }
-    let plan = judged_plan(alloc, document, report).ok()?;
-    let (found, _rows) = plan.cert.plan.as_ref()?;
-    Some(*found)
+    match judged_plan(alloc, document, report) {
+        Ok(plan) => Ok(plan.cert.plan.as_ref().map(|(found, _rows)| *found)),
+        Err(why) => {
+            let refusal = Refusal::unshown(alloc, document, &why);
+            if refusal.number() == Cause::NoMemory.number() {
+                return Err(refusal);
+            }
+            Ok(None)
+        }
+    }
 }
 
 /// The files of a plan, and what is said of it.
@@ -123,6 +120,26 @@ impl Sheets {
             said: said_of(alloc, instance, rows)?,
         })
     }
+
+    /// The bytes of a file of the plan whose report is given.
+    fn bytes<'a>(&'a self, report: &'a [u8], file: PlanFile) -> &'a [u8] {
+        match file {
+            PlanFile::Report => report,
+            PlanFile::Rota | PlanFile::RotaWritten => self.rota.as_slice(),
+            PlanFile::Duties | PlanFile::DutiesWritten => self.duties.as_slice(),
+            PlanFile::Cover | PlanFile::CoverWritten => self.cover.as_slice(),
+            PlanFile::Page => self.page.as_bytes(),
+        }
+    }
+
+    /// The bytes of all files of the plan whose report is given.
+    fn files<'a>(&'a self, alloc: Global, report: &'a [u8]) -> Result<Vec<&'a [u8]>, AllocError> {
+        let mut files = Vec::new(alloc);
+        for file in PLAN_FILES {
+            files.push(self.bytes(report, file))?;
+        }
+        Ok(files)
+    }
 }
 
 /// What is said of legal rows: what they add up to, the slots below their need, and the duties.
@@ -154,20 +171,6 @@ fn stands(alloc: Global, plan: &Plan, cost: u64, is_empty: bool) -> Result<Strin
     Ok(stands)
 }
 
-/// Writes the files of a plan to a folder, each whole or not at all.
-fn write_files(
-    rt: HostRuntime,
-    folder: &str,
-    report: &[u8],
-    sheets: &Sheets,
-) -> Result<(), Refusal> {
-    write_file(rt, folder, "report", report)?;
-    write_table(rt, folder, "rota.csv", sheets.rota.as_slice())?;
-    write_table(rt, folder, "duties.csv", sheets.duties.as_slice())?;
-    write_table(rt, folder, "cover.csv", sheets.cover.as_slice())?;
-    write_file(rt, folder, "plan.html", sheets.page.as_bytes())
-}
-
 /// Writes the files of a plan of that cost to a folder, unless a cheaper plan of the same document stands there, and tells which it did.
 fn placed(
     rt: HostRuntime,
@@ -178,18 +181,20 @@ fn placed(
     sheets: &Sheets,
 ) -> Result<String, Refusal> {
     let alloc = rt.alloc();
-    if let Some(cheaper) = cheaper_cost(rt, document, folder, cost) {
+    let mut place = opened(rt, folder)?;
+    if let Some(cheaper) = cheaper_cost(rt, document, folder, cost)? {
         return Ok(format!(in alloc;
             "The folder {folder} has a cheaper plan of this document, which costs {cheaper}: it stays, and nothing was written. Name another folder with --out to have this one too."
         )?);
     }
-    write_files(rt, folder, report, sheets)?;
+    let files = sheets.files(alloc, report)?;
+    put_files(rt, folder, &mut place, files.as_slice())?;
     Ok(format!(in alloc;
         "The plan is in the folder {folder}: plan.html, rota.csv, duties.csv, cover.csv and report."
     )?)
 }
 
-/// Writes a plan to a folder, each file whole or not at all, and says it on standard output, with what is known beside it. Where a cheaper plan
+/// Writes a plan to a folder, all its files together, and says it on standard output, with what is known beside it. Where a cheaper plan
 /// of the same document stands in the folder, that one stays, and this is said.
 pub fn show_plan(
     rt: HostRuntime,

@@ -1,5 +1,9 @@
--- What a command line may ask for.
-use Rattle.std.specs.Prelude.{◌≤◌, ⊤}
+-- What a command line may ask for, and why it asks for nothing.
+use Rattle.std.specs.Prelude.{◌≡◌, ◌≤◌, ⊤}
+use Rattle.clap.specs.Values.{kind_of}
+use Rattle.clap.specs.declared.error.kind.ErrorKind.TheVariants.{OutOfMemory}
+use Rattle.planning_words.specs.declared.wanted.Unasked.{Unasked}
+use Rattle.planning_words.specs.declared.wanted.Unasked.TheVariants.{NoMemory, Said}
 use Rattle.planning_words.specs.declared.wanted.Wanted.{Wanted}
 use Rattle.planning_words.specs.declared.wanted.Wanted.TheVariants.{Check, Compare, Export, Import, Plan, Rules, Show}
 
@@ -13,3 +17,8 @@ IsWithin (Compare words) = ⊤
 IsWithin (Rules words) = ⊤
 IsWithin (Import words) = ⊤
 IsWithin (Export words) = ⊤
+
+-- what is said of words is nothing about memory: running out of that is told as such
+abbrev pub IsSaid : Unasked → Type 0
+IsSaid NoMemory = ⊤
+IsSaid (Said error) = kind_of error ≡ OutOfMemory → ⊥

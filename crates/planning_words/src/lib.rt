@@ -11,4 +11,6 @@ mod wanted;
 pub use keeping::{CompareWords, LikeWords};
 pub use names::{document_beside, folder_beside, is_same_file, journal_beside};
 pub use tables::TableWords;
-pub use wanted::{CheckWords, PlanWords, RulesWords, ShowWords, StopOn, Wanted, wanted_by};
+pub use wanted::{
+    CheckWords, PlanWords, RulesWords, ShowWords, StopOn, Unasked, Wanted, wanted_by,
+};

@@ -1,7 +1,7 @@
 //! What a command line asks for.
 
-ghost use Rattle.std.specs.Prelude.{◌≤◌, IfOk};
-ghost use Rattle.planning_words.specs.Wanted.{IsWithin};
+ghost use Rattle.std.specs.Prelude.{◌≤◌, IfOk, IfErr};
+ghost use Rattle.planning_words.specs.Wanted.{IsWithin, IsSaid};
 
 use crate::keeping::{
     CompareWords, LikeWords, change_word, compare_command, compare_words, like_word, like_words,
@@ -419,14 +419,8 @@ fn wanted_show<'a>(alloc: Global, behind: &ArgMatches<'a>) -> Result<Wanted<'a>,
     }
 }
 
-/// What the words of a command line ask for, the program's name first among them. The error is what clap says of other words, and the help
-/// where that is asked for.
-///
-/// The words are `plan INSTANCE [--journal FILE] [--seconds T] [--until-quiet T] [--workers W] [--seed S] [--out FOLDER] [--first-day WEEKDAY|--from DATE]
-/// [--stop-on line|enter] [--like REPORT --of OLD_INSTANCE [--change C]] [--anew]`, `show INSTANCE REPORT [--out FOLDER] [--first-day WEEKDAY|--from DATE]`, `check INSTANCE REPORT`,
-/// `compare INSTANCE REPORT OTHER_INSTANCE OTHER_REPORT`, `rules INSTANCE`, `import FOLDER INSTANCE` or `export INSTANCE FOLDER`. The T of `--seconds` is at most 4,000,000 and 60 where it isn't given, that of `--until-quiet` from 1 to as much, W is
-/// from 1 to 16 and 4 where it isn't given, S is below 2^32 and 1 where it isn't given, and C is at most 1,000,000.
-pub fn wanted_by<'a>(alloc: Global, words: &'a [String]) -> Result<Wanted<'a>, Error>
+/// What the words of a command line ask for, or what clap says of them.
+fn parsed<'a>(alloc: Global, words: &'a [String]) -> Result<Wanted<'a>, Error>
     ensures { IfOk result IsWithin }
 {
     let matches = command(alloc)?.try_get_matches_from(words)?;
@@ -440,5 +434,43 @@ pub fn wanted_by<'a>(alloc: Global, words: &'a [String]) -> Result<Wanted<'a>, E
         Some((_, behind)) => wanted_plan(alloc, behind),
         // one of the commands is required
         None => wanted_plan(alloc, &matches),
+    }
+}
+
+/// Why words ask for nothing.
+#[derive(Drop)]
+pub enum Unasked {
+    /// There was no memory to read them.
+    NoMemory,
+    /// What is to be said of them: what is wrong with them, or the help that they ask for.
+    Said(Error),
+}
+
+impl Unasked {
+    /// Why words ask for nothing of which clap says this.
+    fn of(error: Error) -> Unasked
+        ensures { IsSaid result }
+    {
+        match error.kind() {
+            ErrorKind::OutOfMemory => Unasked::NoMemory,
+            _ => Unasked::Said(error),
+        }
+    }
+}
+
+/// What the words of a command line ask for, the program's name first among them, or why they ask for nothing. Running out of memory is told as
+/// that, and never as a fault of the words.
+///
+/// The words are `plan INSTANCE [--journal FILE] [--seconds T] [--until-quiet T] [--workers W] [--seed S] [--out FOLDER] [--first-day WEEKDAY|--from DATE]
+/// [--stop-on line|enter] [--like REPORT --of OLD_INSTANCE [--change C]] [--anew]`, `show INSTANCE REPORT [--out FOLDER] [--first-day WEEKDAY|--from DATE]`, `check INSTANCE REPORT`,
+/// `compare INSTANCE REPORT OTHER_INSTANCE OTHER_REPORT`, `rules INSTANCE`, `import FOLDER INSTANCE` or `export INSTANCE FOLDER`. The T of `--seconds` is at most 4,000,000 and 60 where it isn't given, that of `--until-quiet` from 1 to as much, W is
+/// from 1 to 16 and 4 where it isn't given, S is below 2^32 and 1 where it isn't given, and C is at most 1,000,000.
+pub fn wanted_by<'a>(alloc: Global, words: &'a [String]) -> Result<Wanted<'a>, Unasked>
+    ensures within { IfOk result IsWithin }
+    ensures said { IfErr result IsSaid }
+{
+    match parsed(alloc, words) {
+        Ok(wanted) => Ok(wanted),
+        Err(error) => Err(Unasked::of(error)),
     }
 }

@@ -7,7 +7,7 @@ use planning_words::{PlanWords, document_beside, is_same_file, journal_beside};
 use refusal_texts::Role;
 use std::alloc::{AllocError, Global};
 use std::fs::{self, File};
-use std::io::Read;
+use std::io::{self, Read};
 
 /// The journal that the words name, or else the one beside the instance.
 pub(crate) fn journal_of(alloc: Global, words: &PlanWords) -> Result<String, AllocError> {
@@ -17,18 +17,46 @@ pub(crate) fn journal_of(alloc: Global, words: &PlanWords) -> Result<String, All
     }
 }
 
+/// The bytes with which a journal begins.
+const MARK: &[u8] = b"SHIFTJ1\n";
+
 /// The bytes of a journal before the text of its instance: its mark, and the text's length.
 const BEFORE_HEAD: usize = 12;
 
 /// The text of the instance in a journal's file, where it can be read.
-pub(crate) fn journal_head(rt: HostRuntime, path: &str) -> Option<Vec<u8>> {
-    let mut file = File::open(&rt, path).ok()?;
+pub(crate) fn journal_head(rt: HostRuntime, path: &str) -> Result<Option<Vec<u8>>, AllocError> {
+    let Ok(mut file) = File::open(&rt, path) else {
+        return Ok(None);
+    };
     let mut before = [0u8; BEFORE_HEAD];
-    file.read_exact(&mut before).ok()?;
+    if file.read_exact(&mut before).is_err() {
+        return Ok(None);
+    }
     let len = u32::from_le_bytes([before[8], before[9], before[10], before[11]]) as usize;
-    let mut head = vec![in rt.alloc(); 0u8; len.min(INSTANCE_MAX)].ok()?;
-    file.read_exact(head.as_mut_slice()).ok()?;
-    Some(head)
+    let mut head = vec![in rt.alloc(); 0u8; len.min(INSTANCE_MAX)]?;
+    if file.read_exact(head.as_mut_slice()).is_err() {
+        return Ok(None);
+    }
+    Ok(Some(head))
+}
+
+/// Whether a journal's file is a beginning of what stands before the first gate of a journal for the instance of this canonical text.
+pub(crate) fn is_torn(rt: HostRuntime, path: &str, canonical: &[u8]) -> Result<bool, AllocError> {
+    let Ok(size) = u32::try_from(canonical.len()) else {
+        return Ok(false);
+    };
+    let mut whole = Vec::from_slice(rt.alloc(), MARK)?;
+    whole.extend_from_slice(&size.to_le_bytes())?;
+    whole.extend_from_slice(canonical)?;
+    match fs::metadata(&rt, path) {
+        Ok(found) if found.len() <= whole.len() as u64 => {}
+        _ => return Ok(false),
+    }
+    match fs::read(&rt, path) {
+        Ok(bytes) => Ok(whole.as_slice().starts_with(bytes.as_slice())),
+        Err(why) if why.kind() == io::ErrorKind::OutOfMemory => Err(AllocError),
+        Err(_) => Ok(false),
+    }
 }
 
 /// The journal of a run, locked, and the old one in whose place it stands, which stays locked as long.

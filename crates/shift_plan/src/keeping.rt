@@ -7,14 +7,13 @@ use break_rules::NoMemory;
 use carried_rows::carried_rows;
 use comparison_texts::left_lines;
 use descents::{descended, evened};
-use kept_duties::with_more_kept;
+use kept_duties::least_changed;
 use plan_comparison::kept_duties;
 use planning_refusals::{Cause, Refusal, read_document, read_report};
 use planning_runs::{Plan, judged_plan, with_rows};
 use planning_words::LikeWords;
-use rota_cost::{cost_rows, recount};
+use rota_cost::cost_rows;
 use shift_instance::{Instance, Rows};
-use shift_tables::Tables;
 use std::alloc::Global;
 
 /// The most moves that make an older plan cheaper before a search.
@@ -160,48 +159,6 @@ pub(crate) fn older_plan(
     })
 }
 
-/// What a legal plan costs with what the duties count that it doesn't keep.
-fn weighed(instance: &Instance, rows: &Rows, older: &Older) -> u128
-    requires legal { IsTrue (are_legal_rows instance.now rows.now) }
-{
-    let kept = kept_duties(&older.wanted, rows);
-    let lost = u128::from(duties(&older.wanted)).saturating_sub(kept);
-    let counted = u128::from(older.change).saturating_mul(lost);
-    u128::from(recount(instance, rows)).saturating_add(counted)
-}
-
-/// The rows of a legal plan with more of the duties to keep, where each is worth what it costs more.
-fn with_kept(
-    alloc: Global,
-    instance: &Instance,
-    tables: &Tables,
-    rows: Rows,
-    older: &Older,
-) -> Result<Rows, NoMemory>
-    requires legal { IsTrue (are_legal_rows instance.now rows) }
-    ensures legal { IfOk result (λ new. IsTrue (are_legal_rows instance.now new)) }
-{
-    with_more_kept(alloc, instance, tables, rows, &older.wanted, older.change)
-}
-
-/// Of a legal plan and the one that the search began with, each with more of the duties to keep, the one that costs least with what the duties
-/// count that it doesn't keep.
-fn chosen(alloc: Global, instance: &Instance, rows: Rows, older: &Older) -> Result<Rows, NoMemory>
-    requires legal { IsTrue (are_legal_rows instance.now rows) }
-    ensures legal { IfOk result (λ new. IsTrue (are_legal_rows instance.now new)) }
-{
-    let tables = Tables::new(alloc, instance)?;
-    let found = with_kept(alloc, instance, &tables, rows, older)?;
-    let Ok(begin) = cost_rows(instance, older.begin.clone()?) else {
-        return Ok(found);
-    };
-    let begun = with_kept(alloc, instance, &tables, begin.into_rows(), older)?;
-    if weighed(instance, &begun, older) < weighed(instance, &found, older) {
-        return Ok(begun);
-    }
-    Ok(found)
-}
-
 /// The rows of a legal plan after moves that make it more even and no dearer, where it keeps as many duties then.
 fn evened_beside(
     alloc: Global,
@@ -229,7 +186,14 @@ pub(crate) fn plan_with_kept(alloc: Global, plan: Plan, older: &Older) -> Result
     let Some(rows) = rows_in(&plan) else {
         return Ok(plan);
     };
-    let rows = chosen(alloc, &plan.instance, rows.clone()?, older)?;
+    let rows = least_changed(
+        alloc,
+        &plan.instance,
+        rows.clone()?,
+        older.begin.clone()?,
+        &older.wanted,
+        older.change,
+    )?;
     let rows = evened_beside(alloc, &plan.instance, rows, &older.wanted)?;
     with_rows(alloc, plan, rows)
 }

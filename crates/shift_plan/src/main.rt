@@ -16,7 +16,7 @@ mod tables;
 mod telling;
 
 use planning_refusals::{Cause, Refusal};
-use planning_words::{Wanted, wanted_by};
+use planning_words::{Unasked, Wanted, wanted_by};
 use std::alloc::AllocError;
 use std::process::ExitCode;
 use std::sync::Wait;
@@ -49,7 +49,8 @@ fn answer<R: Threads + Wait + Sync>(
 ) -> Result<u8, Refusal> {
     let wanted = match wanted_by(host.alloc(), words) {
         Ok(wanted) => wanted,
-        Err(error) => {
+        Err(Unasked::NoMemory) => return Err(Refusal::from(AllocError)),
+        Err(Unasked::Said(error)) => {
             let _ = error.print(&host);
             return Ok(u8::try_from(error.exit_code()).unwrap_or(2));
         }

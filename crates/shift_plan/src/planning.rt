@@ -2,7 +2,7 @@
 
 ghost use Rattle.std.specs.Prelude.{◌<◌, ◌^◌};
 
-use crate::journals::{journal_head, journal_of, locked_journal};
+use crate::journals::{is_torn, journal_head, journal_of, locked_journal};
 use crate::keeping::{Older, kept_and_cost, older_plan, plan_with_kept, tell_kept};
 use crate::listening::{listen, stop_of};
 use crate::telling::{Beginning, notes_of, say_rules, shown_on, tell_end, warn};
@@ -14,7 +14,7 @@ use planning_files::LockedJournal;
 use planning_progress::{Limits, Progress, Shown, Until, Watched};
 use planning_refusals::{Cause, Refusal, read_document};
 use planning_runs::{Plan, Planned, search_plan};
-use planning_sheets::{Beside, ready_folder, show_plan};
+use planning_sheets::{Beside, finish_folder, ready_folder, show_plan};
 use planning_words::{PlanWords, StopOn, folder_beside};
 use search_book::OpenFault;
 use shift_instance::Instance;
@@ -75,24 +75,57 @@ fn steps_of(seconds: u32) -> u64
     if seconds == 0 { 0 } else { STEPS_MOST }
 }
 
-/// Says where a document and the instance of its journal differ first, where a search was refused since they do.
-fn tell_difference(rt: HostRuntime, words: &PlanWords, end: &SearchEnd) -> Result<(), Refusal> {
-    let alloc = rt.alloc();
-    let SearchEnd::Refused(OpenFault::OtherInstance { at }) = end else {
+/// Says where a document and the instance of its journal differ first, from this byte of their canonical texts on.
+fn tell_difference(
+    rt: HostRuntime,
+    journal: &str,
+    canonical: &[u8],
+    at: u64,
+) -> Result<(), Refusal> {
+    let Some(theirs) = journal_head(rt, journal)? else {
         return Ok(());
     };
-    let document = read_document(rt, words.instance)?;
-    let instance = instance_in(alloc, document.as_slice())?;
-    let ours = canonical(alloc, &instance)?;
-    let journal = journal_of(alloc, words)?;
-    let Some(theirs) = journal_head(rt, journal.as_str()) else {
-        return Ok(());
-    };
-    let sentence = difference(alloc, ours.as_slice(), theirs.as_slice(), *at)?;
+    let sentence = difference(rt.alloc(), canonical, theirs.as_slice(), at)?;
     let _ = eprintln!(rt;
         "shift_plan: note that the journal belongs to another instance: {sentence}"
     );
     Ok(())
+}
+
+/// Says that a journal holds no step of a search, where it is only the beginning of a new one.
+fn tell_torn(rt: HostRuntime, journal: &str, canonical: &[u8]) -> Result<(), Refusal> {
+    if is_torn(rt, journal, canonical)? {
+        let _ = eprintln!(rt;
+            "shift_plan: note that the journal is only the beginning of a new one, as a crash may leave: no step of a search was in it, so --anew loses nothing"
+        );
+    }
+    Ok(())
+}
+
+/// Says what a planner should know of a journal that a search was refused for.
+fn tell_journal(rt: HostRuntime, words: &PlanWords, end: &SearchEnd) -> Result<(), Refusal> {
+    let alloc = rt.alloc();
+    let SearchEnd::Refused(fault) = end else {
+        return Ok(());
+    };
+    let document = read_document(rt, words.instance)?;
+    let instance = instance_in(alloc, document.as_slice())?;
+    let canonical = canonical(alloc, &instance)?;
+    let journal = journal_of(alloc, words)?;
+    match fault {
+        OpenFault::OtherInstance { at } => tell_difference(
+            rt,
+            journal.as_str(),
+            canonical.as_slice(),
+            *at,
+        ),
+        OpenFault::NotAJournal | OpenFault::Damaged { .. } => tell_torn(
+            rt,
+            journal.as_str(),
+            canonical.as_slice(),
+        ),
+        _ => Ok(()),
+    }
 }
 
 /// The adviser of a worker, which searches thoroughly for plans of the instance with this seed. Where there is an older plan, it begins
@@ -158,7 +191,7 @@ fn advised<R: Threads + Wait + Sync>(
         rt, alloc, instance, request, disk, advisers, &gate, &until,
     );
     let Some(plan) = plan else {
-        tell_difference(host, words, &searched.end)?;
+        tell_journal(host, words, &searched.end)?;
         return Err(Refusal::of_end(alloc, &searched.end).unwrap_or(Refusal::from(AllocError)));
     };
     tell_end(host, progress, &searched.end);
@@ -224,6 +257,7 @@ pub(crate) fn plan<R: Threads + Wait + Sync>(
     say_rules(host, &instance)?;
     let notes = notes_of(alloc, document.as_slice(), &instance)?;
     warn(host, notes.as_slice());
+    finish_folder(host, folder.as_str())?;
     let older = older_plan(host, words.like, &instance)?;
     let journals = locked_journal(host, words)?;
     ready_folder(host, folder.as_str())?;

@@ -1,108 +1,12 @@
-//! Runs of `solve` by one worker over sources, sinks and disks in memory, of which a call may fail. Whole programs are tried by the
+//! Runs of one step by one worker over sources, sinks and disks in memory, of which a call fails. Whole programs are tried by the
 //! cases beside the crates.
 
-ghost use Rattle.std.specs.Prelude.{◌<◌, ◌^◌};
-
-use advice::Adviser;
-use advisers::Greedy;
-use plan_base::{Disk, MemDisk, MemSink, MemSource};
-use solve_runs::solve_run;
+use crate::fixtures::{Inputs, MORNING_REPORT, Ran, document, greedy_inputs, new_disk, run, sink};
+use plan_base::MemDisk;
 use std::alloc::{AllocError, Global};
 use std::sync::Wait;
 use std::test::Fail;
 use std::thread::Threads;
-use worker_gate::Open;
-
-/// One type `M` of one shift, 8:00 to 12:00, and a day that needs one employee then, with room for one.
-const MORNING: &str =
-    "{\"slot_minutes\":60,\"days\":1,\"need\":[0,0,0,0,0,0,0,0,1,1,1,1,0,0,0,0,0,0,0,0,0,0,0,0],\"max_heads\":1,\"weights\":{\"excess\":1,\"shortage\":2,\"shift\":3},\"types\":[{\"name\":\"M\",\"start_min\":8,\"start_max\":8,\"len_min\":4,\"len_max\":4,\"breaks\":null}]}";
-
-const MORNING_REPORT: &str =
-    "shift-report 1\nstatus optimal\ncost 3\nbound 3\nrows 1\nrow 0 0 1 -\nproof 1\npriced 0 1 0,0,0,0,0,0,0,0,2,2,2,2,0,0,0,0,0,0,0,0,0,0,0,0 -\nend\n";
-
-/// The words `solve J --workers=1`.
-fn lone_words(alloc: Global) -> Result<Vec<String>, AllocError> {
-    let mut words = Vec::new(alloc);
-    for word in ["solve", "J", "--workers=1"] {
-        words.push(String::from_str(alloc, word)?)?;
-    }
-    Ok(words)
-}
-
-/// The morning's document, of which a read gives at most 100 bytes; the read with this number fails, and none where it is 0.
-fn document(alloc: Global, bad_read: u64) -> Result<MemSource, AllocError> {
-    let fails = vec![in alloc; bad_read]?;
-    let text = Vec::from_slice(alloc, MORNING.as_bytes())?;
-    Ok(MemSource::new(alloc, text, fails, 100))
-}
-
-/// A greedy adviser.
-fn adviser(alloc: Global) -> Result<Vec<Box<dyn Adviser + Send>>, AllocError> {
-    let mut advisers: Vec<Box<dyn Adviser + Send>> = Vec::new(alloc);
-    advisers.push(Box::new(alloc, Greedy::new(alloc))?)?;
-    Ok(advisers)
-}
-
-/// What a run of one worker for the morning is given beside its disk.
-#[derive(Drop)]
-struct Inputs {
-    words: Vec<String>,
-    source: MemSource,
-    sink: MemSink,
-    advisers: Vec<Box<dyn Adviser + Send>>,
-}
-
-/// The same, where a write takes at most 20 bytes, and the read and the write with these numbers fail; none where they are 0.
-fn inputs_with(alloc: Global, bad_read: u64, bad_write: u64) -> Result<Inputs, AllocError> {
-    let fails = vec![in alloc; bad_write]?;
-    let words = lone_words(alloc)?;
-    let source = document(alloc, bad_read)?;
-    let advisers = adviser(alloc)?;
-    Ok(Inputs {
-        words,
-        source,
-        sink: MemSink::new(alloc, fails, 20),
-        advisers,
-    })
-}
-
-/// The number of a run's status, whether it opened its book, and its disk and sink.
-#[derive(Drop)]
-struct Ran {
-    number: u8,
-    opened: bool,
-    disk: MemDisk,
-    sink: MemSink,
-}
-
-/// A run over a disk.
-fn run<R: Threads + Wait + Sync>(rt: &R, alloc: Global, inputs: Inputs, disk: MemDisk) -> Ran
-    requires { ⟦<MemDisk as Disk>⟧.calls disk < 2 ^ 62 }
-{
-    let Inputs {
-        words,
-        mut source,
-        mut sink,
-        advisers,
-    } = inputs;
-    let words = words.as_slice();
-    let ended = solve_run(
-        rt,
-        alloc,
-        words,
-        &mut source,
-        &mut sink,
-        disk,
-        advisers,
-        &Open,
-    );
-    Ran {
-        number: ended.status.number(),
-        opened: ended.opened,
-        disk: ended.disk,
-        sink,
-    }
-}
 
 /// A run on a new disk, of which the call with this number fails.
 fn run_over<R: Threads + Wait + Sync>(
@@ -110,21 +14,26 @@ fn run_over<R: Threads + Wait + Sync>(
     alloc: Global,
     bad_call: u64,
 ) -> Result<Ran, AllocError> {
-    let fails = vec![in alloc; bad_call]?;
-    let inputs = inputs_with(alloc, 0, 0)?;
-    let disk = MemDisk::new(alloc, Vec::new(alloc), fails);
+    let inputs = greedy_inputs(alloc, "1", None)?;
+    let disk = new_disk(alloc, &[bad_call])?;
     Ok(run(rt, alloc, inputs, disk))
 }
 
-/// A run on a new disk whose source or sink fails at calls with these numbers.
+/// A run on a new disk whose source or sink fails at calls with these numbers, and at none where they are 0.
 fn run_from<R: Threads + Wait + Sync>(
     rt: &R,
     alloc: Global,
     bad_read: u64,
     bad_write: u64,
 ) -> Result<Ran, AllocError> {
-    let inputs = inputs_with(alloc, bad_read, bad_write)?;
-    let disk = MemDisk::new(alloc, Vec::new(alloc), Vec::new(alloc));
+    let given = greedy_inputs(alloc, "1", None)?;
+    let inputs = Inputs {
+        words: given.words,
+        source: document(alloc, "1", bad_read)?,
+        sink: sink(alloc, bad_write)?,
+        advisers: given.advisers,
+    };
+    let disk = new_disk(alloc, &[])?;
     Ok(run(rt, alloc, inputs, disk))
 }
 
@@ -155,7 +64,7 @@ fn is_gone_on_with<R: Threads + Wait + Sync>(
     disk: &MemDisk,
     fill: Option<u8>,
 ) -> Result<bool, AllocError> {
-    let inputs = inputs_with(alloc, 0, 0)?;
+    let inputs = greedy_inputs(alloc, "1", None)?;
     let image = disk.image(fill)?;
     let ran = run(rt, alloc, inputs, image);
     Ok(ran.number == 0 && ran.sink.bytes() == MORNING_REPORT.as_bytes())
@@ -193,21 +102,74 @@ fn each_image_of_the_record_is_gone_on_with(rt: HostRuntime) -> Result<(), Fail>
     Ok(())
 }
 
-#[test]
-fn a_failing_read_touches_no_disk(rt: HostRuntime) -> Result<(), Fail> {
-    // the fourth read gives the end of the document
-    let ran = run_from(&rt, rt.alloc(), 4, 0)?;
-    assert_eq!(rt;
-        (ran.number, ran.disk.calls(), ran.disk.bytes().len()),
-        (5, 0, 0)
-    );
-    Ok(())
+/// Whether a run whose read of this number fails ends as a read fault, with nothing written and the disk not called.
+fn is_unread<R: Threads + Wait + Sync>(
+    rt: &R,
+    alloc: Global,
+    read: u64,
+) -> Result<bool, AllocError> {
+    let ran = run_from(rt, alloc, read, 0)?;
+    Ok(ran.number == 5 && ran.disk.calls() == 0 && ran.sink.bytes().is_empty())
 }
 
 #[test]
-fn a_failing_write_leaves_the_beginning(rt: HostRuntime) -> Result<(), Fail> {
-    let ran = run_from(&rt, rt.alloc(), 0, 2)?;
-    assert_eq!(rt; (ran.number, ran.disk.bytes().len()), (6, 622));
-    assert_eq!(rt; ran.sink.bytes(), b"shift-report 1\nstatu".as_slice());
+fn each_failing_read_touches_no_disk(rt: HostRuntime) -> Result<(), Fail> {
+    // three reads give the document, and the fourth its end
+    for read in 1..5 {
+        assert!(rt; is_unread(&rt, rt.alloc(), read)?);
+    }
+    assert!(rt; !is_unread(&rt, rt.alloc(), 5)?);
+    Ok(())
+}
+
+/// Whether a run whose write of this number fails ends as a write fault, with the bytes of the writes before it written and the
+/// journal whole.
+fn is_unwritten<R: Threads + Wait + Sync>(
+    rt: &R,
+    alloc: Global,
+    write: u64,
+) -> Result<bool, AllocError> {
+    let ran = run_from(rt, alloc, 0, write)?;
+    let written = ran.sink.bytes();
+    let whole = ran.disk.bytes().len() == 622;
+    let writes = (written.len() as u64).div_ceil(20);
+    let begins = MORNING_REPORT.as_bytes().starts_with(written);
+    Ok(ran.number == 6 && whole && writes.saturating_add(1) == write && begins)
+}
+
+#[test]
+fn each_failing_write_leaves_the_beginning(rt: HostRuntime) -> Result<(), Fail> {
+    let writes = (MORNING_REPORT.len() as u64).div_ceil(20);
+    for write in 1..writes.saturating_add(1) {
+        assert!(rt; is_unwritten(&rt, rt.alloc(), write)?);
+    }
+    let ran = run_from(&rt, rt.alloc(), 0, writes.saturating_add(1))?;
+    assert_eq!(rt; ran.number, 0);
+    assert_eq!(rt; ran.sink.bytes(), MORNING_REPORT.as_bytes());
+    Ok(())
+}
+
+/// A run on the disk of an earlier one.
+fn run_again<R: Threads + Wait + Sync>(rt: &R, alloc: Global, ran: Ran) -> Result<Ran, AllocError> {
+    if 1_000 < ran.disk.calls() {
+        return Ok(ran);
+    }
+    let inputs = greedy_inputs(alloc, "1", None)?;
+    Ok(run(rt, alloc, inputs, ran.disk))
+}
+
+#[test]
+fn a_disk_that_fails_again_and_again_is_gone_on_with(rt: HostRuntime) -> Result<(), Fail> {
+    let alloc = rt.alloc();
+    // the third call of a record, and then the second call and the first of an opening
+    let disk = new_disk(alloc, &[7, 9, 10])?;
+    let first = run(&rt, alloc, greedy_inputs(alloc, "1", None)?, disk);
+    assert_eq!(rt; (first.number, first.opened), (7, true));
+    let second = run_again(&rt, alloc, first)?;
+    assert_eq!(rt; (second.number, second.opened), (7, false));
+    let third = run_again(&rt, alloc, second)?;
+    assert_eq!(rt; (third.number, third.opened), (7, false));
+    let last = run_again(&rt, alloc, third)?;
+    assert_eq!(rt; last.sink.bytes(), MORNING_REPORT.as_bytes());
     Ok(())
 }

@@ -41,7 +41,7 @@ impl Sharing {
     }
 
     /// Allows work on plans for the climbs since the last time, and gives how much of all that was allowed is due, after so much work of
-    /// climbs and on plans. Plans may have three times as long as climbs while they get cheaper, and a third of that time later; at one
+    /// climbs and on plans. Plans may have three times as long as climbs while they get cheaper, and as long as climbs later; at one
     /// time they get at most as long as the climbs since the last time took, or a slice.
     pub(crate) fn due(&mut self, climbed: u64, planned: u64) -> u64 {
         let climb = climbed.saturating_sub(self.climbed) / PLAN_UNIT;
@@ -49,7 +49,7 @@ impl Sharing {
         let share = if self.is_gaining(planned) {
             climb.saturating_mul(3)
         } else {
-            climb / 3
+            climb
         };
         self.allowed = self.allowed.saturating_add(share);
         self.allowed.saturating_sub(planned).min(SLICE.max(climb))

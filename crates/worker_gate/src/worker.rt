@@ -23,6 +23,11 @@ use std::alloc::Global;
 use std::mem;
 use std::sync::Wait;
 use std::sync::ledger::{Ledger, Share};
+use std::thread::Parker;
+use std::time::Duration;
+
+/// How long a worker waits that finds no open node, in microseconds, before it asks for one again.
+const IDLE: u64 = 200;
 
 /// The step that a worker makes of what its adviser advises for a node, with its prices proved in the worker's buffers.
 pub(crate) fn decide(
@@ -152,6 +157,11 @@ fn commit_closing<B: Board, L: Ledger, R: Wait>(
     }
 }
 
+/// Waits a while for other workers to split nodes.
+fn wait_for_nodes<R: Wait>(rt: &R) {
+    Parker::new().park_timeout(rt, Duration::from_micros(IDLE));
+}
+
 /// One round of a worker, and whether it goes on.
 fn round<B: Board, L: Ledger, G: Gate, S: Stop, R: Wait>(
     rt: &R,
@@ -186,7 +196,10 @@ fn round<B: Board, L: Ledger, G: Gate, S: Stop, R: Wait>(
     } = place;
     let Work { node, ask, taken } = match take_turn(rt, lock, pass, *number, stop.is_asked()) {
         Ok(work) => work,
-        Err(Rest::Again) => return true,
+        Err(Rest::Again) => {
+            wait_for_nodes(rt);
+            return true;
+        }
         Err(Rest::End) => return false,
         Err(Rest::Asked) => {
             *asked = true;

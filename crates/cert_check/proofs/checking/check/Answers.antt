@@ -1,31 +1,8 @@
 use Rattle.std.proofs.lemmas.Result.{err_from_is_err_and}
-use Rattle.certificate.proofs.Acceptance.{bounds, plans}
-use Rattle.cert_check.proofs.Causes.{check_good, line_refused, check_plan}
+use Rattle.cert_check.proofs.Causes.{line_refused}
 use Rattle.cert_check.proofs.checking.check.Goals as goal
 
 pub returns-in_err-tree-clause-refused : goal.returns-in_err-tree-clause-refused
 returns-in_err-tree-clause-refused c =
     let p = err_from_is_err_and c.from_residual.result c.from_residual.ensures.1 in
     rw (p.1, p.2) (line_refused c.args.instance.now c.args.cert.now c.in_err-tree.field-0.0 c.in_err-tree.ensures.bad)
-
-pub returns-in_err-cost-clause-refused : goal.returns-in_err-cost-clause-refused
-returns-in_err-cost-clause-refused c =
-    let p = err_from_is_err_and c.from_residual-in_err-cost.result c.from_residual-in_err-cost.ensures.1 in
-    rw (p.1, p.2)
-    (check_plan c.args.instance.now c.args.cert.now c.in_ok-tree.tree c.least_floor-found.result c.in_err-cost.field-0.0 c.in_ok-tree.ensures.good
-    c.in_ok-tree.ensures.causes c.least_floor-found.ensures c.if-found-cert.false c.in_err-cost.ensures)
-
-pub returns-clause-accepted : goal.returns-clause-accepted
-returns-clause-accepted c =
-    check_good c.args.instance.now c.args.cert.now c.in_ok-tree.tree c.least_floor-found.result c.in_ok-tree.ensures.good c.in_ok-tree.ensures.causes
-    c.least_floor-found.ensures c.if-found-cert.false c.in_ok-cost.ensures.0
-
-pub returns-clause-enough : goal.returns-clause-enough
-returns-clause-enough c = bounds c.args.instance.now c.args.cert.now
-    (check_good c.args.instance.now c.args.cert.now c.in_ok-tree.tree c.least_floor-found.result c.in_ok-tree.ensures.good c.in_ok-tree.ensures.causes
-    c.least_floor-found.ensures c.if-found-cert.false c.in_ok-cost.ensures.0)
-
-pub returns-clause-plan : goal.returns-clause-plan
-returns-clause-plan c = λ claimed rows e. plans c.args.instance.now c.args.cert.now
-    (check_good c.args.instance.now c.args.cert.now c.in_ok-tree.tree c.least_floor-found.result c.in_ok-tree.ensures.good c.in_ok-tree.ensures.causes
-    c.least_floor-found.ensures c.if-found-cert.false c.in_ok-cost.ensures.0) (claimed, rows) e

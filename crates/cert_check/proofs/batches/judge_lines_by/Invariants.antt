@@ -1,0 +1,16 @@
+use Rattle.std.proofs.Common.{◌≡◌, ◌-◌, ◌+◌, ◌≤◌, ◌∷◌, [], length}
+use Rattle.head_splits.specs.Nodes.{new_node}
+use Rattle.certificate.specs.Accepted.{nodes_after, nodes_of}
+use Rattle.cert_check.specs.Judged.{line_cause}
+use Rattle.cert_check.proofs.batches.judge_lines_by.Given as goal
+
+abbrev pub invariant-loop-reader : goal.invariant-loop-reader
+invariant-loop-reader g l = record {
+  nodes : nodes_after l.instance l.tree l.reader ≡ nodes_of l.instance l.lines;
+  causes : line_cause l.instance l.tree (length l.lines - length l.reader + 1) l.reader ≡ line_cause l.instance (new_node [] ∷ []) 1 l.lines;
+  few : length l.reader ≤ length l.lines;
+  memory : l.memory ≡ l.instance;
+}
+
+abbrev pub decreases-loop-reader : goal.decreases-loop-reader
+decreases-loop-reader g l = length l.reader
