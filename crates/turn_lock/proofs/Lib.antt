@@ -1,3 +1,4 @@
+pub mod Closing
 pub mod Histories
 pub mod Seated
 pub mod Steps

@@ -8,7 +8,7 @@ use Rattle.turn_lock.specs.declared.view.Part.{Part}
 use Rattle.turn_lock.specs.declared.view.View.{View}
 use Rattle.turn_lock.specs.Passes.{of_number, AddsAtMostOne, IsPrefix}
 use Rattle.turn_lock.specs.Seats.{left_with, new_seat, new_seats, SeatView}
-use Rattle.turn_lock.specs.Turning.{after_turn, dealer, drew, entered, first_of, fresh_from, gathers, making, part_of, seen_as, AreKnown, Fits, IsInside, IsOutside}
+use Rattle.turn_lock.specs.Turning.{after_turn, dealer, dealt, drew, entered, first_of, fresh_from, gathers, making, part_of, seen_as, AreKnown, Fits, IsInside, IsOutside}
 
 module _ {R : Type 0} where
   pub outside_as : (number left : ℕ) (views : List (View R)) (v : View R) → views ≡ v ∷ [] → v.kind ≡ 1 → v.stage ≡ 0 → v.parts ≡ 1 → v.number ≡ number → v.left ≡ left → IsOutside number left views
@@ -28,12 +28,46 @@ module _ {R : Type 0} where
       ap (λ (l : List (SeatView R)). new_seat lock root first ∷ l)
       (subst (λ (k : ℕ). new_seats lock root (suc first) count ++ new_seat lock root k ∷ [] ≡ new_seats lock root (suc first) (suc count)) (omega arith) (seats_snoc lock root (suc first) count))
 
+  -- seats that are made, with one more
+  pub made_more : (lock : TableId) (root : Option R) (count next : ℕ) (old new : List (SeatView R)) (s : SeatView R) → next ≡ suc count → old ≡ new_seats lock root 0 count → new ≡ old ++ s ∷ [] → s ≡ new_seat lock root count
+      → new ≡ new_seats lock root 0 next
+  made_more lock root count next old new s next_is was more is =
+      more ∙ ap (λ (l : List (SeatView R)). l ++ s ∷ []) was ∙ ap (λ (x : SeatView R). new_seats lock root 0 count ++ x ∷ []) is
+      ∙ subst (λ (k : ℕ). new_seats lock root 0 count ++ new_seat lock root k ∷ [] ≡ new_seats lock root 0 (suc count)) (omega arith) (seats_snoc lock root 0 count)
+      ∙ ap (λ (k : ℕ). new_seats lock root 0 k) (sym next_is)
+
+  pub seen_at : (a b : TableId) (number left : ℕ) (v : View R) → a ≡ b → seen_as a number left v ≡ seen_as b number left v
+  seen_at a b number left v same = ap (λ (t : TableId). seen_as t number left v) same
+
   -- a seat that has given one of the others its number
-  pub dealt_on : (root : Option R) (last first others less : ℕ) → others ≡ suc less → dealer (making root last first others) ≡ making root last (suc first) less
-  dealt_on root last first others less is =
-      subst (λ (k : ℕ). dealer (making root last first k) ≡ making root last (suc first) less) (sym is)
+  pub dealt_on : (root : Option R) (last first others next less : ℕ) → next ≡ suc first → others ≡ suc less → dealer (making root last first others) ≡ making root last next less
+  dealt_on root last first others next less next_is is =
+      subst (λ (k : ℕ). dealer (making root last first k) ≡ making root last next less) (sym is)
       (let left : (suc less + 1) * 2 ^ 56 - 2 ^ 56 ≡ (less + 1) * 2 ^ 56 = omega arith in let parts : suc less + 1 - 1 ≡ less + 1 = omega arith in
-      λ i. record { kind = 1; root = root; number = last; stage = 0; ticket = 0; left = left i; known = []; mine = []; heard = []; parts = parts i; others = fresh_from root (suc first) less })
+      (λ i. record { kind = 1; root = root; number = last; stage = 0; ticket = 0; left = left i; known = []; mine = []; heard = []; parts = parts i; others = fresh_from root (suc first) less })
+      ∙ ap (λ (k : ℕ). making root last k less) (sym next_is))
+
+  pub dealt_outside : (r : Option R) (last first others less : ℕ) (v : View R) (views : List (View R)) → v ≡ making r last first others → others ≡ suc less → views ≡ dealt v ∷ [] → IsOutside first (2 ^ 56) views
+  dealt_outside r last first others less v views is some_left there =
+      let now : v ≡ making r last first (suc less) = is ∙ ap (λ (k : ℕ). making r last first k) some_left in
+      subst (λ (l : List (View R)). IsOutside first (2 ^ 56) l) (sym (there ∙ ap (λ (u : View R). dealt u ∷ []) now)) (refl, refl, refl, refl, refl, refl)
+
+  pub dealt_seen : (lock : TableId) (r : Option R) (last first others less : ℕ) (v : View R) (views : List (View R)) → v ≡ making r last first others → others ≡ suc less → views ≡ dealt v ∷ []
+      → seen_as lock first (2 ^ 56) (first_of views) ≡ new_seat lock r first
+  dealt_seen lock r last first others less v views is some_left there =
+      let now : v ≡ making r last first (suc less) = is ∙ ap (λ (k : ℕ). making r last first k) some_left in
+      ap (λ (l : List (View R)). seen_as lock first (2 ^ 56) (first_of l)) (there ∙ ap (λ (u : View R). dealt u ∷ []) now)
+
+  pub last_outside : (r : Option R) (last first others : ℕ) (v : View R) (views : List (View R)) → v ≡ making r last first others → others ≡ 0 → views ≡ v ∷ [] → IsOutside last (2 ^ 56) views
+  last_outside r last first others v views is none_left there =
+      let now : v ≡ making r last first 0 = is ∙ ap (λ (k : ℕ). making r last first k) none_left in
+      subst (λ (l : List (View R)). IsOutside last (2 ^ 56) l) (sym (there ∙ ap (λ (u : View R). u ∷ []) now)) (refl, refl, refl, refl, refl, omega arith)
+
+  pub last_seen : (lock : TableId) (r : Option R) (last first others : ℕ) (v : View R) (views : List (View R)) → v ≡ making r last first others → others ≡ 0 → views ≡ v ∷ []
+      → seen_as lock last (2 ^ 56) (first_of views) ≡ new_seat lock r last
+  last_seen lock r last first others v views is none_left there =
+      let now : v ≡ making r last first 0 = is ∙ ap (λ (k : ℕ). making r last first k) none_left in
+      ap (λ (l : List (View R)). seen_as lock last (2 ^ 56) (first_of l)) (there ∙ ap (λ (u : View R). u ∷ []) now)
 
   -- ---- a seat that is inside, and what contracts see of it
 
@@ -89,6 +123,19 @@ module _ {R : Type 0} where
     own_is = h.own_is;
     others = λ i. seen i ∷ h.others i;
   }
+
+  pub gather_next_as : (lock : TableId) (seats : ℕ) (all old left : List (SeatView R)) (s : SeatView R) (v w u : View R) → u ≡ gathers v w → IsGathered lock seats all old v → old ≡ left ++ s ∷ [] → w.parts ≡ 1 → part_of w ≡ part_seen s
+      → IsGathered lock seats all left u
+  gather_next_as lock seats all old left s v w u is h order part seen =
+      subst (λ (x : View R). IsGathered lock seats all left x) (sym is) (gather_next lock seats all old left s v w h order part seen)
+
+  -- a seat that is taken out of a list of seats at one lock
+  pub popped_lock : (lock : TableId) (all left : List (SeatView R)) (s : SeatView R) → all ≡ left ++ s ∷ [] → All (λ (x : SeatView R). x.lock ≡ lock) all → s.lock ≡ lock
+  popped_lock lock all left s order locks = (All-pop (λ (x : SeatView R). x.lock ≡ lock) all left (Some s) order locks).1
+
+  pub part_is : (lock : TableId) (number left : ℕ) (w v : View R) (s : SeatView R) → w ≡ v → w.number ≡ number → seen_as lock number left w ≡ s → part_of v ≡ part_seen s
+  part_is lock number left w v s same num seen =
+      ap (λ (x : View R). part_of x) (sym same) ∙ (λ i. record { root = w.root; number = num i; known = w.known; mine = w.mine }) ∙ ap (λ (x : SeatView R). part_seen x) seen
 
   -- what holds of each seat at the end
   abbrev pub Agrees : R → List Pass → SeatView R → Type 0

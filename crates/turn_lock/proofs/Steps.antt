@@ -129,6 +129,10 @@ module _ {R T : Type 0} (root : T → R) (passes : T → List Pass) where
     slot = inl ((λ by v at is2. let st : w.stage ≡ v.stage = ap (λ (u : View R). u.stage) (first_only w by v at).1 in omega arith), (value, refl, e, none_yet));
   }
 
+  pub opens_as : (r : R) (value : T) (seats : ℕ) (slots : List (Option T)) → slots ≡ Some value ∷ [] → root value ≡ r → passes value ≡ [] → 0 < seats → seats ≤ 16 → IsRuled root passes r seats (opening (0 ∷ 0 ∷ []) slots (first_view r seats))
+  opens_as r value seats slots is e none_yet some_seats sixteen =
+      subst (λ (l : List (Option T)). IsRuled root passes r seats (opening (0 ∷ 0 ∷ []) l (first_view r seats))) (sym is) (opens r value seats e none_yet some_seats sixteen)
+
   -- a seat that is outside draws a ticket
   pub draws : (key : R) (seats id : ℕ) (v : View R) → v.kind ≡ 1 → v.stage ≡ 0 → 0 < v.left
       → Allows (IsRuled root passes key seats) 1 id (v, []) 0 (λ n. (n + 1) % 2 ^ 64) (λ r m. m ≡ (drew v r, []))

@@ -14,5 +14,5 @@ fetch_add-requires g c =
     let new = added _ _ _ (leave_adds c.inside.inside.seat.me.0 _ _ _ _ _ seen inv.4 c.requires.passes) in (
       e.0 ∙ ap (λ s. s.lock) seen ∙ c.requires.lock ∙ sym (ap (λ l. l.name) c.self.view_is),
       omega (arith, sized.0),
-      advances_as g.T.Passed.root g.T.Passed.passes _ _ _ _ _ c.args.turn.value _ new.0 sized.1 e.3 (ap rest inv.0) inv.1 inv.2 (ap (λ s. s.root) seen ∙ sym c.requires.root) new.1 new.2,
+      advances_as g.T.Passed.root g.T.Passed.passes _ _ _ _ _ _ c.args.turn.value _ new.0 sized.1 e.3 (ap rest inv.0) inv.1 inv.2 (ap (λ s. s.root) seen ∙ sym c.requires.root) new.1 new.2,
     )
