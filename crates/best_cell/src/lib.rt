@@ -6,7 +6,6 @@ mod rule;
 mod view;
 
 pub use cell::{Reader, Teller, pair};
-
 use std::alloc::AllocError;
 
 /// Running out of memory.

@@ -149,7 +149,7 @@ module _ {R : Type 0} where
   agree key log lock seats all v h f =
       let some_kind : 0 < v.kind = omega (arith, h.kind) in
       let own : Agrees key log h.own =
-          subst (λ (p : Part R). (Some key ≡ p.root) × (of_number p.number log ≡ p.mine) × IsPrefix p.known log) h.own_is (sym (f.root some_kind), f.mine h.kind, f.known some_kind) in
+      subst (λ (p : Part R). (Some key ≡ p.root) × (of_number p.number log ≡ p.mine) × IsPrefix p.known log) h.own_is (sym (f.root some_kind), f.mine h.kind, f.known some_kind) in
       let gone : All (Agrees key log) h.gone = all_agree key log h.gone h.more (subst (λ (l : List (Part R)). AreKnown key log l) h.others (f.others h.kind)) in
       All-same (Agrees key log) all (h.gone ++ h.own ∷ []) h.order (All-push (Agrees key log) h.gone h.own gone own)
 

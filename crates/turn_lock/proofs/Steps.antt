@@ -371,10 +371,10 @@ module _ {R T : Type 0} (root : T → R) (passes : T → List Pass) where
       (omega arith)
       (λ j u e. ⊎_elim
       (λ (was : At (set s.views id a) j u). each_set s.views id a (λ x. (x.stage ≡ 0) × Fits key h.log x)
-          (out, record { root = mine.root; known = mine.known; mine = mine.mine; inside = mine.inside; seated = mine.seated; heard = mine.heard; part = λ _. omega arith; others = λ _. known.1 }) j u was)
+      (out, record { root = mine.root; known = mine.known; mine = mine.mine; inside = mine.inside; seated = mine.seated; heard = mine.heard; part = λ _. omega arith; others = λ _. known.1 }) j u was)
       (λ (q : (u.stage ≡ 0) × Fits key h.log u). inr q)
       (each_snoc (set s.views id a) b (λ x. (x.stage ≡ 0) × Fits key h.log x)
-          (refl, record { root = λ _. known.0.0; known = λ _. known.0.1; mine = λ _. known.0.2; inside = λ e. absurd (omega arith); seated = λ busy. absurd (omega arith); heard = (h.log, refl); part = λ _. omega arith; others = λ _. tt }) j u e))
+      (refl, record { root = λ _. known.0.0; known = λ _. known.0.1; mine = λ _. known.0.2; inside = λ e. absurd (omega arith); seated = λ busy. absurd (omega arith); heard = (h.log, refl); part = λ _. omega arith; others = λ _. tt }) j u e))
       (λ j u e two. at_longer (set s.views id a) (b ∷ []) j u (inside_set s.views id v a at out j u e two))
 
   -- a seat takes in another for good
@@ -398,7 +398,7 @@ module _ {R T : Type 0} (root : T → R) (passes : T → List Pass) where
       (omega arith)
       (λ j u e. ⊎_elim
       (λ (was : At (set s.views id a) j u). each_set s.views id a (λ x. (x.stage ≡ 0) × Fits key h.log x)
-          (out, record { root = mine.root; known = mine.known; mine = mine.mine; inside = mine.inside; seated = mine.seated; heard = mine.heard; part = λ k. let some_part = mine.part k in omega arith; others = λ k. ((theirs.root (omega arith), theirs.known (omega arith), theirs.mine seat_too), mine.others k) }) j u was)
+      (out, record { root = mine.root; known = mine.known; mine = mine.mine; inside = mine.inside; seated = mine.seated; heard = mine.heard; part = λ k. let some_part = mine.part k in omega arith; others = λ k. ((theirs.root (omega arith), theirs.known (omega arith), theirs.mine seat_too), mine.others k) }) j u was)
       (λ (q : (u.stage ≡ 0) × Fits key h.log u). inr q)
       (each_set (set s.views id a) other spent (λ x. (x.stage ≡ 0) × Fits key h.log x) (refl, spent_fits key h.log) j u e))
       (λ j u e two. inside_set (set s.views id a) other w spent there out_too j u (inside_set s.views id v a at out j u e two) two)
@@ -416,7 +416,7 @@ module _ {R T : Type 0} (root : T → R) (passes : T → List Pass) where
       (λ n. let sum : total (claims n) (s.views ++ b ∷ []) ≡ total (claims n) s.views + 0 = total_snoc (claims n) s.views b in omega arith)
       (omega arith)
       (λ j u e. each_snoc s.views b (λ x. (x.stage ≡ 0) × Fits key h.log x)
-          (refl, record { root = λ _. mine.root kind_some; known = λ _. mine.known kind_some; mine = λ k. absurd (omega arith); inside = λ k. absurd (omega arith); seated = λ k. absurd (omega arith); heard = (h.log, refl); part = λ k. absurd (omega arith); others = λ k. absurd (omega arith) }) j u e)
+      (refl, record { root = λ _. mine.root kind_some; known = λ _. mine.known kind_some; mine = λ k. absurd (omega arith); inside = λ k. absurd (omega arith); seated = λ k. absurd (omega arith); heard = (h.log, refl); part = λ k. absurd (omega arith); others = λ k. absurd (omega arith) }) j u e)
       (λ j u e two. at_longer s.views (b ∷ []) j u e))
 
   -- a seat takes a note in
@@ -437,7 +437,7 @@ module _ {R T : Type 0} (root : T → R) (passes : T → List Pass) where
       (omega arith)
       (λ j u e. ⊎_elim
       (λ (was : At (set s.views id a) j u). each_set s.views id a (λ x. (x.stage ≡ 0) × Fits key h.log x)
-          (out, record { root = mine.root; known = mine.known; mine = mine.mine; inside = mine.inside; seated = mine.seated; heard = theirs.known (omega arith); part = mine.part; others = mine.others }) j u was)
+      (out, record { root = mine.root; known = mine.known; mine = mine.mine; inside = mine.inside; seated = mine.seated; heard = theirs.known (omega arith); part = mine.part; others = mine.others }) j u was)
       (λ (q : (u.stage ≡ 0) × Fits key h.log u). inr q)
       (each_set (set s.views id a) other spent (λ x. (x.stage ≡ 0) × Fits key h.log x) (refl, spent_fits key h.log) j u e))
       (λ j u e two. inside_set (set s.views id a) other w spent there out_too j u (inside_set s.views id v a at out j u e two) two)
@@ -454,7 +454,7 @@ module _ {R T : Type 0} (root : T → R) (passes : T → List Pass) where
       (λ n. let sum : total (claims n) (set s.views id a) + claims n v ≡ total (claims n) s.views + claims n v = total_set (claims n) s.views id v a at in omega arith)
       (parts_set s.views id v a at refl)
       (each_set s.views id a (λ x. (x.stage ≡ 0) × Fits key h.log x)
-          (out, record { root = mine.root; known = λ _. front; mine = mine.mine; inside = λ two. absurd (omega arith); seated = mine.seated; heard = (h.log, refl); part = mine.part; others = mine.others }))
+      (out, record { root = mine.root; known = λ _. front; mine = mine.mine; inside = λ two. absurd (omega arith); seated = mine.seated; heard = (h.log, refl); part = mine.part; others = mine.others }))
       (inside_set s.views id v a at out))
 
   pub compares : (key : R) (seats id : ℕ) (v : View R) → v.kind ≡ 1 → v.stage ≡ 0 → Allows (IsRuled root passes key seats) 1 id (v, []) 1 (λ n. n) (λ r m. Compared v m.0 × (m.1 ≡ []))

@@ -129,7 +129,10 @@ impl<T: Passed> TurnLock<T> {
         requires passes { AddsAtMostOne turn.seat.number turn.seat.known (T.passes turn.value) }
         ensures { result ≡ left_with turn.seat (T.passes turn.value) }
     {
-        let Turn { value, seat: inside } = turn;
+        let Turn {
+            value,
+            seat: inside,
+        } = turn;
         let Entered {
             seat: mut place,
             number,
@@ -248,8 +251,6 @@ impl<T: Passed> TurnLock<T> {
         }
         let longest = Duration::from_micros(LONGEST_SLEEP);
         let expected = (served % (1 << 32)) as u32;
-        self.table
-            .shared
-            .park_timeout(rt, 1, expected, longest);
+        self.table.shared.park_timeout(rt, 1, expected, longest);
     }
 }
