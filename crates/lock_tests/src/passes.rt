@@ -75,13 +75,13 @@ fn count_once<R: Wait>(rt: &R, lock: &TurnLock<Counted>, seat: TurnSeat<()>) -> 
 }
 
 /// Counts a hundred times.
-fn count<R: Wait>(rt: &R, lock: &TurnLock<Counted>, seat: TurnSeat<()>) -> TurnSeat<()>
+fn count<R: Wait>(rt: &R, lock: &TurnLock<Counted>, mut seat: TurnSeat<()>) -> TurnSeat<()>
     requires lock { seat.lock ≡ lock.now.name }
     requires turns { 100 ≤ seat.left }
     ensures { result.lock ≡ seat.lock }
 {
-    let mut seat = seat;
-    for _ in 0..100u32 {
+    for done in 0..100u32 {
+        let _ = done;
         seat = count_once(rt, lock, seat);
     }
     seat
@@ -136,6 +136,7 @@ fn each_pass_has_the_number_of_its_seat(rt: HostRuntime) -> Result<(), Fail> {
 }
 
 /// A lock is made with so many seats and ended again: whether they had the numbers from 0 on, and 2^56 turns left.
+#[tactic(auto, using(crate::proofs::Lists::count_new, crate::proofs::Lists::all_at))]
 fn seats_are_numbered(alloc: Global, seats: u32) -> bool
     requires some_seats { 0 < seats }
     requires sixteen { seats ≤ 16 }
