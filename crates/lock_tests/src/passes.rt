@@ -80,8 +80,7 @@ fn count<R: Wait>(rt: &R, lock: &TurnLock<Counted>, mut seat: TurnSeat<()>) -> T
     requires turns { 100 ≤ seat.left }
     ensures { result.lock ≡ seat.lock }
 {
-    for done in 0..100u32 {
-        let _ = done;
+    for _ in 0..100u32 {
         seat = count_once(rt, lock, seat);
     }
     seat
@@ -135,8 +134,16 @@ fn each_pass_has_the_number_of_its_seat(rt: HostRuntime) -> Result<(), Fail> {
     }
 }
 
+/// Ends a lock whose seats are as it was made.
+fn ended(lock: TurnLock<Counted>, made: Vec<TurnSeat<()>>, seats: u32) -> Counted
+    requires count { lock.seats ≡ seats }
+    requires seats { made.items ≡ new_seats lock.name (Some tt) 0 seats }
+{
+    let _ = seats;
+    lock.close(made)
+}
+
 /// A lock is made with so many seats and ended again: whether they had the numbers from 0 on, and 2^56 turns left.
-#[tactic(auto, using(crate::proofs::Lists::count_new, crate::proofs::Lists::all_at))]
 fn seats_are_numbered(alloc: Global, seats: u32) -> bool
     requires some_seats { 0 < seats }
     requires sixteen { seats ≤ 16 }
@@ -149,7 +156,7 @@ fn seats_are_numbered(alloc: Global, seats: u32) -> bool
                 all = all && seat.number() == numbers && seat.left() == 1 << 56;
                 numbers = numbers.saturating_add(1);
             }
-            let counted = lock.close(made);
+            let counted = ended(lock, made, seats);
             all && numbers == seats && counted.passes.is_empty()
         }
         Err(Unmade { value: _ }) => false,
