@@ -1,0 +1,4 @@
+pub mod Chosen
+pub mod Sound
+pub mod Few
+pub mod Enough
