@@ -1,5 +1,5 @@
 -- From how a run ends over an instance to what its status says.
-use Rattle.std.proofs.Common.{◌≡◌, inl, inr, ℕ, ⊥, refl, sym, subst, ap, ◌∙◌, List, arith, Option, Some, None}
+use Rattle.std.proofs.Common.{◌≡◌, inl, inr, ℕ, refl, sym, subst, ap, ◌∙◌, List, arith, Option, Some, None}
 use Rattle.std.specs.Prelude.{slice_get, take, IsFalse, IsSome, IsSomeAnd}
 use Rattle.std.specs.Option.{option_map}
 use Rattle.shift_instance.specs.Problem.{Problem}
