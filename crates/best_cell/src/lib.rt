@@ -1,0 +1,12 @@
+//! The best cost of a search in a cell: one tells it, and others read it without the lock of the board.
+#![tactic(auto)]
+
+mod cell;
+mod rule;
+mod view;
+
+pub use cell::{Reader, Teller, pair};
+use std::alloc::AllocError;
+
+/// Running out of memory.
+pub type NoMemory = AllocError;

@@ -1,0 +1,4 @@
+pub mod Closing
+pub mod Histories
+pub mod Seated
+pub mod Steps

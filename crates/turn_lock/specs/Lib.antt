@@ -1,0 +1,3 @@
+pub mod Passes
+pub mod Seats
+pub mod Turning
