@@ -1,0 +1,9 @@
+pub mod Places
+pub mod Lines
+pub mod Follows
+pub mod Trees
+pub mod Plans
+pub mod Ends
+pub mod Grafts
+pub mod Runs
+pub mod Pinned

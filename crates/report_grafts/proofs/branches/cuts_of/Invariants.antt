@@ -1,0 +1,13 @@
+use Rattle.std.proofs.Common.{◌≡◌, ◌≤◌, ◌*◌, ◌++◌, [], List, length, reverse}
+use Rattle.head_splits.specs.Nodes.{Node}
+use Rattle.report_grafts.specs.Branches.{cuts_at, MakeNodes}
+use Rattle.report_grafts.proofs.branches.cuts_of.Given as goal
+
+abbrev pub invariant-loop-at : goal.invariant-loop-at
+invariant-loop-at l = record {
+  there : l.at ≤ 2 * length l.branches;
+  cuts : (nodes : List Node) → MakeNodes [] l.branches nodes → cuts_at nodes l.at ++ reverse l.list.items ≡ cuts_at nodes l.node;
+}
+
+abbrev pub decreases-loop-at : goal.decreases-loop-at
+decreases-loop-at l = l.at

@@ -1,0 +1,9 @@
+use Rattle.std.proofs.Common.{◌≡◌, ◌++◌}
+use Rattle.std.specs.List.{flat_map}
+use Rattle.shift_instance.specs.Problem.{below}
+use Rattle.shift_instance.specs.Rota.{heads_on, rota_of}
+use Rattle.report_grafts.specs.Pins.{pins_on}
+use Rattle.report_grafts.proofs.pinning.add_shift.Given as goal
+
+abbrev pub invariant-loop-day : goal.invariant-loop-day
+invariant-loop-day l = l.list.items ≡ l.fn.list.items ++ flat_map (λ day. pins_on l.shift day (heads_on (rota_of l.rows) l.shift day)) (below l.day)

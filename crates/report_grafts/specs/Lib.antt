@@ -1,0 +1,5 @@
+pub mod Run
+pub mod Branches
+pub mod Grafted
+pub mod Faults
+pub mod Pins
