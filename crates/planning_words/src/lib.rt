@@ -6,7 +6,9 @@ mod keeping;
 mod names;
 mod numbers;
 mod tables;
+mod verbs;
 mod wanted;
+mod words;
 
 pub use keeping::{CompareWords, LikeWords};
 pub use names::{document_beside, folder_beside, is_same_file, journal_beside};

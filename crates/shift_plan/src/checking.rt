@@ -1,9 +1,8 @@
 //! A report that stands, judged.
 
-use crate::planning::instance_in;
-use crate::telling::hours_wanted;
-use planning_refusals::{Refusal, read_document, read_report};
-use planning_runs::{Plan, judged_plan};
+use planning_refusals::{Refusal, read_report};
+use planning_runs::Plan;
+use planning_searches::{hours_wanted, judged, read_instance};
 use planning_sheets::{say, standing};
 use planning_words::CheckWords;
 use shift_instance::Instance;
@@ -25,17 +24,20 @@ fn document_text(
     )
 }
 
+/// What is said of a report that is accepted, whose plan has that cost.
+fn plan_text(alloc: Global, report: &str, plan: &Plan, cost: u64) -> Result<String, AllocError> {
+    let stands = standing(alloc, &plan.cert, cost)?;
+    format!(in alloc;
+        "The report {report} is accepted: each duty of its plan is legal. {}\n",
+        stands.as_str()
+    )
+}
+
 /// What is said of a report that is accepted.
 fn accepted_text(alloc: Global, words: &CheckWords, plan: &Plan) -> Result<String, AllocError> {
     let report = words.report;
     match &plan.cert.plan {
-        Some((cost, _)) => {
-            let stands = standing(alloc, &plan.cert, *cost)?;
-            format!(in alloc;
-                "The report {report} is accepted: each duty of its plan is legal. {}\n",
-                stands.as_str()
-            )
-        }
+        Some((cost, _)) => plan_text(alloc, report, plan, *cost),
         None => {
             let bound = plan.cert.bound;
             format!(in alloc;
@@ -45,18 +47,24 @@ fn accepted_text(alloc: Global, words: &CheckWords, plan: &Plan) -> Result<Strin
     }
 }
 
+/// Judges a report for a document, and says that it is accepted.
+fn judge(
+    rt: HostRuntime,
+    words: &CheckWords,
+    document: &[u8],
+    report: Vec<u8>,
+) -> Result<(), Refusal> {
+    let plan = judged(rt.alloc(), document, report)?;
+    let text = accepted_text(rt.alloc(), words, &plan)?;
+    say(rt, text.as_str());
+    Ok(())
+}
+
 /// Judges the report that the words name, and says what came of it.
 pub(crate) fn check(rt: HostRuntime, words: &CheckWords) -> Result<(), Refusal> {
-    let alloc = rt.alloc();
-    let document = read_document(rt, words.instance)?;
-    let instance = instance_in(alloc, document.as_slice())?;
+    let read = read_instance(rt, words.instance)?;
     let report = read_report(rt, words.report)?;
-    say(rt, document_text(alloc, words, &instance)?.as_str());
-    match judged_plan(alloc, document.as_slice(), report) {
-        Ok(plan) => {
-            say(rt, accepted_text(alloc, words, &plan)?.as_str());
-            Ok(())
-        }
-        Err(why) => Err(Refusal::unshown(alloc, document.as_slice(), &why)),
-    }
+    let text = document_text(rt.alloc(), words, &read.instance)?;
+    say(rt, text.as_str());
+    judge(rt, words, read.document.as_slice(), report)
 }

@@ -3,13 +3,13 @@
 ghost use Rattle.std.specs.Prelude.{IfOk, IsTrue};
 ghost use Rattle.shift_instance.specs.Rota.{are_legal_rows};
 
-use crate::keeping::{plan_in, rows_in};
 use break_rules::NoMemory;
 use comparison_texts::{changes_table, side_by_side};
 use plan_comparison::changes;
 use plan_tables::{Summary, summary_text};
 use planning_refusals::{Cause, Refusal};
 use planning_runs::Plan;
+use planning_searches::{plan_in, rows_in};
 use planning_sheets::say;
 use planning_words::CompareWords;
 use shift_instance::{Instance, Rows};
@@ -24,6 +24,35 @@ fn summed(alloc: Global, name: &str, instance: &Instance, rows: &Rows) -> Result
     format!(in alloc; "{name}\n\n{}", text.as_str())
 }
 
+/// What became of the duties of a plan in another one, by day.
+fn changed(
+    alloc: Global,
+    old: &Instance,
+    before: &Rows,
+    new: &Instance,
+    after: &Rows,
+) -> Result<String, NoMemory> {
+    let days = changes(alloc, old, new, before, after)?;
+    changes_table(alloc, days.as_slice())
+}
+
+/// What two plans add up to, beside each other.
+fn both_summed(
+    alloc: Global,
+    words: &CompareWords,
+    old: &Instance,
+    before: &Rows,
+    new: &Instance,
+    after: &Rows,
+) -> Result<String, NoMemory>
+    requires before { IsTrue (are_legal_rows old.now before.now) }
+    requires after { IsTrue (are_legal_rows new.now after.now) }
+{
+    let left = summed(alloc, words.report, old, before)?;
+    let right = summed(alloc, words.other_report, new, after)?;
+    side_by_side(alloc, left.as_str(), right.as_str())
+}
+
 /// What is said of two plans: what became of the duties of the first by day, and both summaries beside each other.
 fn compared(
     alloc: Global,
@@ -36,11 +65,8 @@ fn compared(
     requires before { IsTrue (are_legal_rows old.now before.now) }
     requires after { IsTrue (are_legal_rows new.now after.now) }
 {
-    let days = changes(alloc, old, new, before, after)?;
-    let table = changes_table(alloc, days.as_slice())?;
-    let left = summed(alloc, words.report, old, before)?;
-    let right = summed(alloc, words.other_report, new, after)?;
-    let both = side_by_side(alloc, left.as_str(), right.as_str())?;
+    let table = changed(alloc, old, before, new, after)?;
+    let both = both_summed(alloc, words, old, before, new, after)?;
     format!(in alloc; "{}\n{}", table.as_str(), both.as_str())
 }
 
@@ -65,14 +91,23 @@ fn rows_of<'p>(alloc: Global, report: &str, plan: &'p Plan) -> Result<&'p Rows, 
     }
 }
 
+/// What is said of two plans, which both have to be there.
+fn compared_plans(
+    alloc: Global,
+    words: &CompareWords,
+    old: &Plan,
+    new: &Plan,
+) -> Result<String, Refusal> {
+    let before = rows_of(alloc, words.report, old)?;
+    let after = rows_of(alloc, words.other_report, new)?;
+    Ok(compared(alloc, words, &old.instance, before, &new.instance, after)?)
+}
+
 /// Says which duties two plans have in common, and what each costs.
 pub(crate) fn compare(rt: HostRuntime, words: &CompareWords) -> Result<(), Refusal> {
-    let alloc = rt.alloc();
     let old = plan_of(rt, words.instance, words.report)?;
     let new = plan_of(rt, words.other_instance, words.other_report)?;
-    let before = rows_of(alloc, words.report, &old)?;
-    let after = rows_of(alloc, words.other_report, &new)?;
-    let text = compared(alloc, words, &old.instance, before, &new.instance, after)?;
+    let text = compared_plans(rt.alloc(), words, &old, &new)?;
     say(rt, text.as_str());
     Ok(())
 }

@@ -4,16 +4,14 @@
 //! spreadsheet's tables, and `shift_plan export INSTANCE FOLDER` the tables of a document.
 #![tactic(auto)]
 
+ghost use Rattle.planning_words.specs.Wanted.{IsWithin};
+
 mod checking;
 mod comparing;
-mod journals;
-mod keeping;
-mod listening;
 mod planning;
 mod ruling;
 mod showing;
 mod tables;
-mod telling;
 
 use planning_refusals::{Cause, Refusal};
 use planning_words::{Unasked, Wanted, wanted_by};
@@ -41,30 +39,45 @@ fn command_words(rt: &HostRuntime) -> Result<Vec<String>, Refusal> {
     Ok(args.collect(rt.alloc())?)
 }
 
+/// Does what the words ask for.
+fn done<R: Threads + Wait + Sync>(host: HostRuntime, rt: &R, wanted: &Wanted) -> Result<(), Refusal>
+    requires within { IsWithin wanted.now }
+{
+    match wanted {
+        Wanted::Plan(words) => planning::plan(host, rt, words),
+        Wanted::Show(words) => showing::show(host, words),
+        Wanted::Check(words) => checking::check(host, words),
+        Wanted::Compare(words) => comparing::compare(host, words),
+        Wanted::Rules(words) => ruling::rules(host, words),
+        Wanted::Import(words) => tables::import(host, words),
+        Wanted::Export(words) => tables::export(host, words),
+    }
+}
+
+/// Says what is said of words that ask for nothing, and answers the number with which the program ends.
+fn tell_unasked(host: HostRuntime, why: Unasked) -> Result<u8, Refusal> {
+    match why {
+        Unasked::NoMemory => Err(Refusal::from(AllocError)),
+        Unasked::Said(error) => {
+            let _ = error.print(&host);
+            Ok(u8::try_from(error.exit_code()).unwrap_or(2))
+        }
+    }
+}
+
 /// Does what the words ask for, and answers the number with which the program ends.
 fn answer<R: Threads + Wait + Sync>(
     host: HostRuntime,
     rt: &R,
     words: &[String],
 ) -> Result<u8, Refusal> {
-    let wanted = match wanted_by(host.alloc(), words) {
-        Ok(wanted) => wanted,
-        Err(Unasked::NoMemory) => return Err(Refusal::from(AllocError)),
-        Err(Unasked::Said(error)) => {
-            let _ = error.print(&host);
-            return Ok(u8::try_from(error.exit_code()).unwrap_or(2));
+    match wanted_by(host.alloc(), words) {
+        Ok(wanted) => {
+            done(host, rt, &wanted)?;
+            Ok(0)
         }
-    };
-    match wanted {
-        Wanted::Plan(words) => planning::plan(host, rt, &words)?,
-        Wanted::Show(words) => showing::show(host, &words)?,
-        Wanted::Check(words) => checking::check(host, &words)?,
-        Wanted::Compare(words) => comparing::compare(host, &words)?,
-        Wanted::Rules(words) => ruling::rules(host, &words)?,
-        Wanted::Import(words) => tables::import(host, &words)?,
-        Wanted::Export(words) => tables::export(host, &words)?,
+        Err(why) => tell_unasked(host, why),
     }
-    Ok(0)
 }
 
 fn main(rt: HostRuntime) -> ExitCode {

@@ -1,10 +1,10 @@
 //! The rules of an instance, said back.
 
-use crate::planning::instance_in;
-use crate::telling::{notes_of, warn};
-use planning_refusals::{Cause, Refusal, read_document};
+use planning_refusals::{Cause, Refusal};
+use planning_searches::{read_instance, tell_notes};
 use planning_words::RulesWords;
 use rule_sentences::rules_text;
+use shift_instance::Instance;
 use std::io::{self, Write};
 
 /// Writes a text to standard output.
@@ -14,18 +14,22 @@ fn say(rt: HostRuntime, text: &str) -> io::Result<()> {
     out.flush()
 }
 
-/// Says the rules of the instance that the words name on standard output, and on standard error what a planner should know of it.
-pub(crate) fn rules(rt: HostRuntime, words: &RulesWords) -> Result<(), Refusal> {
-    let document = read_document(rt, words.instance)?;
-    let instance = instance_in(rt.alloc(), document.as_slice())?;
-    let text = rules_text(rt.alloc(), &instance)?;
-    if say(rt, text.as_str()).is_err() {
-        return Err(Refusal::said(
+/// Says the rules of an instance on standard output.
+fn say_rules(rt: HostRuntime, instance: &Instance) -> Result<(), Refusal> {
+    let text = rules_text(rt.alloc(), instance)?;
+    match say(rt, text.as_str()) {
+        Ok(()) => Ok(()),
+        Err(_) => Err(Refusal::said(
             Cause::Unwritten,
             String::from_str(rt.alloc(), "standard output takes no more"),
-        ));
+        )),
     }
-    let notes = notes_of(rt.alloc(), document.as_slice(), &instance)?;
-    warn(rt, notes.as_slice());
+}
+
+/// Says the rules of the instance that the words name on standard output, and on standard error what a planner should know of it.
+pub(crate) fn rules(rt: HostRuntime, words: &RulesWords) -> Result<(), Refusal> {
+    let read = read_instance(rt, words.instance)?;
+    say_rules(rt, &read.instance)?;
+    let _notes = tell_notes(rt, &read)?;
     Ok(())
 }

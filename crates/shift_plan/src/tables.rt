@@ -1,16 +1,16 @@
 //! Tables that are read as a document, and the tables of a document.
 
-use crate::planning::instance_in;
-use crate::telling::hours_wanted;
-use instance_tables::{Table, Tables, exported, imported};
+use instance_tables::{Table, TableTexts, Tables, exported, imported};
 use planning_files::{make_folder, write_kept};
-use planning_refusals::{Refusal, read_document, read_table};
+use planning_refusals::{Refusal, read_table};
+use planning_searches::{hours_wanted, read_instance};
 use planning_sheets::say;
 use planning_words::TableWords;
 use refusal_texts::Role;
 use shift_instance::Instance;
 use std::alloc::{AllocError, Global};
 use std::fs;
+use std::io::ErrorKind;
 
 /// The path of a table in a folder.
 fn path_in(alloc: Global, folder: &str, table: Table) -> Result<String, AllocError> {
@@ -33,19 +33,36 @@ fn rules_in(rt: HostRuntime, folder: &str) -> Result<Option<Vec<u8>>, Refusal> {
     }
 }
 
-/// The instance of tables.
-fn instance_of<'a>(
-    alloc: Global,
-    settings: &'a [u8],
-    need: &'a [u8],
-    types: &'a [u8],
-    rules: Option<&'a [u8]>,
-) -> Result<Instance, Refusal> {
-    let tables = Tables {
+/// The bytes of the tables in a folder.
+#[derive(Drop)]
+struct TableFiles {
+    settings: Vec<u8>,
+    need: Vec<u8>,
+    types: Vec<u8>,
+    rules: Option<Vec<u8>>,
+}
+
+/// The bytes of the tables in a folder.
+fn tables_in(rt: HostRuntime, folder: &str) -> Result<TableFiles, Refusal> {
+    let settings = table_in(rt, folder, Table::Settings)?;
+    let need = table_in(rt, folder, Table::Need)?;
+    let types = table_in(rt, folder, Table::Types)?;
+    let rules = rules_in(rt, folder)?;
+    Ok(TableFiles {
         settings,
         need,
         types,
         rules,
+    })
+}
+
+/// The instance of tables.
+fn instance_of(alloc: Global, files: &TableFiles) -> Result<Instance, Refusal> {
+    let tables = Tables {
+        settings: files.settings.as_slice(),
+        need: files.need.as_slice(),
+        types: files.types.as_slice(),
+        rules: files.rules.as_ref().map(Vec::as_slice),
     };
     match imported(alloc, &tables) {
         Ok(instance) => Ok(instance),
@@ -55,18 +72,22 @@ fn instance_of<'a>(
 
 /// The instance of the tables in a folder.
 fn instance_of_folder(rt: HostRuntime, folder: &str) -> Result<Instance, Refusal> {
-    let alloc = rt.alloc();
-    let settings = table_in(rt, folder, Table::Settings)?;
-    let need = table_in(rt, folder, Table::Need)?;
-    let types = table_in(rt, folder, Table::Types)?;
-    let rules = rules_in(rt, folder)?;
-    instance_of(
-        alloc,
-        settings.as_slice(),
-        need.as_slice(),
-        types.as_slice(),
-        rules.as_ref().map(Vec::as_slice),
-    )
+    let files = tables_in(rt, folder)?;
+    instance_of(rt.alloc(), &files)
+}
+
+/// Says under which name another file that stood in a folder is kept.
+fn tell_kept(rt: HostRuntime, name: &str, kept: &str) {
+    let kept = kept.strip_prefix("./").unwrap_or(kept);
+    let _ = eprintln!(rt; "shift_plan: another {name} stood there; it is {kept} now");
+}
+
+/// The refusal where a file of a folder can't be written.
+fn unwritten(alloc: Global, role: Role, folder: &str, name: &str, why: ErrorKind) -> Refusal {
+    match format!(in alloc; "{folder}/{name}") {
+        Ok(path) => Refusal::unwritten(alloc, role, path.as_str(), why),
+        Err(none) => Refusal::from(none),
+    }
 }
 
 /// Writes a file of a folder, and says under which name another one that stood there is kept, if one is.
@@ -77,19 +98,13 @@ fn write_file(
     name: &str,
     bytes: &[u8],
 ) -> Result<(), Refusal> {
-    let alloc = rt.alloc();
     match write_kept(rt, folder, name, bytes) {
         Ok(None) => Ok(()),
         Ok(Some(kept)) => {
-            let kept = kept.as_str();
-            let kept = kept.strip_prefix("./").unwrap_or(kept);
-            let _ = eprintln!(rt; "shift_plan: another {name} stood there; it is {kept} now");
+            tell_kept(rt, name, kept.as_str());
             Ok(())
         }
-        Err(why) => {
-            let path = format!(in alloc; "{folder}/{name}")?;
-            Err(Refusal::unwritten(alloc, role, path.as_str(), why.kind()))
-        }
+        Err(why) => Err(unwritten(rt.alloc(), role, folder, name, why.kind())),
     }
 }
 
@@ -121,14 +136,19 @@ fn written_text(
     )
 }
 
+/// Writes the document of an instance as the words say.
+fn write_document(rt: HostRuntime, words: &TableWords, instance: &Instance) -> Result<(), Refusal> {
+    let document = instance_json::canonical(rt.alloc(), instance)?;
+    let (folder, name) = folder_and_name(words.instance);
+    write_file(rt, Role::Instance, folder, name, document.as_slice())
+}
+
 /// Reads the tables in a folder and writes their document.
 pub(crate) fn import(rt: HostRuntime, words: &TableWords) -> Result<(), Refusal> {
-    let alloc = rt.alloc();
     let instance = instance_of_folder(rt, words.folder)?;
-    let document = instance_json::canonical(alloc, &instance)?;
-    let (folder, name) = folder_and_name(words.instance);
-    write_file(rt, Role::Instance, folder, name, document.as_slice())?;
-    say(rt, written_text(alloc, words, &instance)?.as_str());
+    write_document(rt, words, &instance)?;
+    let text = written_text(rt.alloc(), words, &instance)?;
+    say(rt, text.as_str());
     Ok(())
 }
 
@@ -140,38 +160,32 @@ fn ready_folder(rt: HostRuntime, folder: &str) -> Result<(), Refusal> {
     }
 }
 
+/// Writes a table to a folder.
+fn write_table(rt: HostRuntime, folder: &str, table: Table, text: &Vec<u8>) -> Result<(), Refusal> {
+    write_file(rt, Role::Table, folder, table.file_name(), text.as_slice())
+}
+
+/// Writes all tables to a folder.
+fn write_tables(rt: HostRuntime, folder: &str, texts: &TableTexts) -> Result<(), Refusal> {
+    write_table(rt, folder, Table::Settings, &texts.settings)?;
+    write_table(rt, folder, Table::Need, &texts.need)?;
+    write_table(rt, folder, Table::Types, &texts.types)?;
+    write_table(rt, folder, Table::Rules, &texts.rules)
+}
+
+/// The tables of the instance of a document in a file.
+fn tables_of(rt: HostRuntime, instance: &str) -> Result<TableTexts, Refusal> {
+    let read = read_instance(rt, instance)?;
+    Ok(exported(rt.alloc(), &read.instance)?)
+}
+
 /// Writes the tables of a document to a folder.
 pub(crate) fn export(rt: HostRuntime, words: &TableWords) -> Result<(), Refusal> {
-    let alloc = rt.alloc();
-    let document = read_document(rt, words.instance)?;
-    let instance = instance_in(alloc, document.as_slice())?;
-    let texts = exported(alloc, &instance)?;
     let folder = words.folder;
+    let texts = tables_of(rt, words.instance)?;
     ready_folder(rt, folder)?;
-    let settings = Table::Settings.file_name();
-    write_file(rt, Role::Table, folder, settings, texts.settings.as_slice())?;
-    write_file(
-        rt,
-        Role::Table,
-        folder,
-        Table::Need.file_name(),
-        texts.need.as_slice(),
-    )?;
-    write_file(
-        rt,
-        Role::Table,
-        folder,
-        Table::Types.file_name(),
-        texts.types.as_slice(),
-    )?;
-    write_file(
-        rt,
-        Role::Table,
-        folder,
-        Table::Rules.file_name(),
-        texts.rules.as_slice(),
-    )?;
-    let text = format!(in alloc;
+    write_tables(rt, folder, &texts)?;
+    let text = format!(in rt.alloc();
         "The tables are in the folder {folder}: settings.csv, need.csv, types.csv and rules.csv.\n"
     )?;
     say(rt, text.as_str());

@@ -1,5 +1,6 @@
 //! What is said of a search on standard error.
 
+use crate::reading::Read;
 use document_faults::repeated_names;
 use instance_warnings::{Told, warnings};
 use journal_texts::full_sentence;
@@ -37,7 +38,7 @@ fn hours_together(instance: &Instance, employees: &[u32]) -> Hours {
 }
 
 /// The hours wanted in all slots of an instance together, as a range where the least and the most differ.
-pub(crate) fn hours_wanted(alloc: Global, instance: &Instance) -> Result<String, AllocError> {
+pub fn hours_wanted(alloc: Global, instance: &Instance) -> Result<String, AllocError> {
     let parts = instance.parts();
     let least = hours_together(instance, parts.need.as_slice());
     let most = hours_together(instance, parts.need_max.as_slice());
@@ -49,7 +50,7 @@ pub(crate) fn hours_wanted(alloc: Global, instance: &Instance) -> Result<String,
 }
 
 /// Says the rules of an instance back before it is searched.
-pub(crate) fn say_rules(rt: HostRuntime, instance: &Instance) -> Result<(), Refusal> {
+pub fn say_rules(rt: HostRuntime, instance: &Instance) -> Result<(), Refusal> {
     let rules = rules_text(rt.alloc(), instance)?;
     let _ = eprint!(rt; "{}", rules.as_str());
     Ok(())
@@ -94,20 +95,36 @@ fn is_never_worth(instance: &Instance) -> bool {
     0 < saved && saved <= u64::from(cost)
 }
 
+/// Adds a sentence for each name that a document says twice where it counts once.
+fn add_repeated(notes: &mut Vec<String>, alloc: Global, document: &[u8]) -> Result<(), Refusal> {
+    for name in &repeated_names(alloc, document)? {
+        notes.push(format!(in alloc; "{name}")?)?;
+    }
+    Ok(())
+}
+
+/// Adds a sentence for each warning of an instance.
+fn add_warnings(
+    notes: &mut Vec<String>,
+    alloc: Global,
+    instance: &Instance,
+) -> Result<(), AllocError> {
+    for warning in &warnings(alloc, instance)? {
+        let told = Told { warning, instance };
+        notes.push(format!(in alloc; "{told}")?)?;
+    }
+    Ok(())
+}
+
 /// What a planner should know of an instance, and of the document that it stands in: a sentence each.
-pub(crate) fn notes_of(
+pub fn notes_of(
     alloc: Global,
     document: &[u8],
     instance: &Instance,
 ) -> Result<Vec<String>, Refusal> {
     let mut notes = Vec::new(alloc);
-    for name in &repeated_names(alloc, document)? {
-        notes.push(format!(in alloc; "{name}")?)?;
-    }
-    for warning in &warnings(alloc, instance)? {
-        let told = Told { warning, instance };
-        notes.push(format!(in alloc; "{told}")?)?;
-    }
+    add_repeated(&mut notes, alloc, document)?;
+    add_warnings(&mut notes, alloc, instance)?;
     if is_never_worth(instance) {
         notes.push(String::from_str(alloc, NEVER_WORTH)?)?;
     }
@@ -115,17 +132,34 @@ pub(crate) fn notes_of(
 }
 
 /// Says what a planner should know of an instance.
-pub(crate) fn warn(rt: HostRuntime, notes: &[String]) {
+fn warn(rt: HostRuntime, notes: &[String]) {
     for note in notes {
         let _ = eprintln!(rt; "shift_plan: note that {}", note.as_str());
     }
 }
 
+/// Says what a planner should know of the instance of a document, and answers it.
+pub fn tell_notes(rt: HostRuntime, read: &Read) -> Result<Vec<String>, Refusal> {
+    let notes = notes_of(rt.alloc(), read.document.as_slice(), &read.instance)?;
+    warn(rt, notes.as_slice());
+    Ok(notes)
+}
+
 /// The gate that says from how many steps a search goes on, if from any, and counts them.
 #[derive(Drop)]
 pub(crate) struct Beginning {
-    pub(crate) rt: HostRuntime,
-    pub(crate) progress: Arc<Progress>,
+    rt: HostRuntime,
+    progress: Arc<Progress>,
+}
+
+impl Beginning {
+    /// The gate of a search with that progress.
+    pub(crate) fn of(rt: HostRuntime, progress: &Arc<Progress>) -> Result<Beginning, AllocError> {
+        Ok(Beginning {
+            rt,
+            progress: Arc::try_clone(progress)?,
+        })
+    }
 }
 
 impl Gate for Beginning {
@@ -141,6 +175,33 @@ impl Gate for Beginning {
     fn enter(&self, _worker: u32, _step: u64) {}
 }
 
+/// Says that the journal of a search is full.
+fn tell_full(rt: HostRuntime, end: u64, limit: u32) {
+    if let Ok(sentence) = full_sentence(rt.alloc(), end, limit) {
+        let _ = eprintln!(rt; "shift_plan: {}", sentence.as_str());
+    }
+}
+
+/// Says why a search was asked to stop, if not by its time.
+fn tell_stopped(rt: HostRuntime, progress: &Progress) {
+    if progress.is_end_asked() {
+        let _ = eprintln!(rt;
+            "shift_plan: the search ends early, as it was asked to: its plan is written, and the same line goes on from there"
+        );
+    } else if progress.is_quiet(&rt) {
+        let _ = eprintln!(rt;
+            "shift_plan: the search ends early, since there was no cheaper plan for as long as --until-quiet says: its plan is written, and the same line goes on from there"
+        );
+    }
+}
+
+/// Says why a search was cut off, if it was.
+fn tell_cut_off(rt: HostRuntime, end: &SearchEnd) {
+    if let Some(why) = Refusal::of_end(rt.alloc(), end) {
+        let _ = eprintln!(rt; "shift_plan: the search ends early: {why}");
+    }
+}
+
 /// Says why a search with a plan ended before its time, if it did.
 pub(crate) fn tell_end(rt: HostRuntime, progress: &Progress, end: &SearchEnd) {
     if shown_on(rt, false) != Shown::Below {
@@ -148,24 +209,8 @@ pub(crate) fn tell_end(rt: HostRuntime, progress: &Progress, end: &SearchEnd) {
         let _ = eprintln!(rt);
     }
     match end {
-        SearchEnd::Full { end, limit } => {
-            if let Ok(sentence) = full_sentence(rt.alloc(), *end, *limit) {
-                let _ = eprintln!(rt; "shift_plan: {}", sentence.as_str());
-            }
-        }
-        SearchEnd::Stopped if progress.is_end_asked() => {
-            let _ = eprintln!(rt;
-                "shift_plan: the search ends early, as it was asked to: its plan is written, and the same line goes on from there"
-            );
-        }
-        SearchEnd::Stopped if progress.is_quiet(&rt) => {
-            let _ = eprintln!(rt;
-                "shift_plan: the search ends early, since there was no cheaper plan for as long as --until-quiet says: its plan is written, and the same line goes on from there"
-            );
-        }
-        _ => {}
-    }
-    if let Some(why) = Refusal::of_end(rt.alloc(), end) {
-        let _ = eprintln!(rt; "shift_plan: the search ends early: {why}");
+        SearchEnd::Full { end, limit } => tell_full(rt, *end, *limit),
+        SearchEnd::Stopped => tell_stopped(rt, progress),
+        end => tell_cut_off(rt, end),
     }
 }

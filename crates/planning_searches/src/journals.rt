@@ -61,7 +61,7 @@ pub(crate) fn is_torn(rt: HostRuntime, path: &str, canonical: &[u8]) -> Result<b
 
 /// The journal of a run, locked, and the old one in whose place it stands, which stays locked as long.
 #[derive(Drop)]
-pub(crate) struct Journals {
+pub struct Journals {
     /// The journal of the run.
     pub(crate) now: LockedJournal<HostRuntime>,
     old: Option<LockedJournal<HostRuntime>>,
@@ -115,39 +115,60 @@ fn of_namesake(alloc: Global, words: &PlanWords) -> Refusal {
     )
 }
 
-/// The journal that the words name, locked for this run. Where they ask to begin again, the old one gets another name first.
-pub(crate) fn locked_journal(rt: HostRuntime, words: &PlanWords) -> Result<Journals, Refusal> {
+/// The refusal of words whose journal is the instance itself.
+fn of_instance(alloc: Global, path: &str) -> Refusal {
+    Refusal::said(
+        Cause::Words,
+        format!(in alloc;
+            "the instance and the journal would be the same file, {path}: name another journal with --journal"
+        ),
+    )
+}
+
+/// The refusal of words whose journal of that path isn't to be locked, if it isn't.
+fn unfit(rt: HostRuntime, words: &PlanWords, path: &str) -> Option<Refusal> {
+    if is_same_file(path, words.instance) {
+        return Some(of_instance(rt.alloc(), path));
+    }
+    if words.seconds == 0 && (words.anew || !has_bytes(rt, path)) {
+        return Some(no_search(rt.alloc(), path));
+    }
+    None
+}
+
+/// Gives the journal of a path another name, and locks a new one in its place.
+fn begun_again(rt: HostRuntime, path: &str) -> Result<LockedJournal<HostRuntime>, Refusal> {
     let alloc = rt.alloc();
-    if has_namesake(rt, words)? {
-        return Err(of_namesake(alloc, words));
+    match set_aside(&rt, alloc, path) {
+        Ok(name) => {
+            let _ = eprintln!(rt; "shift_plan: begins again; the old journal is {name}");
+            locked(rt, path)
+        }
+        Err(why) => Err(Refusal::unwritten(alloc, Role::Journal, path, why.kind())),
     }
-    let path = journal_of(alloc, words)?;
-    if is_same_file(path.as_str(), words.instance) {
-        return Err(Refusal::said(
-            Cause::Words,
-            format!(in alloc;
-                "the instance and the journal would be the same file, {path}: name another journal with --journal"
-            ),
-        ));
+}
+
+/// The journal of a path, locked for this run. Where the words ask to begin again, the old one gets another name first.
+fn locked_at(rt: HostRuntime, words: &PlanWords, path: &str) -> Result<Journals, Refusal> {
+    if let Some(why) = unfit(rt, words, path) {
+        return Err(why);
     }
-    if words.seconds == 0 && (words.anew || !has_bytes(rt, path.as_str())) {
-        return Err(no_search(alloc, path.as_str()));
-    }
-    let now = locked(rt, path.as_str())?;
+    let now = locked(rt, path)?;
     if !words.anew || now.len().unwrap_or(0) == 0 {
         return Ok(Journals { now, old: None });
     }
-    match set_aside(&rt, alloc, path.as_str()) {
-        Ok(name) => {
-            let _ = eprintln!(rt; "shift_plan: begins again; the old journal is {name}");
-        }
-        Err(why) => {
-            return Err(Refusal::unwritten(alloc, Role::Journal, path.as_str(), why.kind()));
-        }
-    }
-    let fresh = locked(rt, path.as_str())?;
+    let fresh = begun_again(rt, path)?;
     Ok(Journals {
         now: fresh,
         old: Some(now),
     })
+}
+
+/// The journal that the words name, locked for this run. Where they ask to begin again, the old one gets another name first.
+pub fn locked_journal(rt: HostRuntime, words: &PlanWords) -> Result<Journals, Refusal> {
+    if has_namesake(rt, words)? {
+        return Err(of_namesake(rt.alloc(), words));
+    }
+    let path = journal_of(rt.alloc(), words)?;
+    locked_at(rt, words, path.as_str())
 }

@@ -1,0 +1,89 @@
+//! The advisers of a search's workers.
+
+use crate::keeping::Older;
+use advice::Adviser;
+use break_rules::NoMemory;
+use kept_duties::Keeping;
+use planning_progress::{Progress, Shown, Until, Watched};
+use planning_words::PlanWords;
+use shift_instance::Instance;
+use std::alloc::AllocError;
+use std::sync::Arc;
+use thorough_search::Thorough;
+
+/// What the advisers of a search are made of.
+#[derive(Clone, Copy)]
+pub(crate) struct Team<'a> {
+    pub(crate) host: HostRuntime,
+    /// The words that ask for the search.
+    pub(crate) words: &'a PlanWords<'a>,
+    /// How far the search has come.
+    pub(crate) progress: &'a Arc<Progress>,
+    /// The older plan of which it keeps what it can.
+    pub(crate) older: &'a Older,
+    /// Where and how often the line of the search is said.
+    pub(crate) shown: Shown,
+}
+
+/// An adviser of a worker.
+type Worker = Watched<Keeping<Thorough<Until<HostRuntime>>>, HostRuntime>;
+
+impl Team<'_> {
+    /// What asks the search to stop.
+    pub(crate) fn until(&self) -> Result<Until<HostRuntime>, AllocError> {
+        Ok(Until::new(Arc::try_clone(self.progress)?, self.host))
+    }
+
+    /// An adviser that searches thoroughly for plans of the instance.
+    fn thorough(
+        &self,
+        instance: &Instance,
+        worker: u16,
+    ) -> Result<Thorough<Until<HostRuntime>>, NoMemory> {
+        let seed = u64::from(self.words.seed) + u64::from(worker);
+        Thorough::of(self.host.alloc(), instance, seed, self.until()?)
+    }
+
+    /// The same adviser which, where there is an older plan, begins with that, and whose plans keep what they can of it.
+    fn keeping(
+        &self,
+        instance: &Instance,
+        worker: u16,
+    ) -> Result<Keeping<Thorough<Until<HostRuntime>>>, NoMemory> {
+        let wanted = self.older.wanted.clone()?;
+        let begin = self.older.begin.clone()?;
+        let thorough = self.thorough(instance, worker)?;
+        Keeping::new(self.host.alloc(), instance, thorough, wanted, begin)
+    }
+
+    /// The same adviser, which tells how far the search has come.
+    fn watched(&self, instance: &Instance, worker: u16) -> Result<Worker, NoMemory> {
+        let seen = Arc::try_clone(self.progress)?;
+        let adviser = self.keeping(instance, worker)?;
+        let alloc = self.host.alloc();
+        Ok(Watched::new(alloc, adviser, worker, seen, self.host, self.shown))
+    }
+
+    /// The adviser of a worker.
+    fn adviser(
+        &self,
+        instance: &Instance,
+        worker: u16,
+    ) -> Result<Box<dyn Adviser + Send>, NoMemory> {
+        let watched = self.watched(instance, worker)?;
+        let adviser: Box<dyn Adviser + Send> = Box::new(self.host.alloc(), watched)?;
+        Ok(adviser)
+    }
+
+    /// The advisers of all workers, each with a seed of its own.
+    pub(crate) fn advisers(
+        &self,
+        instance: &Instance,
+    ) -> Result<Vec<Box<dyn Adviser + Send>>, NoMemory> {
+        let mut advisers: Vec<Box<dyn Adviser + Send>> = Vec::new(self.host.alloc());
+        for worker in 0..self.words.workers {
+            advisers.push(self.adviser(instance, worker)?)?;
+        }
+        Ok(advisers)
+    }
+}

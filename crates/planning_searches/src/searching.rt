@@ -1,0 +1,148 @@
+//! A search for a plan.
+
+ghost use Rattle.std.specs.Prelude.{◌<◌, ◌^◌};
+
+use crate::advising::Team;
+use crate::journals::Journals;
+use crate::keeping::{Older, kept};
+use crate::listening::{listen, stop_of};
+use crate::refused::unplanned;
+use crate::telling::{Beginning, shown_on, tell_end};
+use advice::Adviser;
+use plan_base::FileDisk;
+use planning_files::LockedJournal;
+use planning_progress::{Limits, Progress};
+use planning_refusals::{Cause, Refusal};
+use planning_runs::{Plan, Planned, search_plan};
+use planning_words::{PlanWords, StopOn};
+use shift_instance::Instance;
+use solve_runs::Request;
+use std::alloc::AllocError;
+use std::sync::{Arc, Wait};
+use std::thread::Threads;
+use std::time::Instant;
+
+/// The milliseconds of a second.
+const SECOND: u64 = 1_000;
+
+/// The most steps of a search. No search takes so many.
+const STEPS_MOST: u64 = 1 << 62;
+
+/// How long a search as the words say may last.
+fn limits_of(words: &PlanWords) -> Limits {
+    Limits {
+        whole: u64::from(words.seconds) * SECOND,
+        quiet: words.until_quiet.map(|quiet| u64::from(quiet) * SECOND),
+    }
+}
+
+/// The progress of a run as the words say that begins now.
+fn progress_of(rt: HostRuntime, words: &PlanWords) -> Result<Arc<Progress>, Refusal> {
+    let alloc = rt.alloc();
+    let Ok(began) = Instant::now(&rt) else {
+        return Err(Refusal::said(
+            Cause::System,
+            String::from_str(alloc, "the system doesn't tell the time"),
+        ));
+    };
+    let progress = Progress::new(alloc, began, limits_of(words), words.workers)?;
+    Ok(Arc::new(alloc, progress)?)
+}
+
+/// How many steps a search of so many seconds may take. One without time takes none.
+fn steps_of(seconds: u32) -> u64
+    ensures { result < 2 ^ 63 }
+{
+    if seconds == 0 { 0 } else { STEPS_MOST }
+}
+
+/// The plan of a search that has ended.
+fn ended(team: &Team, planned: Planned<FileDisk<HostRuntime>>) -> Result<Plan, Refusal> {
+    let Planned { searched, plan } = planned;
+    match plan {
+        Some(plan) => {
+            tell_end(team.host, team.progress, &searched.end);
+            Ok(plan)
+        }
+        None => Err(unplanned(team.host, team.words, &searched.end)),
+    }
+}
+
+/// Searches for a plan by these advisers until the search is finished, its time is over, or it is asked to end.
+fn advised<R: Threads + Wait + Sync>(
+    rt: &R,
+    team: &Team,
+    instance: Instance,
+    journal: &LockedJournal<HostRuntime>,
+    advisers: Vec<Box<dyn Adviser + Send>>,
+) -> Result<Planned<FileDisk<HostRuntime>>, AllocError>
+    requires some { 0 < team.now.words.now.workers }
+{
+    let until = team.until()?;
+    let gate = Beginning::of(team.host, team.progress)?;
+    let disk = journal.disk()?;
+    let request = Request {
+        workers: team.words.workers,
+        steps: steps_of(team.words.seconds),
+    };
+    Ok(search_plan(
+        rt,
+        team.host.alloc(),
+        instance,
+        request,
+        disk,
+        advisers,
+        &gate,
+        &until,
+    ))
+}
+
+/// The plan of a search by so many workers as the words say, each with an adviser of its own.
+fn search_by<R: Threads + Wait + Sync>(
+    rt: &R,
+    team: &Team,
+    instance: Instance,
+    journal: &LockedJournal<HostRuntime>,
+) -> Result<Plan, Refusal>
+    requires some { 0 < team.now.words.now.workers }
+{
+    let advisers = team.advisers(&instance)?;
+    let planned = advised(rt, team, instance, journal, advisers)?;
+    ended(team, planned)
+}
+
+/// Whether somebody's line of standard input ends a search as the words say from now on, and so that the line of progress is to say it.
+fn enter_ends<R: Threads>(
+    host: HostRuntime,
+    rt: &R,
+    words: &PlanWords,
+    progress: &Arc<Progress>,
+) -> bool {
+    let stop_on = stop_of(host, words.stop_on);
+    let listens = words.seconds != 0 && stop_on.is_some() && listen(host, rt, progress);
+    listens && stop_on == Some(StopOn::Enter)
+}
+
+/// The plan of a search over a journal as the words say, which a line or the end of standard input ends where the words ask for that, and
+/// which keeps what it can of an older plan.
+pub fn search_as_asked<R: Threads + Wait + Sync>(
+    host: HostRuntime,
+    rt: &R,
+    words: &PlanWords,
+    instance: Instance,
+    older: &Older,
+    journals: &Journals,
+) -> Result<Plan, Refusal>
+    requires some { 0 < words.now.workers }
+{
+    let progress = progress_of(host, words)?;
+    let team = Team {
+        host,
+        words,
+        progress: &progress,
+        older,
+        shown: shown_on(host, enter_ends(host, rt, words, &progress)),
+    };
+    let found = search_by(rt, &team, instance, &journals.now)?;
+    kept(host, found, older)
+}
