@@ -2,7 +2,7 @@
 #![tactic(auto)]
 
 mod adding;
-mod bounds;
+mod findings;
 mod cut_tree;
 mod fault;
 mod reads;
