@@ -3,8 +3,8 @@ use Rattle.std.proofs.lemmas.Option.{slice_get_within}
 use Rattle.recovery.proofs.Folds.{found_here, folding_found, folding_done, folding_more, folding_stops, folding_tree, tree_here}
 use Rattle.recovery.proofs.rebuilding.fold_records.Goals as goal
 
-pub findings-findings-at : goal.findings-findings-at
-findings-findings-at c =
+pub bounds-findings-at : goal.bounds-findings-at
+bounds-findings-at c =
     let b = folding_found c.args.instance.now c.args.records.now c.args.tree.now c.args.outcomes.items _ _ _ c.loop-outcome.at c.loop-outcome.state c.in-Some.outcome c.args.findings.now c.requires.found c.loop-outcome.invariant c.in-Some.ensures.steps.0 in
     slice_get_within c.args.findings.now c.loop-outcome.at b.0 b.1
 
