@@ -9,9 +9,9 @@ ghost use Rattle.recovery.specs.Refusals.{Refuses};
 ghost use Rattle.recovery.specs.Folding.{fault_at};
 
 use crate::adding::add_record;
-use crate::findings::JudgedRecords;
 use crate::cut_tree::CutTree;
 use crate::fault::{RebuildFault, Why};
+use crate::findings::JudgedRecords;
 use crate::reads::{Outcome, Records};
 use break_rules::NoMemory;
 use job_pieces::do_all;
