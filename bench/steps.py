@@ -1,8 +1,10 @@
 #!/usr/bin/env python3
 """Measures searches of many steps over a real journal file: `solve` of the usual week with 2,000 and with 20,000 steps, the opening
-of the journals that they leave by one worker and by four (`--steps 0`, which also writes their report), and `shift_check check` of their reports; the same of the call week with 2,000 steps. Elapsed
-seconds, processor seconds and peak memory of the whole process. Build the programs first, by `./run --build shift_solve` and `./run --build shift_check`. Word: the
-folder for the journals (that for temporary files where none is given), so that a file system in memory can be measured too."""
+of the journals that they leave by one worker and by four, and `shift_check check` of their reports; the same of the call week with 2,000 steps. An opening is
+measured twice: with the report that it writes (`--steps 0`), and alone, by a journal with one record more that spells no posts, so that it is refused when all
+others are read, judged and folded. Elapsed seconds, processor seconds and peak memory of the whole process. Build the programs first, by
+`./run --build shift_solve` and `./run --build shift_check`. Words: the folder for the journals (that for temporary files where none is given), so that a file
+system in memory can be measured too, and the programs `shift_solve` and `shift_check` where they aren't those that are built."""
 import os
 import subprocess
 import sys
@@ -10,10 +12,11 @@ import tempfile
 import time
 
 TOP = os.path.dirname(os.path.dirname(os.path.abspath(__file__)))
-SOLVE = os.path.join(TOP, "crates", "shift_solve", "out", "shift_solve")
-CHECK = os.path.join(TOP, "crates", "shift_check", "out", "shift_check")
+SOLVE = sys.argv[2] if len(sys.argv) > 2 else os.path.join(TOP, "crates", "shift_solve", "out", "shift_solve")
+CHECK = sys.argv[3] if len(sys.argv) > 3 else os.path.join(TOP, "crates", "shift_check", "out", "shift_check")
 EXAMPLES = os.path.join(TOP, "examples")
-OPENINGS = 3           # of a journal by so many workers; the quickest counts
+OPENINGS = 5           # of a journal by so many workers; the quickest counts
+NO_POSTS = b"\xff\xff"  # a record that spells no posts
 
 
 def timed(words, source, target):
@@ -29,6 +32,14 @@ def show(what, measured):
     print("%-44s %9.3f s elapsed, %9.3f s of processors, %8.1f MB" % (what, *measured), flush=True)
 
 
+def with_refused_end(journal, target):
+    """Writes the journal with a last record that is refused: behind its closed gate, which is the file's last byte, and before another."""
+    with open(journal, "rb") as file:
+        whole = file.read()
+    with open(target, "wb") as file:
+        file.write(whole[:-1] + b"\1" + len(NO_POSTS).to_bytes(4, "little") + NO_POSTS + b"\0")
+
+
 def search(example, steps, folder):
     """One search, the opening of its journal, and the check of its report."""
     instance = os.path.join(EXAMPLES, example)
@@ -41,10 +52,13 @@ def search(example, steps, folder):
     with open(report, "rb") as text:
         head = [next(text, b"").decode().strip() for _ in range(4)]
     print("    %s; journal %d bytes, report %d bytes" % (", ".join(head[1:]), os.path.getsize(journal), os.path.getsize(report)))
-    for workers in ("1", "4"):
-        words = [SOLVE, "solve", journal, "--workers", workers, "--steps", "0"]
-        best = min(timed(words, instance, os.path.join(folder, "again.report")) for _ in range(OPENINGS))
-        show("  its journal opened, %s workers, 0 steps" % workers, best)
+    alone = os.path.join(folder, "refused.journal")
+    with_refused_end(journal, alone)
+    for what, path in (("opened, with its report", journal), ("opened alone", alone)):
+        for workers in ("1", "4"):
+            words = [SOLVE, "solve", path, "--workers", workers, "--steps", "0"]
+            best = min(timed(words, instance, os.path.join(folder, "again.report")) for _ in range(OPENINGS))
+            show("  its journal %s, %s workers" % (what, workers), best)
     show("  its report checked", timed([CHECK, "check", instance, report], instance, verdict))
     with open(verdict) as line:
         print("    " + line.read().strip())

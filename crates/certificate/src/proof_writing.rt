@@ -1,5 +1,5 @@
 //! Proof lines as text.
-ghost use Rattle.std.specs.Prelude.{◌≡◌, ◌<◌, ◌++◌, ◌∷◌, ◌^◌, map, All, FitsSigned, OnOk, string_bytes};
+ghost use Rattle.std.specs.Prelude.{◌≡◌, ◌<◌, ◌++◌, ◌∷◌, ◌^◌, map, All, FitsSigned, IfSome, OnOk, string_bytes};
 ghost use Rattle.std.specs.Int.{w64};
 ghost use Rattle.std.specs.List.{flat_map};
 ghost use Rattle.std.specs.Fmt.{decimal, signed_decimal};
@@ -11,13 +11,36 @@ use break_rules::NoMemory;
 use head_splits::{Class, Prices};
 use std::fmt::Write;
 
+/// The text of a price of -1 to 9, as most prices are.
+fn short_text(price: i64) -> Option<&'static str>
+    ensures { IfSome result (λ text. text.now ≡ signed_decimal price) }
+{
+    match price {
+        -1 => Some("-1"),
+        0 => Some("0"),
+        1 => Some("1"),
+        2 => Some("2"),
+        3 => Some("3"),
+        4 => Some("4"),
+        5 => Some("5"),
+        6 => Some("6"),
+        7 => Some("7"),
+        8 => Some("8"),
+        9 => Some("9"),
+        _ => None,
+    }
+}
+
 /// Adds the price of a slot.
 fn add_slot(text: &mut String, price: &i64) -> Result<(), NoMemory>
     ensures fits { FitsSigned w64 price.now }
     ensures added { OnOk result (string_bytes text.new ≡ string_bytes text.old ++ signed_decimal price.now) }
 {
     let price = *price;
-    write!(text, "{price}")
+    match short_text(price) {
+        Some(short) => text.push_str(short),
+        None => write!(text, "{price}"),
+    }
 }
 
 /// Adds the prices of further slots, each with a comma before it.

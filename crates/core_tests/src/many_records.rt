@@ -47,6 +47,12 @@ fn put(
     Ok(())
 }
 
+/// A record of the split of the root into no duty of shift 0 on day 0 and at least one, by worker 0. A book takes it once.
+const SPLIT: [u8; 15] = [1, 0, 3, 0, 0, 0, 0, 0, 0, 0, 0, 0, 0, 0, 0];
+
+/// A record that settles the first part of that split, by worker 0.
+const SETTLED: [u8; 9] = [1, 0, 4, 0, 0, 1, 0, 0, 0];
+
 /// How many posts are in the state of the records, or else the number of the record that is rejected.
 fn told<R: Threads + Sync>(
     rt: &R,
@@ -85,8 +91,23 @@ fn all_are_told<R: Threads + Sync>(
 fn every_number_of_workers_makes_the_state_of_one(rt: HostRuntime) -> Result<(), Fail> {
     let alloc = rt.alloc();
     let mut records = no_posts(alloc)?;
+    put(alloc, &mut records, 10, &SPLIT)?;
+    put(alloc, &mut records, 80, &SETTLED)?;
     put(alloc, &mut records, 149, &PLAN)?;
-    assert!(rt; all_are_told(&rt, alloc, &records, Ok(1))?);
+    assert!(rt; all_are_told(&rt, alloc, &records, Ok(3))?);
+    Ok(())
+}
+
+// A part isn't there before the split that makes it, and a node is split once.
+#[test]
+fn every_number_of_workers_judges_splits_in_their_order(rt: HostRuntime) -> Result<(), Fail> {
+    let alloc = rt.alloc();
+    let mut records = no_posts(alloc)?;
+    put(alloc, &mut records, 70, &SETTLED)?;
+    put(alloc, &mut records, 90, &SPLIT)?;
+    assert!(rt; all_are_told(&rt, alloc, &records, Err(70))?);
+    put(alloc, &mut records, 70, &SPLIT)?;
+    assert!(rt; all_are_told(&rt, alloc, &records, Err(90))?);
     Ok(())
 }
 

@@ -20,8 +20,8 @@ use Rattle.recovery.specs.declared.fault.RebuildFault.{RebuildFault}
 use Rattle.recovery.specs.declared.fault.RebuildFault.TheVariants.{NoMemory}
 use Rattle.recovery.specs.Folding.{fault_at, RecordStops, TakesRecord}
 use Rattle.recovery.specs.NodeCuts.{nodes_of}
-use Rattle.recovery.specs.PostBounds.{AreBoundsIn}
-use Rattle.recovery.specs.Reads.{all_posts, posts_in, AreAllBounds, AreReads, IsReadOf, Outcome}
+use Rattle.recovery.specs.Findings.{AreFoundIn}
+use Rattle.recovery.specs.Reads.{all_posts, posts_in, AreAllFound, AreReads, IsReadOf, Outcome}
 use Rattle.recovery.specs.Records.{MakeBook}
 use Rattle.recovery.specs.Refusals.{Refuses}
 use Rattle.recovery.proofs.Rebuilt.{rebuilt_more, rebuilt_stops, Rebuilt}
@@ -107,11 +107,11 @@ folding_stops i records all passed left next number mid outcome why reads f e st
 
 -- ---- what is known of the record at which a fold is
 
-pub folding_bounds : (i : Problem) (records : List (Vec ℕ Global)) (nodes : List (List Cut)) (all passed left next : List Outcome) (number : ℕ) (now : StateView) (outcome : Outcome) (bounds : List (Vec (Option ℕ) Global))
-    → AreAllBounds i nodes all bounds → Folding i records all passed left number now → left ≡ outcome ∷ next → (found : Vec (Option ℕ) Global) × (slice_get bounds number ≡ Some found) × AreBoundsIn i nodes (posts_in outcome) found.items
-folding_bounds i records nodes all passed left next number now outcome bounds are f e =
+pub folding_found : (i : Problem) (records : List (Vec ℕ Global)) (nodes : List (List Cut)) (all passed left next : List Outcome) (number : ℕ) (now : StateView) (outcome : Outcome) (bounds : List (Vec (Option ℕ) Global))
+    → AreAllFound i nodes all bounds → Folding i records all passed left number now → left ≡ outcome ∷ next → (found : Vec (Option ℕ) Global) × (slice_get bounds number ≡ Some found) × AreFoundIn i nodes (posts_in outcome) found.items
+folding_found i records nodes all passed left next number now outcome bounds are f e =
     let whole : passed ++ outcome ∷ next ≡ all = ap (λ (l : List Outcome). passed ++ l) (sym e) ∙ f.split in
-    let z = seam_zip (λ (o : Outcome) (found : Vec (Option ℕ) Global). AreBoundsIn i nodes (posts_in o) found.items) passed next outcome bounds (subst (λ (l : List Outcome). AreAllBounds i nodes l bounds) (sym whole) are) in
+    let z = seam_zip (λ (o : Outcome) (found : Vec (Option ℕ) Global). AreFoundIn i nodes (posts_in o) found.items) passed next outcome bounds (subst (λ (l : List Outcome). AreAllFound i nodes l bounds) (sym whole) are) in
     (z.0, ap (λ n. slice_get bounds n) f.count ∙ z.1, z.2)
 
 pub folding_tree : (i : Problem) (records : List (Vec ℕ Global)) (nodes : List (List Cut)) (all passed left next : List Outcome) (number : ℕ) (now : StateView) (outcome : Outcome)
@@ -126,15 +126,15 @@ folding_tree i records nodes all passed left next number now outcome tree f e =
           ∙ ap nodes_of (sym (append_assoc now.history (posts_in outcome) (all_posts next))),
     )
 
--- a bound that stands in a buffer at the place of a record is one of its posts
-pub bounds_here : (i : Problem) (nodes : List (List Cut)) (outcome : Outcome) (bounds : List (Vec (Option ℕ) Global)) (number : ℕ) (read : Vec (Option ℕ) Global) (slice : List (Option ℕ))
-    → ((found : Vec (Option ℕ) Global) × (slice_get bounds number ≡ Some found) × AreBoundsIn i nodes (posts_in outcome) found.items) → read ≡ get_or bounds number read → slice ≡ read.items
-    → IfOk outcome (λ posts. AreBoundsIn i nodes posts.items slice)
-bounds_here i nodes outcome bounds number read slice found is same =
+-- what stands at the place of a record was found of its posts
+pub found_here : (i : Problem) (nodes : List (List Cut)) (outcome : Outcome) (bounds : List (Vec (Option ℕ) Global)) (number : ℕ) (read : Vec (Option ℕ) Global) (slice : List (Option ℕ))
+    → ((found : Vec (Option ℕ) Global) × (slice_get bounds number ≡ Some found) × AreFoundIn i nodes (posts_in outcome) found.items) → read ≡ get_or bounds number read → slice ≡ read.items
+    → IfOk outcome (λ posts. AreFoundIn i nodes posts.items slice)
+found_here i nodes outcome bounds number read slice found is same =
     let alike : read ≡ found.0 = is ∙ get_or_from_slice_get bounds number found.0 read found.1 in
-    each outcome (subst (λ (l : List (Option ℕ)). AreBoundsIn i nodes (posts_in outcome) l) (sym (same ∙ ap (λ (v : Vec (Option ℕ) Global). v.items) alike)) found.2)
+    each outcome (subst (λ (l : List (Option ℕ)). AreFoundIn i nodes (posts_in outcome) l) (sym (same ∙ ap (λ (v : Vec (Option ℕ) Global). v.items) alike)) found.2)
   where
-    each : (o : Outcome) → AreBoundsIn i nodes (posts_in o) slice → IfOk o (λ posts. AreBoundsIn i nodes posts.items slice)
+    each : (o : Outcome) → AreFoundIn i nodes (posts_in o) slice → IfOk o (λ posts. AreFoundIn i nodes posts.items slice)
     each (Ok posts) h = h
     each (Err fault) h = tt
 

@@ -1,7 +1,7 @@
-pub mod Bounded
 pub mod Copies
 pub mod CutTrees
 pub mod Folds
+pub mod Found
 pub mod NodesOf
 pub mod Rebuilt
 pub mod Taking

@@ -1,4 +1,4 @@
--- What workers read and bound of records.
+-- What workers read of records, and find of their posts.
 use Rattle.std.specs.Prelude.{ℕ, List, [], Option, Result, Ok, Err, MatchResult, Vec}
 use Rattle.std.specs.List.{AllZip, flat_map}
 use Rattle.std.specs.declared.alloc.Global.{Global}
@@ -8,7 +8,7 @@ use Rattle.post_codec.specs.declared.fault.CodecFault.{CodecFault}
 use Rattle.post_codec.specs.declared.post.Post.{Post}
 use Rattle.post_codec.specs.Fields.{IsFaultOf}
 use Rattle.post_codec.specs.Spelling.{Spells}
-use Rattle.recovery.specs.PostBounds.{AreBoundsIn}
+use Rattle.recovery.specs.Findings.{AreFoundIn}
 
 -- what reading a record gives: the posts that it spells, or why it spells none
 abbrev pub Outcome : Type 0
@@ -30,6 +30,6 @@ all_posts outcomes = flat_map posts_in outcomes
 abbrev pub AreReads : List (Vec ℕ Global) → List Outcome → Type 0
 AreReads records outcomes = AllZip (λ r outcome. IsReadOf r.items outcome) records outcomes
 
--- the bounds of the prices of each record's posts, by its number
-abbrev pub AreAllBounds : Problem → List (List Cut) → List Outcome → List (Vec (Option ℕ) Global) → Type 0
-AreAllBounds i nodes outcomes bounds = AllZip (λ outcome found. AreBoundsIn i nodes (posts_in outcome) found.items) outcomes bounds
+-- what is found of each record's posts, by its number
+abbrev pub AreAllFound : Problem → List (List Cut) → List Outcome → List (Vec (Option ℕ) Global) → Type 0
+AreAllFound i nodes outcomes bounds = AllZip (λ outcome found. AreFoundIn i nodes (posts_in outcome) found.items) outcomes bounds

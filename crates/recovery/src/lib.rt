@@ -2,9 +2,9 @@
 #![tactic(auto)]
 
 mod adding;
-mod bounds;
 mod cut_tree;
 mod fault;
+mod findings;
 mod reads;
 mod rebuilding;
 

@@ -1,17 +1,17 @@
-//! The state that the posts of records make, read and bounded by several workers at the same time.
+//! The state that the posts of records make, read and judged by several workers at the same time.
 ghost use Rattle.std.specs.Prelude.{◌≡◌, ◌≤◌, fold, map, List, IfOk, IfErr, OnOk};
 ghost use Rattle.post_codec.specs.declared.post.Post.{Post as APost};
 ghost use Rattle.search_core.specs.Book.{Book};
 ghost use Rattle.recovery.specs.NodeCuts.{nodes_after, nodes_of};
-ghost use Rattle.recovery.specs.Reads.{all_posts, posts_in, AreReads, AreAllBounds};
+ghost use Rattle.recovery.specs.Reads.{all_posts, posts_in, AreReads, AreAllFound};
 ghost use Rattle.recovery.specs.Records.{MakeBook};
 ghost use Rattle.recovery.specs.Refusals.{Refuses};
 ghost use Rattle.recovery.specs.Folding.{fault_at};
 
 use crate::adding::add_record;
-use crate::bounds::PricedRecords;
 use crate::cut_tree::CutTree;
 use crate::fault::{RebuildFault, Why};
+use crate::findings::JudgedRecords;
 use crate::reads::{Outcome, Records};
 use break_rules::NoMemory;
 use job_pieces::do_all;
@@ -81,7 +81,7 @@ fn tree_of(alloc: Global, outcomes: &[Outcome]) -> Result<CutTree, NoMemory>
     Ok(tree)
 }
 
-/// The state that the posts of records make, one record after another, with the bounds of their prices below the cuts that a
+/// The state that the posts of records make, one record after another, with what was found of them below the cuts that a
 /// tree has for their nodes.
 fn fold_records(
     alloc: Global,
@@ -89,11 +89,11 @@ fn fold_records(
     records: &[Vec<u8>],
     tree: &CutTree,
     outcomes: Vec<Outcome>,
-    bounds: &[Vec<Option<u64>>],
+    findings: &[Vec<Option<u64>>],
 ) -> Result<State, RebuildFault>
     requires reads { AreReads records.now outcomes.items }
     requires tree { tree.now ≡ nodes_of (all_posts outcomes.items) }
-    requires bounds { AreAllBounds instance.now tree.now outcomes.items bounds.now }
+    requires found { AreAllFound instance.now tree.now outcomes.items findings.now }
     ensures instance { IfOk result (λ s. s.instance ≡ instance.now) }
     ensures history { IfOk result (λ s. MakeBook instance.now (map (λ r. r.items) records.now) s.history s.book) }
     ensures refused { IfErr result (Refuses instance.now (map (λ r. r.items) records.now)) }
@@ -101,7 +101,7 @@ fn fold_records(
     let mut state = State::new(alloc, instance)?;
     let mut at = 0;
     for outcome in outcomes {
-        let found = &bounds[at];
+        let found = &findings[at];
         if let Err(why) = add_record(&mut state, instance, tree, outcome, found) {
             return Err(fault_at(at as u64, why));
         }
@@ -110,8 +110,9 @@ fn fold_records(
     Ok(state)
 }
 
-/// The state whose history is the posts of the records, in their order. Up to `workers` workers, 1 to 16, read the records and find
-/// the bounds of their prices at the same time, a piece of the records after another; their number doesn't change the answer. A
+/// The state whose history is the posts of the records, in their order. Up to `workers` workers, 1 to 16, read the records, and find
+/// the bounds of prices, what splits ask and the floors of settled nodes at the same time, a piece of the records after another; their number
+/// doesn't change the answer. A
 /// refusal is that of the first record that is rejected, whatever a worker found in those behind it.
 pub fn rebuild<R: Threads + Sync>(
     rt: &R,
@@ -131,15 +132,15 @@ pub fn rebuild<R: Threads + Sync>(
     let workers = workers as usize;
     let outcomes = do_all(rt, alloc, &Records { records }, workers)?;
     let tree = tree_of(alloc, &outcomes)?;
-    let bounds = do_all(
+    let findings = do_all(
         rt,
         alloc,
-        &PricedRecords {
+        &JudgedRecords {
             instance,
             tree: &tree,
             outcomes: &outcomes,
         },
         workers,
     )?;
-    fold_records(alloc, instance, records, &tree, outcomes, &bounds)
+    fold_records(alloc, instance, records, &tree, outcomes, &findings)
 }

@@ -1,23 +1,23 @@
 use Rattle.std.proofs.Common.{◌≡◌, length, arith}
 use Rattle.std.proofs.lemmas.Option.{slice_get_within}
-use Rattle.recovery.proofs.Folds.{bounds_here, folding_bounds, folding_done, folding_more, folding_stops, folding_tree, tree_here}
+use Rattle.recovery.proofs.Folds.{found_here, folding_found, folding_done, folding_more, folding_stops, folding_tree, tree_here}
 use Rattle.recovery.proofs.rebuilding.fold_records.Goals as goal
 
-pub bounds-bounds-at : goal.bounds-bounds-at
-bounds-bounds-at c =
-    let b = folding_bounds c.args.instance.now c.args.records.now c.args.tree.now c.args.outcomes.items _ _ _ c.loop-outcome.at c.loop-outcome.state c.in-Some.outcome c.args.bounds.now c.requires.bounds c.loop-outcome.invariant c.in-Some.ensures.steps.0 in
-    slice_get_within c.args.bounds.now c.loop-outcome.at b.0 b.1
+pub bounds-findings-at : goal.bounds-findings-at
+bounds-findings-at c =
+    let b = folding_found c.args.instance.now c.args.records.now c.args.tree.now c.args.outcomes.items _ _ _ c.loop-outcome.at c.loop-outcome.state c.in-Some.outcome c.args.findings.now c.requires.found c.loop-outcome.invariant c.in-Some.ensures.steps.0 in
+    slice_get_within c.args.findings.now c.loop-outcome.at b.0 b.1
 
 pub add_record-requires-clause-tree : goal.add_record-requires-clause-tree
 add_record-requires-clause-tree c =
     tree_here c.args.tree.now c.loop-outcome.state.history c.in-Some.outcome
     (folding_tree c.args.instance.now c.args.records.now c.args.tree.now c.args.outcomes.items _ _ _ c.loop-outcome.at c.loop-outcome.state c.in-Some.outcome c.requires.tree c.loop-outcome.invariant c.in-Some.ensures.steps.0)
 
-pub add_record-requires-clause-bounds : goal.add_record-requires-clause-bounds
-add_record-requires-clause-bounds c =
-    bounds_here c.args.instance.now c.args.tree.now c.in-Some.outcome c.args.bounds.now c.loop-outcome.at c.index-bounds-at.result c.deref.result.now
-    (folding_bounds c.args.instance.now c.args.records.now c.args.tree.now c.args.outcomes.items _ _ _ c.loop-outcome.at c.loop-outcome.state c.in-Some.outcome c.args.bounds.now c.requires.bounds c.loop-outcome.invariant c.in-Some.ensures.steps.0)
-    c.index-bounds-at.is c.deref.ensures.value
+pub add_record-requires-clause-found : goal.add_record-requires-clause-found
+add_record-requires-clause-found c =
+    found_here c.args.instance.now c.args.tree.now c.in-Some.outcome c.args.findings.now c.loop-outcome.at c.index-findings-at.result c.deref.result.now
+    (folding_found c.args.instance.now c.args.records.now c.args.tree.now c.args.outcomes.items _ _ _ c.loop-outcome.at c.loop-outcome.state c.in-Some.outcome c.args.findings.now c.requires.found c.loop-outcome.invariant c.in-Some.ensures.steps.0)
+    c.index-findings-at.is c.deref.ensures.value
 
 pub returns-in-Err-clause-refused : goal.returns-in-Err-clause-refused
 returns-in-Err-clause-refused c =
