@@ -50,7 +50,7 @@ pub fn hours_wanted(alloc: Global, instance: &Instance) -> Result<String, AllocE
 }
 
 /// Says the rules of an instance back before it is searched.
-pub fn say_rules(rt: HostRuntime, instance: &Instance) -> Result<(), Refusal> {
+pub fn say_rules(rt: HostRuntime, instance: &Instance) -> Result<(), AllocError> {
     let rules = rules_text(rt.alloc(), instance)?;
     let _ = eprint!(rt; "{}", rules.as_str());
     Ok(())
@@ -96,7 +96,7 @@ fn is_never_worth(instance: &Instance) -> bool {
 }
 
 /// Adds a sentence for each name that a document says twice where it counts once.
-fn add_repeated(notes: &mut Vec<String>, alloc: Global, document: &[u8]) -> Result<(), Refusal> {
+fn add_repeated(notes: &mut Vec<String>, alloc: Global, document: &[u8]) -> Result<(), AllocError> {
     for name in &repeated_names(alloc, document)? {
         notes.push(format!(in alloc; "{name}")?)?;
     }
@@ -121,7 +121,7 @@ pub fn notes_of(
     alloc: Global,
     document: &[u8],
     instance: &Instance,
-) -> Result<Vec<String>, Refusal> {
+) -> Result<Vec<String>, AllocError> {
     let mut notes = Vec::new(alloc);
     add_repeated(&mut notes, alloc, document)?;
     add_warnings(&mut notes, alloc, instance)?;
@@ -139,7 +139,7 @@ fn warn(rt: HostRuntime, notes: &[String]) {
 }
 
 /// Says what a planner should know of the instance of a document, and answers it.
-pub fn tell_notes(rt: HostRuntime, read: &Read) -> Result<Vec<String>, Refusal> {
+pub fn tell_notes(rt: HostRuntime, read: &Read) -> Result<Vec<String>, AllocError> {
     let notes = notes_of(rt.alloc(), read.document.as_slice(), &read.instance)?;
     warn(rt, notes.as_slice());
     Ok(notes)
