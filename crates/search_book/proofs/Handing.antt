@@ -53,23 +53,6 @@ is_there b k p h = let n = node_there (slice_get b.nodes k) p h in slice_get_bel
 pub free_there : (b : Book) (hands : List (Option ℕ)) (k : ℕ) → is_free b hands k ≡ true → k < length b.nodes
 free_there b hands k free = is_there b k (is_open b) (and_parts (is_node_and b k (is_open b)) (not (list_any (is_node k) hands)) free).0
 
--- ---- no node is open
-closed_is : (floor cost : ℕ) → nat_le cost floor ≡ not (nat_lt floor cost)
-closed_is floor cost =
-    elim (nat_lt floor cost) as (λ t. nat_lt floor cost ≡ t → nat_le cost floor ≡ not t)
-    [ true ↦ λ e. lt-leb cost floor (ltb-true floor cost e) | false ↦ λ e. le-leb cost floor (ltb-false floor cost e) ] refl
-
-closed_node : (split : Bool) (floor cost : ℕ) → (split || nat_le cost floor) ≡ not (not split && nat_lt floor cost)
-closed_node true floor cost = refl
-closed_node false floor cost = closed_is floor cost
-
-both_all : (x y u v : Bool) → x ≡ y → u ≡ v → (x && u) ≡ (y && v)
-both_all x y u v e f = ap (λ (t : Bool). t && u) e ∙ ap (λ (t : Bool). y && t) f
-
-pub finished_is : (b : Book) (nodes : List Node) → list_all (λ (n : NodeState). n.split || nat_le b.cost n.floor) (map state_of nodes) ≡ list_all (λ (n : Node). not (is_open b n)) nodes
-finished_is b [] = refl
-finished_is b (n ∷ nodes) = both_all _ _ _ _ (closed_node n.split n.floor b.cost) (finished_is b nodes)
-
 -- ---- the cuts of the node in a hand
 pub cuts_are : (o : Option Node) (cuts : List Cut) → IsSomeAnd o (λ n. cuts ≡ n.cuts) → cuts ≡ option_map_or (λ n. n.cuts) o []
 cuts_are None cuts h = absurd h
