@@ -42,6 +42,9 @@ free_alone b hands k free = not-true _ ((and_parts (is_node_and b k (is_open b))
 pub emptied_counted : (taken : ℕ) (hands : List (Option ℕ)) (w : ℕ) → AreCounted taken hands → AreCounted taken (set hands w None)
 emptied_counted taken hands w counted v x e = elim (hand_set hands w v None x e) [ inl p ↦ absurd (cc (p.1)) | inr p ↦ counted v x p.1 ]
 
+pub emptied_unsplit : (b : Book) (hands : List (Option ℕ)) (w : ℕ) → AreUnsplit b hands → AreUnsplit b (set hands w None)
+emptied_unsplit b hands w unsplit v x e = elim (hand_set hands w v None x e) [ inl p ↦ absurd (cc (p.1)) | inr p ↦ unsplit v x p.1 ]
+
 -- a node of which something holds is there
 node_there : (o : Option Node) (p : Node → Bool) → option_map_or p o false ≡ true → (n : Node) × (o ≡ Some n)
 node_there None p h = absurd (false≢true h)

@@ -1,11 +1,13 @@
 -- The free nodes of a book, as they are listed.
 use Rattle.std.proofs.Common.{◌≡◌, ◌≢◌, ◌⊎◌, inl, inr, ℕ, zero, suc, ◌+◌, ◌<◌, ◌≤◌, Bool, true, false, cond, ◌&&◌, ◌||◌, ◌==◌, not, nat_lt, List, [], ◌∷◌, length, set, replicate, refl, sym, ap, ◌∙◌, subst, arith, eq-eqb, Option, Some, None}
-use Rattle.std.specs.Prelude.{is_none, slice_get}
+use Rattle.std.specs.Prelude.{is_none, slice_get, IfSome, MatchOption}
 use Rattle.std.specs.Option.{is_some, option_and_then, option_map_or}
 use Rattle.std.specs.List.{filter, list_all, list_any}
+use Rattle.std.proofs.lemmas.List.Filters.{length-filter_both}
+use Rattle.std.proofs.lemmas.List.Sums.{sum_by-cons}
 use Rattle.std.proofs.lemmas.Bool.{and_from, and_parts, cases_Bool, cases_eq, cases_lt, eqb-true, false≢true, lt-ltb, ltb-true, not-true, or_cases, or_left, or_right}
 use Rattle.head_splits.specs.Nodes.{Node}
-use Rattle.open_nodes.specs.Listed.{has_node, is_before, is_listed, with_entry, Entry, Rises}
+use Rattle.open_nodes.specs.Listed.{has_node, is_before, is_listed, with_entry, Entry, OpenView, Rises}
 use Rattle.open_nodes.proofs.Orders.{before_cases, first_or_after, is_it, it_is, it_itself, listed_filter, listed_with, not_there, once_listed}
 use Rattle.search_core.specs.Board.{floor_of_node, is_free, IsNext, NoneIsFree}
 use Rattle.search_core.specs.Book.{Book, is_finished, is_node_and, is_open}
@@ -350,7 +352,7 @@ module _ (b c : Book) (x : ℕ) (after : Follows x 2 b c) where
           | inr h ↦ h
         ])
 
-    low_entries : List Entry
+    abbrev low_entries : List Entry
     low_entries = filter (λ e. nat_lt e.0 c.cost) entries
 
     low_only : (f j : ℕ) → is_listed low_entries f j ≡ true → (is_free c (set hands w None) j ≡ true) × (floor_of_node c j ≡ f)
@@ -475,7 +477,7 @@ finished b hands entries all empty none =
           ]
     ]
 
-first_listed : (b : Book) (hands : List (Option ℕ)) (entries : List Entry) → ListsOnlyFree b hands entries → (o : Option Entry) → o ≡ slice_get entries 0 → is_none o ≡ false → is_finished b ≡ false
+pub first_listed : (b : Book) (hands : List (Option ℕ)) (entries : List Entry) → ListsOnlyFree b hands entries → (o : Option Entry) → o ≡ slice_get entries 0 → is_none o ≡ false → is_finished b ≡ false
 first_listed b hands [] only o is some = absurd (false≢true (sym some ∙ ap is_none is))
 first_listed b hands (e ∷ entries) only o is some =
     unfinished b e.1 (free_parts b hands e.1 (only e.0 e.1 (or_left (is_it e.0 e.1 e) (is_listed entries e.0 e.1) (it_itself e))).0).0
@@ -487,9 +489,9 @@ empty_listed (e ∷ entries) o is none = absurd (false≢true (sym (ap is_none i
 -- no node is open where none is listed and no hand holds an open one
 pub finished_both : (b : Book) (hands : List (Option ℕ)) (entries : List Entry) → ListsOnlyFree b hands entries → ListsAllFree b hands entries → (o : Option Entry) → o ≡ slice_get entries 0 → (none holds : Bool) → none ≡ is_none o
     → (holds ≡ true → HoldsOpen b hands) → (holds ≡ false → HoldsOpen b hands → ⊥) → (none && not holds) ≡ is_finished b
-finished_both b hands entries only all o is true true same some no = let h = some refl in sym (unfinished b h.1 h.3)
-finished_both b hands entries only all o is true false same some no = sym (finished b hands entries all (empty_listed entries o is (sym same)) (no refl))
-finished_both b hands entries only all o is false holds same some no = sym (first_listed b hands entries only o is (sym same))
+finished_both b hands entries only all o is true true same some spares = let h = some refl in sym (unfinished b h.1 h.3)
+finished_both b hands entries only all o is true false same some spares = sym (finished b hands entries all (empty_listed entries o is (sym same)) (spares refl))
+finished_both b hands entries only all o is false holds same some spares = sym (first_listed b hands entries only o is (sym same))
 
 -- ---- how many hands are full
 
@@ -519,7 +521,9 @@ idle_fills hands w low empty =
 pub most_full : (hands : List (Option ℕ)) → full_hands hands ≤ length hands
 most_full [] = omega arith
 most_full (None ∷ hands) = omega (arith, most_full hands)
-most_full (Some x ∷ hands) = omega (arith, most_full hands)
+most_full (Some x ∷ hands) =
+    let e : full_hands (Some x ∷ hands) ≡ 1 + full_hands hands = sum_by-cons fill (Some x) hands in
+    omega (arith, e, most_full hands)
 
 pub none_full : (n : ℕ) → full_hands (replicate n None) ≡ 0
 none_full zero = refl
@@ -562,3 +566,44 @@ none_more b hands n none here w low =
       | inl less ↦ none w less
       | inr most ↦ let same : n ≡ w = omega (arith, low, most) in subst (λ z. opens_held b hands z ≡ false) same here
     ]
+
+-- ---- a worker lets go of what it holds, if it holds something
+
+pub yielded_all : (b : Book) (hands : List (Option ℕ)) (entries : List Entry) → ListsOnlyFree b hands entries → ListsAllFree b hands entries → (w : ℕ) → AreApart hands → (h : Option ℕ) (new : List Entry) → h ≡ hand hands w
+    → MatchOption h (new ≡ entries) (λ k. new ≡ with_open b entries k) → ListsFree b (set hands w None) new
+yielded_all b hands entries only all w apart None new is same = subst (ListsFree b (set hands w None)) (sym same) (idle_lists b hands entries only all w (sym is))
+yielded_all b hands entries only all w apart (Some x) new is same = subst (ListsFree b (set hands w None)) (sym same) (yielded_lists b hands entries only all w x apart (sym is))
+
+pub yielded_room : (hands : List (Option ℕ)) (w : ℕ) → w < length hands → (h : Option ℕ) (old new : ℕ) → h ≡ hand hands w → full_hands hands ≤ old → MatchOption h (new ≡ old) (λ _. old ≤ new + 1) → full_hands (set hands w None) ≤ new
+yielded_room hands w low None old new is room same = omega (arith, room, same, idle_fills hands w low (sym is))
+yielded_room hands w low (Some x) old new is room same = omega (arith, room, same, empty_fills hands w x (sym is))
+
+pub hand_room : (hands : List (Option ℕ)) (w : ℕ) (h : Option ℕ) (spare : ℕ) → h ≡ hand hands w → full_hands hands ≤ spare → IfSome h (λ _. 0 < spare)
+hand_room hands w None spare is room = tt
+hand_room hands w (Some x) spare is room = omega (arith, room, empty_fills hands w x (sym is))
+
+pub hand_absent : (b : Book) (hands : List (Option ℕ)) (entries : List Entry) → ListsOnlyFree b hands entries → ListsAllFree b hands entries → (w : ℕ) (h : Option ℕ) → h ≡ hand hands w → IfSome h (λ k. has_node entries k ≡ false)
+hand_absent b hands entries only all w None is = tt
+hand_absent b hands entries only all w (Some x) is = held_absent b hands entries only all w x (sym is)
+
+-- ---- nodes at a new best cost
+
+-- the nodes below a cost, with no less room
+abbrev pub IsBelow : OpenView → ℕ → OpenView → Type 0
+IsBelow old cost new = (new.entries ≡ filter (λ e. nat_lt e.0 cost) old.entries) × (old.spare ≤ new.spare)
+
+pub dropped_below : (old new n : OpenView) (cost told : ℕ) → n ≡ new → told ≡ cost → new.entries ≡ filter (λ e. nat_lt e.0 told) old.entries → new.spare + length new.entries ≡ old.spare + length old.entries → IsBelow old cost n
+dropped_below old new n cost told same is left spare =
+    let p : Entry → Bool = λ e. nat_lt e.0 told in
+    let both : length (filter p old.entries) + length (filter (λ e. not (p e)) old.entries) ≡ length old.entries = length-filter_both p (λ e. not (p e)) (λ _. refl) old.entries in
+    let long : length new.entries ≡ length (filter p old.entries) = ap length left in
+    let room : n.spare ≡ new.spare = ap (λ (v : OpenView). v.spare) same in
+    (ap (λ (v : OpenView). v.entries) same ∙ left ∙ ap (λ (m : ℕ). filter (λ (e : Entry). nat_lt e.0 m) old.entries) is, omega (arith, both, long, spare, room))
+
+pub kept_below : (old n : OpenView) (best count cost told : ℕ) → n ≡ old → told ≡ cost → AreLow best count old.entries → best ≤ told → IsBelow old cost n
+kept_below old n best count cost told same is low most =
+    let room : n.spare ≡ old.spare = ap (λ (v : OpenView). v.spare) same in
+    (ap (λ (v : OpenView). v.entries) same ∙ sym (low_stays best cost count old.entries low (omega (arith, most, is))), omega (arith, room))
+
+pub below_low : (old n : OpenView) (best count cost : ℕ) → AreLow best count old.entries → IsBelow old cost n → AreLow best count n.entries
+below_low old n best count cost low below = subst (AreLow best count) (sym below.0) (filtered_low best cost count old.entries low)

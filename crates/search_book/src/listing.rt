@@ -1,6 +1,7 @@
 //! The open nodes that no worker holds, as a state has them.
-ghost use Rattle.std.specs.Prelude.{◌≡◌, ℕ, ◌+◌, ◌<◌, ◌≤◌, ◌^◌, false, true, length, nat_lt, option_map_or, IfOk, IsFalse, IsTrue, Some};
+ghost use Rattle.std.specs.Prelude.{◌≡◌, ℕ, ◌+◌, ◌<◌, ◌≤◌, ◌^◌, false, true, length, nat_lt, IfOk, IfSome, IsFalse, IsTrue, MatchOption, Some};
 ghost use Rattle.std.specs.List.{filter};
+ghost use Rattle.std.specs.Option.{option_map_or};
 ghost use Rattle.open_nodes.specs.Listed.{has_node, is_listed};
 ghost use Rattle.search_core.specs.Book.{is_node_and, is_open};
 ghost use Rattle.search_core.specs.Core.{empty_hands, hand};
@@ -21,6 +22,19 @@ pub(crate) fn add_where_open(nodes: &mut OpenNodes, state: &State, node: u32)
     if state.is_open(node) {
         let (floor, _best) = state.floor_and_best(node);
         nodes.add(floor, node);
+    }
+}
+
+/// Adds the node that a worker lets go of, if it held one, where it is open. It takes no memory.
+pub(crate) fn give_back(nodes: &mut OpenNodes, state: &State, held: Option<u32>)
+    requires room { IfSome held (λ _. 0 < nodes.old.spare) }
+    requires new { IfSome held (λ k. has_node nodes.old.entries k ≡ false) }
+    ensures entries { MatchOption held (nodes.new.entries ≡ nodes.old.entries) (λ k. nodes.new.entries ≡ with_open state.now.book nodes.old.entries k) }
+    ensures spare { MatchOption held (nodes.new.spare ≡ nodes.old.spare) (λ _. nodes.old.spare ≤ nodes.new.spare + 1) }
+{
+    match held {
+        Some(node) => add_where_open(nodes, state, node),
+        None => {}
     }
 }
 

@@ -13,7 +13,7 @@ ghost use Rattle.search_book.specs.Listing.{ListsAllFree, ListsFree, ListsOnlyFr
 ghost use Rattle.search_book.specs.Search.{board_at, IsOver};
 
 use crate::committing::{may_commit, record_step};
-use crate::listing::{add_where_open, follow_step, holds_open};
+use crate::listing::{follow_step, give_back, holds_open};
 use crate::post_log::PostLog;
 use break_rules::NoMemory;
 use head_splits::{Cuts, Hint};
@@ -181,9 +181,8 @@ impl<D: Disk> Session<D> {
         ensures log { self.new.log ≡ self.old.log }
         ensures yields { board_at D.reads D.calls D.faults self.new.log self.new.hands self.new.taken self.new.budget self.new.halted ≡ yields worker (board_at D.reads D.calls D.faults self.old.log self.old.hands self.old.taken self.old.budget self.old.halted) }
     {
-        if let Some(node) = self.hands.held(worker) {
-            add_where_open(&mut self.nodes, self.log.state(), node);
-        }
+        let held = self.hands.held(worker);
+        give_back(&mut self.nodes, self.log.state(), held);
         self.hands.release(worker);
         self.halted = true;
     }

@@ -92,9 +92,9 @@ invariant_of-self-2 g c =
     let entries : c.reserve.new.self.entries ≡ b.nodes.entries = ap (λ (v : OpenView). v.entries) reserved in
     let spare = ap (λ (v : OpenView). v.spare) reserved in
     let nodes = c.follow_step.new.nodes in
-    let count : c.count ≡ length b.log.book.nodes = c.len.ensures ∙ c.nodes.ensures.count ∙ ap (λ (x : Book). length x.nodes) c.state-2.ensures.book in
+    let count : length c.nodes.result.now ≡ length b.log.book.nodes = c.nodes.ensures.count ∙ ap (λ (x : Book). length x.nodes) c.state-2.ensures.book in
     let is : nodes.entries ≡ followed b.log.book new.book step.node after b.nodes.entries =
-    followed_as b.log.book new.book c.state-4.result.now.book step.node after b.nodes.entries c.reserve.new.self.entries nodes.entries c.count c.state-4.ensures.book entries count c.follow_step.ensures.entries in
+    followed_as b.log.book new.book c.state-4.result.now.book step.node after b.nodes.entries c.reserve.new.self.entries nodes.entries (length c.nodes.result.now) c.state-4.ensures.book entries count c.follow_step.ensures.entries in
     let lists : ListsFree new.book c.release.new.self nodes.entries =
     subst (λ (h : List (Option ℕ)). ListsFree new.book h nodes.entries) (sym c.release.ensures)
     (subst (λ (m : List Entry). ListsFree new.book (slice_set b.hands w None) m) (sym is)
@@ -127,7 +127,7 @@ follow_step-requires-clause-room g c =
 pub follow_step-requires-clause-few : goal.follow_step-requires-clause-few
 follow_step-requires-clause-few g c =
     let b = c.args.self.now in
-    let count : c.count ≡ length b.log.book.nodes = c.len.ensures ∙ c.nodes.ensures.count ∙ ap (λ (x : Book). length x.nodes) c.state-2.ensures.book in
+    let count : length c.nodes.result.now ≡ length b.log.book.nodes = c.nodes.ensures.count ∙ ap (λ (x : Book). length x.nodes) c.state-2.ensures.book in
     omega (arith, count, c.made-made.ensures.log.nodes)
 
 pub follow_step-requires-clause-cost : goal.follow_step-requires-clause-cost
@@ -145,8 +145,8 @@ follow_step-requires-clause-cost g c =
 pub follow_step-requires-clause-listed : goal.follow_step-requires-clause-listed
 follow_step-requires-clause-listed g c =
     let b = c.args.self.now in
-    let count : c.count ≡ length b.log.book.nodes = c.len.ensures ∙ c.nodes.ensures.count ∙ ap (λ (x : Book). length x.nodes) c.state-2.ensures.book in
+    let count : length c.nodes.result.now ≡ length b.log.book.nodes = c.nodes.ensures.count ∙ ap (λ (x : Book). length x.nodes) c.state-2.ensures.book in
     let best : c.cost-best.result ≡ b.log.book.cost = c.cost-best.ensures.cost ∙ ap (λ (x : Book). x.cost) c.state-3.ensures.book in
     let entries : c.reserve.new.self.entries ≡ b.nodes.entries = ap (λ (v : OpenView). v.entries) c.in-Ok-reserve.ensures.ok in
-    subst (λ (l : List Entry). AreLow c.cost-best.result c.count l) (sym entries)
-    (subst (λ n. AreLow n c.count b.nodes.entries) (sym best) (subst (λ n. AreLow b.log.book.cost n b.nodes.entries) (sym count) (listed_low b.log.book b.hands b.nodes.entries b.only b.found)))
+    subst (λ (l : List Entry). AreLow c.cost-best.result (length c.nodes.result.now) l) (sym entries)
+    (subst (λ n. AreLow n (length c.nodes.result.now) b.nodes.entries) (sym best) (subst (λ n. AreLow b.log.book.cost n b.nodes.entries) (sym count) (listed_low b.log.book b.hands b.nodes.entries b.only b.found)))

@@ -120,6 +120,6 @@ returns-clause-makes g c =
       },
       subst (λ (x : Book). IsNext x b.hands k) (sym here) next,
       sym floor ∙ ap (λ (x : Book). floor_of_node x k) (sym here),
-      c.cost.ensures.cost ∙ ap (λ (x : Book). x.cost) (c.state.ensures.book ∙ sym here),
+      c.cost-best.ensures.cost ∙ ap (λ (x : Book). x.cost) (c.state.ensures.book ∙ sym here),
       ap (λ (h : List (Option ℕ)). board_at g.D.Disk.reads g.D.Disk.calls g.D.Disk.faults b.log h (b.taken + 1) b.budget b.halted) c.take.ensures,
     )
