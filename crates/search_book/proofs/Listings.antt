@@ -1,6 +1,6 @@
 -- The free nodes of a book, as they are listed.
 use Rattle.std.proofs.Common.{◌≡◌, ◌≢◌, ◌⊎◌, inl, inr, ℕ, zero, suc, ◌+◌, ◌<◌, ◌≤◌, Bool, true, false, cond, ◌&&◌, ◌||◌, ◌==◌, not, nat_lt, List, [], ◌∷◌, length, set, replicate, refl, sym, ap, ◌∙◌, subst, arith, eq-eqb, Option, Some, None}
-use Rattle.std.specs.Prelude.{is_none, slice_get, IfSome, MatchOption}
+use Rattle.std.specs.Prelude.{slice_get, IfSome, MatchOption}
 use Rattle.std.specs.Option.{is_some, option_and_then, option_map_or}
 use Rattle.std.specs.List.{filter, list_all, list_any}
 use Rattle.std.proofs.lemmas.List.Filters.{length-filter_both}
@@ -119,10 +119,10 @@ pub taken_only : (hands : List (Option ℕ)) (w k j : ℕ) → w < length hands 
 taken_only hands w k j low empty none = (
   λ same. in_none (set hands w (Some k)) j w none (ap (option_and_then (λ (h : Option ℕ). h)) (set_there hands w (Some k) low) ∙ ap Some same),
   not_held hands j (λ v e.
-  elim (cases_eq v w) [
-    | inl here ↦ let both : Some j ≡ None = sym (subst (λ z. hand hands z ≡ Some j) here e) ∙ empty in absurd (cc (both))
-    | inr apart ↦ in_none (set hands w (Some k)) j v none (ap (option_and_then (λ (h : Option ℕ). h)) (set_elsewhere hands w v (Some k) apart) ∙ e)
-  ]),
+      elim (cases_eq v w) [
+        | inl here ↦ let both : Some j ≡ None = sym (subst (λ z. hand hands z ≡ Some j) here e) ∙ empty in absurd (cc (both))
+        | inr apart ↦ in_none (set hands w (Some k)) j v none (ap (option_and_then (λ (h : Option ℕ). h)) (set_elsewhere hands w v (Some k) apart) ∙ e)
+      ]),
 )
 
 -- ---- a list with a node, where that is open
@@ -258,9 +258,9 @@ module _ (b : Book) (hands : List (Option ℕ)) (entries : List Entry) (only : L
           let r = only g j there in
           let p = free_parts b hands j r.0 in
           let apart : k ≢ j = λ same.
-              let floor : f ≡ g = sym first_floor ∙ ap (floor_of_node b) same ∙ r.1 in
-              let gone : is_listed rest f k ≡ false = once_listed (f, k) rest rising in
-              false≢true (sym gone ∙ ap (λ (n : ℕ). is_listed rest n k) floor ∙ ap (is_listed rest g) same ∙ h) in
+          let floor : f ≡ g = sym first_floor ∙ ap (floor_of_node b) same ∙ r.1 in
+          let gone : is_listed rest f k ≡ false = once_listed (f, k) rest rising in
+          false≢true (sym gone ∙ ap (λ (n : ℕ). is_listed rest n k) floor ∙ ap (is_listed rest g) same ∙ h) in
           (free_from b (set hands w (Some k)) j p.0 (taken_held hands w k j apart p.1), r.1);
       all = λ j free.
           let p = free_parts b (set hands w (Some k)) j free in
@@ -477,21 +477,20 @@ finished b hands entries all empty none =
           ]
     ]
 
-pub first_listed : (b : Book) (hands : List (Option ℕ)) (entries : List Entry) → ListsOnlyFree b hands entries → (o : Option Entry) → o ≡ slice_get entries 0 → is_none o ≡ false → is_finished b ≡ false
-first_listed b hands [] only o is some = absurd (false≢true (sym some ∙ ap is_none is))
+pub first_listed : (b : Book) (hands : List (Option ℕ)) (entries : List Entry) → ListsOnlyFree b hands entries → (o : Option Entry) → o ≡ slice_get entries 0 → is_some o ≡ true → is_finished b ≡ false
+first_listed b hands [] only o is some = absurd (false≢true (sym (ap is_some is) ∙ some))
 first_listed b hands (e ∷ entries) only o is some =
     unfinished b e.1 (free_parts b hands e.1 (only e.0 e.1 (or_left (is_it e.0 e.1 e) (is_listed entries e.0 e.1) (it_itself e))).0).0
 
-empty_listed : (entries : List Entry) (o : Option Entry) → o ≡ slice_get entries 0 → is_none o ≡ true → entries ≡ []
+empty_listed : (entries : List Entry) (o : Option Entry) → o ≡ slice_get entries 0 → is_some o ≡ false → entries ≡ []
 empty_listed [] o is none = refl
-empty_listed (e ∷ entries) o is none = absurd (false≢true (sym (ap is_none is) ∙ none))
+empty_listed (e ∷ entries) o is none = absurd (false≢true (sym none ∙ ap is_some is))
 
--- no node is open where none is listed and no hand holds an open one
-pub finished_both : (b : Book) (hands : List (Option ℕ)) (entries : List Entry) → ListsOnlyFree b hands entries → ListsAllFree b hands entries → (o : Option Entry) → o ≡ slice_get entries 0 → (none holds : Bool) → none ≡ is_none o
-    → (holds ≡ true → HoldsOpen b hands) → (holds ≡ false → HoldsOpen b hands → ⊥) → (none && not holds) ≡ is_finished b
-finished_both b hands entries only all o is true true same some spares = let h = some refl in sym (unfinished b h.1 h.3)
-finished_both b hands entries only all o is true false same some spares = sym (finished b hands entries all (empty_listed entries o is (sym same)) (spares refl))
-finished_both b hands entries only all o is false holds same some spares = sym (first_listed b hands entries only o is (sym same))
+-- where none is listed, no node is open unless a hand holds one
+pub finished_else : (b : Book) (hands : List (Option ℕ)) (entries : List Entry) → ListsAllFree b hands entries → (o : Option Entry) → o ≡ slice_get entries 0 → is_some o ≡ false → (holds : Bool)
+    → (holds ≡ true → HoldsOpen b hands) → (holds ≡ false → HoldsOpen b hands → ⊥) → not holds ≡ is_finished b
+finished_else b hands entries all o is same true some spares = let h = some refl in sym (unfinished b h.1 h.3)
+finished_else b hands entries all o is same false some spares = sym (finished b hands entries all (empty_listed entries o is same) (spares refl))
 
 -- ---- how many hands are full
 
