@@ -26,11 +26,13 @@ use Rattle.search_core.proofs.Boards.{others_held_after}
 use Rattle.search_core.proofs.Outlines.{book_is}
 use Rattle.search_core.proofs.Runs.{front_folds}
 use Rattle.search_book.specs.Committing.{commit_fault_of, step_posts, MayCommit, MayNot, RecordsStep, StepFails}
+use Rattle.search_book.specs.Listing.{Follows}
 use Rattle.search_book.specs.PostLog.{PostLogView}
 use Rattle.post_codec.specs.Batches.{joined}
 use Rattle.search_book.specs.Recorded.{RecordFails, Records}
 use Rattle.search_book.specs.Search.{board_at, KeepsSearch}
 use Rattle.search_book.proofs.Commits.{fold_more}
+use Rattle.search_book.proofs.Following.{step_follows}
 use Rattle.search_book.proofs.Handing.{emptied_counted}
 
 -- the book of a history with a step's posts
@@ -178,6 +180,29 @@ module _ {D : Type 0} (reads : D → Option (List ℕ)) (calls faults : D → �
   refusal_keeps Shut h k = absurd h
   refusal_keeps (NotClosing f c back) h k = absurd h
   refusal_keeps (OtherCuts at) h k = absurd h
+
+  -- a refusal leaves the posts' book
+  pub refusal_book : (fault : CommitFault) → StepFails faults w step old new fault → new.book ≡ old.book
+  refusal_book DiskFault h = ap (λ (v : PostLogView D). v.book) h.1.0
+  refusal_book (Full end most) h = ap (λ (v : PostLogView D). v.book) h.3.0
+  refusal_book NoMemory h = ap (λ (v : PostLogView D). v.book) h
+  refusal_book (NotHeld held) h = absurd h
+  refusal_book Shut h = absurd h
+  refusal_book (NotClosing f c back) h = absurd h
+  refusal_book (OtherCuts at) h = absurd h
+
+  -- what a recorded step leaves beside its node
+  pub recorded_follows : (kept : Kept) → RecordsStep calls w step old new kept → book_of new.instance new.history ≡ Some new.book → Follows step.node 2 old.book new.book
+  recorded_follows kept r now =
+      let same : new.instance ≡ old.instance = ap (λ (v : PostLogView D). v.instance) r.log in
+      let history : new.history ≡ old.history ++ step_posts w step old = ap (λ (v : PostLogView D). v.history) r.log in
+      let there : book_of old.instance new.history ≡ Some new.book = subst (λ (i : Problem). book_of i new.history ≡ Some new.book) same now in
+      let all : book_of old.instance (old.history ++ step_posts w step old) ≡ Some new.book = subst (λ (l : List Post). book_of old.instance l ≡ Some new.book) history there in
+      step_follows old.instance old.book new.book w step (book_behind old.instance old.history (step_posts w step old) old.book new.book folds all)
+
+  -- its node isn't open then
+  pub recorded_closed : (kept : Kept) → RecordsStep calls w step old new kept → book_of new.instance new.history ≡ Some new.book → leaves_open old.instance old.book w step ≡ false → is_node_and new.book step.node (is_open new.book) ≡ false
+  recorded_closed kept r now closed = ap (λ (b : Book). is_node_and b step.node (is_open b)) (sym (made_of kept r now)) ∙ closed
 
 -- ---- what a draft that is recorded says
 pub some_there : (n : ℕ) → (n == 0) ≡ false → 0 < n

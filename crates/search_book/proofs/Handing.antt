@@ -42,6 +42,9 @@ free_alone b hands k free = not-true _ ((and_parts (is_node_and b k (is_open b))
 pub emptied_counted : (taken : ℕ) (hands : List (Option ℕ)) (w : ℕ) → AreCounted taken hands → AreCounted taken (set hands w None)
 emptied_counted taken hands w counted v x e = elim (hand_set hands w v None x e) [ inl p ↦ absurd (cc (p.1)) | inr p ↦ counted v x p.1 ]
 
+pub emptied_unsplit : (b : Book) (hands : List (Option ℕ)) (w : ℕ) → AreUnsplit b hands → AreUnsplit b (set hands w None)
+emptied_unsplit b hands w unsplit v x e = elim (hand_set hands w v None x e) [ inl p ↦ absurd (cc (p.1)) | inr p ↦ unsplit v x p.1 ]
+
 -- a node of which something holds is there
 node_there : (o : Option Node) (p : Node → Bool) → option_map_or p o false ≡ true → (n : Node) × (o ≡ Some n)
 node_there None p h = absurd (false≢true h)
@@ -52,23 +55,6 @@ is_there b k p h = let n = node_there (slice_get b.nodes k) p h in slice_get_bel
 
 pub free_there : (b : Book) (hands : List (Option ℕ)) (k : ℕ) → is_free b hands k ≡ true → k < length b.nodes
 free_there b hands k free = is_there b k (is_open b) (and_parts (is_node_and b k (is_open b)) (not (list_any (is_node k) hands)) free).0
-
--- ---- no node is open
-closed_is : (floor cost : ℕ) → nat_le cost floor ≡ not (nat_lt floor cost)
-closed_is floor cost =
-    elim (nat_lt floor cost) as (λ t. nat_lt floor cost ≡ t → nat_le cost floor ≡ not t)
-    [ true ↦ λ e. lt-leb cost floor (ltb-true floor cost e) | false ↦ λ e. le-leb cost floor (ltb-false floor cost e) ] refl
-
-closed_node : (split : Bool) (floor cost : ℕ) → (split || nat_le cost floor) ≡ not (not split && nat_lt floor cost)
-closed_node true floor cost = refl
-closed_node false floor cost = closed_is floor cost
-
-both_all : (x y u v : Bool) → x ≡ y → u ≡ v → (x && u) ≡ (y && v)
-both_all x y u v e f = ap (λ (t : Bool). t && u) e ∙ ap (λ (t : Bool). y && t) f
-
-pub finished_is : (b : Book) (nodes : List Node) → list_all (λ (n : NodeState). n.split || nat_le b.cost n.floor) (map state_of nodes) ≡ list_all (λ (n : Node). not (is_open b n)) nodes
-finished_is b [] = refl
-finished_is b (n ∷ nodes) = both_all _ _ _ _ (closed_node n.split n.floor b.cost) (finished_is b nodes)
 
 -- ---- the cuts of the node in a hand
 pub cuts_are : (o : Option Node) (cuts : List Cut) → IsSomeAnd o (λ n. cuts ≡ n.cuts) → cuts ≡ option_map_or (λ n. n.cuts) o []

@@ -13,3 +13,5 @@ pub mod Handing
 pub mod Heads
 pub mod Opens
 pub mod Committed
+pub mod Following
+pub mod Listings

@@ -13,3 +13,4 @@ pub mod Opened
 pub mod Search
 pub mod Committing
 pub mod Boards
+pub mod Listing

@@ -8,14 +8,15 @@ ghost use Rattle.search_core.specs.Kept.{cuts_in};
 ghost use Rattle.search_core.specs.Steps.{Fits};
 ghost use Rattle.search_book.specs.Committing.{LeavesLog, RecordsStep};
 ghost use Rattle.search_book.specs.Keeping.{IsRunningPosts, PostsLast, ShutOf};
+ghost use Rattle.search_book.specs.Listing.{ListsFree};
 ghost use Rattle.post_codec.specs.Batches.{joined};
 ghost use Rattle.search_book.specs.Search.{board_of};
 
 use crate::post_log::PostLog;
-use crate::readers::is_finished;
 use crate::session::Session;
 use break_rules::NoMemory;
 use head_splits::{Cuts, Hint};
+use open_nodes::OpenNodes;
 use plan_base::Disk;
 use post_codec::Post;
 use search_core::{CommitFault, Kept, StepPosts, Taken};
@@ -68,7 +69,7 @@ impl<D: Disk> Book<D> {
     pub fn finished(&self) -> bool
         ensures { result ≡ is_finished self.now.log.book }
     {
-        is_finished(self.session.log().state())
+        self.session.is_finished()
     }
 
     /// The posts, from the first one in the file on.
@@ -187,16 +188,17 @@ impl<D: Disk> Book<D> {
         session.into_disk()
     }
 
-    // The book of a log of posts, before any step.
-    pub(crate) fn over(log: PostLog<D>, budget: u64) -> Book<D>
+    // The book of a log of posts and their open nodes, before any step.
+    pub(crate) fn over(log: PostLog<D>, nodes: OpenNodes, budget: u64) -> Book<D>
         requires open { log.shut ≡ None }
         requires new { log.history ≡ log.opening }
+        requires nodes { ListsFree log.book empty_hands nodes.entries }
         ensures log { result.log ≡ log }
         ensures hands { result.hands ≡ empty_hands }
         ensures steps { (result.taken ≡ 0) × (result.budget ≡ budget) × (result.halted ≡ false) }
     {
         Book {
-            session: Session::over(log, budget),
+            session: Session::over(log, nodes, budget),
         }
     }
 }

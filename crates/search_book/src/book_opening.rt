@@ -11,7 +11,9 @@ ghost use Rattle.search_book.specs.Opened.{HoldsBook, OpenCause};
 ghost use Rattle.search_book.specs.Opening.{IsBegun, IsOldOrShort, IsOpenedFrom};
 
 use crate::book::Book;
+use crate::listing::all_open;
 use crate::log_opening::{Unopened, open_log};
+use crate::open_fault::OpenFault;
 use plan_base::Disk;
 use shift_instance::Instance;
 use std::alloc::Global;
@@ -60,9 +62,17 @@ impl<D: Disk> Book<D> {
         ensures least { MatchResult result (λ book. D.calls disk ≤ D.calls book.log.disk) (λ e. D.calls disk ≤ D.calls e.disk) }
         ensures most { MatchResult result (λ book. D.calls book.log.disk ≤ D.calls disk + 2 ^ 33 + 2) (λ e. D.calls e.disk ≤ D.calls disk + 2 ^ 33 + 2) }
     {
-        match open_log(rt, alloc, instance, disk, limit, workers) {
-            Ok(log) => Ok(Book::over(log, budget)),
-            Err(unopened) => Err(unopened),
+        let log = match open_log(rt, alloc, instance, disk, limit, workers) {
+            Ok(log) => log,
+            Err(unopened) => return Err(unopened),
+        };
+        let _made = log.made();
+        match all_open(alloc, log.state()) {
+            Ok(nodes) => Ok(Book::over(log, nodes, budget)),
+            Err(_) => Err(Unopened {
+                fault: OpenFault::NoMemory,
+                disk: log.into_disk(),
+            }),
         }
     }
 }

@@ -1,29 +1,36 @@
 //! The posts of a search on a disk, with the hands of its workers and its steps.
 ghost use Rattle.std.specs.Prelude.{◌≡◌, ◌↔◌, ℕ, ◌^◌, ◌<◌, ◌≤◌, ◌++◌, false, true, length, not, slice_set, IfErr, IfOk, IsSome, IsTrue, None, Some};
 ghost use Rattle.search_core.specs.Board.{yields, CommitRefuses, Commits, Gives, TakeMakes};
-ghost use Rattle.search_core.specs.Book.{book_of, is_node_and};
+ghost use Rattle.search_core.specs.Book.{book_of, is_finished, is_node_and};
+ghost use Rattle.search_core.specs.Calls.{full_hands};
 ghost use Rattle.search_core.specs.Core.{empty_hands, hand, AreApart};
 ghost use Rattle.search_core.specs.Kept.{cuts_in};
 ghost use Rattle.search_core.specs.Steps.{Fits};
 ghost use Rattle.search_core.specs.declared.board.Shutting.TheVariants.{Full};
 ghost use Rattle.search_book.specs.Committing.{LeavesLog, RecordsStep};
 ghost use Rattle.post_codec.specs.Batches.{joined};
+ghost use Rattle.search_book.specs.Listing.{ListsAllFree, ListsFree, ListsOnlyFree};
 ghost use Rattle.search_book.specs.Search.{board_at, IsOver};
 
 use crate::committing::{may_commit, record_step};
+use crate::listing::{follow_step, give_back, holds_open};
 use crate::post_log::PostLog;
-use crate::readers::is_finished;
 use break_rules::NoMemory;
 use head_splits::{Cuts, Hint};
+use open_nodes::OpenNodes;
 use plan_base::Disk;
-use search_core::{CommitFault, Hands, Kept, StepPosts, Taken};
+use search_core::{CommitFault, Hands, Kept, StepPosts, Taken, WORKERS_MAX};
 
-/// The posts of a search with their disk, the node in the hand of each worker, how many steps were taken and how many may
-/// be, and whether a worker let go of its node without a commit.
+/// For how many open nodes a commit makes room: for the two that its step may split off, and for one from each hand.
+const ROOM: u32 = 2 + WORKERS_MAX;
+
+/// The posts of a search with their disk, the node in the hand of each worker, the open nodes that no worker holds, how many
+/// steps were taken and how many may be, and whether a worker let go of its node without a commit.
 #[derive(Drop)]
 pub(crate) struct Session<D: Disk> {
     log: PostLog<D>,
     hands: Hands,
+    nodes: OpenNodes,
     taken: u64,
     budget: u64,
     halted: bool,
@@ -36,6 +43,10 @@ pub(crate) struct Session<D: Disk> {
     ghost within: { taken ≤ budget },
     ghost fresh: { taken ≡ 0 → log.history ≡ log.opening },
     ghost past: { (end most : ℕ) → log.shut ≡ Some (Full end most) → IsOver log end most },
+    ghost only: { ListsOnlyFree log.book hands nodes.entries },
+    ghost found: { ListsAllFree log.book hands nodes.entries },
+    // there is room for the nodes in the hands
+    ghost room: { full_hands hands ≤ nodes.spare },
 }
 
 impl<D: Disk> Session<D> {
@@ -63,7 +74,7 @@ impl<D: Disk> Session<D> {
         if self.log.shut().is_some() {
             return Taken::Closed;
         }
-        if is_finished(self.log.state()) {
+        if self.is_finished() {
             return Taken::Finished;
         }
         if self.halted {
@@ -72,14 +83,21 @@ impl<D: Disk> Session<D> {
         if self.taken == self.budget {
             return Taken::Spent;
         }
-        let _made = self.log.made();
-        let Some(node) = self.log.state().next_node(&self.hands) else {
+        let _first = self.nodes.first();
+        let Some((floor, node)) = self.nodes.take_first() else {
             return Taken::Idle;
         };
-        let (floor, best) = self.log.state().floor_and_best(node);
+        let best = self.log.state().cost();
         self.hands.take(worker, node);
         self.taken += 1;
         Taken::Node { node, floor, best }
+    }
+
+    /// Whether no node is open, neither one that no worker holds nor one in a hand.
+    pub(crate) fn is_finished(&self) -> bool
+        ensures { result ≡ is_finished self.now.log.book }
+    {
+        self.nodes.first().is_none() && !holds_open(self.log.state(), &self.hands)
     }
 
     /// Whether it gives nodes: nothing shut it, a node is open, no worker gave up, and a step is left.
@@ -89,7 +107,7 @@ impl<D: Disk> Session<D> {
         if self.log.shut().is_some() {
             return false;
         }
-        if is_finished(self.log.state()) {
+        if self.is_finished() {
             return false;
         }
         if self.halted {
@@ -141,11 +159,18 @@ impl<D: Disk> Session<D> {
         if let Some((floor, best)) = self.log.state().stays_open(&step) {
             return Err(CommitFault::NotClosing { floor, best, step });
         }
+        let Ok(()) = self.nodes.reserve(ROOM) else {
+            return Err(CommitFault::NoMemory);
+        };
+        let _made = self.log.made();
+        let count = self.log.state().nodes().len() as u32;
+        let best = self.log.state().cost();
         let kept = match record_step(&mut self.log, worker as u16, step) {
             Ok(kept) => kept,
             Err(fault) => return Err(fault),
         };
         let _made = self.log.made();
+        follow_step(&mut self.nodes, self.log.state(), count, best);
         self.hands.release(worker);
         Ok(kept)
     }
@@ -156,6 +181,8 @@ impl<D: Disk> Session<D> {
         ensures log { self.new.log ≡ self.old.log }
         ensures yields { board_at D.reads D.calls D.faults self.new.log self.new.hands self.new.taken self.new.budget self.new.halted ≡ yields worker (board_at D.reads D.calls D.faults self.old.log self.old.hands self.old.taken self.old.budget self.old.halted) }
     {
+        let held = self.hands.held(worker);
+        give_back(&mut self.nodes, self.log.state(), held);
         self.hands.release(worker);
         self.halted = true;
     }
@@ -175,6 +202,7 @@ impl<D: Disk> Session<D> {
         let Session {
             log,
             hands: _,
+            nodes: _,
             taken: _,
             budget: _,
             halted: _,
@@ -182,10 +210,11 @@ impl<D: Disk> Session<D> {
         log.into_disk()
     }
 
-    /// A session of a log of posts, before any step.
-    pub(crate) fn over(log: PostLog<D>, budget: u64) -> Session<D>
+    /// A session of a log of posts and their open nodes, before any step.
+    pub(crate) fn over(log: PostLog<D>, nodes: OpenNodes, budget: u64) -> Session<D>
         requires open { log.shut ≡ None }
         requires new { log.history ≡ log.opening }
+        requires nodes { ListsFree log.book empty_hands nodes.entries }
         ensures log { result.log ≡ log }
         ensures hands { result.hands ≡ empty_hands }
         ensures steps { (result.taken ≡ 0) × (result.budget ≡ budget) × (result.halted ≡ false) }
@@ -196,6 +225,7 @@ impl<D: Disk> Session<D> {
         Session {
             log,
             hands,
+            nodes,
             taken: 0,
             budget,
             halted: false,

@@ -18,8 +18,8 @@ is_none o told b same is absent = none_of o (ap is_some (sym same) ∙ sym is �
 is_shut : {X : Type 0} (o told : Option X) (b : Bool) → told ≡ o → b ≡ is_some told → b ≡ true → o ≡ None → false ≡ true
 is_shut o told b same is there none = sym (ap is_some none) ∙ ap is_some (sym same) ∙ sym is ∙ there
 
-ends : (i : Problem) (history : List Post) (b told : Book) (r t : Bool) → book_of i history ≡ Some b → told ≡ b → r ≡ is_finished told → r ≡ t → is_finished (book_or_opening i history) ≡ t
-ends i history b told r t folds same is e = ap is_finished (book_is i history b folds ∙ sym same) ∙ sym is ∙ e
+ends : (i : Problem) (history : List Post) (b : Book) (r t : Bool) → book_of i history ≡ Some b → r ≡ is_finished b → r ≡ t → is_finished (book_or_opening i history) ≡ t
+ends i history b r t folds is e = ap is_finished (book_is i history b folds) ∙ sym is ∙ e
 
 off : {P : Type 0} → (P → false ≡ true) → IsTrue false ↔ P
 off refuted = ((λ e. absurd (cc)), refuted)
@@ -30,7 +30,7 @@ returns-then-is_some g c = off (λ given. is_shut c.args.self.now.log.shut c.shu
 pub returns-then-is_finished : goal.returns-then-is_finished
 returns-then-is_finished g c =
     let b = c.args.self.now in
-    off (λ given. sym given.unfinished ∙ ends b.log.instance b.log.history b.log.book c.state.result.now.book c.is_finished.result true b.folds c.state.ensures.book c.is_finished.ensures c.if-is_finished.true)
+    off (λ given. sym given.unfinished ∙ ends b.log.instance b.log.history b.log.book c.is_finished.result true b.folds c.is_finished.ensures c.if-is_finished.true)
 
 pub returns-then-self : goal.returns-then-self
 returns-then-self g c = off (λ given. sym given.going ∙ c.if-self.true)
@@ -40,7 +40,7 @@ returns g c =
     let b = c.args.self.now in (
       (λ left. record {
         running = is_none b.log.shut c.shut.result c.is_some.result c.shut.ensures c.is_some.ensures c.if-is_some.false;
-        unfinished = ends b.log.instance b.log.history b.log.book c.state.result.now.book c.is_finished.result false b.folds c.state.ensures.book c.is_finished.ensures c.if-is_finished.false;
+        unfinished = ends b.log.instance b.log.history b.log.book c.is_finished.result false b.folds c.is_finished.ensures c.if-is_finished.false;
         going = c.if-self.false;
         step_left = ltb-true b.taken b.budget left;
       }),

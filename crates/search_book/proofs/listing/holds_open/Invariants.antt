@@ -1,0 +1,8 @@
+use Rattle.std.proofs.Common.{◌≡◌, ◌<◌, ℕ, false}
+use Rattle.std.specs.Option.{option_map_or}
+use Rattle.search_core.specs.Book.{is_node_and, is_open}
+use Rattle.search_core.specs.Core.{hand}
+use Rattle.search_book.proofs.listing.holds_open.Given as goal
+
+abbrev pub invariant-loop-worker : goal.invariant-loop-worker
+invariant-loop-worker l = (w : ℕ) → w < l.worker → option_map_or (λ k. is_node_and l.state.book k (is_open l.state.book)) (hand l.hands w) false ≡ false
