@@ -28,8 +28,8 @@ enum Start {
 /// Each so manieth chain begins anew.
 const ANEW: u32 = 8;
 
-/// What a chain takes for each of its moves where there is one shift to choose from.
-const MOVE: f64 = 230.0;
+/// An eighth of what a chain takes for each of its moves where there is one shift to choose from and seven days differ.
+const MOVE: f64 = 29.0;
 
 /// The work of a leg after which its chains are twice as long as at first.
 const DOUBLED: f64 = 80_000_000.0;
@@ -218,11 +218,13 @@ impl<S: Stop + Drop> PlanSearch<S> {
         }
     }
 
-    /// How much work the next chain takes: the more, the more shifts there are to choose from, and the more work was done in the leg.
+    /// How much work the next chain takes: the more, the more shifts there are to choose from, the more kinds of days there are, and the
+    /// more work was done in the leg.
     fn length_from(&self, tables: &Tables, start: Start) -> u64 {
         let shifts = nearest_u64_to_f64(tables.usable.len() as u64);
+        let kinds = 1.0 + f64::from(self.likeness.kinds());
         let growth = 1.0 + nearest_u64_to_f64(self.leg.work(self.work)) / DOUBLED;
-        saturating_f64_to_u64(self.moves_from(start) * MOVE * shifts.sqrt() * growth)
+        saturating_f64_to_u64(self.moves_from(start) * MOVE * kinds * shifts.sqrt() * growth)
     }
 
     /// Makes the running plan the one that the next chain begins from.

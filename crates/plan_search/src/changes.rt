@@ -15,6 +15,9 @@ const POLISHES: u32 = 4;
 /// The most moves of a repair.
 const REPAIRS: u32 = 300;
 
+/// The most moves of a repair of a change that is kept without them.
+const TOUCHES: u32 = 60;
+
 /// After how many moves of a repair days take the duties of cheaper ones.
 const SPREAD: u32 = 100;
 
@@ -285,7 +288,12 @@ impl<S: Stop + Drop> PlanSearch<S> {
         let cost = self.plan.cost;
         let is_slow = repair.threshold < cost
             && (repair.from - cost) * 2.0 < repair.from - repair.threshold;
-        repair.moves < REPAIRS && !self.is_spent() && !(repair.moves == REPAIRS / 4 && is_slow)
+        let most = if repair.from <= repair.threshold {
+            TOUCHES
+        } else {
+            REPAIRS
+        };
+        repair.moves < most && !self.is_spent() && !(repair.moves == REPAIRS / 4 && is_slow)
     }
 
     /// One move of a repair, or its end.

@@ -54,6 +54,27 @@ impl Likeness {
         Ok(Likeness { days, alike })
     }
 
+    /// Whether a day is like none before it.
+    fn is_new(&self, day: usize) -> bool {
+        for before in 0..day {
+            if self.has(day, before) {
+                return false;
+            }
+        }
+        true
+    }
+
+    /// How many days are like none before them.
+    pub(crate) fn kinds(&self) -> u32 {
+        let mut kinds = 0u32;
+        for day in 0..self.days {
+            if self.is_new(day) {
+                kinds = kinds.saturating_add(1);
+            }
+        }
+        kinds
+    }
+
     /// Whether two days are alike.
     fn has(&self, a: usize, b: usize) -> bool {
         let place = a.wrapping_mul(self.days).wrapping_add(b);

@@ -6,8 +6,8 @@ use break_rules::NoMemory;
 use std::alloc::Global;
 use working_plan::Placed;
 
-/// The least work in which a leg need find no cheaper plan at first.
-const PATIENCE: u64 = 50_000_000;
+/// The least work in which a leg need find no cheaper plan at first, for each kind of days.
+const PATIENCE: u64 = 5_000_000;
 
 /// A leg: its best plan, and when it was found.
 #[derive(Drop)]
@@ -27,13 +27,13 @@ pub(crate) struct Leg {
 }
 
 impl Leg {
-    /// A leg that begins anew at some work.
-    pub(crate) fn begun(alloc: Global, work: u64) -> Leg {
+    /// A leg that begins anew at some work, where there are so many kinds of days.
+    pub(crate) fn begun(alloc: Global, work: u64, kinds: u32) -> Leg {
         Leg {
             best: Vec::new(alloc),
             cost: f64::INFINITY,
             is_united: false,
-            patience: PATIENCE,
+            patience: PATIENCE.saturating_mul(u64::from(kinds)),
             begun: work,
             gained: 0,
         }
@@ -76,7 +76,7 @@ impl<S: Stop + Drop> PlanSearch<S> {
         self.leg.best.extend_from_slice(self.best.as_slice())?;
         self.leg.cost = self.best_cost;
         self.leg.is_united = true;
-        self.leg.patience = patience.max(PATIENCE);
+        self.leg.patience = patience.max(self.leg.patience);
         Ok(())
     }
 
@@ -88,7 +88,7 @@ impl<S: Stop + Drop> PlanSearch<S> {
             self.keep_pool()?;
         }
         self.legs = self.legs.saturating_add(1);
-        self.leg = Leg::begun(self.alloc, self.work);
+        self.leg = Leg::begun(self.alloc, self.work, self.likeness.kinds());
         self.pool.clear();
         if self.legs % 2 == 0 {
             self.unite_legs(done)?;

@@ -168,6 +168,8 @@ impl<S: Stop + Drop> PlanSearch<S> {
         stop: S,
     ) -> Result<PlanSearch<S>, NoMemory> {
         let plan = Plan::new(alloc, tables)?;
+        let likeness = Likeness::new(alloc, tables)?;
+        let leg = Leg::begun(alloc, 0, likeness.kinds());
         Ok(PlanSearch {
             alloc,
             chance: Chance::new(seed),
@@ -177,7 +179,7 @@ impl<S: Stop + Drop> PlanSearch<S> {
             },
             noise: noise(alloc, seed)?,
             near: Nearness::new(alloc, tables)?,
-            likeness: Likeness::new(alloc, tables)?,
+            likeness,
             guide: Guide::none(alloc),
             log: Vec::new(alloc),
             plan,
@@ -190,7 +192,7 @@ impl<S: Stop + Drop> PlanSearch<S> {
             pool: Pool::new(alloc),
             best: Vec::new(alloc),
             best_cost: f64::INFINITY,
-            leg: Leg::begun(alloc, 0),
+            leg,
             elite: Pool::new(alloc),
             legs: 0,
             chain: Chain::ended(),

@@ -117,11 +117,8 @@ impl<S: Stop + Drop> PlanSearch<S> {
         best
     }
 
-    /// Takes a duty out, and another one in, where that gains.
+    /// Takes a duty out, and another one in, where that gains, and tells whether it does.
     fn replace(&mut self, tables: &Tables, placed: Placed, wide: bool) -> Result<bool, NoMemory> {
-        if !self.is_hopeful(tables, &placed, wide) {
-            return Ok(false);
-        }
         let mark = self.log.len();
         let before = self.plan.cost;
         self.take(tables, placed)?;
@@ -141,7 +138,7 @@ impl<S: Stop + Drop> PlanSearch<S> {
     }
 
     /// Replaces the duties of a shift on a day where that gains. They are taken from the last to the first: one that was taken
-    /// out and put in again stands behind all that are still to come.
+    /// out and put in again stands behind all that are still to come. As long as nothing changes, a duty like a hopeless one is one.
     fn sweep_shift(
         &mut self,
         tables: &Tables,
@@ -150,6 +147,7 @@ impl<S: Stop + Drop> PlanSearch<S> {
         wide: bool,
     ) -> Result<bool, NoMemory> {
         let mut any = false;
+        let mut hopeless = None;
         let base = tables.base(shift, day);
         let len = tables.len_of(shift);
         let count = self.plan.duties(tables, shift, day).len();
@@ -158,8 +156,18 @@ impl<S: Stop + Drop> PlanSearch<S> {
             if self.is_spent() || !self.plan.levels.is_off(base, len) {
                 break;
             }
-            if let Some(pauses) = self.plan.duties(tables, shift, day).get(k).copied() {
-                any |= self.replace(tables, Placed { shift, day, pauses }, wide)?;
+            let Some(pauses) = self.plan.duties(tables, shift, day).get(k).copied() else {
+                continue;
+            };
+            let placed = Placed { shift, day, pauses };
+            if hopeless == Some(pauses) {
+                continue;
+            }
+            if !self.is_hopeful(tables, &placed, wide) {
+                hopeless = Some(pauses);
+            } else if self.replace(tables, placed, wide)? {
+                any = true;
+                hopeless = None;
             }
         }
         Ok(any)
