@@ -1,7 +1,7 @@
 //! Posts as bytes.
 ghost use Rattle.std.specs.Prelude.{◌≡◌, ◌<◌, ◌^◌, ◌++◌, ◌∷◌, length, OnOk, IfOk};
 ghost use Rattle.post_codec.specs.declared.price_width.PriceWidth.TheVariants.{Five};
-ghost use Rattle.post_codec.specs.Spelling.{u16_bytes, u32_bytes, u64_bytes, break_bytes, breaks_bytes, row_bytes, rows_bytes, class_bytes, price_bytes, slot_bytes, slots_bytes, cuts_bytes, prices_bytes, plan_bytes, priced_bytes, split_bytes, settled_bytes, post_bytes, FitsBreak, FitsBreaks, FitsRow, FitsRows, FitsClass, FitsSlot, FitsCut, FitsSlots, FitsCuts, FitsPrices, FitsPost, CountsFitRow, CountsFitRows, CountsFitClass, CanSpellPrices, CanSpellPost, CanSpell, Spells};
+ghost use Rattle.post_codec.specs.Spelling.{u16_bytes, u32_bytes, u64_bytes, break_bytes, breaks_bytes, row_bytes, rows_bytes, class_bytes, price_bytes, twos_complement, slot_bytes, slots_bytes, cuts_bytes, prices_bytes, plan_bytes, priced_bytes, split_bytes, settled_bytes, post_bytes, FitsBreak, FitsBreaks, FitsRow, FitsRows, FitsClass, FitsSlot, FitsCut, FitsSlots, FitsCuts, FitsPrices, FitsPost, CountsFitRow, CountsFitRows, CountsFitClass, CanSpellPrices, CanSpellPost, CanSpell, Spells};
 
 use crate::post::Post;
 use break_rules::{Break, NoMemory};
