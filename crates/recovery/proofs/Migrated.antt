@@ -1,8 +1,9 @@
 -- Records that make a book by the former spelling have a spelling with prices of five bytes, which makes the same book.
-use Rattle.std.proofs.Common.{◌≡◌, ℕ, ◌<◌, ◌^◌, max, not, List, [], ◌∷◌, ◌++◌, length, map, Some, refl, sym, ap, subst, ◌∙◌, ◌&&◌, Vec, Global}
+use Rattle.std.proofs.Common.{◌≡◌, ℕ, ◌<◌, ◌^◌, max, not, List, [], ◌∷◌, ◌++◌, length, map, take, get_or, ◌+◌, Some, refl, sym, ap, subst, ◌∙◌, ◌&&◌, Vec, Global}
 use Rattle.std.specs.Prelude.{All}
 use Rattle.std.specs.List.{AllZip, AllByRecursion}
 use Rattle.std.proofs.lemmas.Bool.{and_parts}
+use Rattle.std.proofs.lemmas.List.{map_more, map-append}
 use Rattle.std.proofs.lemmas.List.Elements.{All-from_recursion, recursion_from_All}
 use Rattle.shift_instance.specs.declared.Row.{Row}
 use Rattle.shift_instance.specs.Problem.{Problem}
@@ -61,9 +62,6 @@ all_can i records posts b valid m =
 
 -- ---- the spelling of the same posts
 
-pub same_posts : (old new : List ℕ) (posts : List Post) → SpellsBy Eight old posts → Spells new posts → SpellSame old new
-same_posts old new posts before now = record { posts = posts; before = before; now = now }
-
 -- the posts that were read are those that have a spelling
 pub read_can : (bytes : List ℕ) (posts : List Post) → CanRespell bytes → SpellsBy Eight bytes posts → (length posts < 2 ^ 16) × All CanSpellPost posts
 read_can bytes posts c s = subst (λ (l : List Post). (length l < 2 ^ 16) × All CanSpellPost l) (one_list_by Eight bytes c.posts posts c.before s) c.can
@@ -83,9 +81,17 @@ same_book i old new m s =
     let made = m.2 in
     (m.0, m.1, made, record { spell = record { batches = made.spell.batches; spelled = same_batches old new made.spell.batches s made.spell.spelled; all = made.spell.all }; make = made.make })
 
+respelled_more : (old new : List (List ℕ)) (o n : List ℕ) → AllZip SpellSame old new → SpellSame o n → AllZip SpellSame (old ++ o ∷ []) (new ++ n ∷ [])
+respelled_more [] [] o n z s = (s, tt)
+respelled_more [] (m ∷ new) o n z s = absurd z
+respelled_more (p ∷ old) [] o n z s = absurd z
+respelled_more (p ∷ old) (m ∷ new) o n z s = (z.0, respelled_more old new o n z.1 s)
+
 -- a record more is spelled
-pub respelled_more : (k : ℕ) (old : List (List ℕ)) (new : List (List ℕ)) (o n : List ℕ) → AllZip SpellSame old new → SpellSame o n → AllZip SpellSame (old ++ o ∷ []) (new ++ n ∷ [])
-respelled_more k [] [] o n z s = (s, tt)
-respelled_more k [] (m ∷ new) o n z s = absurd z
-respelled_more k (p ∷ old) [] o n z s = absurd z
-respelled_more k (p ∷ old) (m ∷ new) o n z s = (z.0, respelled_more k old new o n z.1 s)
+pub respelled_next : (records new : List (Vec ℕ Global)) (k : ℕ) (x n : Vec ℕ Global) → k < length records → x ≡ get_or records k x → AllZip SpellSame (map (λ r. r.items) (take k records)) (map (λ r. r.items) new) → SpellSame x.items n.items
+    → AllZip SpellSame (map (λ r. r.items) (take (k + 1) records)) (map (λ r. r.items) (new ++ n ∷ []))
+respelled_next records new k x n small at z s =
+    let f : Vec ℕ Global → List ℕ = λ r. r.items in
+    let more : map f (take (k + 1) records) ≡ map f (take k records) ++ f x ∷ [] = map_more f records k x small ∙ ap (λ (y : Vec ℕ Global). map f (take k records) ++ f y ∷ []) (sym at) in
+    subst (λ (l : List (List ℕ)). AllZip SpellSame l (map f (new ++ n ∷ []))) (sym more)
+    (subst (λ (l : List (List ℕ)). AllZip SpellSame (map f (take k records) ++ f x ∷ []) l) (sym (map-append f new (n ∷ []))) (respelled_more (map f (take k records)) (map f new) (f x) (f n) z s))

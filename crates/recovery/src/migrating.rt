@@ -1,5 +1,5 @@
 //! Records of the first version, spelled anew.
-ghost use Rattle.std.specs.Prelude.{◌≤◌, ℕ, List, map, All, IfOk, IfErr, OnOk};
+ghost use Rattle.std.specs.Prelude.{◌≡◌, ◌≤◌, ℕ, List, map, All, IfOk, IfErr, OnOk};
 ghost use Rattle.std.specs.List.{AllZip};
 ghost use Rattle.post_codec.specs.declared.post.Post.{Post as APost};
 ghost use Rattle.post_codec.specs.declared.price_width.PriceWidth.TheVariants.{Eight};
@@ -17,13 +17,13 @@ use std::alloc::{AllocError, Global};
 use std::thread::Threads;
 
 /// The record of the same posts as journals keep it.
-fn respelled(alloc: Global, record: &[u8]) -> Result<Vec<u8>, NoMemory>
-    requires { CanRespell record.now }
-    ensures { IfOk result (λ new. SpellSame record.now new.items) }
+fn respelled(alloc: Global, bytes: &[u8]) -> Result<Vec<u8>, NoMemory>
+    requires { CanRespell bytes.now }
+    ensures { IfOk result (λ new. SpellSame bytes.now new.items) }
 {
-    match read_v1(alloc, record) {
+    match read_v1(alloc, bytes) {
         Ok(posts) => write(alloc, &posts),
-        // the record is spelled, so memory ran out
+        // the bytes spell posts, so memory ran out
         Err(_) => Err(AllocError),
     }
 }

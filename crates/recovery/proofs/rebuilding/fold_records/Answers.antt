@@ -22,7 +22,7 @@ add_record-requires-clause-bounds c =
 pub returns-in-Err-clause-refused : goal.returns-in-Err-clause-refused
 returns-in-Err-clause-refused c =
     rw (c.fault_at.ensures)
-    (folding_stops c.args.width c.args.instance.now c.args.records.now c.args.outcomes.items _ _ _ c.loop-outcome.at c.loop-outcome.state c.in-Some.outcome c.in-Err.why c.requires.reads c.loop-outcome.invariant c.in-Some.ensures.steps.0 c.in-Err.ensures.err)
+    (folding_stops c.args.width c.args.instance.now c.args.records.now c.args.outcomes.items _ _ _ c.loop-outcome.at c.loop-outcome.state c.in-Some.outcome c.in-Err.why c.requires.reads c.loop-outcome.invariant c.in-Some.ensures.steps.0 (c.in-Err.ensures.err c.args.width))
 
 pub loop-outcome-preserved : goal.loop-outcome-preserved
 loop-outcome-preserved c = folding_more c.args.width _ _ _ _ _ _ _ _ _ c.in-Some.outcome c.requires.reads c.loop-outcome.invariant c.in-Some.ensures.steps.0 c.in_default.ensures.ok
