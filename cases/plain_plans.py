@@ -253,6 +253,14 @@ def torn_journal(folder):
     return faults + ends(other, 9) + (["a journal with the beginning of a record is called torn"] if "no step of a search" in other[2] else [])
 
 
+def journal_of_the_first_version(folder):
+    path, content = folder.path / "week.journal", b"SHIFTJ1\n" + bytes(5)
+    path.write_bytes(content)
+    run = folder.plan("--seconds", "1")
+    told = "the journal is one of the first version", "shift_migrate 'week.journal' 'week.journal.new'"
+    return ends(run, 9, *told) + ([] if path.read_bytes() == content else ["the journal was changed"])
+
+
 def no_search_to_show(folder):
     folder.plan("--seconds", "1")
     before = folder.written()
@@ -632,7 +640,7 @@ def journal_without_room(folder):
 
 
 MEETINGS = (
-    lock_in_use, killed_run, search_gone_on_with, begun_anew, no_search_to_show, journal_that_is_a_folder, journal_of_another_instance, damaged_journal, torn_journal,
+    lock_in_use, killed_run, search_gone_on_with, begun_anew, no_search_to_show, journal_that_is_a_folder, journal_of_another_instance, damaged_journal, torn_journal, journal_of_the_first_version,
     journal_on_a_full_device, folder_below_a_file, folder_that_is_a_file, instance_that_isnt_there, instance_that_is_a_folder, journal_of_the_instance, document_with_a_namesake, bent_report, edited_table,
     folder_of_two_plans, folder_in_use, table_that_is_a_folder, cheaper_plan_in_the_folder, searches_with_seeds, week_with_another_need, days_with_names, heading_without_folders,
     words_in_the_wrong_order, report_that_is_none, closed_output, short_time, search_without_a_cheaper_plan, line_in_mid_search, end_of_input_in_mid_search, line_before_the_search,

@@ -1,5 +1,5 @@
 -- Records that make a book by the former spelling have a spelling with prices of five bytes, which makes the same book.
-use Rattle.std.proofs.Common.{◌≡◌, ℕ, ◌<◌, ◌^◌, max, not, List, [], ◌∷◌, ◌++◌, length, map, take, get_or, ◌+◌, Some, refl, sym, ap, subst, ◌∙◌, ◌&&◌, Vec, Global}
+use Rattle.std.proofs.Common.{◌≡◌, ℕ, ◌<◌, max, not, List, [], ◌∷◌, ◌++◌, length, map, take, get_or, ◌+◌, Some, refl, sym, ap, subst, ◌∙◌, ◌&&◌, Vec, Global}
 use Rattle.std.specs.Prelude.{All}
 use Rattle.std.specs.List.{AllZip, AllByRecursion}
 use Rattle.std.proofs.lemmas.Bool.{and_parts}
@@ -61,10 +61,6 @@ all_can i records posts b valid m =
     (records_can i (opening i) b records m.spell.batches valid m.spell.spelled (ap (λ (l : List Post). book_of i l) m.spell.all ∙ m.make))
 
 -- ---- the spelling of the same posts
-
--- the posts that were read are those that have a spelling
-pub read_can : (bytes : List ℕ) (posts : List Post) → CanRespell bytes → SpellsBy Eight bytes posts → (length posts < 2 ^ 16) × All CanSpellPost posts
-read_can bytes posts c s = subst (λ (l : List Post). (length l < 2 ^ 16) × All CanSpellPost l) (one_list_by Eight bytes c.posts posts c.before s) c.can
 
 same_batches : (old new : List (List ℕ)) (batches : List (List Post)) → AllZip SpellSame old new → AllZip (SpellsBy Eight) old batches → AllZip (SpellsBy Five) new batches
 same_batches [] [] batches s z = z
