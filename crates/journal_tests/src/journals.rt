@@ -8,7 +8,7 @@ use std::test::Fail;
 
 // The head 7 8 9 and the record 4 5.
 const WHOLE: [u8; 23] = [
-    b'S', b'H', b'I', b'F', b'T', b'J', b'1', b'\n', 3, 0, 0, 0, 7, 8, 9, 1, 2, 0, 0, 0, 4, 5, 0,
+    b'S', b'H', b'I', b'F', b'T', b'J', b'2', b'\n', 3, 0, 0, 0, 7, 8, 9, 1, 2, 0, 0, 0, 4, 5, 0,
 ];
 
 /// A disk with a journal of one record.
