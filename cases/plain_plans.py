@@ -620,15 +620,15 @@ def program_killed_below_run(folder):
 
 
 def journal_without_room(folder):
-    """A journal with the prices of 4,154 steps, and no room for one more."""
+    """A journal with the prices of 6,641 steps, and no room for one more."""
     day, slots = ",".join("1" if 8 <= slot < 12 else "0" for slot in range(24)), ",0" * 1992
     texts = [(TOP / "cases/texts" / name).read_text() for name in ("morning.json", "morning.canonical.json")]
     document, canonical = (text.replace('"slot_minutes":60', '"slot_minutes":5').replace('"days":1', '"days":7').replace(day, day + slots) for text in texts)
     (folder.path / "week.json").write_text(document)
-    record = bytes.fromhex("01 133f0000 0100 02 0000 00000000 0100 e0070000") + bytes(8 * 2016 + 4)
-    (folder.path / "week.journal").write_bytes(b"SHIFTJ1\n" + len(canonical).to_bytes(4, "little") + canonical.encode() + record * 4154 + b"\0")
+    record = bytes.fromhex("01 73270000 0100 02 0000 00000000 0100 e0070000") + bytes(5 * 2016 + 4)
+    (folder.path / "week.journal").write_bytes(b"SHIFTJ2\n" + len(canonical).to_bytes(4, "little") + canonical.encode() + record * 6641 + b"\0")
     run = folder.begun("--seconds", "60", "--workers", "1")
-    return ended(folder, run, 0, "goes on from 4154 steps: cost 8, bound 0", "the journal is full", "another journal begins the search anew")
+    return ended(folder, run, 0, "goes on from 6641 steps: cost 8, bound 0", "the journal is full", "another journal begins the search anew")
 
 
 MEETINGS = (

@@ -1,4 +1,5 @@
-//! Tests of the core of a run that crashes, of what is known of a node before it is searched, and of the state that many records make.
+//! Tests of the core of a run that crashes, of what is known of a node before it is searched, of the state that many records make,
+//! and of records of the first version.
 #![tactic(auto)]
 
 #[cfg(test)]
@@ -9,3 +10,5 @@ mod fixtures;
 mod hints;
 #[cfg(test)]
 mod many_records;
+#[cfg(test)]
+mod migrating;

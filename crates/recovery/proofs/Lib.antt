@@ -3,6 +3,7 @@ pub mod Copies
 pub mod CutTrees
 pub mod Folds
 pub mod NodesOf
+pub mod Migrated
 pub mod Rebuilt
 pub mod Taking
 pub mod Trees

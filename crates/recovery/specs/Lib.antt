@@ -1,6 +1,7 @@
 pub mod CutTree
 pub mod FaultText
 pub mod Folding
+pub mod Migrating
 pub mod NodeCuts
 pub mod PostBounds
 pub mod Reads

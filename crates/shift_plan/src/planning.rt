@@ -102,6 +102,13 @@ fn tell_torn(rt: HostRuntime, journal: &str, canonical: &[u8]) -> Result<(), Ref
     Ok(())
 }
 
+/// Says which line makes a journal that goes on of one of the first version.
+fn tell_old(rt: HostRuntime, journal: &str) {
+    let _ = eprintln!(rt;
+        "shift_plan: note that this line makes a journal that goes on: shift_migrate '{journal}' '{journal}.new'; then go on with --journal '{journal}.new'"
+    );
+}
+
 /// Says what a planner should know of a journal that a search was refused for.
 fn tell_journal(rt: HostRuntime, words: &PlanWords, end: &SearchEnd) -> Result<(), Refusal> {
     let alloc = rt.alloc();
@@ -124,6 +131,10 @@ fn tell_journal(rt: HostRuntime, words: &PlanWords, end: &SearchEnd) -> Result<(
             journal.as_str(),
             canonical.as_slice(),
         ),
+        OpenFault::OldVersion => {
+            tell_old(rt, journal.as_str());
+            Ok(())
+        }
         _ => Ok(()),
     }
 }
