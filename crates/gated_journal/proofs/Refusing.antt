@@ -1,9 +1,8 @@
 -- Why a file is refused, by its first bytes.
-use Rattle.std.proofs.Common.{◌≡◌, ◌⊎◌, inl, inr, ⊎_elim, ℕ, ◌+◌, ◌<◌, ◌≤◌, min, List, length, take, drop, refl, sym, ◌∙◌, ap, subst, arith}
+use Rattle.std.proofs.Common.{◌≡◌, ◌⊎◌, inl, inr, ℕ, ◌+◌, ◌<◌, List, length, take, drop, refl, sym, ◌∙◌, ap, subst, arith}
 use Rattle.std.proofs.lemmas.List.{take-take, drop-take, length-take}
 use Rattle.std.specs.Prelude.{Option, None, Some, IfSome}
 use Rattle.std.specs.Int.{w32, from_le_bytes}
-use Rattle.gated_journal.specs.Format.{mark_of}
 use Rattle.gated_journal.specs.Cuts.{IsMarked, IsNoneIn, IsOldVersion, IsUnmarked, size_of}
 use Rattle.gated_journal.specs.Faults.{OpenFails, OpenV1Fails, ReadFails, StartFails}
 use Rattle.gated_journal.specs.declared.fault.JournalFault.{JournalFault}

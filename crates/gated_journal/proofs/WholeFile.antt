@@ -1,23 +1,27 @@
 -- A journal's whole file, and its moments.
-use Rattle.std.proofs.Common.{◌≡◌, ◌≢◌, ◌⊎◌, inl, inr, ⊎_elim, ℕ, ◌+◌, ◌-◌, ◌<◌, ◌≤◌, ◌^◌, List, [], ◌∷◌, ◌++◌, length, get_or, take, drop, map, sym, ◌∙◌, ap, subst, arith, append_assoc, length-append, take-append-drop}
+use Rattle.std.proofs.Common.{◌≡◌, inl, inr, ⊎_elim, ℕ, ◌+◌, ◌-◌, ◌≤◌, List, [], ◌∷◌, ◌++◌, length, get_or, take, drop, map, sym, ◌∙◌, ap, subst, arith, append_assoc, length-append, take-append-drop}
 use Rattle.std.proofs.lemmas.List.{append-nil, drop_all, take_rest}
 use Rattle.std.proofs.lemmas.Bool.{cases_eq}
 use Rattle.std.specs.Option.{option_map}
 use Rattle.std.specs.Prelude.{Option, None, Some, IfSome, OnSome}
 use Rattle.plan_base.specs.Disk.{overwritten, WritesPart, HoldsThroughout, IsSynced}
 use Rattle.plan_base.proofs.Moments.{weaker, then_run}
-use Rattle.gated_journal.specs.Format.{mark, framed, gated, spelled, StandsFor, IsUnfinished, IsUnfinishedOr}
+use Rattle.gated_journal.specs.Format.{framed, gated, spelled, StandsFor, IsUnfinishedOr}
 use Rattle.gated_journal.specs.Install.{IsUnfinishedOrThis}
 use Rattle.gated_journal.specs.View.{IsSettled}
 
 -- one record more of those that are left
-pub next_record : (file bytes : List ℕ) (rest : List (List ℕ)) → ((file ++ 1 ∷ []) ++ framed bytes) ++ gated rest ≡ file ++ gated (bytes ∷ rest)
+next_record : (file bytes : List ℕ) (rest : List (List ℕ)) → ((file ++ 1 ∷ []) ++ framed bytes) ++ gated rest ≡ file ++ gated (bytes ∷ rest)
 next_record file bytes rest = append_assoc (file ++ 1 ∷ []) (framed bytes) (gated rest) ∙ append_assoc file (1 ∷ []) (framed bytes ++ gated rest)
 
 -- each is shorter than the file
-pub short_record : (file bytes : List ℕ) (rest : List (List ℕ)) (whole : List ℕ) → file ++ gated (bytes ∷ rest) ≡ whole → length bytes ≤ length whole
+short_record : (file bytes : List ℕ) (rest : List (List ℕ)) (whole : List ℕ) → file ++ gated (bytes ∷ rest) ≡ whole → length bytes ≤ length whole
 short_record file bytes rest whole is =
     omega (arith, ap length is, length-append file (gated (bytes ∷ rest)), length-append (framed bytes) (gated rest))
+
+pub short_first : {V : Type 0} (f : V → List ℕ) (file : List ℕ) (rest : List V) (x : V) (whole : List ℕ) → file ++ gated (map f rest) ≡ whole → 1 ≤ length rest → x ≡ get_or rest 0 x → length (f x) ≤ length whole
+short_first f file [] x whole is some first = omega (arith, some)
+short_first f file (v ∷ rest) x whole is some first = omega (arith, short_record file (f v) (map f rest) whole is, ap (λ y. length (f y)) first)
 
 -- the whole file stands for what it spells
 pub whole_stands : (limit : ℕ) (head : List ℕ) (records : List (List ℕ)) → length (spelled head records) + 1 ≤ limit → StandsFor limit head records (spelled head records ++ 0 ∷ [])

@@ -1,5 +1,4 @@
-use Rattle.std.proofs.Common.{inl, inr, ℕ, List, subst, sym, ◌∙◌, ap, arith, length}
-use Rattle.gated_journal.specs.Cuts.{IsMarked, IsUnmarked}
+use Rattle.std.proofs.Common.{inl, inr, ℕ, List, subst, arith}
 use Rattle.gated_journal.specs.Faults.{StartFails}
 use Rattle.gated_journal.proofs.Refusing.{refused_long, IsRefusedStart}
 use Rattle.gated_journal.proofs.open_file.judge_long.Goals as goal
