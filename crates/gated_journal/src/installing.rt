@@ -1,15 +1,37 @@
 // A whole journal, written to an empty file.
-ghost use Rattle.std.specs.Prelude.{◌≡◌, ◌+◌, ◌-◌, ◌^◌, ◌<◌, ◌≤◌, List, ℕ, [], ◌∷◌, ◌++◌, length, map, OnOk, IfErr, IfSome, OnSome, IsErrOf};
+ghost use Rattle.std.specs.Prelude.{◌≡◌, ◌+◌, ◌-◌, ◌^◌, ◌<◌, ◌≤◌, List, ℕ, [], ◌∷◌, ◌++◌, length, map, take, OnOk, IfErr, IfSome, OnSome, IsErrOf};
+ghost use Rattle.plan_base.specs.Causes.{CountsFaults};
 ghost use Rattle.plan_base.specs.Disk.{HoldsThroughout, IsSynced, TellsAlike};
 ghost use Rattle.gated_journal.specs.Faults.{CreateFails};
 ghost use Rattle.gated_journal.specs.Format.{spelled, IsUnfinishedOr};
+ghost use Rattle.gated_journal.specs.Install.{IsUnfinishedOrThis};
 ghost use Rattle.gated_journal.specs.View.{IsSettled};
 
 use crate::fault::JournalFault;
 use crate::file_bytes::whole_file;
 use crate::stored::write_synced;
-use plan_base::Disk;
+use plan_base::{Disk, Failed};
 use std::alloc::Global;
+
+// Writes a byte 0 in place of the first one, then the rest, and then the first one.
+fn write_first_byte_last<D: Disk>(disk: &mut D, bytes: &[u8]) -> Result<(), Failed>
+    requires count { D.calls disk.old < 2 ^ 62 + 2 ^ 40 }
+    requires empty { IfSome (D.reads disk.old) (λ file. file ≡ []) }
+    requires synced { IsSynced (D.reads disk.old) (D.images disk.old) }
+    requires marked { take 1 bytes.now ≡ 83 ∷ [] }
+    ensures done { OnOk result (IfSome (D.reads disk.new) (λ file. file ≡ bytes.now)) }
+    ensures durable { OnOk result (IsSynced (D.reads disk.new) (D.images disk.new)) }
+    ensures any_moment { OnSome (D.reads disk.old) (HoldsThroughout D.calls D.images_since disk.old disk.new (IsUnfinishedOrThis bytes.now)) }
+    ensures six { OnOk result (D.calls disk.new ≡ D.calls disk.old + 6) }
+    ensures least { D.calls disk.old ≤ D.calls disk.new }
+    ensures most { D.calls disk.new ≤ D.calls disk.old + 6 }
+    ensures telling { TellsAlike (D.reads disk.old) (D.reads disk.new) }
+    ensures cause { CountsFaults (D.faults disk.old) (D.faults disk.new) result }
+{
+    write_synced(disk, 0, &[0])?;
+    write_synced(disk, 1, &bytes[1..])?;
+    write_synced(disk, 0, &bytes[..1])
+}
 
 /// Writes a journal with all its records to an empty file that was synced: a byte 0 in place of the first one, then the
 /// rest, and then the first one, with a sync after each. So whatever the moment of a crash, the file is refused or
@@ -33,7 +55,6 @@ pub fn install<D: Disk>(
 
     // Each image during the call is unfinished, or stands for the head and the records.
     ensures any_moment { OnSome (D.reads disk.old) (HoldsThroughout D.calls D.images_since disk.old disk.new (IsUnfinishedOr _limit head.now (map (λ v. v.items) records.now))) }
-
     ensures six { OnOk result (D.calls disk.new ≡ D.calls disk.old + 6) }
     ensures least { D.calls disk.old ≤ D.calls disk.new }
     ensures most { D.calls disk.new ≤ D.calls disk.old + 6 }
@@ -43,8 +64,6 @@ pub fn install<D: Disk>(
     ensures no_memory { IsErrOf result JournalFault.NoMemory → disk.new ≡ disk.old }
 {
     let bytes = whole_file(alloc, head, records)?;
-    write_synced(disk, 0, &[0])?;
-    write_synced(disk, 1, &bytes[1..])?;
-    write_synced(disk, 0, &bytes[..1])?;
+    write_first_byte_last(disk, &bytes)?;
     Ok(())
 }

@@ -2,7 +2,7 @@
 ghost use Rattle.std.specs.Prelude.{◌≡◌, ◌+◌, ◌-◌, ◌^◌, ◌<◌, ◌≤◌, ◌↔◌, List, ℕ, [], ◌∷◌, ◌++◌, length, OnOk, OnErr, IfOk, IfErr, IfSome, OnSome, IsErrOf, IsTrue, MatchResult, vec_capacity, vec_len, max, map, sum_by};
 ghost use Rattle.plan_base.specs.Causes.{Rose};
 ghost use Rattle.plan_base.specs.Disk.{TellsAlike, IsSynced, HoldsThroughout, OnlyLooks};
-ghost use Rattle.gated_journal.specs.Format.{framed, fresh, end_after, spelled, IsBeforeOrAfter, IsNoLonger, StoodFor};
+ghost use Rattle.gated_journal.specs.Format.{framed, fresh, end_after, spelled, spelled_in, IsBeforeOrAfter, IsNoLonger, StoodFor};
 ghost use Rattle.gated_journal.specs.View.{IsSettled};
 ghost use Rattle.gated_journal.specs.Faults.{PutFails, CreateFails, OpenFails, OpenV1Fails};
 
@@ -107,6 +107,7 @@ impl Journal {
     /// journal is `NotAJournal`, also where it is longer than the limit; a journal that is longer than the limit or
     /// cut off is `Damaged`. `DiskFault` comes only where the disk failed. After `NoMemory` the disk
     /// reads as before.
+    #[tactic(auto, using(crate::proofs::Refusing::second_fails))]
     pub fn open<D: Disk>(
         alloc: Global,
         disk: &mut D,
@@ -139,6 +140,7 @@ impl Journal {
     ///
     /// `NotAJournal` and `Damaged` are those of `open`, by the mark of the first version, and `OldVersion` doesn't
     /// come. `DiskFault` comes only where the disk failed.
+    #[tactic(auto, using(crate::proofs::Refusing::first_fails))]
     pub fn open_v1<D: Disk>(
         alloc: Global,
         disk: &mut D,
@@ -149,6 +151,7 @@ impl Journal {
 
         // What it answers is never longer than the limit, whatever the disk is.
         ensures total { IfOk result (λ r. length r.0.items + sum_by length (map (λ v. v.items) r.1.items) ≤ limit) }
+        ensures fits { IfOk result (λ r. length (spelled_in 49 r.0.items (map (λ v. v.items) r.1.items)) + 1 ≤ limit) }
         ensures looks { OnlyLooks D.reads D.images D.images_since D.calls disk.old disk.new }
         ensures most { D.calls disk.new ≤ D.calls disk.old + 2 ^ 33 }
         ensures cause { IfErr result (OpenV1Fails limit (D.reads disk.old) (D.faults disk.old) (D.faults disk.new)) }
