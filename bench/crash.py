@@ -18,7 +18,7 @@ import week
 
 TOP = os.path.dirname(os.path.dirname(os.path.abspath(__file__)))
 PROGRAM = os.path.join(TOP, "crates", "shift_solve", "out", "shift_solve")
-MARK = b"SHIFTJ1\n"
+MARK = b"SHIFTJ2\n"
 STEPS = "20"
 
 

@@ -253,6 +253,14 @@ def torn_journal(folder):
     return faults + ends(other, 9) + (["a journal with the beginning of a record is called torn"] if "no step of a search" in other[2] else [])
 
 
+def journal_of_the_first_version(folder):
+    path, content = folder.path / "week.journal", b"SHIFTJ1\n" + bytes(5)
+    path.write_bytes(content)
+    run = folder.plan("--seconds", "1")
+    told = "the journal is one of the first version", "shift_migrate 'week.journal' 'week.journal.new'"
+    return ends(run, 9, *told) + ([] if path.read_bytes() == content else ["the journal was changed"])
+
+
 def no_search_to_show(folder):
     folder.plan("--seconds", "1")
     before = folder.written()
@@ -620,19 +628,19 @@ def program_killed_below_run(folder):
 
 
 def journal_without_room(folder):
-    """A journal with the prices of 4,154 steps, and no room for one more."""
+    """A journal with the prices of 6,641 steps, and no room for one more."""
     day, slots = ",".join("1" if 8 <= slot < 12 else "0" for slot in range(24)), ",0" * 1992
     texts = [(TOP / "cases/texts" / name).read_text() for name in ("morning.json", "morning.canonical.json")]
     document, canonical = (text.replace('"slot_minutes":60', '"slot_minutes":5').replace('"days":1', '"days":7').replace(day, day + slots) for text in texts)
     (folder.path / "week.json").write_text(document)
-    record = bytes.fromhex("01 133f0000 0100 02 0000 00000000 0100 e0070000") + bytes(8 * 2016 + 4)
-    (folder.path / "week.journal").write_bytes(b"SHIFTJ1\n" + len(canonical).to_bytes(4, "little") + canonical.encode() + record * 4154 + b"\0")
+    record = bytes.fromhex("01 73270000 0100 02 0000 00000000 0100 e0070000") + bytes(5 * 2016 + 4)
+    (folder.path / "week.journal").write_bytes(b"SHIFTJ2\n" + len(canonical).to_bytes(4, "little") + canonical.encode() + record * 6641 + b"\0")
     run = folder.begun("--seconds", "60", "--workers", "1")
-    return ended(folder, run, 0, "goes on from 4154 steps: cost 8, bound 0", "the journal is full", "another journal begins the search anew")
+    return ended(folder, run, 0, "goes on from 6641 steps: cost 8, bound 0", "the journal is full", "another journal begins the search anew")
 
 
 MEETINGS = (
-    lock_in_use, killed_run, search_gone_on_with, begun_anew, no_search_to_show, journal_that_is_a_folder, journal_of_another_instance, damaged_journal, torn_journal,
+    lock_in_use, killed_run, search_gone_on_with, begun_anew, no_search_to_show, journal_that_is_a_folder, journal_of_another_instance, damaged_journal, torn_journal, journal_of_the_first_version,
     journal_on_a_full_device, folder_below_a_file, folder_that_is_a_file, instance_that_isnt_there, instance_that_is_a_folder, journal_of_the_instance, document_with_a_namesake, bent_report, edited_table,
     folder_of_two_plans, folder_in_use, table_that_is_a_folder, cheaper_plan_in_the_folder, searches_with_seeds, week_with_another_need, days_with_names, heading_without_folders,
     words_in_the_wrong_order, report_that_is_none, closed_output, short_time, search_without_a_cheaper_plan, line_in_mid_search, end_of_input_in_mid_search, line_before_the_search,

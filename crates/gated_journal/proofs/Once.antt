@@ -2,9 +2,9 @@
 use Rattle.std.proofs.Common.{◌≡◌, ◌≢◌, inl, inr, ⊎_elim, ℕ, ◌+◌, ◌<◌, ◌^◌, List, [], ◌∷◌, ◌++◌, length, get_or, take, drop, refl, sym, ◌∙◌, ap, arith, append_assoc, length-append}
 use Rattle.std.proofs.lemmas.List.{take_at, drop_at}
 use Rattle.std.proofs.lemmas.Nat.{from_le_bytes-to_le_bytes_4}
-use Rattle.gated_journal.specs.Format.{mark, framed, gated, spelled, StandsFor}
-use Rattle.gated_journal.specs.Cuts.{size_of, IsCut, IsNoJournal}
-use Rattle.gated_journal.specs.Faults.{IsDamagedAt}
+use Rattle.gated_journal.specs.Format.{mark_of, framed, gated, spelled_in, StandsFor, StandsIn, IsUnfinished}
+use Rattle.gated_journal.specs.Cuts.{size_of, IsCut, IsNoneIn, IsNoJournal, IsOldVersion}
+use Rattle.gated_journal.specs.Faults.{IsDamagedIn, IsDamagedAt}
 use Rattle.gated_journal.proofs.Spelling.{length-framed}
 
 -- the length that a frame begins with
@@ -38,33 +38,33 @@ gated_once (a ∷ r) (b ∷ r') g g' t t' short shut shut' same =
     λ i. once.0 i ∷ rest i
 
 -- what is behind the mark
-behind_mark : (head : List ℕ) (records : List (List ℕ)) (end : List ℕ) → drop 8 (spelled head records ++ end) ≡ framed head ++ (gated records ++ end)
-behind_mark head records end = append_assoc (framed head) (gated records) end
+behind_mark : (digit : ℕ) (head : List ℕ) (records : List (List ℕ)) (end : List ℕ) → drop 8 (spelled_in digit head records ++ end) ≡ framed head ++ (gated records ++ end)
+behind_mark digit head records end = append_assoc (framed head) (gated records) end
 
-length-spelled : (head : List ℕ) (records : List (List ℕ)) (end : List ℕ) → length (spelled head records ++ end) ≡ 12 + length head + length (gated records ++ end)
-length-spelled head records end =
-    ap length (append_assoc (mark ++ framed head) (gated records) end) ∙ omega (arith, length-append head (gated records ++ end))
+length-spelled : (digit : ℕ) (head : List ℕ) (records : List (List ℕ)) (end : List ℕ) → length (spelled_in digit head records ++ end) ≡ 12 + length head + length (gated records ++ end)
+length-spelled digit head records end =
+    ap length (append_assoc (mark_of digit ++ framed head) (gated records) end) ∙ omega (arith, length-append head (gated records ++ end))
 
-pub stands_once : (limit : ℕ) (head head' : List ℕ) (records records' : List (List ℕ)) (file : List ℕ) → limit < 2 ^ 32 → StandsFor limit head records file → StandsFor limit head' records' file → (head ≡ head') × (records ≡ records')
-stands_once limit head head' records records' file small one other =
+pub stands_once_in : (digit limit : ℕ) (head head' : List ℕ) (records records' : List (List ℕ)) (file : List ℕ) → limit < 2 ^ 32 → StandsIn digit limit head records file → StandsIn digit limit head' records' file → (head ≡ head') × (records ≡ records')
+stands_once_in digit limit head head' records records' file small one other =
     let end = one.gate ∷ one.rest in
     let end' = other.gate ∷ other.rest in
-    let same : spelled head records ++ end ≡ spelled head' records' ++ end' = sym one.spells ∙ other.spells in
-    let split : framed head ++ (gated records ++ end) ≡ framed head' ++ (gated records' ++ end') = sym (behind_mark head records end) ∙ ap (drop 8) same ∙ behind_mark head' records' end' in
-    let long = length-spelled head records end in
-    let long' = length-spelled head' records' end' in
+    let same : spelled_in digit head records ++ end ≡ spelled_in digit head' records' ++ end' = sym one.spells ∙ other.spells in
+    let split : framed head ++ (gated records ++ end) ≡ framed head' ++ (gated records' ++ end') = sym (behind_mark digit head records end) ∙ ap (drop 8) same ∙ behind_mark digit head' records' end' in
+    let long = length-spelled digit head records end in
+    let long' = length-spelled digit head' records' end' in
     let once = framed_once head head' (gated records ++ end) (gated records' ++ end') (omega (arith, small, one.within, ap length one.spells, long)) (omega (arith, small, other.within, ap length other.spells, long')) split in
     (once.0, gated_once records records' one.gate other.gate one.rest other.rest (omega (arith, small, one.within, ap length one.spells, long)) one.closed other.closed once.1)
 
 -- it begins as a journal
-pub stands_journal : (limit : ℕ) (head : List ℕ) (records : List (List ℕ)) (file : List ℕ) → limit < 2 ^ 32 → StandsFor limit head records file → IsNoJournal file → ⊥
-stands_journal limit head records file small stands (inl short) = omega (arith, short, ap length stands.spells, length-spelled head records (stands.gate ∷ stands.rest))
-stands_journal limit head records file small stands (inr (inl other)) = other (ap (take 8) stands.spells)
-stands_journal limit head records file small stands (inr (inr past)) =
+pub stands_journal_in : (digit limit : ℕ) (head : List ℕ) (records : List (List ℕ)) (file : List ℕ) → limit < 2 ^ 32 → StandsIn digit limit head records file → IsNoneIn digit file → ⊥
+stands_journal_in digit limit head records file small stands (inl short) = omega (arith, short, ap length stands.spells, length-spelled digit head records (stands.gate ∷ stands.rest))
+stands_journal_in digit limit head records file small stands (inr (inl other)) = other (ap (take 8) stands.spells)
+stands_journal_in digit limit head records file small stands (inr (inr past)) =
     let end = stands.gate ∷ stands.rest in
-    let long = length-spelled head records end in
+    let long = length-spelled digit head records end in
     let size : size_of (drop 8 file) ≡ length head =
-    ap (λ (l : List ℕ). size_of (drop 8 l)) stands.spells ∙ ap size_of (behind_mark head records end) ∙ size-framed head (gated records ++ end) (omega (arith, small, stands.within, ap length stands.spells, long)) in
+    ap (λ (l : List ℕ). size_of (drop 8 l)) stands.spells ∙ ap size_of (behind_mark digit head records end) ∙ size-framed head (gated records ++ end) (omega (arith, small, stands.within, ap length stands.spells, long)) in
     omega (arith, past, size, ap length stands.spells, long)
 
 -- and isn't cut off
@@ -85,15 +85,46 @@ gated_whole (a ∷ r) (b ∷ r') g t end first short shut same cut =
     let once = framed_once a b (gated r ++ g ∷ t) (gated r' ++ end) (omega (arith, long, short)) (omega (arith, long, short, ap length same, length-open b r' end)) split in
     gated_whole r r' g t end first (omega (arith, long, short)) shut once.1 cut
 
-pub stands_whole : (limit : ℕ) (head : List ℕ) (records : List (List ℕ)) (file : List ℕ) (at : ℕ) → limit < 2 ^ 32 → StandsFor limit head records file → IsDamagedAt limit file at → ⊥
-stands_whole limit head records file at small stands (inl long) = omega (arith, long.0, stands.within)
-stands_whole limit head records file at small stands (inr damage) =
+pub stands_whole_in : (digit limit : ℕ) (head : List ℕ) (records : List (List ℕ)) (file : List ℕ) (at : ℕ) → limit < 2 ^ 32 → StandsIn digit limit head records file → IsDamagedIn digit limit file at → ⊥
+stands_whole_in digit limit head records file at small stands (inl long) = omega (arith, long.0, stands.within)
+stands_whole_in digit limit head records file at small stands (inr damage) =
     let cut = damage.1.1 in
     let head' = damage.1.0 in
     let end = stands.gate ∷ stands.rest in
-    let same : spelled head records ++ end ≡ spelled head' cut.records ++ cut.rest = sym stands.spells ∙ cut.spells in
-    let split : framed head ++ (gated records ++ end) ≡ framed head' ++ (gated cut.records ++ cut.rest) = sym (behind_mark head records end) ∙ ap (drop 8) same ∙ behind_mark head' cut.records cut.rest in
-    let long = length-spelled head records end in
-    let long' = length-spelled head' cut.records cut.rest in
+    let same : spelled_in digit head records ++ end ≡ spelled_in digit head' cut.records ++ cut.rest = sym stands.spells ∙ cut.spells in
+    let split : framed head ++ (gated records ++ end) ≡ framed head' ++ (gated cut.records ++ cut.rest) = sym (behind_mark digit head records end) ∙ ap (drop 8) same ∙ behind_mark digit head' cut.records cut.rest in
+    let long = length-spelled digit head records end in
+    let long' = length-spelled digit head' cut.records cut.rest in
     let once = framed_once head head' (gated records ++ end) (gated cut.records ++ cut.rest) (omega (arith, small, stands.within, ap length stands.spells, long)) (omega (arith, small, stands.within, ap length stands.spells, ap length same, long', long)) split in
     gated_whole records cut.records stands.gate stands.rest cut.rest cut.records (omega (arith, small, stands.within, ap length stands.spells, long)) stands.closed once.1 cut.cut
+
+-- the same in the version that is written now
+pub stands_once : (limit : ℕ) (head head' : List ℕ) (records records' : List (List ℕ)) (file : List ℕ) → limit < 2 ^ 32 → StandsFor limit head records file → StandsFor limit head' records' file → (head ≡ head') × (records ≡ records')
+stands_once = stands_once_in 50
+
+pub stands_journal : (limit : ℕ) (head : List ℕ) (records : List (List ℕ)) (file : List ℕ) → limit < 2 ^ 32 → StandsFor limit head records file → IsNoJournal file → ⊥
+stands_journal = stands_journal_in 50
+
+pub stands_whole : (limit : ℕ) (head : List ℕ) (records : List (List ℕ)) (file : List ℕ) (at : ℕ) → limit < 2 ^ 32 → StandsFor limit head records file → IsDamagedAt limit file at → ⊥
+stands_whole = stands_whole_in 50
+
+-- the two marks differ
+pub stands_mark : (digit limit : ℕ) (head : List ℕ) (records : List (List ℕ)) (file : List ℕ) → StandsIn digit limit head records file → take 8 file ≡ mark_of digit
+stands_mark digit limit head records file stands = ap (take 8) stands.spells
+
+pub other_mark : (file : List ℕ) → take 8 file ≡ mark_of 50 → take 8 file ≡ mark_of 49 → ⊥
+other_mark file new old = omega (arith, ap (λ (l : List ℕ). get_or l 6 0) (sym new ∙ old))
+
+pub stands_new : (limit : ℕ) (head : List ℕ) (records : List (List ℕ)) (file : List ℕ) → StandsFor limit head records file → IsOldVersion file → ⊥
+stands_new limit head records file stands old = other_mark file (stands_mark 50 limit head records file stands) old
+
+-- what an unfinished file doesn't begin with
+no_mark : (digit : ℕ) (file : List ℕ) → IsUnfinished file → take 8 file ≡ mark_of digit → ⊥
+no_mark digit [] (inl short) is = omega (arith, ap length is)
+no_mark digit (a ∷ []) (inl short) is = omega (arith, ap length is)
+no_mark digit (a ∷ b ∷ file) (inl short) is = omega (arith, short)
+no_mark digit [] (inr other) is = omega (arith, ap length is)
+no_mark digit (a ∷ file) (inr other) is = other (ap (λ (x : ℕ). x ∷ []) (ap (λ (l : List ℕ). get_or l 0 0) is))
+
+pub unfinished_refused : (file : List ℕ) → IsUnfinished file → IsNoJournal file × (IsOldVersion file → ⊥)
+unfinished_refused file so = (inr (inl (no_mark 50 file so)), no_mark 49 file so)

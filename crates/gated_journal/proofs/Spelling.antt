@@ -3,7 +3,7 @@ use Rattle.std.proofs.Common.{◌≡◌, ◌≢◌, inl, inr, ℕ, ◌+◌, ◌�
 use Rattle.std.proofs.lemmas.List.{append-nil}
 use Rattle.std.proofs.lemmas.Bool.{cases_eq}
 use Rattle.plan_base.specs.Disk.{overwritten, WritesPart}
-use Rattle.gated_journal.specs.Format.{mark, framed, gated, spelled, StandsFor, IsBeforeOrAfter, end_after}
+use Rattle.gated_journal.specs.Format.{mark_of, framed, gated, spelled, spelled_in, StandsFor, IsBeforeOrAfter, end_after}
 use Rattle.gated_journal.proofs.Bytes.{torn_behind, put_behind, torn_gate, put_gate}
 
 pub gated-push : (records : List (List ℕ)) (bytes : List ℕ) → gated (records ++ bytes ∷ []) ≡ gated records ++ 1 ∷ framed bytes
@@ -11,16 +11,16 @@ gated-push [] bytes = append-nil (1 ∷ framed bytes)
 gated-push (r ∷ records) bytes =
     ap (λ (l : List ℕ). 1 ∷ framed r ++ l) (gated-push records bytes) ∙ sym (append_assoc (1 ∷ framed r) (gated records) (1 ∷ framed bytes))
 
-pub spelled-push : (head : List ℕ) (records : List (List ℕ)) (bytes : List ℕ) → spelled head (records ++ bytes ∷ []) ≡ spelled head records ++ 1 ∷ framed bytes
-spelled-push head records bytes =
-    ap (λ (l : List ℕ). mark ++ framed head ++ l) (gated-push records bytes) ∙ sym (append_assoc (mark ++ framed head) (gated records) (1 ∷ framed bytes))
+pub spelled-push : (digit : ℕ) (head : List ℕ) (records : List (List ℕ)) (bytes : List ℕ) → spelled_in digit head (records ++ bytes ∷ []) ≡ spelled_in digit head records ++ 1 ∷ framed bytes
+spelled-push digit head records bytes =
+    ap (λ (l : List ℕ). mark_of digit ++ framed head ++ l) (gated-push records bytes) ∙ sym (append_assoc (mark_of digit ++ framed head) (gated records) (1 ∷ framed bytes))
 
 pub length-framed : (bytes : List ℕ) → length (framed bytes) ≡ 4 + length bytes
 length-framed bytes = omega arith
 
 pub length-spelled-push : (head : List ℕ) (records : List (List ℕ)) (bytes : List ℕ) → length (spelled head (records ++ bytes ∷ [])) ≡ length (spelled head records) + 5 + length bytes
 length-spelled-push head records bytes =
-    ap length (spelled-push head records bytes) ∙ length-append (spelled head records) (1 ∷ framed bytes) ∙ omega (arith, length-framed bytes)
+    ap length (spelled-push 50 head records bytes) ∙ length-append (spelled head records) (1 ∷ framed bytes) ∙ omega (arith, length-framed bytes)
 
 module _ (limit : ℕ) (head : List ℕ) (records : List (List ℕ)) (bytes : List ℕ) (at : ℕ) (at_gate : at ≡ length (spelled head records)) (fits : end_after head records (length bytes) ≤ limit) where
   abbrev front : List ℕ
@@ -40,7 +40,7 @@ module _ (limit : ℕ) (head : List ℕ) (records : List (List ℕ)) (bytes : Li
     spells =
         is ∙ ap (λ (l : List ℕ). front ++ 1 ∷ l) (append_assoc (framed bytes) (0 ∷ []) rest)
         ∙ sym (append_assoc front (1 ∷ framed bytes) (0 ∷ rest))
-        ∙ ap (λ (l : List ℕ). l ++ 0 ∷ rest) (sym (spelled-push head records bytes));
+        ∙ ap (λ (l : List ℕ). l ++ 0 ∷ rest) (sym (spelled-push 50 head records bytes));
     closed = λ e. omega (arith, e);
     within = within;
   }

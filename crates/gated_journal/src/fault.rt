@@ -12,7 +12,8 @@ pub enum JournalFault {
     /// A call on the disk failed.
     #[error("the disk failed")]
     DiskFault,
-    /// The file has fewer than 12 bytes, or doesn't begin with the mark, or its head passes its end.
+    /// The file isn't of the first version, and has fewer than 12 bytes, or doesn't begin with the mark, or its head
+    /// passes its end.
     #[error("the file is no journal")]
     NotAJournal,
     /// A journal whose file is longer than the limit (`at` is the limit), or ends where its first gate would stand
@@ -25,6 +26,9 @@ pub enum JournalFault {
     /// There is no memory for it.
     #[error("out of memory")]
     NoMemory,
+    /// The file begins with the mark of the first version.
+    #[error("the journal is of an old version")]
+    OldVersion,
 }
 
 impl From<Failed> for JournalFault {

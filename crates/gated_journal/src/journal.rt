@@ -2,20 +2,19 @@
 ghost use Rattle.std.specs.Prelude.{◌≡◌, ◌+◌, ◌-◌, ◌^◌, ◌<◌, ◌≤◌, ◌↔◌, List, ℕ, [], ◌∷◌, ◌++◌, length, OnOk, OnErr, IfOk, IfErr, IfSome, OnSome, IsErrOf, IsTrue, MatchResult, vec_capacity, vec_len, max, map, sum_by};
 ghost use Rattle.plan_base.specs.Causes.{Rose};
 ghost use Rattle.plan_base.specs.Disk.{TellsAlike, IsSynced, HoldsThroughout, OnlyLooks};
-ghost use Rattle.gated_journal.specs.Format.{framed, fresh, end_after, spelled, IsBeforeOrAfter, IsNoLonger};
+ghost use Rattle.gated_journal.specs.Format.{framed, fresh, end_after, spelled, spelled_in, IsBeforeOrAfter, IsNoLonger, StoodFor};
 ghost use Rattle.gated_journal.specs.View.{IsSettled};
-ghost use Rattle.gated_journal.specs.Faults.{PutFails, CreateFails, OpenFails};
+ghost use Rattle.gated_journal.specs.Faults.{PutFails, CreateFails, OpenFails, OpenV1Fails};
 
 use crate::fault::JournalFault;
-use crate::open_file::load;
-use crate::parse::{read_records, split_head};
+use crate::file_bytes::first_file;
+use crate::open_file::read_as;
+use crate::parse::{FIRST, SECOND};
 use crate::stored::write_synced;
 use crate::told::Told;
 use plan_base::{Disk, Failed};
 use std::alloc::{AllocError, Global};
 use std::marker::Model;
-
-const MARK: [u8; 8] = [b'S', b'H', b'I', b'F', b'T', b'J', b'1', b'\n'];
 
 /// A head and records in a file, each record behind a gate byte: 1 is open, and every other byte is closed and ends
 /// the journal. The disk is handed in at each call.
@@ -58,19 +57,6 @@ fn join(buffer: &mut Vec<u8>, bytes: &[u8])
     buffer.extend_from_slice(&size.to_le_bytes()).unwrap();
     buffer.extend_from_slice(bytes).unwrap();
     buffer.push(0).unwrap();
-}
-
-// The bytes of a journal without records.
-fn first_file(alloc: Global, head: &[u8]) -> Result<Vec<u8>, AllocError>
-    requires { length head.now < 2 ^ 32 }
-    ensures { IfOk result (λ bytes. bytes.items ≡ fresh head.now) }
-{
-    let mut bytes = Vec::from_slice(alloc, &MARK)?;
-    let size = head.len() as u32;
-    bytes.extend_from_slice(&size.to_le_bytes())?;
-    bytes.extend_from_slice(head)?;
-    bytes.push(0)?;
-    Ok(bytes)
 }
 
 impl Journal {
@@ -117,9 +103,11 @@ impl Journal {
     /// Opens whatever stands in a disk's file: it syncs, then only reads, and answers the journal with its head and
     /// its records, or why there is none. The journal's spare is 0.
     ///
-    /// A file that is no journal is `NotAJournal`, also where it is longer than the limit; a journal that is longer
-    /// than the limit or cut off is `Damaged`. `DiskFault` comes only where the disk failed. After `NoMemory` the disk
+    /// A file with the mark of the first version is `OldVersion`, whatever else is wrong with it. Another one that is no
+    /// journal is `NotAJournal`, also where it is longer than the limit; a journal that is longer than the limit or
+    /// cut off is `Damaged`. `DiskFault` comes only where the disk failed. After `NoMemory` the disk
     /// reads as before.
+    #[tactic(auto, using(crate::proofs::Refusing::second_fails))]
     pub fn open<D: Disk>(
         alloc: Global,
         disk: &mut D,
@@ -136,20 +124,41 @@ impl Journal {
         ensures cause { IfErr result (OpenFails limit (D.reads disk.old) (D.faults disk.old) (D.faults disk.new)) }
         ensures faults { D.faults disk.old ≤ D.faults disk.new }
     {
-        let bytes = load(alloc, disk, limit)?;
-        let Some((head, after)) = split_head(&bytes) else {
-            return Err(JournalFault::NotAJournal);
-        };
-        let (records, told, gate) = read_records(alloc, &bytes, head, after)?;
-        let head = Vec::from_slice(alloc, head)?;
+        let found = read_as(alloc, disk, limit, SECOND)?;
         let journal = Journal {
-            told,
+            told: found.told,
             buffer: Vec::with_capacity(alloc, 5)?,
             spare: 0,
-            gate,
+            gate: found.gate,
             limit,
         };
-        Ok((journal, head, records))
+        Ok((journal, found.head, found.records))
+    }
+
+    /// Reads a journal of the first version from a disk's file, for the way to the present one: it syncs, then only
+    /// reads, and answers the head and the records, or why there are none.
+    ///
+    /// `NotAJournal` and `Damaged` are those of `open`, by the mark of the first version, and `OldVersion` doesn't
+    /// come. `DiskFault` comes only where the disk failed.
+    #[tactic(auto, using(crate::proofs::Refusing::first_fails))]
+    pub fn open_v1<D: Disk>(
+        alloc: Global,
+        disk: &mut D,
+        limit: u32,
+    ) -> Result<(Vec<u8>, Vec<Vec<u8>>), JournalFault>
+        requires { D.calls disk.old < 2 ^ 62 + 2 ^ 40 }
+        ensures stood { IfOk result (λ r. IfSome (D.reads disk.old) (StoodFor limit r.0.items (map (λ v. v.items) r.1.items))) }
+
+        // What it answers is never longer than the limit, whatever the disk is.
+        ensures total { IfOk result (λ r. length r.0.items + sum_by length (map (λ v. v.items) r.1.items) ≤ limit) }
+        ensures fits { IfOk result (λ r. length (spelled_in 49 r.0.items (map (λ v. v.items) r.1.items)) + 1 ≤ limit) }
+        ensures looks { OnlyLooks D.reads D.images D.images_since D.calls disk.old disk.new }
+        ensures most { D.calls disk.new ≤ D.calls disk.old + 2 ^ 33 }
+        ensures cause { IfErr result (OpenV1Fails limit (D.reads disk.old) (D.faults disk.old) (D.faults disk.new)) }
+        ensures faults { D.faults disk.old ≤ D.faults disk.new }
+    {
+        let found = read_as(alloc, disk, limit, FIRST)?;
+        Ok((found.head, found.records))
     }
 
     /// Where the journal ends: how many bytes stand in its file up to the closed gate, that one included.

@@ -2,6 +2,8 @@
 #![tactic(auto)]
 
 mod fault;
+mod file_bytes;
+mod installing;
 mod journal;
 mod laws;
 mod open_file;
@@ -12,8 +14,9 @@ mod stored;
 mod told;
 
 pub use fault::JournalFault;
+pub use installing::install;
 pub use journal::Journal;
-pub use laws::one_reading;
+pub use laws::{one_old_reading, one_reading, unfinished_is_refused};
 pub use settling::settle;
 
 /// The most bytes that the file of a search's journal may have.

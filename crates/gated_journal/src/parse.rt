@@ -1,12 +1,17 @@
 // A file's bytes as a head and records.
-ghost use Rattle.std.specs.Prelude.{◌≡◌, ◌≢◌, ◌+◌, ◌^◌, ◌<◌, ◌≤◌, List, ℕ, [], ◌∷◌, ◌++◌, length, map, IfOk, IfErr, IfSome, IfNone};
-ghost use Rattle.gated_journal.specs.Format.{mark, framed, spelled, StandsFor};
-ghost use Rattle.gated_journal.specs.Cuts.{size_of, IsUnframed, IsNoJournal, IsRecordsEnd};
+ghost use Rattle.std.specs.Prelude.{◌≡◌, ◌≢◌, ◌+◌, ◌^◌, ◌<◌, ◌≤◌, List, ℕ, [], ◌∷◌, ◌++◌, length, map, take, IfOk, IfErr, IfSome, IfNone};
+ghost use Rattle.gated_journal.specs.Format.{mark_of, framed, spelled_in, StandsIn};
+ghost use Rattle.gated_journal.specs.Cuts.{size_of, IsUnframed, IsNoneIn, IsRecordsEnd};
 ghost use Rattle.gated_journal.specs.Faults.{ParseFails};
 
 use crate::fault::JournalFault;
 use crate::told::Told;
 use std::alloc::Global;
+
+/// The digit in the mark of the first version.
+pub(crate) const FIRST: u8 = b'1';
+/// The digit in the mark of the version that is written now.
+pub(crate) const SECOND: u8 = b'2';
 
 // What a length counts off, and what stands behind it.
 fn split_framed(bytes: &[u8]) -> Option<(&[u8], &[u8])>
@@ -24,14 +29,26 @@ fn split_framed(bytes: &[u8]) -> Option<(&[u8], &[u8])>
     Some(tail.split_at(size))
 }
 
-// The head behind a mark, and what stands behind the head.
-pub(crate) fn split_head(bytes: &[u8]) -> Option<(&[u8], &[u8])>
-    ensures some { IfSome result (λ parts. bytes.now ≡ mark ++ framed parts.0.now ++ parts.1.now) }
-    ensures none { IfNone result (IsNoJournal bytes.now) }
+// What stands behind the mark of a version.
+pub(crate) fn behind_mark(bytes: &[u8], digit: u8) -> Option<&[u8]>
+    ensures some { IfSome result (λ tail. bytes.now ≡ mark_of digit ++ tail.now) }
+    ensures none { IfNone result (take 8 bytes.now ≢ mark_of digit) }
 {
-    let [b'S', b'H', b'I', b'F', b'T', b'J', b'1', b'\n', tail @ ..] = bytes else {
+    let [b'S', b'H', b'I', b'F', b'T', b'J', found, b'\n', tail @ ..] = bytes else {
         return None;
     };
+    if *found != digit {
+        return None;
+    }
+    Some(tail)
+}
+
+// The head behind the mark of a version, and what stands behind the head.
+pub(crate) fn split_head(bytes: &[u8], digit: u8) -> Option<(&[u8], &[u8])>
+    ensures some { IfSome result (λ parts. bytes.now ≡ mark_of digit ++ framed parts.0.now ++ parts.1.now) }
+    ensures none { IfNone result (IsNoneIn digit bytes.now) }
+{
+    let tail = behind_mark(bytes, digit)?;
     split_framed(tail)
 }
 
@@ -51,19 +68,20 @@ fn split_record(bytes: &[u8]) -> Option<(&[u8], &[u8])>
     Some((record, rest))
 }
 
-// The records behind a head, and the place of the closed gate behind them.
+// The records behind a head, and the place of the closed gate behind them. The digit is for clauses alone.
 pub(crate) fn read_records(
     alloc: Global,
     bytes: &[u8],
+    _digit: u8,
     head: &[u8],
     after: &[u8],
 ) -> Result<(Vec<Vec<u8>>, Told, u64), JournalFault>
-    requires { bytes.now ≡ mark ++ framed head.now ++ after.now }
+    requires { bytes.now ≡ mark_of _digit ++ framed head.now ++ after.now }
     ensures head { IfOk result (λ r. r.1.head ≡ head.now) }
     ensures records { IfOk result (λ r. r.1.records ≡ map (λ v. v.items) r.0.items) }
-    ensures stands { IfOk result (λ r. StandsFor (length bytes.now) head.now r.1.records bytes.now) }
-    ensures gate { IfOk result (λ r. r.2 ≡ length (spelled head.now r.1.records)) }
-    ensures cut { IfErr result (ParseFails head.now bytes.now) }
+    ensures stands { IfOk result (λ r. StandsIn _digit (length bytes.now) head.now r.1.records bytes.now) }
+    ensures gate { IfOk result (λ r. r.2 ≡ length (spelled_in _digit head.now r.1.records)) }
+    ensures cut { IfErr result (ParseFails _digit head.now bytes.now) }
 {
     let mut records = Vec::new(alloc);
     let mut told = Told::of_head(head);

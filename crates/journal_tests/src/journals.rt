@@ -1,13 +1,18 @@
 //! A journal on a disk in memory, which is put on and opened again.
 ghost use Rattle.std.specs.Prelude.{◌≡◌, IfOk};
 
-use gated_journal::{Journal, JournalFault};
+use gated_journal::{Journal, JournalFault, install};
 use plan_base::{Disk, MemDisk};
 use std::alloc::Global;
 use std::test::Fail;
 
 // The head 7 8 9 and the record 4 5.
 const WHOLE: [u8; 23] = [
+    b'S', b'H', b'I', b'F', b'T', b'J', b'2', b'\n', 3, 0, 0, 0, 7, 8, 9, 1, 2, 0, 0, 0, 4, 5, 0,
+];
+
+// The same journal in the first version.
+const OLD: [u8; 23] = [
     b'S', b'H', b'I', b'F', b'T', b'J', b'1', b'\n', 3, 0, 0, 0, 7, 8, 9, 1, 2, 0, 0, 0, 4, 5, 0,
 ];
 
@@ -42,5 +47,79 @@ fn a_record_is_put_and_found_again(rt: HostRuntime) -> Result<(), Fail> {
     assert_eq!(rt; end, 23);
     assert_eq!(rt; head.as_slice(), [7, 8, 9].as_slice());
     assert!(rt; records.len() == 1 && records[0].as_slice() == [4, 5].as_slice());
+    Ok(())
+}
+
+/// An empty disk whose call of this number fails, after the journal was written to it or that failed; and whether it was.
+fn installed(alloc: Global, call: u64) -> Result<(MemDisk, bool), Fail> {
+    let records = vec![in alloc; Vec::from_slice(alloc, &[4, 5])?; 1]?;
+    let fails = vec![in alloc; call; 1]?;
+    let mut disk = MemDisk::new(alloc, Vec::new(alloc), fails);
+    match install(alloc, &mut disk, &[7, 8, 9], &records, 23) {
+        Ok(()) => Ok((disk, true)),
+        Err(JournalFault::DiskFault) => Ok((disk, false)),
+        Err(_) => Err("no memory")?,
+    }
+}
+
+/// Whether a disk opens to the journal; where it doesn't, it is no journal, nor one of the first version.
+fn is_whole(alloc: Global, mut disk: MemDisk) -> Result<bool, Fail>
+    requires { ⟦<MemDisk as Disk>⟧.calls disk ≡ 0 }
+{
+    match Journal::open(alloc, &mut disk, 23) {
+        Ok((_, head, records)) if head.len() == 3 && records.len() == 1 => Ok(true),
+        Err(JournalFault::NotAJournal) => Ok(false),
+        _ => Err("it opens to another journal, or is another fault")?,
+    }
+}
+
+/// Whether the images after an installation whose call of this number failed open to the journal: that with all that was written, and
+/// those with the first byte of the mark or another one in place of each byte since the last sync.
+fn opened_after(alloc: Global, call: u64) -> Result<[bool; 3], Fail> {
+    let (disk, _) = installed(alloc, call)?;
+    Ok([
+        is_whole(alloc, disk.image(None)?)?,
+        is_whole(alloc, disk.image(Some(b'S'))?)?,
+        is_whole(alloc, disk.image(Some(255))?)?,
+    ])
+}
+
+#[test]
+fn a_journal_is_installed_whole_or_refused(rt: HostRuntime) -> Result<(), Fail> {
+    let alloc = rt.alloc();
+    let (disk, whole) = installed(alloc, 7)?;
+    assert!(rt; whole && disk.calls() == 6);
+    assert_eq!(rt; disk.bytes(), WHOLE.as_slice());
+    for call in 1..5 {
+        assert!(rt; opened_after(alloc, call)? == [false, false, false]);
+    }
+    for call in 5..7 {
+        assert!(rt; opened_after(alloc, call)? == [true, true, false]);
+    }
+    Ok(())
+}
+
+#[test]
+fn a_journal_of_the_first_version_is_read_by_its_own_call_alone(
+    rt: HostRuntime,
+) -> Result<(), Fail> {
+    let alloc = rt.alloc();
+    let mut disk = MemDisk::new(alloc, Vec::from_slice(alloc, &OLD)?, Vec::new(alloc));
+    assert!(rt;
+        matches!(
+            Journal::open(alloc, &mut disk, 23),
+            Err(JournalFault::OldVersion)
+        )
+    );
+    let (head, records) = Journal::open_v1(alloc, &mut disk, 23)?;
+    assert_eq!(rt; head.as_slice(), [7, 8, 9].as_slice());
+    assert!(rt; records.len() == 1 && records[0].as_slice() == [4, 5].as_slice());
+    let mut new = MemDisk::new(alloc, Vec::from_slice(alloc, &WHOLE)?, Vec::new(alloc));
+    assert!(rt;
+        matches!(
+            Journal::open_v1(alloc, &mut new, 23),
+            Err(JournalFault::NotAJournal)
+        )
+    );
     Ok(())
 }

@@ -18,7 +18,7 @@ pub(crate) fn journal_of(alloc: Global, words: &PlanWords) -> Result<String, All
 }
 
 /// The bytes with which a journal begins.
-const MARK: &[u8] = b"SHIFTJ1\n";
+const MARK: &[u8] = b"SHIFTJ2\n";
 
 /// The bytes of a journal before the text of its instance: its mark, and the text's length.
 const BEFORE_HEAD: usize = 12;

@@ -3,9 +3,10 @@ use Rattle.std.proofs.Common.{◌≡◌, ℕ, zero, suc, ◌+◌, ◌<◌, List,
 use Rattle.std.specs.List.{AllZip}
 use Rattle.std.proofs.lemmas.List.{append-nil, map_more}
 use Rattle.std.proofs.lemmas.List.Concat.{flat_map-append}
+use Rattle.post_codec.specs.declared.price_width.PriceWidth.{PriceWidth}
 use Rattle.post_codec.specs.declared.post.Post.{Post}
-use Rattle.post_codec.specs.Spelling.{Spells, EachSpellsOnce}
-use Rattle.post_codec.specs.Batches.{joined, SpellPosts}
+use Rattle.post_codec.specs.Spelling.{SpellsBy, EachSpellsOnce}
+use Rattle.post_codec.specs.Batches.{joined, SpellPostsBy}
 
 -- ---- lists that go together, place by place
 pub zip_push : {A B : Type 0} (R : A → B → Type 0) (xs : List A) (ys : List B) (x : A) (y : B) → AllZip R xs ys → R x y → AllZip R (xs ++ x ∷ []) (ys ++ y ∷ [])
@@ -44,7 +45,7 @@ zip_right R [] (b ∷ ys) z e = absurd z
 zip_right R (a ∷ xs) (b ∷ ys) z e = absurd (cc)
 
 -- ---- records spell one list of batches
-pub batches_once : EachSpellsOnce → (records : List (List ℕ)) (one other : List (List Post)) → AllZip Spells records one → AllZip Spells records other → one ≡ other
+pub batches_once : {w : PriceWidth} → EachSpellsOnce w → (records : List (List ℕ)) (one other : List (List Post)) → AllZip (SpellsBy w) records one → AllZip (SpellsBy w) records other → one ≡ other
 batches_once once [] [] [] a b = refl
 batches_once once [] [] (y ∷ ys) a b = absurd b
 batches_once once [] (x ∷ xs) ys a b = absurd a
@@ -55,33 +56,33 @@ batches_once once (r ∷ rs) (x ∷ xs) (y ∷ ys) a b =
     let others : xs ≡ ys = batches_once once rs xs ys a.1 b.1 in
     cc
 
-pub posts_once : EachSpellsOnce → (records : List (List ℕ)) (one other : List Post) → SpellPosts records one → SpellPosts records other → one ≡ other
+pub posts_once : {w : PriceWidth} → EachSpellsOnce w → (records : List (List ℕ)) (one other : List Post) → SpellPostsBy w records one → SpellPostsBy w records other → one ≡ other
 posts_once once records one other a b = sym a.all ∙ ap joined (batches_once once records a.batches b.batches a.spelled b.spelled) ∙ b.all
 
-pub none_spelled : SpellPosts [] []
+pub none_spelled : {w : PriceWidth} → SpellPostsBy w [] []
 none_spelled = record { batches = []; spelled = tt; all = refl }
 
 -- one record more
-pub spell_more : (records : List (List ℕ)) (posts : List Post) (bytes : List ℕ) (batch : List Post) → SpellPosts records posts → Spells bytes batch → SpellPosts (records ++ bytes ∷ []) (posts ++ batch)
-spell_more records posts bytes batch s b = record {
+pub spell_more : {w : PriceWidth} (records : List (List ℕ)) (posts : List Post) (bytes : List ℕ) (batch : List Post) → SpellPostsBy w records posts → SpellsBy w bytes batch → SpellPostsBy w (records ++ bytes ∷ []) (posts ++ batch)
+spell_more {w} records posts bytes batch s b = record {
   batches = s.batches ++ batch ∷ [];
-  spelled = zip_push Spells records s.batches bytes batch s.spelled b;
+  spelled = zip_push (SpellsBy w) records s.batches bytes batch s.spelled b;
   all = flat_map-append (λ (l : List Post). l) s.batches (batch ∷ []) ∙ ap (λ (l : List Post). joined s.batches ++ l) (append-nil batch) ∙ ap (λ (l : List Post). l ++ batch) s.all;
 }
 
 -- the same at a place of a list of records
-pub spell_next : {V : Type 0} (f : V → List ℕ) (records : List V) (k : ℕ) (x : V) (posts batch : List Post) → k < length records → x ≡ get_or records k x → SpellPosts (map f (take k records)) posts → Spells (f x) batch → SpellPosts (map f (take (k + 1) records)) (posts ++ batch)
-spell_next {V} f records k x posts batch small at s b =
+pub spell_next : {w : PriceWidth} {V : Type 0} (f : V → List ℕ) (records : List V) (k : ℕ) (x : V) (posts batch : List Post) → k < length records → x ≡ get_or records k x → SpellPostsBy w (map f (take k records)) posts → SpellsBy w (f x) batch → SpellPostsBy w (map f (take (k + 1) records)) (posts ++ batch)
+spell_next {w} {V} f records k x posts batch small at s b =
     let more : map f (take (k + 1) records) ≡ map f (take k records) ++ f x ∷ [] = map_more f records k x small ∙ ap (λ (y : V). map f (take k records) ++ f y ∷ []) (sym at) in
-    subst (λ (l : List (List ℕ)). SpellPosts l (posts ++ batch)) (sym more) (spell_more (map f (take k records)) posts (f x) batch s b)
+    subst (λ (l : List (List ℕ)). SpellPostsBy w l (posts ++ batch)) (sym more) (spell_more (map f (take k records)) posts (f x) batch s b)
 
-spelled_at : {V : Type 0} (f : V → List ℕ) (records : List V) (batches : List (List Post)) (k : ℕ) (d : V) → k < length records → AllZip Spells (map f records) batches → (batch : List Post) × Spells (f (get_or records k d)) batch
+spelled_at : {w : PriceWidth} {V : Type 0} (f : V → List ℕ) (records : List V) (batches : List (List Post)) (k : ℕ) (d : V) → k < length records → AllZip (SpellsBy w) (map f records) batches → (batch : List Post) × SpellsBy w (f (get_or records k d)) batch
 spelled_at f [] batches k d small z = absurd (omega arith)
 spelled_at f (r ∷ rs) [] k d small z = absurd z
 spelled_at f (r ∷ rs) (b ∷ bs) zero d small z = (b, z.0)
 spelled_at f (r ∷ rs) (b ∷ bs) (suc k) d small z = let less : k < length rs = omega arith in spelled_at f rs bs k d less z.1
 
-pub spell_at : {V : Type 0} (f : V → List ℕ) (records : List V) (k : ℕ) (x : V) (posts : List Post) → k < length records → x ≡ get_or records k x → SpellPosts (map f records) posts → (batch : List Post) × Spells (f x) batch
-spell_at {V} f records k x posts small at s =
+pub spell_at : {w : PriceWidth} {V : Type 0} (f : V → List ℕ) (records : List V) (k : ℕ) (x : V) (posts : List Post) → k < length records → x ≡ get_or records k x → SpellPostsBy w (map f records) posts → (batch : List Post) × SpellsBy w (f x) batch
+spell_at {w} {V} f records k x posts small at s =
     let y = spelled_at f records s.batches k x small s.spelled in
-    (y.0, subst (λ (v : V). Spells (f v) y.0) (sym at) y.1)
+    (y.0, subst (λ (v : V). SpellsBy w (f v) y.0) (sym at) y.1)

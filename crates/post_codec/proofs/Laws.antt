@@ -8,8 +8,10 @@ use Rattle.std.proofs.lemmas.List.{take_at, drop_at, take-append-drop, length-ap
 use Rattle.std.proofs.lemmas.List.Concat.{flat_map-cons}
 use Rattle.std.proofs.lemmas.List.Elements.{All-from_recursion, recursion_from_All}
 use Rattle.std.proofs.lemmas.Nat.{le_bytes_2, le_bytes_4, le_bytes_8, from_le_bytes-to_le_bytes_2, from_le_bytes-to_le_bytes_4, from_le_bytes-to_le_bytes_8}
-use Rattle.post_codec.specs.Spelling.{u16_bytes, u32_bytes, u64_bytes}
-use Rattle.post_codec.specs.Reading.{Reader, ◌>>=◌, ◌then◌, made, times, counted, byte_at, number_at}
+use Rattle.post_codec.specs.declared.price_width.PriceWidth.{PriceWidth}
+use Rattle.post_codec.specs.declared.price_width.PriceWidth.TheVariants.{Five, Eight}
+use Rattle.post_codec.specs.Spelling.{u16_bytes, u32_bytes, u64_bytes, bytes_in, room, price_bytes, FitsCut}
+use Rattle.post_codec.specs.Reading.{Reader, ◌>>=◌, ◌then◌, made, times, counted, byte_at, sized_at, number_at, price_at}
 
 abbrev pub AreBytes : List ℕ → Type 0
 AreBytes bytes = (i : ℕ) → get_or bytes i 0 < 256
@@ -64,42 +66,99 @@ byte = record { takes = byte_takes; again = λ a rest fits. refl }
 
 -- ---- a number
 
-record IsWide (w : Width) (limit : ℕ) : Type 0 where
-  pub len : (n : ℕ) → length (to_le_bytes w n) ≡ byte_len w
-  pub back : (bytes : List ℕ) → length bytes ≡ byte_len w → AreBytes bytes → to_le_bytes w (from_le_bytes w bytes) ≡ bytes
-  pub again : (n : ℕ) → n < limit → from_le_bytes w (to_le_bytes w n) ≡ n
-  pub below : (bytes : List ℕ) → AreBytes bytes → from_le_bytes w bytes < limit
+-- so many bytes are the spelling of a number below a limit
+pub record IsWide (size limit : ℕ) (to : ℕ → List ℕ) (from : List ℕ → ℕ) : Type 0 where
+  pub len : (n : ℕ) → length (to n) ≡ size
+  pub back : (bytes : List ℕ) → length bytes ≡ size → AreBytes bytes → to (from bytes) ≡ bytes
+  pub again : (n : ℕ) → n < limit → from (to n) ≡ n
+  pub below : (bytes : List ℕ) → length bytes ≡ size → AreBytes bytes → from bytes < limit
 
-number_takes : (w : Width) (limit : ℕ) → IsWide w limit → (bytes : List ℕ) (x : ℕ × List ℕ) → AreBytes bytes → number_at w bytes ≡ Ok x → Took (λ n. n < limit) (to_le_bytes w) bytes x
-number_takes w limit wide bytes x h e =
-    let front : List ℕ = take (byte_len w) bytes in
-    let made : ℕ × List ℕ = (from_le_bytes w (take (byte_len w) bytes), drop (byte_len w) bytes) in
-    let g = guarded (ltb (length bytes) (byte_len w)) (length bytes) made x e in
-    let long : byte_len w ≤ length bytes = ltb-false _ _ g.0 in
-    let is : to_le_bytes w (from_le_bytes w (take (byte_len w) bytes)) ≡ take (byte_len w) bytes = wide.back (take (byte_len w) bytes) (omega (arith, length-take (byte_len w) bytes)) (bytes_take (byte_len w) bytes h) in
-    let took : Took (λ n. n < limit) (to_le_bytes w) bytes made = record { parts = rw is (sym (take-append-drop (byte_len w) bytes)); rest = bytes_drop (byte_len w) bytes h; fits = wide.below (take (byte_len w) bytes) (bytes_take (byte_len w) bytes h) } in
-    subst (λ (y : ℕ × List ℕ). Took (λ n. n < limit) (to_le_bytes w) bytes y) g.1 took
+number_takes : (size limit : ℕ) (to : ℕ → List ℕ) (from : List ℕ → ℕ) → IsWide size limit to from → (bytes : List ℕ) (x : ℕ × List ℕ) → AreBytes bytes → sized_at size from bytes ≡ Ok x → Took (λ n. n < limit) to bytes x
+number_takes size limit to from wide bytes x h e =
+    let front : List ℕ = take size bytes in
+    let made : ℕ × List ℕ = (from (take size bytes), drop size bytes) in
+    let g = guarded (ltb (length bytes) size) (length bytes) made x e in
+    let long : size ≤ length bytes = ltb-false _ _ g.0 in
+    let all : length (take size bytes) ≡ size = omega (arith, length-take size bytes) in
+    let is : to (from (take size bytes)) ≡ take size bytes = wide.back (take size bytes) all (bytes_take size bytes h) in
+    let took : Took (λ n. n < limit) to bytes made = record { parts = rw is (sym (take-append-drop size bytes)); rest = bytes_drop size bytes h; fits = wide.below (take size bytes) all (bytes_take size bytes h) } in
+    subst (λ (y : ℕ × List ℕ). Took (λ n. n < limit) to bytes y) g.1 took
 
-number_again : (w : Width) (limit : ℕ) → IsWide w limit → (n : ℕ) (rest : List ℕ) → n < limit → number_at w (to_le_bytes w n ++ rest) ≡ Ok (n, rest)
-number_again w limit wide n rest lt =
+number_again : (size limit : ℕ) (to : ℕ → List ℕ) (from : List ℕ → ℕ) → IsWide size limit to from → (n : ℕ) (rest : List ℕ) → n < limit → sized_at size from (to n ++ rest) ≡ Ok (n, rest)
+number_again size limit to from wide n rest lt =
     let len = wide.len n in
-    let long : ltb (length (to_le_bytes w n ++ rest)) (byte_len w) ≡ false = le-ltb _ _ (omega (arith, length-append (to_le_bytes w n) rest)) in
-    rw (long, take_at (to_le_bytes w n) rest (byte_len w) len, drop_at (to_le_bytes w n) rest (byte_len w) len, wide.again n lt) refl
+    let long : ltb (length (to n ++ rest)) size ≡ false = le-ltb _ _ (omega (arith, length-append (to n) rest)) in
+    rw (long, take_at (to n) rest size len, drop_at (to n) rest size len, wide.again n lt) refl
 
-number : (w : Width) (limit : ℕ) → IsWide w limit → Inverse (λ n. n < limit) (to_le_bytes w) (number_at w)
-number w limit wide = record { takes = number_takes w limit wide; again = number_again w limit wide }
+number : (size limit : ℕ) (to : ℕ → List ℕ) (from : List ℕ → ℕ) → IsWide size limit to from → Inverse (λ n. n < limit) to (sized_at size from)
+number size limit to from wide = record { takes = number_takes size limit to from wide; again = number_again size limit to from wide }
 
 pub number_16 : Inverse (λ n. n < 2 ^ 16) u16_bytes (number_at w16)
 unfolding u16_bytes
-number_16 = number w16 (2 ^ 16) (record { len = λ n. refl; back = λ bytes len h. le_bytes_2 bytes _ len h refl; again = λ n lt. from_le_bytes-to_le_bytes_2 n lt; below = λ bytes h. omega (arith, h 0, h 1) })
+number_16 = number 2 (2 ^ 16) u16_bytes (from_le_bytes w16) (record { len = λ n. refl; back = λ bytes len h. le_bytes_2 bytes _ len h refl; again = λ n lt. from_le_bytes-to_le_bytes_2 n lt; below = λ bytes len h. omega (arith, h 0, h 1) })
 
 pub number_32 : Inverse (λ n. n < 2 ^ 32) u32_bytes (number_at w32)
 unfolding u32_bytes
-number_32 = number w32 (2 ^ 32) (record { len = λ n. refl; back = λ bytes len h. le_bytes_4 bytes _ len h refl; again = λ n lt. from_le_bytes-to_le_bytes_4 n lt; below = λ bytes h. omega (arith, h 0, h 1, h 2, h 3) })
+number_32 = number 4 (2 ^ 32) u32_bytes (from_le_bytes w32) (record { len = λ n. refl; back = λ bytes len h. le_bytes_4 bytes _ len h refl; again = λ n lt. from_le_bytes-to_le_bytes_4 n lt; below = λ bytes len h. omega (arith, h 0, h 1, h 2, h 3) })
+
+wide_64 : IsWide 8 (2 ^ 64) u64_bytes (from_le_bytes w64)
+unfolding u64_bytes
+wide_64 = record { len = λ n. refl; back = λ bytes len h. le_bytes_8 bytes _ len h refl; again = λ n lt. from_le_bytes-to_le_bytes_8 n lt; below = λ bytes len h. omega (arith, h 0, h 1, h 2, h 3, h 4, h 5, h 6, h 7) }
 
 pub number_64 : Inverse (λ n. n < 2 ^ 64) u64_bytes (number_at w64)
-unfolding u64_bytes
-number_64 = number w64 (2 ^ 64) (record { len = λ n. refl; back = λ bytes len h. le_bytes_8 bytes _ len h refl; again = λ n lt. from_le_bytes-to_le_bytes_8 n lt; below = λ bytes h. omega (arith, h 0, h 1, h 2, h 3, h 4, h 5, h 6, h 7) })
+number_64 = number 8 (2 ^ 64) u64_bytes (from_le_bytes w64) wide_64
+
+-- ---- a price's number
+
+-- five bytes and three of 0 behind them
+bytes_more : (a b c d e : ℕ) → AreBytes (a ∷ b ∷ c ∷ d ∷ e ∷ []) → AreBytes (a ∷ b ∷ c ∷ d ∷ e ∷ 0 ∷ 0 ∷ 0 ∷ [])
+bytes_more a b c d e h zero = h 0
+bytes_more a b c d e h (suc zero) = h 1
+bytes_more a b c d e h (suc (suc zero)) = h 2
+bytes_more a b c d e h (suc (suc (suc zero))) = h 3
+bytes_more a b c d e h (suc (suc (suc (suc zero)))) = h 4
+bytes_more a b c d e h (suc (suc (suc (suc (suc zero))))) = omega arith
+bytes_more a b c d e h (suc (suc (suc (suc (suc (suc zero)))))) = omega arith
+bytes_more a b c d e h (suc (suc (suc (suc (suc (suc (suc zero))))))) = omega arith
+bytes_more a b c d e h (suc (suc (suc (suc (suc (suc (suc (suc i)))))))) = omega arith
+
+five_back : (bytes : List ℕ) → length bytes ≡ 5 → AreBytes bytes → price_bytes Five (from_le_bytes w64 bytes) ≡ bytes
+unfolding price_bytes u64_bytes
+five_back [] len h = absurd (omega arith)
+five_back (a ∷ []) len h = absurd (omega arith)
+five_back (a ∷ b ∷ []) len h = absurd (omega arith)
+five_back (a ∷ b ∷ c ∷ []) len h = absurd (omega arith)
+five_back (a ∷ b ∷ c ∷ d ∷ []) len h = absurd (omega arith)
+five_back (a ∷ b ∷ c ∷ d ∷ e ∷ []) len h = ap (take 5) (le_bytes_8 (a ∷ b ∷ c ∷ d ∷ e ∷ 0 ∷ 0 ∷ 0 ∷ []) _ refl (bytes_more a b c d e h) refl)
+five_back (a ∷ b ∷ c ∷ d ∷ e ∷ f ∷ rest) len h = absurd (omega arith)
+
+five_again : (n : ℕ) → n < 2 ^ 40 → from_le_bytes w64 (price_bytes Five n) ≡ n
+unfolding price_bytes u64_bytes
+five_again n lt = omega (arith, from_le_bytes-to_le_bytes_8 n (omega arith))
+
+five_below : (bytes : List ℕ) → length bytes ≡ 5 → AreBytes bytes → from_le_bytes w64 bytes < 2 ^ 40
+five_below bytes len h =
+    let past = λ (i : ℕ) (le : 5 ≤ i). get_or_past bytes i 0 (omega (arith, len)) in
+    omega (arith, h 0, h 1, h 2, h 3, h 4, past 5 (omega arith), past 6 (omega arith), past 7 (omega arith))
+
+wide_five : IsWide 5 (2 ^ 40) (price_bytes Five) (from_le_bytes w64)
+unfolding price_bytes u64_bytes
+wide_five = record { len = λ n. refl; back = five_back; again = five_again; below = five_below }
+
+eight : (n : ℕ) → price_bytes Eight n ≡ u64_bytes n
+unfolding price_bytes u64_bytes
+eight n = refl
+
+wide_eight : IsWide 8 (2 ^ 64) (price_bytes Eight) (from_le_bytes w64)
+unfolding price_bytes u64_bytes
+wide_eight = record { len = λ n. refl; back = wide_64.back; again = wide_64.again; below = wide_64.below }
+
+pub price_wide : (w : PriceWidth) → IsWide (bytes_in w) (room w) (price_bytes w) (from_le_bytes w64)
+price_wide Five = wide_five
+price_wide Eight = wide_eight
+
+pub price_number : (w : PriceWidth) → Inverse (FitsCut w) (price_bytes w) (price_at w)
+price_number w = number (bytes_in w) (room w) (price_bytes w) (from_le_bytes w64) (price_wide w)
 
 -- ---- one after the other
 

@@ -1,17 +1,19 @@
 -- How the parts of a spelling are read, one after the other. Contracts of functions that read speak of it; what `read` answers is told without it.
-use Rattle.std.specs.Prelude.{◌≡◌, ℕ, ℤ, zero, suc, ◌-◌, List, [], ◌∷◌, length, take, drop, Result, Ok, Err, Vec, nat_lt, ◌==◌, if◌then◌else◌}
+use Rattle.std.specs.Prelude.{◌≡◌, ℕ, ℤ, pos, negsuc, zero, suc, ◌-◌, List, [], ◌∷◌, length, take, drop, Result, Ok, Err, Vec, nat_lt, ◌==◌, if◌then◌else◌}
 use Rattle.std.specs.declared.alloc.Global.{Global}
-use Rattle.std.specs.Int.{Width, w16, w32, w64, byte_len, from_le_bytes, cast_signed}
+use Rattle.std.specs.Int.{Width, w16, w32, w64, byte_len, from_le_bytes}
 use Rattle.break_rules.specs.declared.Break.{Break}
 use Rattle.shift_instance.specs.declared.Row.{Row}
 use Rattle.head_splits.specs.declared.Class.{Class}
 use Rattle.head_splits.specs.declared.Prices.{Prices}
+use Rattle.post_codec.specs.declared.price_width.PriceWidth.{PriceWidth}
 use Rattle.post_codec.specs.declared.post.Post.{Post}
 use Rattle.post_codec.specs.declared.post.Post.TheVariants.{Plan, Priced, Split, Settled}
 use Rattle.post_codec.specs.declared.fault.CodecFault.{CodecFault}
 use Rattle.post_codec.specs.declared.fault.CodecFault.TheVariants.{Departs, NoMemory}
 use Rattle.post_codec.specs.declared.fault.Stop.{Stop}
 use Rattle.post_codec.specs.declared.fault.Stop.TheVariants.{Memory, Left}
+use Rattle.post_codec.specs.Spelling.{bytes_in, room, half}
 
 -- the value at the front and the bytes after it, or the number of bytes from the faulty place to the end
 abbrev pub Reader : Type 0 → Type 0
@@ -46,9 +48,17 @@ abbrev pub byte_at : Reader ℕ
 byte_at [] = Err 0
 byte_at (b ∷ rest) = Ok (b, rest)
 
--- a number of that width, the least byte first; the fault is at its first byte
+-- a number of so many bytes; the fault is at its first byte
+abbrev pub sized_at : ℕ → (List ℕ → ℕ) → Reader ℕ
+sized_at size from bytes = if nat_lt (length bytes) size then Err (length bytes) else Ok (from (take size bytes), drop size bytes)
+
+-- a number of that width, the least byte first
 abbrev pub number_at : Width → Reader ℕ
-number_at w bytes = if nat_lt (length bytes) (byte_len w) then Err (length bytes) else Ok (from_le_bytes w (take (byte_len w) bytes), drop (byte_len w) bytes)
+number_at w bytes = sized_at (byte_len w) (from_le_bytes w) bytes
+
+-- a number in the bytes of a price, the least byte first
+abbrev pub price_at : PriceWidth → Reader ℕ
+price_at w bytes = sized_at (bytes_in w) (from_le_bytes w64) bytes
 
 -- the break of a start and a length
 abbrev pub to_break : ℕ × ℕ → Break
@@ -82,25 +92,29 @@ to_class x = record { shift = x.0; day = x.1.0; prefix = x.1.1 }
 unfoldable pub class_at : Reader Class
 class_at bytes = made to_class (number_at w16 then (byte_at then breaks_at)) bytes
 
+-- the price of a slot that a number stands for in two's complement
+abbrev pub to_slot : PriceWidth → ℕ → ℤ
+to_slot w n = if nat_lt n (half w) then pos n else negsuc (room w - suc n)
+
 -- the price of a slot
-unfoldable pub slot_at : Reader ℤ
-slot_at bytes = made (cast_signed w64) (number_at w64) bytes
+unfoldable pub slot_at : PriceWidth → Reader ℤ
+slot_at w bytes = made (to_slot w) (price_at w) bytes
 
 -- prices of slots
-unfoldable pub slots_at : Reader (List ℤ)
-slots_at bytes = counted (number_at w32) slot_at bytes
+unfoldable pub slots_at : PriceWidth → Reader (List ℤ)
+slots_at w bytes = counted (number_at w32) (slot_at w) bytes
 
 -- prices of cuts
-unfoldable pub cuts_at : Reader (List ℕ)
-cuts_at bytes = counted (number_at w32) (number_at w64) bytes
+unfoldable pub cuts_at : PriceWidth → Reader (List ℕ)
+cuts_at w bytes = counted (number_at w32) (price_at w) bytes
 
 -- the prices of a scale, of slots and of cuts
 abbrev pub to_prices : ℕ × (List ℤ × List ℕ) → Prices
 to_prices x = record { q = x.0; slots = x.1.0; cuts = x.1.1 }
 
 -- prices
-unfoldable pub prices_at : Reader Prices
-prices_at bytes = made to_prices (number_at w16 then (slots_at then cuts_at)) bytes
+unfoldable pub prices_at : PriceWidth → Reader Prices
+prices_at w bytes = made to_prices (number_at w16 then (slots_at w then cuts_at w)) bytes
 
 -- the plan of a worker, a cost and rows
 abbrev pub to_plan : ℕ × (ℕ × List Row) → Post
@@ -115,8 +129,8 @@ abbrev pub to_priced : ℕ × (ℕ × Prices) → Post
 to_priced x = Priced x.0 x.1.0 x.1.1
 
 -- a priced node behind its tag
-unfoldable pub priced_at : Reader Post
-priced_at bytes = made to_priced (number_at w16 then (number_at w32 then prices_at)) bytes
+unfoldable pub priced_at : PriceWidth → Reader Post
+priced_at w bytes = made to_priced (number_at w16 then (number_at w32 then prices_at w)) bytes
 
 -- the split of a worker, a node, a class and a number of duties
 abbrev pub to_split : ℕ × (ℕ × (Class × ℕ)) → Post
@@ -135,16 +149,16 @@ unfoldable pub settled_at : Reader Post
 settled_at bytes = made to_settled (number_at w16 then number_at w32) bytes
 
 -- the post behind that tag, where it is a tag
-abbrev pub tagged_at : ℕ → List ℕ → Result (Post × List ℕ) ℕ → Result (Post × List ℕ) ℕ
-tagged_at tag bytes none = if tag == 1 then plan_at bytes else (if tag == 2 then priced_at bytes else (if tag == 3 then split_at bytes else (if tag == 4 then settled_at bytes else none)))
+abbrev pub tagged_at : PriceWidth → ℕ → List ℕ → Result (Post × List ℕ) ℕ → Result (Post × List ℕ) ℕ
+tagged_at w tag bytes none = if tag == 1 then plan_at bytes else (if tag == 2 then priced_at w bytes else (if tag == 3 then split_at bytes else (if tag == 4 then settled_at bytes else none)))
 
 -- a tag, and the post of that tag; the fault of an unknown tag is at the tag
-unfoldable pub post_at : Reader Post
-post_at bytes = byte_at bytes >>= λ tag. tagged_at tag.0 tag.1 (Err (length bytes))
+unfoldable pub post_at : PriceWidth → Reader Post
+post_at w bytes = byte_at bytes >>= λ tag. tagged_at w tag.0 tag.1 (Err (length bytes))
 
 -- posts
-unfoldable pub posts_at : Reader (List Post)
-posts_at bytes = counted (number_at w16) post_at bytes
+unfoldable pub posts_at : PriceWidth → Reader (List Post)
+posts_at w bytes = counted (number_at w16) (post_at w) bytes
 
 -- nothing may follow
 abbrev pub ended : {A : Type 0} → A × List ℕ → Result A ℕ
@@ -157,12 +171,12 @@ by_offset len (Ok x) = Ok x
 by_offset len (Err left) = Err (len - left)
 
 -- the posts of all of the bytes, or the number of bytes from the first fault to the end
-abbrev pub whole : List ℕ → Result (List Post) ℕ
-whole bytes = posts_at bytes >>= ended
+abbrev pub whole : PriceWidth → List ℕ → Result (List Post) ℕ
+whole w bytes = posts_at w bytes >>= ended
 
 -- the posts of all of the bytes, or the offset of the first fault
-abbrev pub reading : List ℕ → Result (List Post) ℕ
-reading bytes = by_offset (length bytes) (whole bytes)
+abbrev pub reading : PriceWidth → List ℕ → Result (List Post) ℕ
+reading w bytes = by_offset (length bytes) (whole w bytes)
 
 -- a reason to stop is the fault that was met, or running out of memory
 abbrev pub Stops : {Y : Type 0} → Stop → Result Y ℕ → Type 0

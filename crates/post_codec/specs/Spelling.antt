@@ -1,12 +1,14 @@
--- The one spelling of each list of posts.
+-- The spellings of lists of posts: by each width of a price, each list has one.
 -- Source: this project's own format.
-use Rattle.std.specs.Prelude.{◌≡◌, ℕ, ℤ, ◌<◌, ◌^◌, List, [], ◌∷◌, ◌++◌, length, All, FitsSigned, ⊤}
+use Rattle.std.specs.Prelude.{◌≡◌, ℕ, ℤ, pos, negsuc, suc, ◌-◌, ◌<◌, ◌^◌, List, [], ◌∷◌, ◌++◌, length, take, All, ⊤}
 use Rattle.std.specs.List.{flat_map}
-use Rattle.std.specs.Int.{w16, w32, w64, to_le_bytes, cast_unsigned}
+use Rattle.std.specs.Int.{w16, w32, w64, to_le_bytes}
 use Rattle.break_rules.specs.declared.Break.{Break}
 use Rattle.shift_instance.specs.declared.Row.{Row}
 use Rattle.head_splits.specs.declared.Class.{Class}
 use Rattle.head_splits.specs.declared.Prices.{Prices}
+use Rattle.post_codec.specs.declared.price_width.PriceWidth.{PriceWidth}
+use Rattle.post_codec.specs.declared.price_width.PriceWidth.TheVariants.{Five, Eight}
 use Rattle.post_codec.specs.declared.post.Post.{Post}
 use Rattle.post_codec.specs.declared.post.Post.TheVariants.{Plan, Priced, Split, Settled}
 
@@ -42,29 +44,53 @@ rows_bytes rs = u32_bytes (length rs) ++ flat_map row_bytes rs
 abbrev pub class_bytes : Class → List ℕ
 class_bytes c = u16_bytes c.shift ++ (c.day ∷ []) ++ breaks_bytes c.prefix
 
+-- how many bytes a price takes
+abbrev pub bytes_in : PriceWidth → ℕ
+bytes_in Five = 5
+bytes_in Eight = 8
+
+-- how many numbers the bytes of a price tell apart
+abbrev pub room : PriceWidth → ℕ
+room Five = 2 ^ 40
+room Eight = 2 ^ 64
+
+-- half of them
+abbrev pub half : PriceWidth → ℕ
+half Five = 2 ^ 39
+half Eight = 2 ^ 63
+
+-- a number in the bytes of a price, the least byte first: the first of its eight
+unfoldable pub price_bytes : PriceWidth → ℕ → List ℕ
+price_bytes w n = take (bytes_in w) (u64_bytes n)
+
+-- the number that stands for a price of a slot in two's complement
+abbrev pub twos_complement : PriceWidth → ℤ → ℕ
+twos_complement w (pos n) = n
+twos_complement w (negsuc n) = room w - suc n
+
 -- the price of a slot, in two's complement
-abbrev pub slot_bytes : ℤ → List ℕ
-slot_bytes price = u64_bytes (cast_unsigned w64 price)
+abbrev pub slot_bytes : PriceWidth → ℤ → List ℕ
+slot_bytes w price = price_bytes w (twos_complement w price)
 
 -- prices of slots: their number, and each of them
-abbrev pub slots_bytes : List ℤ → List ℕ
-slots_bytes prices = u32_bytes (length prices) ++ flat_map slot_bytes prices
+abbrev pub slots_bytes : PriceWidth → List ℤ → List ℕ
+slots_bytes w prices = u32_bytes (length prices) ++ flat_map (slot_bytes w) prices
 
 -- prices of cuts: their number, and each of them
-abbrev pub cuts_bytes : List ℕ → List ℕ
-cuts_bytes prices = u32_bytes (length prices) ++ flat_map u64_bytes prices
+abbrev pub cuts_bytes : PriceWidth → List ℕ → List ℕ
+cuts_bytes w prices = u32_bytes (length prices) ++ flat_map (price_bytes w) prices
 
 -- prices: their scale, those of the slots and those of the cuts
-abbrev pub prices_bytes : Prices → List ℕ
-prices_bytes p = u16_bytes p.q ++ slots_bytes p.slots ++ cuts_bytes p.cuts
+abbrev pub prices_bytes : PriceWidth → Prices → List ℕ
+prices_bytes w p = u16_bytes p.q ++ slots_bytes w p.slots ++ cuts_bytes w p.cuts
 
 -- a plan: its tag, its worker, its cost and its rows
 abbrev pub plan_bytes : ℕ → ℕ → List Row → List ℕ
 plan_bytes worker cost rows = 1 ∷ u16_bytes worker ++ u64_bytes cost ++ rows_bytes rows
 
 -- a priced node: its tag, its worker, its number and its prices
-abbrev pub priced_bytes : ℕ → ℕ → Prices → List ℕ
-priced_bytes worker node prices = 2 ∷ u16_bytes worker ++ u32_bytes node ++ prices_bytes prices
+abbrev pub priced_bytes : PriceWidth → ℕ → ℕ → Prices → List ℕ
+priced_bytes w worker node prices = 2 ∷ u16_bytes worker ++ u32_bytes node ++ prices_bytes w prices
 
 -- a split: its tag, its worker, its node, its class and the number of the class's duties
 abbrev pub split_bytes : ℕ → ℕ → Class → ℕ → List ℕ
@@ -75,15 +101,19 @@ abbrev pub settled_bytes : ℕ → ℕ → List ℕ
 settled_bytes worker node = 4 ∷ u16_bytes worker ++ u32_bytes node
 
 -- a post, which begins with the tag of its kind
-abbrev pub post_bytes : Post → List ℕ
-post_bytes (Plan worker rows cost) = plan_bytes worker cost rows
-post_bytes (Priced worker node prices) = priced_bytes worker node prices
-post_bytes (Split worker node class m) = split_bytes worker node class m
-post_bytes (Settled worker node) = settled_bytes worker node
+abbrev pub post_bytes : PriceWidth → Post → List ℕ
+post_bytes w (Plan worker rows cost) = plan_bytes worker cost rows
+post_bytes w (Priced worker node prices) = priced_bytes w worker node prices
+post_bytes w (Split worker node class m) = split_bytes worker node class m
+post_bytes w (Settled worker node) = settled_bytes worker node
 
--- posts: their number, and each of them
+-- posts by a width of a price: their number, and each of them
+abbrev pub spelling_by : PriceWidth → List Post → List ℕ
+spelling_by w ps = u16_bytes (length ps) ++ flat_map (post_bytes w) ps
+
+-- posts as journals keep them, with prices of five bytes
 abbrev pub spelling : List Post → List ℕ
-spelling ps = u16_bytes (length ps) ++ flat_map post_bytes ps
+spelling ps = spelling_by Five ps
 
 -- each number of a break fits its field
 abbrev pub FitsBreak : Break → Type 0
@@ -105,33 +135,46 @@ FitsRows rs = (length rs < 2 ^ 32) × All FitsRow rs
 abbrev pub FitsClass : Class → Type 0
 FitsClass c = (c.shift < 2 ^ 16) × (c.day < 2 ^ 8) × FitsBreaks c.prefix
 
+-- the price of a slot is one of the numbers of its field: from -2^39 to 2^39 - 1 in five bytes, from -2^63 to 2^63 - 1 in eight
+abbrev pub FitsSlot : PriceWidth → ℤ → Type 0
+FitsSlot w (pos n) = n < half w
+FitsSlot w (negsuc n) = n < half w
+
+-- the price of a cut is one of the numbers of its field: below 2^40 in five bytes, below 2^64 in eight
+abbrev pub FitsCut : PriceWidth → ℕ → Type 0
+FitsCut w n = n < room w
+
 -- these prices of slots and their number fit their fields
-abbrev pub FitsSlots : List ℤ → Type 0
-FitsSlots prices = (length prices < 2 ^ 32) × All (FitsSigned w64) prices
+abbrev pub FitsSlots : PriceWidth → List ℤ → Type 0
+FitsSlots w prices = (length prices < 2 ^ 32) × All (FitsSlot w) prices
 
 -- these prices of cuts and their number fit their fields
-abbrev pub FitsCuts : List ℕ → Type 0
-FitsCuts prices = (length prices < 2 ^ 32) × All (λ price. price < 2 ^ 64) prices
+abbrev pub FitsCuts : PriceWidth → List ℕ → Type 0
+FitsCuts w prices = (length prices < 2 ^ 32) × All (FitsCut w) prices
 
 -- each number of these prices fits its field
-abbrev pub FitsPrices : Prices → Type 0
-FitsPrices p = (p.q < 2 ^ 16) × FitsSlots p.slots × FitsCuts p.cuts
+abbrev pub FitsPrices : PriceWidth → Prices → Type 0
+FitsPrices w p = (p.q < 2 ^ 16) × FitsSlots w p.slots × FitsCuts w p.cuts
 
 -- each number of a post fits its field
-abbrev pub FitsPost : Post → Type 0
-FitsPost (Plan worker rows cost) = (worker < 2 ^ 16) × (cost < 2 ^ 64) × FitsRows rows
-FitsPost (Priced worker node prices) = (worker < 2 ^ 16) × (node < 2 ^ 32) × FitsPrices prices
-FitsPost (Split worker node class m) = (worker < 2 ^ 16) × (node < 2 ^ 32) × FitsClass class × (m < 2 ^ 16)
-FitsPost (Settled worker node) = (worker < 2 ^ 16) × (node < 2 ^ 32)
+abbrev pub FitsPost : PriceWidth → Post → Type 0
+FitsPost w (Plan worker rows cost) = (worker < 2 ^ 16) × (cost < 2 ^ 64) × FitsRows rows
+FitsPost w (Priced worker node prices) = (worker < 2 ^ 16) × (node < 2 ^ 32) × FitsPrices w prices
+FitsPost w (Split worker node class m) = (worker < 2 ^ 16) × (node < 2 ^ 32) × FitsClass class × (m < 2 ^ 16)
+FitsPost w (Settled worker node) = (worker < 2 ^ 16) × (node < 2 ^ 32)
 
 -- each number of these posts fits its field
-abbrev pub FitsPosts : List Post → Type 0
-FitsPosts ps = (length ps < 2 ^ 16) × All FitsPost ps
+abbrev pub FitsPosts : PriceWidth → List Post → Type 0
+FitsPosts w ps = (length ps < 2 ^ 16) × All (FitsPost w) ps
 
--- the bytes are the spelling of the posts
-pub record Spells (bytes : List ℕ) (ps : List Post) : Type 0 where
-  pub fits : FitsPosts ps
-  pub is : bytes ≡ spelling ps
+-- the bytes are the spelling of the posts by a width of a price
+pub record SpellsBy (w : PriceWidth) (bytes : List ℕ) (ps : List Post) : Type 0 where
+  pub fits : FitsPosts w ps
+  pub is : bytes ≡ spelling_by w ps
+
+-- the bytes are the spelling of the posts as journals keep them
+abbrev pub Spells : List ℕ → List Post → Type 0
+Spells bytes ps = SpellsBy Five bytes ps
 
 -- a row has at most 255 breaks
 abbrev pub CountsFitRow : Row → Type 0
@@ -145,25 +188,25 @@ CountsFitRows rs = (length rs < 2 ^ 32) × All CountsFitRow rs
 abbrev pub CountsFitClass : Class → Type 0
 CountsFitClass c = length c.prefix < 2 ^ 8
 
--- the numbers of prices of slots and of cuts fit their fields
-abbrev pub CountsFitPrices : Prices → Type 0
-CountsFitPrices p = (length p.slots < 2 ^ 32) × (length p.cuts < 2 ^ 32)
+-- prices have a spelling: the numbers of prices of slots and of cuts fit their fields, and so does each price
+abbrev pub CanSpellPrices : Prices → Type 0
+CanSpellPrices p = FitsSlots Five p.slots × FitsCuts Five p.cuts
 
--- the numbers of things in a post fit their fields
-abbrev pub CountsFitPost : Post → Type 0
-CountsFitPost (Plan worker rows cost) = CountsFitRows rows
-CountsFitPost (Priced worker node prices) = CountsFitPrices prices
-CountsFitPost (Split worker node class m) = CountsFitClass class
-CountsFitPost (Settled worker node) = ⊤
+-- a post has a spelling: the numbers of things in it fit their fields, and so does each price
+abbrev pub CanSpellPost : Post → Type 0
+CanSpellPost (Plan worker rows cost) = CountsFitRows rows
+CanSpellPost (Priced worker node prices) = CanSpellPrices prices
+CanSpellPost (Split worker node class m) = CountsFitClass class
+CanSpellPost (Settled worker node) = ⊤
 
--- there are at most 65,535 posts, and the numbers of things in each fit their fields
-abbrev pub CountsFit : List Post → Type 0
-CountsFit ps = (length ps < 2 ^ 16) × All CountsFitPost ps
+-- there are at most 65,535 posts, and each has a spelling
+abbrev pub CanSpell : List Post → Type 0
+CanSpell ps = (length ps < 2 ^ 16) × All CanSpellPost ps
 
 -- no bytes spell two lists
-abbrev pub EachSpellsOnce : Type 0
-EachSpellsOnce = (bytes : List ℕ) (ps qs : List Post) → Spells bytes ps → Spells bytes qs → ps ≡ qs
+abbrev pub EachSpellsOnce : PriceWidth → Type 0
+EachSpellsOnce w = (bytes : List ℕ) (ps qs : List Post) → SpellsBy w bytes ps → SpellsBy w bytes qs → ps ≡ qs
 
 -- no list has two spellings
-abbrev pub EachIsSpelledOnce : Type 0
-EachIsSpelledOnce = (one other : List ℕ) (ps : List Post) → Spells one ps → Spells other ps → one ≡ other
+abbrev pub EachIsSpelledOnce : PriceWidth → Type 0
+EachIsSpelledOnce w = (one other : List ℕ) (ps : List Post) → SpellsBy w one ps → SpellsBy w other ps → one ≡ other

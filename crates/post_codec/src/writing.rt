@@ -1,7 +1,7 @@
 //! Posts as bytes.
-ghost use Rattle.std.specs.Prelude.{◌≡◌, ◌<◌, ◌^◌, ◌++◌, ◌∷◌, length, FitsSigned, OnOk, IfOk};
-ghost use Rattle.std.specs.Int.{w64};
-ghost use Rattle.post_codec.specs.Spelling.{u16_bytes, u32_bytes, u64_bytes, break_bytes, breaks_bytes, row_bytes, rows_bytes, class_bytes, slot_bytes, slots_bytes, cuts_bytes, prices_bytes, plan_bytes, priced_bytes, split_bytes, settled_bytes, post_bytes, FitsBreak, FitsBreaks, FitsRow, FitsRows, FitsClass, FitsSlots, FitsCuts, FitsPrices, FitsPost, CountsFitRow, CountsFitRows, CountsFitClass, CountsFitPrices, CountsFitPost, CountsFit, Spells};
+ghost use Rattle.std.specs.Prelude.{◌≡◌, ◌<◌, ◌^◌, ◌++◌, ◌∷◌, length, OnOk, IfOk};
+ghost use Rattle.post_codec.specs.declared.price_width.PriceWidth.TheVariants.{Five};
+ghost use Rattle.post_codec.specs.Spelling.{u16_bytes, u32_bytes, u64_bytes, break_bytes, breaks_bytes, row_bytes, rows_bytes, class_bytes, price_bytes, twos_complement, slot_bytes, slots_bytes, cuts_bytes, prices_bytes, plan_bytes, priced_bytes, split_bytes, settled_bytes, post_bytes, FitsBreak, FitsBreaks, FitsRow, FitsRows, FitsClass, FitsSlot, FitsCut, FitsSlots, FitsCuts, FitsPrices, FitsPost, CountsFitRow, CountsFitRows, CountsFitClass, CanSpellPrices, CanSpellPost, CanSpell, Spells};
 
 use crate::post::Post;
 use break_rules::{Break, NoMemory};
@@ -103,21 +103,41 @@ fn put_class(out: &mut Vec<u8>, class: &Class) -> Result<(), NoMemory>
     Ok(())
 }
 
+/// Appends a number in the five bytes of a price.
+#[tactic(auto, unfolding(crate::specs::Spelling::price_bytes, crate::specs::Spelling::u64_bytes))]
+fn put_price(out: &mut Vec<u8>, n: u64) -> Result<(), NoMemory>
+    ensures { OnOk result (out.new.items ≡ out.old.items ++ price_bytes Five n) }
+{
+    let bytes = n.to_le_bytes();
+    out.extend_from_slice(&bytes[..5])?;
+    Ok(())
+}
+
+/// The number that stands for a price of a slot in two's complement of five bytes.
+fn twos_complement(price: i64) -> u64
+    requires { FitsSlot Five price }
+    ensures { result ≡ twos_complement Five price }
+{
+    let number = if price < 0 {
+        price + (1 << 40)
+    } else {
+        price
+    };
+    number as u64
+}
+
 /// Appends the price of a slot.
 fn put_slot(out: &mut Vec<u8>, item: &i64) -> Result<(), NoMemory>
-    ensures fits { FitsSigned w64 item.now }
-    ensures put { OnOk result (out.new.items ≡ out.old.items ++ slot_bytes item.now) }
+    requires { FitsSlot Five item.now }
+    ensures { OnOk result (out.new.items ≡ out.old.items ++ slot_bytes Five item.now) }
 {
-    let price = *item;
-    put_u64(out, price.cast_unsigned())?;
-    Ok(())
+    put_price(out, twos_complement(*item))
 }
 
 /// Appends the number of slots, and the price of each.
 fn put_slots(out: &mut Vec<u8>, list: &[i64]) -> Result<(), NoMemory>
-    requires { length list.now < 2 ^ 32 }
-    ensures fits { OnOk result (FitsSlots list.now) }
-    ensures put { OnOk result (out.new.items ≡ out.old.items ++ slots_bytes list.now) }
+    requires { FitsSlots Five list.now }
+    ensures { OnOk result (out.new.items ≡ out.old.items ++ slots_bytes Five list.now) }
 {
     put_u32(out, list.len() as u32)?;
     for item in list {
@@ -128,22 +148,21 @@ fn put_slots(out: &mut Vec<u8>, list: &[i64]) -> Result<(), NoMemory>
 
 /// Appends the number of cuts, and the price of each.
 fn put_cuts(out: &mut Vec<u8>, list: &[u64]) -> Result<(), NoMemory>
-    requires { length list.now < 2 ^ 32 }
-    ensures fits { OnOk result (FitsCuts list.now) }
-    ensures put { OnOk result (out.new.items ≡ out.old.items ++ cuts_bytes list.now) }
+    requires { FitsCuts Five list.now }
+    ensures { OnOk result (out.new.items ≡ out.old.items ++ cuts_bytes Five list.now) }
 {
     put_u32(out, list.len() as u32)?;
     for item in list {
-        put_u64(out, *item)?;
+        put_price(out, *item)?;
     }
     Ok(())
 }
 
 /// Appends prices.
 fn put_prices(out: &mut Vec<u8>, prices: &Prices) -> Result<(), NoMemory>
-    requires { CountsFitPrices prices.now }
-    ensures fits { OnOk result (FitsPrices prices.now) }
-    ensures put { OnOk result (out.new.items ≡ out.old.items ++ prices_bytes prices.now) }
+    requires { CanSpellPrices prices.now }
+    ensures fits { OnOk result (FitsPrices Five prices.now) }
+    ensures put { OnOk result (out.new.items ≡ out.old.items ++ prices_bytes Five prices.now) }
 {
     let q = prices.q;
     put_u16(out, q)?;
@@ -167,9 +186,9 @@ fn put_plan(out: &mut Vec<u8>, worker: u16, cost: u64, rows: &[Row]) -> Result<(
 
 /// Appends a priced node.
 fn put_priced(out: &mut Vec<u8>, worker: u16, node: u32, prices: &Prices) -> Result<(), NoMemory>
-    requires { CountsFitPrices prices.now }
-    ensures fits { OnOk result (FitsPrices prices.now) }
-    ensures put { OnOk result (out.new.items ≡ out.old.items ++ priced_bytes worker node prices.now) }
+    requires { CanSpellPrices prices.now }
+    ensures fits { OnOk result (FitsPrices Five prices.now) }
+    ensures put { OnOk result (out.new.items ≡ out.old.items ++ priced_bytes Five worker node prices.now) }
 {
     out.push(2)?;
     put_u16(out, worker)?;
@@ -210,9 +229,9 @@ fn put_settled(out: &mut Vec<u8>, worker: u16, node: u32) -> Result<(), NoMemory
 
 /// Appends a post.
 fn put_post(out: &mut Vec<u8>, item: &Post) -> Result<(), NoMemory>
-    requires { CountsFitPost item.now }
-    ensures fits { OnOk result (FitsPost item.now) }
-    ensures put { OnOk result (out.new.items ≡ out.old.items ++ post_bytes item.now) }
+    requires { CanSpellPost item.now }
+    ensures fits { OnOk result (FitsPost Five item.now) }
+    ensures put { OnOk result (out.new.items ≡ out.old.items ++ post_bytes Five item.now) }
 {
     match item {
         Post::Plan { worker, rows, cost } => put_plan(out, *worker, *cost, rows.as_slice()),
@@ -231,10 +250,12 @@ fn put_post(out: &mut Vec<u8>, item: &Post) -> Result<(), NoMemory>
     }
 }
 
-/// The one spelling of the posts, in their order. There are at most 65,535 posts, each plan has fewer than 2^32 rows, each
-/// price set has fewer than 2^32 prices of slots and as few of cuts, and each row and each class has at most 255 breaks. The only refusal is running out of memory. The work grows with the number of bytes.
+/// The one spelling of the posts with prices of five bytes, in their order. There are at most 65,535 posts, each plan has fewer
+/// than 2^32 rows, each price set has fewer than 2^32 prices of slots, from -2^39 to 2^39 - 1, and as few of cuts, below 2^40, and
+/// each row and each class has at most 255 breaks. The only refusal is running out of memory. The work grows with the number of
+/// bytes.
 pub fn write(alloc: Global, posts: &[Post]) -> Result<Vec<u8>, NoMemory>
-    requires { CountsFit posts.now }
+    requires { CanSpell posts.now }
     ensures { IfOk result (λ bytes. Spells bytes.items posts.now) }
 {
     let mut out = Vec::new(alloc);

@@ -8,10 +8,11 @@ use Rattle.std.proofs.lemmas.Slice.Zip.{AllZip-long}
 use Rattle.shift_instance.specs.Problem.{Problem}
 use Rattle.shift_instance.proofs.Shifts.{get_or_some}
 use Rattle.head_splits.specs.declared.Cut.{Cut}
+use Rattle.post_codec.specs.declared.price_width.PriceWidth.{PriceWidth}
 use Rattle.post_codec.specs.declared.post.Post.{Post}
 use Rattle.post_codec.specs.Fields.{IsFaultOf}
-use Rattle.post_codec.specs.Spelling.{Spells}
-use Rattle.post_codec.proofs.Formats.{one_list}
+use Rattle.post_codec.specs.Spelling.{SpellsBy}
+use Rattle.post_codec.proofs.Formats.{one_list_by}
 use Rattle.search_core.specs.Book.{Book}
 use Rattle.search_core.specs.State.{StateView}
 use Rattle.search_core.specs.Taking.{Takes}
@@ -22,8 +23,8 @@ use Rattle.recovery.specs.Folding.{fault_at, RecordStops, TakesRecord}
 use Rattle.recovery.specs.NodeCuts.{nodes_of}
 use Rattle.recovery.specs.Findings.{AreFoundIn}
 use Rattle.recovery.specs.Reads.{all_posts, posts_in, AreAllFound, AreReads, IsReadOf, Outcome}
-use Rattle.recovery.specs.Records.{MakeBook}
-use Rattle.recovery.specs.Refusals.{Refuses}
+use Rattle.recovery.specs.Records.{MakeBookBy}
+use Rattle.recovery.specs.Refusals.{RefusesBy}
 use Rattle.recovery.proofs.Rebuilt.{rebuilt_more, rebuilt_stops, Rebuilt}
 use Rattle.recovery.proofs.Unspelled.{never_rejected}
 
@@ -52,131 +53,132 @@ pub all_posts-append : (xs ys : List Outcome) → all_posts (xs ++ ys) ≡ all_p
 all_posts-append [] ys = refl
 all_posts-append (x ∷ xs) ys = ap (λ (l : List Post). posts_in x ++ l) (all_posts-append xs ys) ∙ sym (append_assoc (posts_in x) (all_posts xs) (all_posts ys))
 
--- ---- a record more
+module _ (w : PriceWidth) where
+  -- ---- a record more
 
-record_taken : (outcome : Outcome) (old new : StateView) (bytes : List ℕ) → IsReadOf bytes outcome → MatchResult outcome (λ posts. Takes old posts.items new) (λ _. ⊥) → TakesRecord old bytes new × (new.history ≡ old.history ++ posts_in outcome)
-record_taken (Ok posts) old new bytes spells takes = (record { posts = posts.items; spells = spells; takes = takes }, takes.grows)
-record_taken (Err fault) old new bytes spells takes = absurd takes
+  record_taken : (outcome : Outcome) (old new : StateView) (bytes : List ℕ) → IsReadOf w bytes outcome → MatchResult outcome (λ posts. Takes old posts.items new) (λ _. ⊥) → TakesRecord w old bytes new × (new.history ≡ old.history ++ posts_in outcome)
+  record_taken (Ok posts) old new bytes spells takes = (record { posts = posts.items; spells = spells; takes = takes }, takes.grows)
+  record_taken (Err fault) old new bytes spells takes = absurd takes
 
--- a state made of the first of some records, as they were read, with others left
-pub record Folding (i : Problem) (records : List (Vec ℕ Global)) (all passed left : List Outcome) (number : ℕ) (now : StateView) : Type 0 where
-  pub rebuilt : Rebuilt i (map (λ (r : Vec ℕ Global). r.items) (take number records)) now
-  pub history : now.history ≡ all_posts passed
-  pub split : passed ++ left ≡ all
-  pub count : number ≡ length passed
+  -- a state made of the first of some records, as they were read, with others left
+  pub record Folding (i : Problem) (records : List (Vec ℕ Global)) (all passed left : List Outcome) (number : ℕ) (now : StateView) : Type 0 where
+    pub rebuilt : Rebuilt w i (map (λ (r : Vec ℕ Global). r.items) (take number records)) now
+    pub history : now.history ≡ all_posts passed
+    pub split : passed ++ left ≡ all
+    pub count : number ≡ length passed
 
-pub folding_starts : (i : Problem) (records : List (Vec ℕ Global)) (all : List Outcome) (now : StateView) → Rebuilt i [] now → now.history ≡ [] → Folding i records all [] all 0 now
-folding_starts i records all now r e = record { rebuilt = r; history = e; split = refl; count = refl }
+  pub folding_starts : (i : Problem) (records : List (Vec ℕ Global)) (all : List Outcome) (now : StateView) → Rebuilt w i [] now → now.history ≡ [] → Folding i records all [] all 0 now
+  folding_starts i records all now r e = record { rebuilt = r; history = e; split = refl; count = refl }
 
--- the record at which a fold is, and how it was read
-pub folding_at : (i : Problem) (records : List (Vec ℕ Global)) (all passed left next : List Outcome) (number : ℕ) (now : StateView) (outcome : Outcome)
-    → AreReads records all → Folding i records all passed left number now → left ≡ outcome ∷ next → (r : Vec ℕ Global) × (number < length records) × (r ≡ get_or records number r) × IsReadOf r.items outcome
-folding_at i records all passed left next number now outcome reads f e =
-    let whole : passed ++ outcome ∷ next ≡ all = ap (λ (l : List Outcome). passed ++ l) (sym e) ∙ f.split in
-    let z = zip_seam (λ (r : Vec ℕ Global) (o : Outcome). IsReadOf r.items o) records passed next outcome (subst (λ (l : List Outcome). AreReads records l) (sym whole) reads) in
-    let there : slice_get records number ≡ Some z.0 = ap (λ n. slice_get records n) f.count ∙ z.1 in
-    let g = get_or_some records number z.0 z.0 there in
-    (z.0, g.0, sym g.1, z.2)
+  -- the record at which a fold is, and how it was read
+  pub folding_at : (i : Problem) (records : List (Vec ℕ Global)) (all passed left next : List Outcome) (number : ℕ) (now : StateView) (outcome : Outcome)
+      → AreReads w records all → Folding i records all passed left number now → left ≡ outcome ∷ next → (r : Vec ℕ Global) × (number < length records) × (r ≡ get_or records number r) × IsReadOf w r.items outcome
+  folding_at i records all passed left next number now outcome reads f e =
+      let whole : passed ++ outcome ∷ next ≡ all = ap (λ (l : List Outcome). passed ++ l) (sym e) ∙ f.split in
+      let z = zip_seam (λ (r : Vec ℕ Global) (o : Outcome). IsReadOf w r.items o) records passed next outcome (subst (λ (l : List Outcome). AreReads w records l) (sym whole) reads) in
+      let there : slice_get records number ≡ Some z.0 = ap (λ n. slice_get records n) f.count ∙ z.1 in
+      let g = get_or_some records number z.0 z.0 there in
+      (z.0, g.0, sym g.1, z.2)
 
-pub folding_more : (i : Problem) (records : List (Vec ℕ Global)) (all passed left next : List Outcome) (number : ℕ) (mid new : StateView) (outcome : Outcome)
-    → AreReads records all → Folding i records all passed left number mid → left ≡ outcome ∷ next → MatchResult outcome (λ posts. Takes mid posts.items new) (λ _. ⊥)
-    → Folding i records all (passed ++ outcome ∷ []) next (number + 1) new
-folding_more i records all passed left next number mid new outcome reads f e takes =
-    let r = folding_at i records all passed left next number mid outcome reads f e in
-    let t = record_taken outcome mid new (r.0).items r.3 takes in
-    record {
-      rebuilt = rebuilt_more (λ (v : Vec ℕ Global). v.items) i records number r.0 mid new r.1 r.2 f.rebuilt t.0;
-      history =
-          t.1
-          ∙ ap (λ (l : List Post). l ++ posts_in outcome) f.history
-          ∙ sym (all_posts-append passed (outcome ∷ []) ∙ ap (λ (l : List Post). all_posts passed ++ l) (append_none (posts_in outcome)));
-      split = append_assoc passed (outcome ∷ []) next ∙ ap (λ (l : List Outcome). passed ++ l) (sym e) ∙ f.split;
-      count = omega (arith, f.count, length-append passed (outcome ∷ []));
-    }
-  where
-    append_none : {X : Type 0} (xs : List X) → xs ++ [] ≡ xs
-    append_none [] = refl
-    append_none (x ∷ xs) = ap (λ (l : List _). x ∷ l) (append_none xs)
+  pub folding_more : (i : Problem) (records : List (Vec ℕ Global)) (all passed left next : List Outcome) (number : ℕ) (mid new : StateView) (outcome : Outcome)
+      → AreReads w records all → Folding i records all passed left number mid → left ≡ outcome ∷ next → MatchResult outcome (λ posts. Takes mid posts.items new) (λ _. ⊥)
+      → Folding i records all (passed ++ outcome ∷ []) next (number + 1) new
+  folding_more i records all passed left next number mid new outcome reads f e takes =
+      let r = folding_at i records all passed left next number mid outcome reads f e in
+      let t = record_taken outcome mid new (r.0).items r.3 takes in
+      record {
+        rebuilt = rebuilt_more w (λ (v : Vec ℕ Global). v.items) i records number r.0 mid new r.1 r.2 f.rebuilt t.0;
+        history =
+            t.1
+            ∙ ap (λ (l : List Post). l ++ posts_in outcome) f.history
+            ∙ sym (all_posts-append passed (outcome ∷ []) ∙ ap (λ (l : List Post). all_posts passed ++ l) (append_none (posts_in outcome)));
+        split = append_assoc passed (outcome ∷ []) next ∙ ap (λ (l : List Outcome). passed ++ l) (sym e) ∙ f.split;
+        count = omega (arith, f.count, length-append passed (outcome ∷ []));
+      }
+    where
+      append_none : {X : Type 0} (xs : List X) → xs ++ [] ≡ xs
+      append_none [] = refl
+      append_none (x ∷ xs) = ap (λ (l : List _). x ∷ l) (append_none xs)
 
-pub folding_stops : (i : Problem) (records : List (Vec ℕ Global)) (all passed left next : List Outcome) (number : ℕ) (mid : StateView) (outcome : Outcome) (why : Why)
-    → AreReads records all → Folding i records all passed left number mid → left ≡ outcome ∷ next → ((bytes : List ℕ) → IsReadOf bytes outcome → RecordStops i mid.book bytes why)
-    → Refuses i (map (λ (r : Vec ℕ Global). r.items) records) (fault_at number why)
-folding_stops i records all passed left next number mid outcome why reads f e stops =
-    let r = folding_at i records all passed left next number mid outcome reads f e in
-    rebuilt_stops (λ (v : Vec ℕ Global). v.items) i records number r.0 mid why r.1 r.2 f.rebuilt (stops (r.0).items r.3)
+  pub folding_stops : (i : Problem) (records : List (Vec ℕ Global)) (all passed left next : List Outcome) (number : ℕ) (mid : StateView) (outcome : Outcome) (why : Why)
+      → AreReads w records all → Folding i records all passed left number mid → left ≡ outcome ∷ next → ((bytes : List ℕ) → IsReadOf w bytes outcome → RecordStops w i mid.book bytes why)
+      → RefusesBy w i (map (λ (r : Vec ℕ Global). r.items) records) (fault_at number why)
+  folding_stops i records all passed left next number mid outcome why reads f e stops =
+      let r = folding_at i records all passed left next number mid outcome reads f e in
+      rebuilt_stops w (λ (v : Vec ℕ Global). v.items) i records number r.0 mid why r.1 r.2 f.rebuilt (stops (r.0).items r.3)
 
--- ---- what is known of the record at which a fold is
+  -- ---- what is known of the record at which a fold is
 
-pub folding_found : (i : Problem) (records : List (Vec ℕ Global)) (nodes : List (List Cut)) (all passed left next : List Outcome) (number : ℕ) (now : StateView) (outcome : Outcome) (bounds : List (Vec (Option ℕ) Global))
-    → AreAllFound i nodes all bounds → Folding i records all passed left number now → left ≡ outcome ∷ next → (found : Vec (Option ℕ) Global) × (slice_get bounds number ≡ Some found) × AreFoundIn i nodes (posts_in outcome) found.items
-folding_found i records nodes all passed left next number now outcome bounds are f e =
-    let whole : passed ++ outcome ∷ next ≡ all = ap (λ (l : List Outcome). passed ++ l) (sym e) ∙ f.split in
-    let z = seam_zip (λ (o : Outcome) (found : Vec (Option ℕ) Global). AreFoundIn i nodes (posts_in o) found.items) passed next outcome bounds (subst (λ (l : List Outcome). AreAllFound i nodes l bounds) (sym whole) are) in
-    (z.0, ap (λ n. slice_get bounds n) f.count ∙ z.1, z.2)
+  pub folding_found : (i : Problem) (records : List (Vec ℕ Global)) (nodes : List (List Cut)) (all passed left next : List Outcome) (number : ℕ) (now : StateView) (outcome : Outcome) (bounds : List (Vec (Option ℕ) Global))
+      → AreAllFound i nodes all bounds → Folding i records all passed left number now → left ≡ outcome ∷ next → (found : Vec (Option ℕ) Global) × (slice_get bounds number ≡ Some found) × AreFoundIn i nodes (posts_in outcome) found.items
+  folding_found i records nodes all passed left next number now outcome bounds are f e =
+      let whole : passed ++ outcome ∷ next ≡ all = ap (λ (l : List Outcome). passed ++ l) (sym e) ∙ f.split in
+      let z = seam_zip (λ (o : Outcome) (found : Vec (Option ℕ) Global). AreFoundIn i nodes (posts_in o) found.items) passed next outcome bounds (subst (λ (l : List Outcome). AreAllFound i nodes l bounds) (sym whole) are) in
+      (z.0, ap (λ n. slice_get bounds n) f.count ∙ z.1, z.2)
 
-pub folding_tree : (i : Problem) (records : List (Vec ℕ Global)) (nodes : List (List Cut)) (all passed left next : List Outcome) (number : ℕ) (now : StateView) (outcome : Outcome)
-    → nodes ≡ nodes_of (all_posts all) → Folding i records all passed left number now → left ≡ outcome ∷ next → (rest : List Post) × (nodes ≡ nodes_of ((now.history ++ posts_in outcome) ++ rest))
-folding_tree i records nodes all passed left next number now outcome tree f e =
-    let whole : passed ++ outcome ∷ next ≡ all = ap (λ (l : List Outcome). passed ++ l) (sym e) ∙ f.split in (
-      all_posts next,
-      tree
-          ∙ ap (λ (l : List Outcome). nodes_of (all_posts l)) (sym whole)
-          ∙ ap nodes_of (all_posts-append passed (outcome ∷ next))
-          ∙ ap (λ (l : List Post). nodes_of (l ++ (posts_in outcome ++ all_posts next))) (sym f.history)
-          ∙ ap nodes_of (sym (append_assoc now.history (posts_in outcome) (all_posts next))),
-    )
+  pub folding_tree : (i : Problem) (records : List (Vec ℕ Global)) (nodes : List (List Cut)) (all passed left next : List Outcome) (number : ℕ) (now : StateView) (outcome : Outcome)
+      → nodes ≡ nodes_of (all_posts all) → Folding i records all passed left number now → left ≡ outcome ∷ next → (rest : List Post) × (nodes ≡ nodes_of ((now.history ++ posts_in outcome) ++ rest))
+  folding_tree i records nodes all passed left next number now outcome tree f e =
+      let whole : passed ++ outcome ∷ next ≡ all = ap (λ (l : List Outcome). passed ++ l) (sym e) ∙ f.split in (
+        all_posts next,
+        tree
+            ∙ ap (λ (l : List Outcome). nodes_of (all_posts l)) (sym whole)
+            ∙ ap nodes_of (all_posts-append passed (outcome ∷ next))
+            ∙ ap (λ (l : List Post). nodes_of (l ++ (posts_in outcome ++ all_posts next))) (sym f.history)
+            ∙ ap nodes_of (sym (append_assoc now.history (posts_in outcome) (all_posts next))),
+      )
 
--- what stands at the place of a record was found of its posts
-pub found_here : (i : Problem) (nodes : List (List Cut)) (outcome : Outcome) (bounds : List (Vec (Option ℕ) Global)) (number : ℕ) (read : Vec (Option ℕ) Global) (slice : List (Option ℕ))
-    → ((found : Vec (Option ℕ) Global) × (slice_get bounds number ≡ Some found) × AreFoundIn i nodes (posts_in outcome) found.items) → read ≡ get_or bounds number read → slice ≡ read.items
-    → IfOk outcome (λ posts. AreFoundIn i nodes posts.items slice)
-found_here i nodes outcome bounds number read slice found is same =
-    let alike : read ≡ found.0 = is ∙ get_or_from_slice_get bounds number found.0 read found.1 in
-    each outcome (subst (λ (l : List (Option ℕ)). AreFoundIn i nodes (posts_in outcome) l) (sym (same ∙ ap (λ (v : Vec (Option ℕ) Global). v.items) alike)) found.2)
-  where
-    each : (o : Outcome) → AreFoundIn i nodes (posts_in o) slice → IfOk o (λ posts. AreFoundIn i nodes posts.items slice)
-    each (Ok posts) h = h
-    each (Err fault) h = tt
+  -- a bound that stands in a buffer at the place of a record is one of its posts
+  pub found_here : (i : Problem) (nodes : List (List Cut)) (outcome : Outcome) (bounds : List (Vec (Option ℕ) Global)) (number : ℕ) (read : Vec (Option ℕ) Global) (slice : List (Option ℕ))
+      → ((found : Vec (Option ℕ) Global) × (slice_get bounds number ≡ Some found) × AreFoundIn i nodes (posts_in outcome) found.items) → read ≡ get_or bounds number read → slice ≡ read.items
+      → IfOk outcome (λ posts. AreFoundIn i nodes posts.items slice)
+  found_here i nodes outcome bounds number read slice found is same =
+      let alike : read ≡ found.0 = is ∙ get_or_from_slice_get bounds number found.0 read found.1 in
+      each outcome (subst (λ (l : List (Option ℕ)). AreFoundIn i nodes (posts_in outcome) l) (sym (same ∙ ap (λ (v : Vec (Option ℕ) Global). v.items) alike)) found.2)
+    where
+      each : (o : Outcome) → AreFoundIn i nodes (posts_in o) slice → IfOk o (λ posts. AreFoundIn i nodes posts.items slice)
+      each (Ok posts) h = h
+      each (Err fault) h = tt
 
-pub tree_here : (nodes : List (List Cut)) (history : List Post) (outcome : Outcome) → ((rest : List Post) × (nodes ≡ nodes_of ((history ++ posts_in outcome) ++ rest)))
-    → IfOk outcome (λ posts. (rest : List Post) × (nodes ≡ nodes_of ((history ++ posts.items) ++ rest)))
-tree_here nodes history (Ok posts) h = h
-tree_here nodes history (Err fault) h = tt
+  pub tree_here : (nodes : List (List Cut)) (history : List Post) (outcome : Outcome) → ((rest : List Post) × (nodes ≡ nodes_of ((history ++ posts_in outcome) ++ rest)))
+      → IfOk outcome (λ posts. (rest : List Post) × (nodes ≡ nodes_of ((history ++ posts.items) ++ rest)))
+  tree_here nodes history (Ok posts) h = h
+  tree_here nodes history (Err fault) h = tt
 
--- ---- all records
+  -- ---- all records
 
-pub folding_ends : (i : Problem) (records : List (Vec ℕ Global)) (all passed : List Outcome) (number : ℕ) (now : StateView) → AreReads records all → Folding i records all passed [] number now → Rebuilt i (map (λ (r : Vec ℕ Global). r.items) records) now
-folding_ends i records all passed number now reads f =
-    let long = AllZip-long (λ (r : Vec ℕ Global) (o : Outcome). IsReadOf r.items o) records all reads in
-    let done : length passed ≡ length all = ap length (sym (append_nothing passed) ∙ f.split) in
-    subst (λ (l : List (Vec ℕ Global)). Rebuilt i (map (λ (r : Vec ℕ Global). r.items) l) now) (take_whole number records (omega (arith, long, done, f.count))) f.rebuilt
-  where
-    append_nothing : (xs : List Outcome) → xs ++ [] ≡ xs
-    append_nothing [] = refl
-    append_nothing (x ∷ xs) = ap (λ (l : List Outcome). x ∷ l) (append_nothing xs)
+  pub folding_ends : (i : Problem) (records : List (Vec ℕ Global)) (all passed : List Outcome) (number : ℕ) (now : StateView) → AreReads w records all → Folding i records all passed [] number now → Rebuilt w i (map (λ (r : Vec ℕ Global). r.items) records) now
+  folding_ends i records all passed number now reads f =
+      let long = AllZip-long (λ (r : Vec ℕ Global) (o : Outcome). IsReadOf w r.items o) records all reads in
+      let done : length passed ≡ length all = ap length (sym (append_nothing passed) ∙ f.split) in
+      subst (λ (l : List (Vec ℕ Global)). Rebuilt w i (map (λ (r : Vec ℕ Global). r.items) l) now) (take_whole number records (omega (arith, long, done, f.count))) f.rebuilt
+    where
+      append_nothing : (xs : List Outcome) → xs ++ [] ≡ xs
+      append_nothing [] = refl
+      append_nothing (x ∷ xs) = ap (λ (l : List Outcome). x ∷ l) (append_nothing xs)
 
-    take_whole : (n : ℕ) (xs : List (Vec ℕ Global)) → n ≡ length xs → take n xs ≡ xs
-    take_whole zero [] e = refl
-    take_whole zero (x ∷ xs) e = absurd (omega (arith, e))
-    take_whole (suc n) [] e = absurd (omega (arith, e))
-    take_whole (suc n) (x ∷ xs) e = ap (λ (l : List (Vec ℕ Global)). x ∷ l) (take_whole n xs (omega (arith, e)))
+      take_whole : (n : ℕ) (xs : List (Vec ℕ Global)) → n ≡ length xs → take n xs ≡ xs
+      take_whole zero [] e = refl
+      take_whole zero (x ∷ xs) e = absurd (omega (arith, e))
+      take_whole (suc n) [] e = absurd (omega (arith, e))
+      take_whole (suc n) (x ∷ xs) e = ap (λ (l : List (Vec ℕ Global)). x ∷ l) (take_whole n xs (omega (arith, e)))
 
-pub folding_done : (i : Problem) (records : List (Vec ℕ Global)) (all passed left : List Outcome) (number : ℕ) (now : StateView)
-    → AreReads records all → Folding i records all passed left number now → length left ≡ 0 → Rebuilt i (map (λ (r : Vec ℕ Global). r.items) records) now
-folding_done i records all passed [] number now reads f none = folding_ends i records all passed number now reads f
-folding_done i records all passed (outcome ∷ left) number now reads f none = absurd (omega (arith, none))
+  pub folding_done : (i : Problem) (records : List (Vec ℕ Global)) (all passed left : List Outcome) (number : ℕ) (now : StateView)
+      → AreReads w records all → Folding i records all passed left number now → length left ≡ 0 → Rebuilt w i (map (λ (r : Vec ℕ Global). r.items) records) now
+  folding_done i records all passed [] number now reads f none = folding_ends i records all passed number now reads f
+  folding_done i records all passed (outcome ∷ left) number now reads f none = absurd (omega (arith, none))
 
--- ---- what is read
+  -- ---- what is read
 
-pub read_is : (bytes : List ℕ) (outcome : Outcome) → IfOk outcome (λ posts. Spells bytes posts.items) → IfErr outcome (IsFaultOf bytes) → IsReadOf bytes outcome
-read_is bytes (Ok posts) found fault = found
-read_is bytes (Err why) found fault = fault
+  pub read_is : (bytes : List ℕ) (outcome : Outcome) → IfOk outcome (λ posts. SpellsBy w bytes posts.items) → IfErr outcome (IsFaultOf w bytes) → IsReadOf w bytes outcome
+  read_is bytes (Ok posts) found fault = found
+  read_is bytes (Err why) found fault = fault
 
--- what holds of the element at a place
-pub some_there : {X : Type 0} (xs : List X) (k : ℕ) (x : X) (P : X → Type 0) → k < length xs → x ≡ get_or xs k x → P x → IsSomeAnd (slice_get xs k) P
-some_there {X} xs k x P less is p = subst (λ (o : Option X). IsSomeAnd o P) (sym (slice_get_read xs (length xs) k x refl less is)) p
+  -- what holds of the element at a place
+  pub some_there : {X : Type 0} (xs : List X) (k : ℕ) (x : X) (P : X → Type 0) → k < length xs → x ≡ get_or xs k x → P x → IsSomeAnd (slice_get xs k) P
+  some_there {X} xs k x P less is p = subst (λ (o : Option X). IsSomeAnd o P) (sym (slice_get_read xs (length xs) k x refl less is)) p
 
--- records that make a book are rejected by running out of memory alone
-pub none_rejected : {X : Type 0} (i : Problem) (records : List (List ℕ)) (r : Result X RebuildFault) → IfErr r (Refuses i records) → (posts : List Post) (b : Book) → MakeBook i records posts b → IfErr r (λ fault. fault ≡ NoMemory)
-none_rejected i records (Ok s) refused posts b m = tt
-none_rejected i records (Err fault) refused posts b m = never_rejected one_list i records posts b fault m refused
+  -- records that make a book are rejected by running out of memory alone
+  pub none_rejected : {X : Type 0} (i : Problem) (records : List (List ℕ)) (r : Result X RebuildFault) → IfErr r (RefusesBy w i records) → (posts : List Post) (b : Book) → MakeBookBy w i records posts b → IfErr r (λ fault. fault ≡ NoMemory)
+  none_rejected i records (Ok s) refused posts b m = tt
+  none_rejected i records (Err fault) refused posts b m = never_rejected w (one_list_by w) i records posts b fault m refused

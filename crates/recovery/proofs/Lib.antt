@@ -3,6 +3,7 @@ pub mod CutTrees
 pub mod Folds
 pub mod Found
 pub mod NodesOf
+pub mod Migrated
 pub mod Rebuilt
 pub mod Taking
 pub mod Trees

@@ -3,7 +3,8 @@ use Rattle.std.specs.Prelude.{◌≡◌, ◌⊎◌, ℕ, List}
 use Rattle.shift_instance.specs.Problem.{Problem}
 use Rattle.post_codec.specs.declared.post.Post.{Post}
 use Rattle.post_codec.specs.declared.fault.CodecFault.TheVariants.{Departs, NoMemory as NoMemoryForPosts}
-use Rattle.post_codec.specs.Spelling.{Spells}
+use Rattle.post_codec.specs.declared.price_width.PriceWidth.{PriceWidth}
+use Rattle.post_codec.specs.Spelling.{SpellsBy}
 use Rattle.post_codec.specs.Fields.{IsFaultOf}
 use Rattle.search_core.specs.declared.fault.StepFault.TheVariants.{NotLegal, WrongCost, NotBetter, NoNode, IsSplit, NotOpen, NotLive, OutOfRange, NotSettled, Price, NoMemory as NoMemoryForPost}
 use Rattle.search_core.specs.Book.{Book}
@@ -16,15 +17,15 @@ use Rattle.recovery.specs.declared.fault.RebuildFault.TheVariants.{Rejected, NoM
 use Rattle.recovery.specs.Refusals.{IsRefusedRecord}
 
 -- a state after the posts that a record spells
-pub record TakesRecord (old : StateView) (bytes : List ℕ) (new : StateView) : Type 0 where
+pub record TakesRecord (w : PriceWidth) (old : StateView) (bytes : List ℕ) (new : StateView) : Type 0 where
   pub posts : List Post
-  pub spells : Spells bytes posts
+  pub spells : SpellsBy w bytes posts
   pub takes : Takes old posts new
 
 -- why a record isn't taken: it spells no posts, or one is the first that is refused, or no memory is left
-abbrev pub RecordStops : Problem → Book → List ℕ → Why → Type 0
-RecordStops i b bytes (Codec fault) = IsFaultOf bytes fault
-RecordStops i b bytes (Step post fault) = (fault ≡ NoMemoryForPost) ⊎ IsRefusedRecord i b bytes post fault
+abbrev pub RecordStops : PriceWidth → Problem → Book → List ℕ → Why → Type 0
+RecordStops w i b bytes (Codec fault) = IsFaultOf w bytes fault
+RecordStops w i b bytes (Step post fault) = (fault ≡ NoMemoryForPost) ⊎ IsRefusedRecord w i b bytes post fault
 
 -- why the records stop at one that isn't taken for that reason: it is rejected, or no memory is left
 abbrev pub fault_at : ℕ → Why → RebuildFault

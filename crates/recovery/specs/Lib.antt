@@ -2,6 +2,7 @@ pub mod CutTree
 pub mod FaultText
 pub mod Findings
 pub mod Folding
+pub mod Migrating
 pub mod NodeCuts
 pub mod Reads
 pub mod Records

@@ -6,16 +6,17 @@ use Rattle.shift_instance.specs.Problem.{Problem}
 use Rattle.head_splits.specs.declared.Cut.{Cut}
 use Rattle.post_codec.specs.declared.fault.CodecFault.{CodecFault}
 use Rattle.post_codec.specs.declared.post.Post.{Post}
+use Rattle.post_codec.specs.declared.price_width.PriceWidth.{PriceWidth}
 use Rattle.post_codec.specs.Fields.{IsFaultOf}
-use Rattle.post_codec.specs.Spelling.{Spells}
+use Rattle.post_codec.specs.Spelling.{SpellsBy}
 use Rattle.recovery.specs.Findings.{AreFoundIn}
 
 -- what reading a record gives: the posts that it spells, or why it spells none
 abbrev pub Outcome : Type 0
 Outcome = Result (Vec Post Global) CodecFault
 
-abbrev pub IsReadOf : List ℕ → Outcome → Type 0
-IsReadOf bytes outcome = MatchResult outcome (λ posts. Spells bytes posts.items) (IsFaultOf bytes)
+abbrev pub IsReadOf : PriceWidth → List ℕ → Outcome → Type 0
+IsReadOf w bytes outcome = MatchResult outcome (λ posts. SpellsBy w bytes posts.items) (IsFaultOf w bytes)
 
 -- the posts of a record that was read, and none where it spells none
 abbrev pub posts_in : Outcome → List Post
@@ -27,8 +28,8 @@ abbrev pub all_posts : List Outcome → List Post
 all_posts outcomes = flat_map posts_in outcomes
 
 -- each record is read so, by its number
-abbrev pub AreReads : List (Vec ℕ Global) → List Outcome → Type 0
-AreReads records outcomes = AllZip (λ r outcome. IsReadOf r.items outcome) records outcomes
+abbrev pub AreReads : PriceWidth → List (Vec ℕ Global) → List Outcome → Type 0
+AreReads w records outcomes = AllZip (λ r outcome. IsReadOf w r.items outcome) records outcomes
 
 -- what is found of each record's posts, by its number
 abbrev pub AreAllFound : Problem → List (List Cut) → List Outcome → List (Vec (Option ℕ) Global) → Type 0

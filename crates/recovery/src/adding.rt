@@ -1,6 +1,7 @@
 //! Posts of a record added to a state, with what workers found of them.
 ghost use Rattle.std.specs.Prelude.{◌≡◌, ◌++◌, ℕ, List, Some, slice_get, OnErr, OnOk, IfErr, IfOk, IfSome, IsTrue, MatchResult, not};
 ghost use Rattle.post_codec.specs.declared.post.Post.{Post as APost};
+ghost use Rattle.post_codec.specs.declared.price_width.PriceWidth.{PriceWidth as AWidth};
 ghost use Rattle.search_core.specs.Book.{is_node_and};
 ghost use Rattle.search_core.specs.Faults.{step_fault, Refuses, Steps};
 ghost use Rattle.search_core.specs.State.{value_of};
@@ -152,7 +153,7 @@ pub(crate) fn add_record(
     requires tree { IfOk outcome (λ posts. (rest : List APost) × (tree.now ≡ nodes_of ((state.old.history ++ posts.items) ++ rest))) }
     requires found { IfOk outcome (λ posts. AreFoundIn instance.now tree.now posts.items findings.now) }
     ensures ok { OnOk result (MatchResult outcome (λ posts. Takes state.old posts.items state.new) (λ _. ⊥)) }
-    ensures err { IfErr result (λ why. (bytes : List ℕ) → IsReadOf bytes outcome → RecordStops instance.now state.old.book bytes why) }
+    ensures err { IfErr result (λ why. (width : AWidth) (bytes : List ℕ) → IsReadOf width bytes outcome → RecordStops width instance.now state.old.book bytes why) }
 {
     add_all(state, instance, tree, outcome?, findings)?;
     Ok(())

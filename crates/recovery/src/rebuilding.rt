@@ -4,8 +4,8 @@ ghost use Rattle.post_codec.specs.declared.post.Post.{Post as APost};
 ghost use Rattle.search_core.specs.Book.{Book};
 ghost use Rattle.recovery.specs.NodeCuts.{nodes_after, nodes_of};
 ghost use Rattle.recovery.specs.Reads.{all_posts, posts_in, AreReads, AreAllFound};
-ghost use Rattle.recovery.specs.Records.{MakeBook};
-ghost use Rattle.recovery.specs.Refusals.{Refuses};
+ghost use Rattle.recovery.specs.Records.{MakeBook, MakeBookBy};
+ghost use Rattle.recovery.specs.Refusals.{Refuses, RefusesBy};
 ghost use Rattle.recovery.specs.Folding.{fault_at};
 
 use crate::adding::add_record;
@@ -15,7 +15,7 @@ use crate::findings::JudgedRecords;
 use crate::reads::{Outcome, Records};
 use break_rules::NoMemory;
 use job_pieces::do_all;
-use post_codec::{CodecFault, Post};
+use post_codec::{CodecFault, Post, PriceWidth};
 use search_core::{State, StepFault};
 use shift_instance::Instance;
 use std::alloc::Global;
@@ -86,17 +86,18 @@ fn tree_of(alloc: Global, outcomes: &[Outcome]) -> Result<CutTree, NoMemory>
 fn fold_records(
     alloc: Global,
     instance: &Instance,
+    width: PriceWidth,
     records: &[Vec<u8>],
     tree: &CutTree,
     outcomes: Vec<Outcome>,
     findings: &[Vec<Option<u64>>],
 ) -> Result<State, RebuildFault>
-    requires reads { AreReads records.now outcomes.items }
+    requires reads { AreReads width records.now outcomes.items }
     requires tree { tree.now ≡ nodes_of (all_posts outcomes.items) }
     requires found { AreAllFound instance.now tree.now outcomes.items findings.now }
     ensures instance { IfOk result (λ s. s.instance ≡ instance.now) }
-    ensures history { IfOk result (λ s. MakeBook instance.now (map (λ r. r.items) records.now) s.history s.book) }
-    ensures refused { IfErr result (Refuses instance.now (map (λ r. r.items) records.now)) }
+    ensures history { IfOk result (λ s. MakeBookBy width instance.now (map (λ r. r.items) records.now) s.history s.book) }
+    ensures refused { IfErr result (RefusesBy width instance.now (map (λ r. r.items) records.now)) }
 {
     let mut state = State::new(alloc, instance)?;
     let mut at = 0;
@@ -110,10 +111,42 @@ fn fold_records(
     Ok(state)
 }
 
+/// The state whose history is the posts of the records, as [`rebuild`] makes it of records with prices of that width.
+pub(crate) fn rebuild_by<R: Threads + Sync>(
+    rt: &R,
+    alloc: Global,
+    instance: &Instance,
+    width: PriceWidth,
+    records: &[Vec<u8>],
+    workers: u32,
+) -> Result<State, RebuildFault>
+    requires some { 1 ≤ workers }
+    requires most { workers ≤ 16 }
+    ensures instance { IfOk result (λ s. s.instance ≡ instance.now) }
+    ensures history { IfOk result (λ s. MakeBookBy width instance.now (map (λ r. r.items) records.now) s.history s.book) }
+    ensures refused { IfErr result (RefusesBy width instance.now (map (λ r. r.items) records.now)) }
+    // Where the records spell posts that make a book, none is rejected.
+    ensures only { (posts : List APost) (book : Book) → MakeBookBy width instance.now (map (λ r. r.items) records.now) posts book → IfErr result (λ fault. fault ≡ RebuildFault.NoMemory) }
+{
+    let workers = workers as usize;
+    let outcomes = do_all(rt, alloc, &Records { width, records }, workers)?;
+    let tree = tree_of(alloc, &outcomes)?;
+    let findings = do_all(
+        rt,
+        alloc,
+        &JudgedRecords {
+            instance,
+            tree: &tree,
+            outcomes: &outcomes,
+        },
+        workers,
+    )?;
+    fold_records(alloc, instance, width, records, &tree, outcomes, &findings)
+}
+
 /// The state whose history is the posts of the records, in their order. Up to `workers` workers, 1 to 16, read the records, and find
 /// the bounds of prices, what splits ask and the floors of settled nodes at the same time, a piece of the records after another; their number
-/// doesn't change the answer. A
-/// refusal is that of the first record that is rejected, whatever a worker found in those behind it.
+/// doesn't change the answer. A refusal is that of the first record that is rejected, whatever a worker found in those behind it.
 pub fn rebuild<R: Threads + Sync>(
     rt: &R,
     alloc: Global,
@@ -129,18 +162,5 @@ pub fn rebuild<R: Threads + Sync>(
     // Where the records spell posts that make a book, none is rejected.
     ensures only { (posts : List APost) (book : Book) → MakeBook instance.now (map (λ r. r.items) records.now) posts book → IfErr result (λ fault. fault ≡ RebuildFault.NoMemory) }
 {
-    let workers = workers as usize;
-    let outcomes = do_all(rt, alloc, &Records { records }, workers)?;
-    let tree = tree_of(alloc, &outcomes)?;
-    let findings = do_all(
-        rt,
-        alloc,
-        &JudgedRecords {
-            instance,
-            tree: &tree,
-            outcomes: &outcomes,
-        },
-        workers,
-    )?;
-    fold_records(alloc, instance, records, &tree, outcomes, &findings)
+    rebuild_by(rt, alloc, instance, PriceWidth::Five, records, workers)
 }

@@ -30,15 +30,15 @@ fn ended<R: Abort + Threads + Sync>(
     }
 }
 
-// The step has a plan and prices, of 21 and 209 bytes, and their record has 7 more: with the first post alone the journal would end at
-// 413 bytes, and with both at 622.
+// The step has a plan and prices, of 21 and 137 bytes, and their record has 7 more: with the first post alone the journal would end at
+// 413 bytes, and with both at 550.
 #[test]
 fn a_record_is_there_whole_or_not_at_all(rt: HostRuntime) -> Result<(), Fail> {
     let alloc = rt.alloc();
-    for limit in [412u32, 500, 621] {
-        let full = RunEnd::Full { end: 622, limit };
+    for limit in [412u32, 500, 549] {
+        let full = RunEnd::Full { end: 550, limit };
         assert!(rt; ended(&rt, alloc, limit)? == (full, Some(0), 385));
     }
-    assert!(rt; ended(&rt, alloc, 622)? == (RunEnd::Finished, None, 622));
+    assert!(rt; ended(&rt, alloc, 550)? == (RunEnd::Finished, None, 550));
     Ok(())
 }

@@ -5,7 +5,7 @@ use Rattle.std.specs.Option.{option_map_or}
 use Rattle.std.proofs.lemmas.List.{append-nil}
 use Rattle.std.proofs.lemmas.Bool.{false≢true}
 use Rattle.gated_journal.specs.declared.fault.JournalFault.{JournalFault}
-use Rattle.gated_journal.specs.declared.fault.JournalFault.TheVariants.{DiskFault as DiskFails, NoMemory as JournalsMemory, NotAJournal as IsNone, Damaged as IsDamaged, Full as IsFull}
+use Rattle.gated_journal.specs.declared.fault.JournalFault.TheVariants.{DiskFault as DiskFails, NoMemory as JournalsMemory, NotAJournal as IsNone, Damaged as IsDamaged, Full as IsFull, OldVersion}
 use Rattle.post_codec.specs.declared.post.Post.{Post}
 use Rattle.shift_instance.specs.Problem.{Problem}
 use Rattle.search_core.specs.declared.board.CommitFault.{CommitFault}
@@ -254,6 +254,7 @@ module _ {D : Type 0} (calls : D → ℕ) (old new : PostLogView D) (w : ℕ) (s
       failed DiskFails h = (there, h)
       failed JournalsMemory h = h
       failed IsNone h = absurd h
+      failed OldVersion h = absurd h
       failed (IsDamaged at) h = absurd h
       failed (IsFull end most) h = (there, subst (λ (l : List Post). length l ≤ 4) drafts.posts drafts.few, allowed, h)
 

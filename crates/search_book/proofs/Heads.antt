@@ -4,7 +4,7 @@ use Rattle.std.specs.Prelude.{Option, None, Some, IfSome}
 use Rattle.plan_base.specs.Causes.{Rose}
 use Rattle.gated_journal.specs.Faults.{OpenFails as JournalFails}
 use Rattle.gated_journal.specs.declared.fault.JournalFault.{JournalFault}
-use Rattle.gated_journal.specs.declared.fault.JournalFault.TheVariants.{DiskFault, NoMemory, NotAJournal, Damaged, Full}
+use Rattle.gated_journal.specs.declared.fault.JournalFault.TheVariants.{DiskFault, NoMemory, NotAJournal, Damaged, Full, OldVersion}
 use Rattle.search_book.specs.Head.{of_journal_fault, HeadCause, IsDamagedFile}
 
 some_file : (file : List ℕ) (len : ℕ) → len ≡ length file → (len ≡ 0 → ⊥) → file ≢ []
@@ -20,3 +20,4 @@ head_cause limit len text o before mid now le is some NoMemory fails = tt
 head_cause limit len text o before mid now le is some NotAJournal bad = with_some len o _ is some bad
 head_cause limit len text o before mid now le is some (Damaged at) bad = with_some len o (IsDamagedFile limit at) is some bad
 head_cause limit len text o before mid now le is some (Full end most) fails = absurd fails
+head_cause limit len text o before mid now le is some OldVersion old = old

@@ -3,8 +3,9 @@ use Rattle.std.proofs.Common.{◌≡◌, ◌≢◌, ◌⊎◌, inl, inr, ℕ, �
 use Rattle.std.specs.Prelude.{Option, None, Some, IfSome, slice_get}
 use Rattle.plan_base.specs.Disk.{TellsAlike}
 use Rattle.gated_journal.specs.Format.{StandsFor}
-use Rattle.gated_journal.proofs.Once.{stands_once, stands_journal, stands_whole}
+use Rattle.gated_journal.proofs.Once.{stands_once, stands_journal, stands_new, stands_whole}
 use Rattle.instance_json.specs.Canonical.{canonical_text}
+use Rattle.post_codec.specs.declared.price_width.PriceWidth.TheVariants.{Five}
 use Rattle.post_codec.specs.declared.post.Post.{Post}
 use Rattle.post_codec.specs.Spelling.{EachSpellsOnce}
 use Rattle.recovery.specs.declared.fault.RebuildFault.{RebuildFault}
@@ -15,7 +16,7 @@ use Rattle.recovery.specs.Refusals.{Refuses}
 use Rattle.search_core.specs.Book.{Book}
 use Rattle.shift_instance.specs.Problem.{Problem}
 use Rattle.search_book.specs.declared.open_fault.OpenFault.{OpenFault}
-use Rattle.search_book.specs.declared.open_fault.OpenFault.TheVariants.{DiskFault, NotAJournal, OtherInstance, Damaged, Rejected, NoMemory}
+use Rattle.search_book.specs.declared.open_fault.OpenFault.TheVariants.{DiskFault, NotAJournal, OtherInstance, Damaged, Rejected, NoMemory, OldVersion}
 use Rattle.search_book.specs.Head.{HasOtherHead, HeadCause, KeepsHead}
 use Rattle.search_book.specs.Opened.{HoldsBook, of_rebuild_fault}
 use Rattle.search_book.specs.Opening.{IsFound, IsOpenedFrom}
@@ -25,7 +26,7 @@ use Rattle.search_book.proofs.Used.{used_fresh}
 use Rattle.search_book.proofs.Openings.{found_content, may_be_new, no_posts_left}
 
 -- ---- what an opening gives
-pub opened_from : EachSpellsOnce → (limit : ℕ) (i : Problem) (records : List (List ℕ)) (posts : List Post) (used : ℕ) (o o' : Option (List ℕ)) → used ≡ bytes_used (canonical_text i) records → SpellPosts records posts → IfSome o (IsFound limit (canonical_text i) records o') → IfSome o (IsOpenedFrom limit i posts used o')
+pub opened_from : EachSpellsOnce Five → (limit : ℕ) (i : Problem) (records : List (List ℕ)) (posts : List Post) (used : ℕ) (o o' : Option (List ℕ)) → used ≡ bytes_used (canonical_text i) records → SpellPosts records posts → IfSome o (IsFound limit (canonical_text i) records o') → IfSome o (IsOpenedFrom limit i posts used o')
 opened_from once limit i records posts used None o' is s found = tt
 opened_from once limit i records posts used (Some file) o' is s found = record {
   new = λ e.
@@ -55,7 +56,8 @@ other_head limit at i file small h other =
 
 spares_head : (limit : ℕ) (i : Problem) (file : List ℕ) (before now : ℕ) (e : OpenFault) → limit < 2 ^ 32 → HeadCause limit (canonical_text i) (Some file) before now e → HoldsBook limit i file → (e ≡ DiskFault) ⊎ (e ≡ NoMemory)
 spares_head limit i file before now DiskFault small cause h = inl refl
-spares_head limit i file before now NotAJournal small cause h = absurd (stands_journal limit (canonical_text i) h.stands.journal.records file small h.stands.journal.stands cause.1)
+spares_head limit i file before now NotAJournal small cause h = absurd (stands_journal limit (canonical_text i) h.stands.journal.records file small h.stands.journal.stands cause.1.1)
+spares_head limit i file before now OldVersion small cause h = absurd (stands_new limit (canonical_text i) h.stands.journal.records file h.stands.journal.stands cause)
 spares_head limit i file before now (Damaged at) small cause h = absurd (stands_whole limit (canonical_text i) h.stands.journal.records file at small h.stands.journal.stands cause.1.1)
 spares_head limit i file before now (OtherInstance at) small cause h = absurd (other_head limit at i file small h cause.1)
 spares_head limit i file before now (Rejected at why) small cause h = absurd cause

@@ -1,7 +1,7 @@
 -- What a commit of a step does to the log of posts.
 use Rattle.std.specs.Prelude.{◌≡◌, ◌≢◌, ⊤, ℕ, ◌+◌, ◌*◌, ◌<◌, ◌≤◌, ◌^◌, List, [], ◌∷◌, ◌++◌, length, not, Option, Some, None, IsSome, true}
 use Rattle.gated_journal.specs.declared.fault.JournalFault.{JournalFault}
-use Rattle.gated_journal.specs.declared.fault.JournalFault.TheVariants.{DiskFault as DiskFails, NoMemory as JournalsMemory, NotAJournal as NoJournal, Damaged as IsDamaged, Full as IsFull}
+use Rattle.gated_journal.specs.declared.fault.JournalFault.TheVariants.{DiskFault as DiskFails, NoMemory as JournalsMemory, NotAJournal as NoJournal, Damaged as IsDamaged, Full as IsFull, OldVersion}
 use Rattle.post_codec.specs.declared.post.Post.{Post}
 use Rattle.search_core.specs.declared.step_posts.StepPosts.{StepPosts}
 use Rattle.search_core.specs.declared.board.Kept.{Kept}
@@ -48,6 +48,7 @@ abbrev pub commit_fault_of : JournalFault → CommitFault
 commit_fault_of DiskFails = DiskFault
 commit_fault_of JournalsMemory = NoMemory
 commit_fault_of NoJournal = NoMemory
+commit_fault_of OldVersion = NoMemory
 commit_fault_of (IsDamaged at) = NoMemory
 commit_fault_of (IsFull end most) = Full end most
 

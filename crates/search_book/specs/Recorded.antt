@@ -3,7 +3,7 @@ use Rattle.std.specs.Prelude.{◌≡◌, ◌≢◌, ℕ, ◌+◌, ◌≤◌, ◌
 use Rattle.std.specs.List.{AllZip}
 use Rattle.plan_base.specs.Causes.{Rose}
 use Rattle.gated_journal.specs.declared.fault.JournalFault.{JournalFault}
-use Rattle.gated_journal.specs.declared.fault.JournalFault.TheVariants.{DiskFault as DiskFails, NoMemory, NotAJournal, Damaged, Full as IsFull}
+use Rattle.gated_journal.specs.declared.fault.JournalFault.TheVariants.{DiskFault as DiskFails, NoMemory, NotAJournal, Damaged, Full as IsFull, OldVersion}
 use Rattle.instance_json.specs.Canonical.{canonical_text}
 use Rattle.post_codec.specs.declared.post.Post.{Post}
 use Rattle.post_codec.specs.Spelling.{Spells}
@@ -61,4 +61,5 @@ RecordFails faults old new posts (IsFull end most) =
     (new ≡ record old { unfit = posts; shut = Some (Full end most) }) × (end ≡ old.used + bytes_of posts) × (most ≡ old.limit) × (most < end)
 RecordFails faults old new posts NoMemory = new ≡ old
 RecordFails faults old new posts NotAJournal = ⊥
+RecordFails faults old new posts OldVersion = ⊥
 RecordFails faults old new posts (Damaged at) = ⊥

@@ -7,7 +7,7 @@ use Rattle.plan_base.specs.Disk.{TellsAlike}
 use Rattle.gated_journal.specs.Format.{end_after}
 use Rattle.gated_journal.specs.View.{JournalView, IsStored}
 use Rattle.gated_journal.specs.declared.fault.JournalFault.{JournalFault}
-use Rattle.gated_journal.specs.declared.fault.JournalFault.TheVariants.{DiskFault, NoMemory, NotAJournal, Damaged, Full}
+use Rattle.gated_journal.specs.declared.fault.JournalFault.TheVariants.{DiskFault, NoMemory, NotAJournal, Damaged, Full, OldVersion}
 use Rattle.search_book.specs.Prefix.{HoldsPrefix}
 
 pub record LogView (D : Type 0) : Type 0 where
@@ -69,4 +69,5 @@ AddFails faults old new bytes DiskFault = (new ≡ record old { disk = new.disk;
 AddFails faults old new bytes (Full end limit) = (new ≡ old) × (end ≡ end_after old.head old.records (length bytes)) × (limit ≡ old.limit) × (limit < end)
 AddFails faults old new bytes NoMemory = ⊥
 AddFails faults old new bytes NotAJournal = ⊥
+AddFails faults old new bytes OldVersion = ⊥
 AddFails faults old new bytes (Damaged at) = ⊥

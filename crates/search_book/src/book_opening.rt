@@ -28,9 +28,9 @@ impl<D: Disk> Book<D> {
     /// Whatever bytes the disk holds and whatever it answers, what is opened is a sound book of the instance.
     ///
     /// `DiskFault` comes only where the disk failed. The others come where the file isn't empty, and the first of them that
-    /// applies is answered: `NotAJournal`, `Damaged`, `OtherInstance`, and `Rejected` where a record spells no posts or has
-    /// a post that isn't allowed. A refusal leaves on the disk what was there, or where the file was empty no more than the
-    /// new journal.
+    /// applies is answered: `OldVersion`, `NotAJournal`, `Damaged`, `OtherInstance`, and `Rejected` where a record spells no
+    /// posts or has a post that isn't allowed. A refusal leaves on the disk what was there, or where the file was empty no more
+    /// than the new journal.
     pub fn open<R: Threads + Sync>(
         rt: &R,
         alloc: Global,

@@ -90,8 +90,8 @@ fn open_state<D: Disk, R: Threads + Sync>(
 /// the disk back.
 ///
 /// `DiskFault` comes only where the disk failed. The others come where the file isn't empty, and the first of them that
-/// applies is answered: `NotAJournal`, `Damaged`, `OtherInstance`, and `Rejected` where a record spells no posts or has a
-/// post that isn't allowed. A refusal leaves on the disk what was there, or where the file was empty no more than the new
+/// applies is answered: `OldVersion`, `NotAJournal`, `Damaged`, `OtherInstance`, and `Rejected` where a record spells no posts or
+/// has a post that isn't allowed. A refusal leaves on the disk what was there, or where the file was empty no more than the new
 /// journal.
 pub(crate) fn open_log<D: Disk, R: Threads + Sync>(
     rt: &R,

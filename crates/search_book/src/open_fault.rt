@@ -14,7 +14,7 @@ use std::fmt;
 pub enum OpenFault {
     /// A call on the disk failed.
     DiskFault,
-    /// The file is no journal.
+    /// The file isn't of the first version, and no journal.
     NotAJournal,
     /// The journal's head isn't the instance's canonical text: they differ first at this byte, which is the length of the
     /// shorter where that begins the other.
@@ -25,6 +25,8 @@ pub enum OpenFault {
     Rejected { at_record: u64, why: Why },
     /// There is no memory for it.
     NoMemory,
+    /// The file begins with the mark of a journal of the first version.
+    OldVersion,
 }
 
 impl fmt::Display for OpenFault {
@@ -42,6 +44,7 @@ impl fmt::Display for OpenFault {
             OpenFault::Damaged { at } => write!(f, "4 {at}"),
             OpenFault::Rejected { at_record, why } => write!(f, "5 {at_record} {why}"),
             OpenFault::NoMemory => f.write_str("no memory"),
+            OpenFault::OldVersion => f.write_str("7"),
         }
     }
 }
@@ -77,6 +80,7 @@ impl From<JournalFault> for OpenFault {
             JournalFault::Damaged { at } => OpenFault::Damaged { at },
             JournalFault::Full { end: _, limit: _ } => OpenFault::NoMemory,
             JournalFault::NoMemory => OpenFault::NoMemory,
+            JournalFault::OldVersion => OpenFault::OldVersion,
         }
     }
 }

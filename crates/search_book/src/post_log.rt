@@ -2,7 +2,7 @@
 ghost use Rattle.std.specs.Prelude.{◌≡◌, ◌+◌, ◌^◌, ◌<◌, ◌≤◌, [], ◌∷◌, length, All, None, Some, OnOk, IfErr, IfOk};
 ghost use Rattle.gated_journal.specs.View.{IsSettled};
 ghost use Rattle.instance_json.specs.Canonical.{canonical_text};
-ghost use Rattle.post_codec.specs.Spelling.{CountsFitPost, Spells};
+ghost use Rattle.post_codec.specs.Spelling.{CanSpellPost, Spells};
 ghost use Rattle.search_core.specs.Book.{Book};
 ghost use Rattle.search_core.specs.Drafting.{Makes};
 ghost use Rattle.search_book.specs.Keeping.{IsPostLog};
@@ -57,7 +57,7 @@ fn record_of<D: Disk>(
     posts: &[Post],
 ) -> Result<Vec<u8>, NoMemory>
     requires few { length posts.now < 2 ^ 16 }
-    requires fit { All CountsFitPost posts.now }
+    requires fit { All CanSpellPost posts.now }
     ensures spells { IfOk result (λ bytes. Spells bytes.items posts.now) }
     ensures room { IfOk result (λ bytes. length bytes.items ≤ log.new.spare) }
     ensures rooms { IfOk result (λ _. length posts.now ≤ state.new.spare) }

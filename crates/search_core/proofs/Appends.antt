@@ -7,13 +7,13 @@ use Rattle.std.specs.Option.{option_and_then}
 use Rattle.std.proofs.lemmas.List.{append-nil, append_assoc}
 use Rattle.shift_instance.specs.Problem.{Problem}
 use Rattle.post_codec.specs.declared.post.Post.{Post}
-use Rattle.post_codec.specs.Spelling.{CountsFitPost}
+use Rattle.post_codec.specs.Spelling.{CanSpellPost}
 use Rattle.search_core.specs.Book.{Book, step, book_after}
 use Rattle.search_core.specs.Drafting.{Makes}
 use Rattle.search_core.specs.State.{StateView, value_of}
 
 -- one post more
-pub makes_push : (i : Problem) (b : Book) (posts : List Post) (values : List ℕ) (c n : Book) (p : Post) (v : ℕ) → Makes i b posts values c → step i c p ≡ Some n → v ≡ value_of i c p → CountsFitPost p → Makes i b (posts ++ p ∷ []) (values ++ v ∷ []) n
+pub makes_push : (i : Problem) (b : Book) (posts : List Post) (values : List ℕ) (c n : Book) (p : Post) (v : ℕ) → Makes i b posts values c → step i c p ≡ Some n → v ≡ value_of i c p → CanSpellPost p → Makes i b (posts ++ p ∷ []) (values ++ v ∷ []) n
 makes_push i b [] [] c n p v m s e f =
     let here : step i b p ≡ Some n = subst (λ (x : Book). step i x p ≡ Some n) (sym m) s in
     let value : v ≡ value_of i b p = subst (λ (x : Book). v ≡ value_of i x p) (sym m) e in
@@ -30,13 +30,13 @@ makes_fold i b (x ∷ posts) [] c m = absurd m
 makes_fold i b (x ∷ posts) (y ∷ values) c m = ap (λ (o : Option Book). option_and_then (λ next. book_after i next posts) o) m.1 ∙ makes_fold i m.0 posts values c m.4
 
 -- posts that make a book have spellings
-fit_each : (i : Problem) (b : Book) (posts : List Post) (values : List ℕ) (c : Book) → Makes i b posts values c → AllByRecursion CountsFitPost posts
+fit_each : (i : Problem) (b : Book) (posts : List Post) (values : List ℕ) (c : Book) → Makes i b posts values c → AllByRecursion CanSpellPost posts
 fit_each i b [] [] c m = tt
 fit_each i b [] (y ∷ values) c m = absurd m
 fit_each i b (x ∷ posts) [] c m = absurd m
 fit_each i b (x ∷ posts) (y ∷ values) c m = (m.3, fit_each i m.0 posts values c m.4)
 
-pub makes_fit : (i : Problem) (b : Book) (posts : List Post) (values : List ℕ) (c : Book) → Makes i b posts values c → All CountsFitPost posts
+pub makes_fit : (i : Problem) (b : Book) (posts : List Post) (values : List ℕ) (c : Book) → Makes i b posts values c → All CanSpellPost posts
 makes_fit i b posts values c m = All-from_recursion _ posts (fit_each i b posts values c m)
 
 -- the number behind the first ones
@@ -84,7 +84,7 @@ pub record Next (i : Problem) (b : Book) (p : Post) (next : List Post) (rest : L
   pub made : Book
   pub step_is : step i b p ≡ Some made
   pub value_is : value ≡ value_of i b p
-  pub fit : CountsFitPost p
+  pub fit : CanSpellPost p
   pub last : Book
   pub more : Makes i made next values last
 

@@ -1,24 +1,23 @@
 -- Drafts with one post more.
-use Rattle.std.proofs.Common.{◌≡◌, ℕ, ◌<◌, ◌≤◌, ◌^◌, Bool, true, false, cond, ◌&&◌, ◌==◌, List, [], ◌∷◌, ◌++◌, length, refl, sym, ◌∙◌, ap, subst, arith, nat_lt, Option, None, Some}
-use Rattle.std.specs.Prelude.{IsTrue, max, nat_le}
-use Rattle.std.specs.List.{list_all}
+use Rattle.std.proofs.Common.{◌≡◌, ℕ, ◌<◌, ◌≤◌, ◌^◌, Bool, true, false, cond, List, [], ◌∷◌, ◌++◌, length, refl, sym, ◌∙◌, ap, subst, arith, nat_lt, Option, None, Some}
+use Rattle.std.specs.Prelude.{IsTrue, max}
 use Rattle.std.specs.Option.{option_map_or}
-use Rattle.std.proofs.lemmas.Bool.{and_parts, eqb-true}
 use Rattle.std.proofs.lemmas.List.{append-nil}
-use Rattle.shift_instance.specs.Problem.{Problem, slots}
+use Rattle.shift_instance.specs.Problem.{Problem}
 use Rattle.shift_instance.specs.Rota.{are_legal_rows}
 use Rattle.shift_instance.specs.Valid.{IsValid}
 use Rattle.rota_cost.specs.Costed.{Costing, IsCosted}
 use Rattle.head_splits.specs.declared.Class.{Class}
 use Rattle.head_splits.specs.declared.Cut.{Cut}
 use Rattle.head_splits.specs.declared.Prices.{Prices}
-use Rattle.head_splits.specs.Bound.{are_prices, bound_of, is_slot_price}
+use Rattle.head_splits.specs.Bound.{are_prices, bound_of}
 use Rattle.head_splits.specs.Cuts.{low, high}
 use Rattle.head_splits.specs.Nodes.{Node, settled_floor}
 use Rattle.head_splits.specs.Settled.{is_live_class, is_settled}
+use Rattle.head_splits.proofs.Priced.{priced}
 use Rattle.post_codec.specs.declared.post.Post.{Post}
 use Rattle.post_codec.specs.declared.post.Post.TheVariants.{Plan, Priced, Split, Settled}
-use Rattle.post_codec.specs.Spelling.{CountsFitPost, CountsFitPrices}
+use Rattle.post_codec.specs.Spelling.{CanSpellPost, CanSpellPrices}
 use Rattle.search_core.specs.Book.{Book, book_after, step}
 use Rattle.search_core.specs.State.{value_of}
 use Rattle.search_core.specs.Steps.{followed_by, plan_posts, where_open}
@@ -27,9 +26,10 @@ use Rattle.search_core.specs.Drafting.{best_with, floor_with, IsAfter, IsDraft, 
 use Rattle.search_core.proofs.Appends.{makes_fold, makes_push}
 use Rattle.search_core.proofs.Drafts.{plan_stage, plan_step, price_stage, price_step, price_value, settled_stage, settled_step, split_stage, split_step, then_is, where_is}
 use Rattle.search_core.proofs.Fits.{class_fits, rows_fit}
+use Rattle.search_core.proofs.Spelled.{prices_spell}
 
 module _ (i : Problem) (b : Book) (k : ℕ) (cuts : List Cut) (posts : List Post) (d new : Draft) (dr : IsDraft i b k cuts posts d false) where
-  push : (post : Post) (value : ℕ) (more : List Post) (s : Bool) (n : Book) → step i dr.state.after post ≡ Some n → value ≡ value_of i dr.state.after post → CountsFitPost post
+  push : (post : Post) (value : ℕ) (more : List Post) (s : Bool) (n : Book) → step i dr.state.after post ≡ Some n → value ≡ value_of i dr.state.after post → CanSpellPost post
       → new.posts.items ≡ d.posts.items ++ post ∷ [] → new.values.items ≡ d.values.items ++ value ∷ [] → more ≡ posts ++ post ∷ [] → IsAfter i b k cuts more new.best new.floor s → IsDraft i b k cuts more new s
   push post value more s n st v f items numbers is after =
       let made : book_after i b posts ≡ Some dr.made.0 = ap (book_after i b) (sym dr.posts_are) ∙ makes_fold i b d.posts.items d.values.items dr.made.0 dr.made.1 in
@@ -81,15 +81,11 @@ module _ (i : Problem) (b : Book) (k : ℕ) (cuts : List Cut) (posts : List Post
       stay (posts ++ []) false is refl
       (subst (λ (x : Draft). IsAfter i b k cuts (posts ++ []) x.best x.floor false) (sym is) (plan_stage i b k cuts posts d.best d.floor w None dr.state tt tt))
 
-  pub prices_fit : (prices : Prices) → IsValid i → IsTrue (are_prices i cuts prices) → length cuts < 2 ^ 32 → CountsFitPrices prices
+  pub prices_fit : (prices : Prices) → IsValid i → IsTrue (are_prices i cuts prices) → length cuts < 2 ^ 32 → CanSpellPrices prices
   prices_fit prices valid passes few =
-      let p = and_parts (nat_le 1 prices.q && nat_le prices.q 10000 && (length prices.slots == slots i) && list_all (is_slot_price i prices.q) prices.slots && (length prices.cuts == length cuts)) _ passes in
-      let q = and_parts (nat_le 1 prices.q && nat_le prices.q 10000 && (length prices.slots == slots i) && list_all (is_slot_price i prices.q) prices.slots) (length prices.cuts == length cuts) p.0 in
-      let r = and_parts (nat_le 1 prices.q && nat_le prices.q 10000 && (length prices.slots == slots i)) _ q.0 in
-      let t = and_parts (nat_le 1 prices.q && nat_le prices.q 10000) (length prices.slots == slots i) r.0 in
-      let many : length prices.slots ≡ slots i = eqb-true _ _ t.1 in
-      let cut : length prices.cuts ≡ length cuts = eqb-true _ _ q.1 in
-      (omega (arith, many, valid.few_slots), omega (arith, cut, few))
+      let p = priced i cuts prices passes in
+      let spell = prices_spell i cuts prices valid passes in
+      ((omega (arith, p.slot_count, valid.few_slots), spell.0), (omega (arith, p.cut_count, few), spell.1))
 
   pub drafts_prices : (w : ℕ) (prices : Prices) (bound : ℕ) → IsValid i → IsTrue (are_prices i cuts prices) → bound ≡ bound_of i cuts prices → length cuts < 2 ^ 32 → nat_lt d.floor d.best ≡ true
       → new.posts.items ≡ d.posts.items ++ Priced w k prices ∷ [] → new.values.items ≡ d.values.items ++ bound ∷ [] → new.best ≡ d.best → new.floor ≡ max d.floor bound

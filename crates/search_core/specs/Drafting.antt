@@ -6,7 +6,7 @@ use Rattle.head_splits.specs.declared.Cut.{Cut}
 use Rattle.head_splits.specs.Nodes.{Node}
 use Rattle.rota_cost.specs.Costed.{Costing}
 use Rattle.post_codec.specs.declared.post.Post.{Post}
-use Rattle.post_codec.specs.Spelling.{CountsFitPost}
+use Rattle.post_codec.specs.Spelling.{CanSpellPost}
 use Rattle.search_core.specs.declared.step_posts.StepPosts.{StepPosts}
 use Rattle.search_core.specs.Board.{floor_of_node, leaves_open}
 use Rattle.search_core.specs.Book.{Book, book_after, step}
@@ -19,7 +19,7 @@ abbrev pub Makes : Problem → Book → List Post → List ℕ → Book → Type
 Makes i b [] [] c = b ≡ c
 Makes i b [] (v ∷ values) c = ⊥
 Makes i b (p ∷ posts) [] c = ⊥
-Makes i b (p ∷ posts) (v ∷ values) c = (n : Book) × (step i b p ≡ Some n) × (v ≡ value_of i b p) × CountsFitPost p × Makes i n posts values c
+Makes i b (p ∷ posts) (v ∷ values) c = (n : Book) × (step i b p ≡ Some n) × (v ≡ value_of i b p) × CanSpellPost p × Makes i n posts values c
 
 -- a worker's step as it is drafted: its posts, with the numbers that go with them, the best cost after them, and the node's floor
 pub record Drafts (i : Problem) (b : Book) (w : ℕ) (step : StepPosts) (draft : Draft) : Type 0 where

@@ -8,7 +8,7 @@ use Rattle.shift_instance.specs.Problem.{Problem}
 use Rattle.search_core.specs.Board.{BoardView}
 use Rattle.search_core.specs.Calls.{full_hands, steps_enough, IsFresh}
 use Rattle.search_book.specs.declared.open_fault.OpenFault.{OpenFault}
-use Rattle.search_book.specs.declared.open_fault.OpenFault.TheVariants.{DiskFault as OpeningsDisk, NotAJournal, OtherInstance, Damaged, Rejected, NoMemory as OpeningsMemory}
+use Rattle.search_book.specs.declared.open_fault.OpenFault.TheVariants.{DiskFault as OpeningsDisk, NotAJournal, OtherInstance, Damaged, Rejected, NoMemory as OpeningsMemory, OldVersion}
 use Rattle.search_book.specs.Head.{KeepsHead}
 use Rattle.search_book.specs.Opened.{HoldsBook, OpenCause}
 use Rattle.search_book.specs.Search.{SearchView, board_of}
@@ -67,6 +67,8 @@ pub not_opened : (disk : DiskMet) (i : Problem) (workers : ℕ) (told : ToldMet)
     → IfSome disk.file (λ f. HoldsBook JOURNAL_MAX i f → (fault ≡ OpeningsDisk) ⊎ (fault ≡ OpeningsMemory)) → IsLeft disk i
     → HasNotSearched disk i workers told (end_unopened fault)
 not_opened disk i workers told OpeningsDisk untold keeps cause only left = (cause, left, untold)
+not_opened disk i workers told OldVersion untold keeps cause only left =
+    (record { refusal = tt; cause = cause; none = no_book disk.file i OldVersion tt only; same = keeps }, left, untold)
 not_opened disk i workers told NotAJournal untold keeps cause only left =
     (record { refusal = tt; cause = cause; none = no_book disk.file i NotAJournal tt only; same = keeps }, left, untold)
 not_opened disk i workers told (OtherInstance at) untold keeps cause only left =
@@ -145,6 +147,7 @@ search_of_all reads images images_since calls faults disk i budget served worker
 
 pub never_stopped : (fault : OpenFault) → end_unopened fault ≢ Stopped
 never_stopped OpeningsDisk e = absurd (cc (e))
+never_stopped OldVersion e = absurd (cc (e))
 never_stopped NotAJournal e = absurd (cc (e))
 never_stopped (OtherInstance at) e = absurd (cc (e))
 never_stopped (Damaged at) e = absurd (cc (e))

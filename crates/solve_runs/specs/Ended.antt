@@ -13,7 +13,7 @@ use Rattle.search_core.specs.Steps.{posts_of}
 use Rattle.search_core.specs.declared.step_posts.StepPosts.{StepPosts}
 use Rattle.post_codec.specs.declared.post.Post.{Post}
 use Rattle.search_book.specs.declared.open_fault.OpenFault.{OpenFault}
-use Rattle.search_book.specs.declared.open_fault.OpenFault.TheVariants.{DiskFault as OpeningsDisk, NotAJournal, OtherInstance, Damaged, Rejected, NoMemory as OpeningsMemory}
+use Rattle.search_book.specs.declared.open_fault.OpenFault.TheVariants.{DiskFault as OpeningsDisk, NotAJournal, OtherInstance, Damaged, Rejected, NoMemory as OpeningsMemory, OldVersion}
 use Rattle.search_book.specs.Opened.{HoldsBook, OpenCause}
 use Rattle.search_book.specs.Opening.{IsOldOrShort}
 use Rattle.worker_gate.specs.declared.run.RunEnd.{RunEnd}
@@ -86,6 +86,7 @@ IsLeft disk i = OnSome disk.file ((image : List ℕ) → disk.images_since disk.
 -- a refusal of a file: neither a fault of the disk nor running out of memory
 abbrev pub IsRefusal : OpenFault → Type 0
 IsRefusal OpeningsDisk = ⊥
+IsRefusal OldVersion = ⊤
 IsRefusal NotAJournal = ⊤
 IsRefusal (OtherInstance at) = ⊤
 IsRefusal (Damaged at) = ⊤

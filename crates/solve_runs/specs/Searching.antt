@@ -5,7 +5,7 @@ use Rattle.gated_journal.specs.Format.{fresh}
 use Rattle.shift_instance.specs.Problem.{Problem}
 use Rattle.instance_json.specs.Canonical.{canonical_text}
 use Rattle.search_book.specs.declared.open_fault.OpenFault.{OpenFault}
-use Rattle.search_book.specs.declared.open_fault.OpenFault.TheVariants.{DiskFault as OpeningsDisk, NotAJournal, OtherInstance, Damaged, Rejected, NoMemory as OpeningsMemory}
+use Rattle.search_book.specs.declared.open_fault.OpenFault.TheVariants.{DiskFault as OpeningsDisk, NotAJournal, OtherInstance, Damaged, Rejected, NoMemory as OpeningsMemory, OldVersion}
 use Rattle.search_book.specs.Search.{SearchView, board_of}
 use Rattle.worker_gate.specs.declared.run.RunEnd.{RunEnd}
 use Rattle.worker_gate.specs.declared.run.RunEnd.TheVariants.{Finished as FinishedEnd, Spent as SpentEnd, Full as FullEnd, DiskFault as DiskEnd, NoMemory as MemoryEnd, Stopped as StoppedEnd}
@@ -28,6 +28,7 @@ end_of StoppedEnd = Stopped
 -- how a search ends whose book isn't opened
 abbrev pub end_unopened : OpenFault → SearchEnd
 end_unopened OpeningsDisk = DiskFault
+end_unopened OldVersion = Refused OldVersion
 end_unopened NotAJournal = Refused NotAJournal
 end_unopened (OtherInstance at) = Refused (OtherInstance at)
 end_unopened (Damaged at) = Refused (Damaged at)

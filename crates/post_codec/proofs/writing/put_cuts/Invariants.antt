@@ -1,11 +1,8 @@
-use Rattle.std.proofs.Common.{◌≡◌, ◌<◌, ◌^◌, ◌++◌, length, take}
-use Rattle.std.specs.Prelude.{All}
+use Rattle.std.proofs.Common.{◌≡◌, ◌++◌, length, take}
 use Rattle.std.specs.List.{flat_map}
-use Rattle.post_codec.specs.Spelling.{u32_bytes, u64_bytes}
+use Rattle.post_codec.specs.declared.price_width.PriceWidth.TheVariants.{Five}
+use Rattle.post_codec.specs.Spelling.{u32_bytes, price_bytes}
 use Rattle.post_codec.proofs.writing.put_cuts.Given as goal
 
 abbrev pub invariant-loop-item : goal.invariant-loop-item
-invariant-loop-item l = record {
-  put : l.out.items ≡ l.fn.out.items ++ u32_bytes (length l.list) ++ flat_map u64_bytes (take l.item-index l.list);
-  fits : All (λ price. price < 2 ^ 64) (take l.item-index l.list);
-}
+invariant-loop-item l = l.out.items ≡ l.fn.out.items ++ u32_bytes (length l.list) ++ flat_map (price_bytes Five) (take l.item-index l.list)

@@ -1,12 +1,8 @@
 use Rattle.std.proofs.Common.{◌≡◌, ◌++◌, length, take}
-use Rattle.std.specs.Prelude.{All, FitsSigned}
-use Rattle.std.specs.Int.{w64}
 use Rattle.std.specs.List.{flat_map}
+use Rattle.post_codec.specs.declared.price_width.PriceWidth.TheVariants.{Five}
 use Rattle.post_codec.specs.Spelling.{u32_bytes, slot_bytes}
 use Rattle.post_codec.proofs.writing.put_slots.Given as goal
 
 abbrev pub invariant-loop-item : goal.invariant-loop-item
-invariant-loop-item l = record {
-  put : l.out.items ≡ l.fn.out.items ++ u32_bytes (length l.list) ++ flat_map slot_bytes (take l.item-index l.list);
-  fits : All (FitsSigned w64) (take l.item-index l.list);
-}
+invariant-loop-item l = l.out.items ≡ l.fn.out.items ++ u32_bytes (length l.list) ++ flat_map (slot_bytes Five) (take l.item-index l.list)

@@ -1,11 +1,12 @@
 use Rattle.std.proofs.Common.{arith, subst}
 use Rattle.std.proofs.lemmas.Grind.{common_steps}
 use Rattle.std.proofs.lemmas.List.Elements.{All-more}
+use Rattle.post_codec.specs.declared.price_width.PriceWidth.TheVariants.{Five}
 use Rattle.post_codec.specs.Spelling.{FitsPost}
 use Rattle.post_codec.proofs.writing.write.Goals as goal
 
 pub loop-item-preserved : goal.loop-item-preserved
 loop-item-preserved c = record {
   put = grind (arith, common_steps);
-  fits = All-more FitsPost c.args.posts.now c.loop-item.item-index c.item-item.result c.loop-item-test.true c.loop-item.invariant.fits (subst FitsPost c.item-item.is c.in_ok-put_post.ensures.fits);
+  fits = All-more (FitsPost Five) c.args.posts.now c.loop-item.item-index c.item-item.result c.loop-item-test.true c.loop-item.invariant.fits (subst (FitsPost Five) c.item-item.is c.in_ok-put_post.ensures.fits);
 }

@@ -5,29 +5,29 @@ use Rattle.recovery.proofs.rebuilding.fold_records.Goals as goal
 
 pub bounds-findings-at : goal.bounds-findings-at
 bounds-findings-at c =
-    let b = folding_found c.args.instance.now c.args.records.now c.args.tree.now c.args.outcomes.items _ _ _ c.loop-outcome.at c.loop-outcome.state c.in-Some.outcome c.args.findings.now c.requires.found c.loop-outcome.invariant c.in-Some.ensures.steps.0 in
+    let b = folding_found c.args.width c.args.instance.now c.args.records.now c.args.tree.now c.args.outcomes.items _ _ _ c.loop-outcome.at c.loop-outcome.state c.in-Some.outcome c.args.findings.now c.requires.found c.loop-outcome.invariant c.in-Some.ensures.steps.0 in
     slice_get_within c.args.findings.now c.loop-outcome.at b.0 b.1
 
 pub add_record-requires-clause-tree : goal.add_record-requires-clause-tree
 add_record-requires-clause-tree c =
-    tree_here c.args.tree.now c.loop-outcome.state.history c.in-Some.outcome
-    (folding_tree c.args.instance.now c.args.records.now c.args.tree.now c.args.outcomes.items _ _ _ c.loop-outcome.at c.loop-outcome.state c.in-Some.outcome c.requires.tree c.loop-outcome.invariant c.in-Some.ensures.steps.0)
+    tree_here c.args.width c.args.tree.now c.loop-outcome.state.history c.in-Some.outcome
+    (folding_tree c.args.width c.args.instance.now c.args.records.now c.args.tree.now c.args.outcomes.items _ _ _ c.loop-outcome.at c.loop-outcome.state c.in-Some.outcome c.requires.tree c.loop-outcome.invariant c.in-Some.ensures.steps.0)
 
 pub add_record-requires-clause-found : goal.add_record-requires-clause-found
 add_record-requires-clause-found c =
-    found_here c.args.instance.now c.args.tree.now c.in-Some.outcome c.args.findings.now c.loop-outcome.at c.index-findings-at.result c.deref.result.now
-    (folding_found c.args.instance.now c.args.records.now c.args.tree.now c.args.outcomes.items _ _ _ c.loop-outcome.at c.loop-outcome.state c.in-Some.outcome c.args.findings.now c.requires.found c.loop-outcome.invariant c.in-Some.ensures.steps.0)
+    found_here c.args.width c.args.instance.now c.args.tree.now c.in-Some.outcome c.args.findings.now c.loop-outcome.at c.index-findings-at.result c.deref.result.now
+    (folding_found c.args.width c.args.instance.now c.args.records.now c.args.tree.now c.args.outcomes.items _ _ _ c.loop-outcome.at c.loop-outcome.state c.in-Some.outcome c.args.findings.now c.requires.found c.loop-outcome.invariant c.in-Some.ensures.steps.0)
     c.index-findings-at.is c.deref.ensures.value
 
 pub returns-in-Err-clause-refused : goal.returns-in-Err-clause-refused
 returns-in-Err-clause-refused c =
     rw (c.fault_at.ensures)
-    (folding_stops c.args.instance.now c.args.records.now c.args.outcomes.items _ _ _ c.loop-outcome.at c.loop-outcome.state c.in-Some.outcome c.in-Err.why c.requires.reads c.loop-outcome.invariant c.in-Some.ensures.steps.0 c.in-Err.ensures.err)
+    (folding_stops c.args.width c.args.instance.now c.args.records.now c.args.outcomes.items _ _ _ c.loop-outcome.at c.loop-outcome.state c.in-Some.outcome c.in-Err.why c.requires.reads c.loop-outcome.invariant c.in-Some.ensures.steps.0 (c.in-Err.ensures.err c.args.width))
 
 pub loop-outcome-preserved : goal.loop-outcome-preserved
-loop-outcome-preserved c = folding_more _ _ _ _ _ _ _ _ _ c.in-Some.outcome c.requires.reads c.loop-outcome.invariant c.in-Some.ensures.steps.0 c.in_default.ensures.ok
+loop-outcome-preserved c = folding_more c.args.width _ _ _ _ _ _ _ _ _ c.in-Some.outcome c.requires.reads c.loop-outcome.invariant c.in-Some.ensures.steps.0 c.in_default.ensures.ok
 
 pub returns-clause-history : goal.returns-clause-history
 returns-clause-history c =
     let none : length c.loop-outcome.outcome-iterator.rest.items ≡ 0 = omega (arith, c.loop-outcome.outcome-iterator.rest.ok, c.in-None.ensures.steps) in
-    (folding_done c.args.instance.now c.args.records.now c.args.outcomes.items c.loop-outcome.yielded c.loop-outcome.outcome-iterator.rest.items c.loop-outcome.at c.loop-outcome.state c.requires.reads c.loop-outcome.invariant none).made
+    (folding_done c.args.width c.args.instance.now c.args.records.now c.args.outcomes.items c.loop-outcome.yielded c.loop-outcome.outcome-iterator.rest.items c.loop-outcome.at c.loop-outcome.state c.requires.reads c.loop-outcome.invariant none).made

@@ -3,7 +3,7 @@ use Rattle.std.specs.Prelude.{All}
 use Rattle.plan_base.specs.Causes.{Rose}
 use Rattle.gated_journal.specs.declared.fault.JournalFault.TheVariants.{DiskFault as DiskFails, Full as IsFull}
 use Rattle.post_codec.specs.declared.post.Post.{Post}
-use Rattle.post_codec.specs.Spelling.{CountsFitPost, Spells}
+use Rattle.post_codec.specs.Spelling.{CanSpellPost, Spells}
 use Rattle.search_core.specs.Board.{bytes_of}
 use Rattle.search_core.specs.Book.{book_after}
 use Rattle.search_core.specs.Drafting.{Makes}
@@ -20,7 +20,7 @@ use Rattle.search_book.proofs.post_log.PostLog.commit.Goals as goal
 pub record_of-requires-clause-fit : goal.record_of-requires-clause-fit
 record_of-requires-clause-fit g c =
     let old = c.args.self.now in
-    subst (All CountsFitPost) (sym c.deref.ensures.value) (makes_fit old.instance old.book c.args.posts.items c.args.values.now c.requires.makes.0 c.requires.makes.1)
+    subst (All CanSpellPost) (sym c.deref.ensures.value) (makes_fit old.instance old.book c.args.posts.items c.args.values.now c.requires.makes.0 c.requires.makes.1)
 
 pub add-requires-clause-running : goal.add-requires-clause-running
 add-requires-clause-running g c =

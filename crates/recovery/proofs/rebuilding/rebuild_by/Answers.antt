@@ -2,10 +2,10 @@ use Rattle.std.proofs.Common.{ℕ, List, Vec, Global, Option, map, subst, sym}
 use Rattle.recovery.specs.Findings.{AreFoundIn}
 use Rattle.recovery.specs.Reads.{posts_in, AreAllFound, IsReadOf, Outcome}
 use Rattle.recovery.proofs.Folds.{none_rejected, zip_of}
-use Rattle.recovery.proofs.rebuilding.rebuild.Goals as goal
+use Rattle.recovery.proofs.rebuilding.rebuild_by.Goals as goal
 
 pub fold_records-requires-clause-reads : goal.fold_records-requires-clause-reads
-fold_records-requires-clause-reads g c = zip_of (λ (r : Vec ℕ Global) (o : Outcome). IsReadOf r.items o) _ _ c.in_ok-outcomes.ensures.count c.in_ok-outcomes.ensures.given
+fold_records-requires-clause-reads g c = zip_of (λ (r : Vec ℕ Global) (o : Outcome). IsReadOf c.args.width r.items o) _ _ c.in_ok-outcomes.ensures.count c.in_ok-outcomes.ensures.given
 
 pub fold_records-requires-clause-found : goal.fold_records-requires-clause-found
 fold_records-requires-clause-found g c =
@@ -17,4 +17,4 @@ fold_records-requires-clause-found g c =
     (subst (λ (l : List (Vec (Option ℕ) Global)). AreAllFound i nodes c.deref-2.result.now l) (sym c.deref-3.ensures.value) found)
 
 pub returns-clause-only : goal.returns-clause-only
-returns-clause-only g c = none_rejected c.args.instance.now (map (λ (r : Vec ℕ Global). r.items) c.args.records.now) c.fold_records.result c.fold_records.ensures.refused
+returns-clause-only g c = none_rejected c.args.width c.args.instance.now (map (λ (r : Vec ℕ Global). r.items) c.args.records.now) c.fold_records.result c.fold_records.ensures.refused
