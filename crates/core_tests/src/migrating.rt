@@ -33,10 +33,14 @@ fn a_record_of_the_first_version_is_spelled_anew(rt: HostRuntime) -> Result<(), 
     let instance = morning(alloc)?;
     let mut old = Vec::new(alloc);
     old.push(record(alloc, 8)?)?;
-    let new = migrate_records(&rt, alloc, &instance, &old, 2).ok().ok_or("they aren't taken")?;
+    let new = migrate_records(&rt, alloc, &instance, &old, 2)
+        .ok()
+        .ok_or("they aren't taken")?;
     assert_eq!(rt; new.len(), 1);
     assert_eq!(rt; new[0].as_slice(), record(alloc, 5)?.as_slice());
-    let state = rebuild(&rt, alloc, &instance, &new, 2).ok().ok_or("they aren't taken")?;
+    let state = rebuild(&rt, alloc, &instance, &new, 2)
+        .ok()
+        .ok_or("they aren't taken")?;
     assert_eq!(rt; state.history().len(), 2);
     Ok(())
 }

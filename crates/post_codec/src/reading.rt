@@ -217,11 +217,7 @@ fn slot_list(
 
 /// The prices of slots, and the bytes after them.
 #[tactic(auto, unfolding(crate::specs::Reading::slots_at))]
-fn slots_of(
-    alloc: Global,
-    width: PriceWidth,
-    bytes: &[u8],
-) -> Result<(SlotPrices, &[u8]), Stop>
+fn slots_of(alloc: Global, width: PriceWidth, bytes: &[u8]) -> Result<(SlotPrices, &[u8]), Stop>
     ensures { Gives (λ x. (x.0, x.1.now)) result (slots_at width bytes.now) }
 {
     let (count, rest) = u32_of(bytes)?;

@@ -118,11 +118,7 @@ fn twos_complement(price: i64) -> u64
     requires { FitsSlot Five price }
     ensures { result ≡ twos_complement Five price }
 {
-    let number = if price < 0 {
-        price + (1 << 40)
-    } else {
-        price
-    };
+    let number = if price < 0 { price + (1 << 40) } else { price };
     number as u64
 }
 
