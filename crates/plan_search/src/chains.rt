@@ -28,7 +28,7 @@ enum Start {
 /// Each so manieth chain begins anew.
 const ANEW: u32 = 8;
 
-/// An eighth of what a chain takes for each of its moves where there is one shift to choose from and seven days differ.
+/// What a chain takes for each of its moves where there is one shift to choose from, for each kind of days and once more.
 const MOVE: f64 = 29.0;
 
 /// The work of a leg after which its chains are twice as long as at first.

@@ -7,7 +7,7 @@ use std::alloc::Global;
 use working_plan::Placed;
 
 /// The least work in which a leg need find no cheaper plan at first, for each kind of days.
-const PATIENCE: u64 = 5_000_000;
+const PATIENCE: u64 = 7_000_000;
 
 /// A leg: its best plan, and when it was found.
 #[derive(Drop)]
