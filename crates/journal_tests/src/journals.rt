@@ -1,9 +1,9 @@
 //! A journal on a disk in memory, which is put on and opened again.
-ghost use Rattle.std.specs.Prelude.{◌≡◌, IfOk};
+ghost use Rattle.std.specs.Prelude.{◌≡◌, [], ◌∷◌, map, IfOk};
 
 use gated_journal::{Journal, JournalFault, install};
 use plan_base::{Disk, MemDisk};
-use std::alloc::Global;
+use std::alloc::{AllocError, Global};
 use std::test::Fail;
 
 // The head 7 8 9 and the record 4 5.
@@ -50,9 +50,18 @@ fn a_record_is_put_and_found_again(rt: HostRuntime) -> Result<(), Fail> {
     Ok(())
 }
 
+/// The records of that journal.
+fn records_of(alloc: Global) -> Result<Vec<Vec<u8>>, AllocError>
+    ensures { IfOk result (λ records. map (λ r. r.items) records.items ≡ (4 ∷ 5 ∷ []) ∷ []) }
+{
+    let mut records = Vec::new(alloc);
+    records.push(Vec::from_slice(alloc, &[4, 5])?)?;
+    Ok(records)
+}
+
 /// An empty disk whose call of this number fails, after the journal was written to it or that failed; and whether it was.
 fn installed(alloc: Global, call: u64) -> Result<(MemDisk, bool), Fail> {
-    let records = vec![in alloc; Vec::from_slice(alloc, &[4, 5])?; 1]?;
+    let records = records_of(alloc)?;
     let fails = vec![in alloc; call; 1]?;
     let mut disk = MemDisk::new(alloc, Vec::new(alloc), fails);
     match install(alloc, &mut disk, &[7, 8, 9], &records, 23) {
@@ -67,9 +76,9 @@ fn is_whole(alloc: Global, mut disk: MemDisk) -> Result<bool, Fail>
     requires { ⟦<MemDisk as Disk>⟧.calls disk ≡ 0 }
 {
     match Journal::open(alloc, &mut disk, 23) {
-        Ok((_, head, records)) if head.len() == 3 && records.len() == 1 => Ok(true),
+        Ok((_journal, _head, records)) => Ok(records.len() == 1),
         Err(JournalFault::NotAJournal) => Ok(false),
-        _ => Err("it opens to another journal, or is another fault")?,
+        Err(_fault) => Err("it is refused for another fault")?,
     }
 }
 
