@@ -1,5 +1,5 @@
 -- Records that make a book by the former spelling have a spelling with prices of five bytes, which makes the same book.
-use Rattle.std.proofs.Common.{◌≡◌, ℕ, ◌<◌, max, not, List, [], ◌∷◌, ◌++◌, length, map, take, get_or, ◌+◌, Some, refl, sym, ap, subst, ◌∙◌, ◌&&◌, Vec, Global}
+use Rattle.std.proofs.Common.{◌≡◌, ℕ, ◌<◌, max, not, List, [], ◌∷◌, ◌++◌, length, map, take, get_or, ◌+◌, Some, sym, ap, subst, ◌∙◌, ◌&&◌, Vec, Global}
 use Rattle.std.specs.Prelude.{All}
 use Rattle.std.specs.List.{AllZip, AllByRecursion}
 use Rattle.std.proofs.lemmas.Bool.{and_parts}
@@ -13,7 +13,7 @@ use Rattle.head_splits.specs.Nodes.{with_floor}
 use Rattle.post_codec.specs.declared.price_width.PriceWidth.TheVariants.{Five, Eight}
 use Rattle.post_codec.specs.declared.post.Post.{Post}
 use Rattle.post_codec.specs.declared.post.Post.TheVariants.{Plan, Priced, Split, Settled}
-use Rattle.post_codec.specs.Batches.{joined, SpellPosts, SpellPostsBy}
+use Rattle.post_codec.specs.Batches.{joined}
 use Rattle.post_codec.specs.Spelling.{CanSpellPost, CountsFitRow, FitsPost, FitsRow, Spells, SpellsBy}
 use Rattle.post_codec.proofs.Formats.{one_list_by}
 use Rattle.search_core.specs.Book.{Book, book_after, book_of, opening, priced, step}

@@ -1,5 +1,5 @@
 -- The hands of workers over a book.
-use Rattle.std.proofs.Common.{◌≡◌, ◌≢◌, ◌⊎◌, inl, inr, ℕ, ◌<◌, ◌≤◌, ◌^◌, Bool, true, false, ◌&&◌, not, List, [], ◌∷◌, length, map, set, refl, ap, ◌∙◌, subst, arith, nat_le, nat_lt, Option, Some, None, ◌||◌, sym}
+use Rattle.std.proofs.Common.{◌≡◌, inl, inr, ℕ, ◌<◌, ◌≤◌, ◌^◌, Bool, true, false, ◌&&◌, not, List, [], ◌∷◌, length, map, set, refl, ap, ◌∙◌, subst, arith, nat_le, nat_lt, Option, Some, None, ◌||◌, sym}
 use Rattle.std.specs.Prelude.{Err, IfOk, IsSomeAnd, Ok, Result, slice_get}
 use Rattle.std.specs.Option.{option_map_or}
 use Rattle.std.specs.List.{list_all, list_any}

@@ -1,5 +1,5 @@
 -- What an opening finds, and why it finds nothing.
-use Rattle.std.proofs.Common.{◌≡◌, ◌≢◌, ◌⊎◌, inl, inr, ℕ, ◌<◌, ◌≤◌, ◌^◌, List, [], ◌∷◌, refl, ◌∙◌}
+use Rattle.std.proofs.Common.{◌≡◌, ◌⊎◌, inl, inr, ℕ, List, [], ◌∷◌, refl}
 use Rattle.std.specs.Prelude.{Option, None, Some, IfSome}
 use Rattle.plan_base.specs.Disk.{TellsAlike}
 use Rattle.gated_journal.specs.Format.{fresh}

@@ -1,5 +1,5 @@
 -- The book of a search is a sound board.
-use Rattle.std.specs.Prelude.{◌≡◌, ℕ, Bool, List, Option}
+use Rattle.std.specs.Prelude.{ℕ, Bool, List, Option}
 use Rattle.std.proofs.Common.{sym}
 use Rattle.search_core.specs.Board.{IsSoundBoard}
 use Rattle.post_codec.specs.Batches.{joined}

@@ -1,5 +1,5 @@
 -- What an opening finds on a disk, and what a refusal leaves there.
-use Rattle.std.specs.Prelude.{◌≡◌, ◌≢◌, ◌⊎◌, ℕ, ◌≤◌, List, [], length, Option, None, Some, ⊤}
+use Rattle.std.specs.Prelude.{◌≡◌, ◌≢◌, ◌⊎◌, ℕ, ◌≤◌, List, [], length, Option, None, Some}
 use Rattle.gated_journal.specs.Format.{StandsFor, fresh}
 use Rattle.instance_json.specs.Canonical.{canonical_text}
 use Rattle.post_codec.specs.declared.post.Post.{Post}
