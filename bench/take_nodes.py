@@ -24,8 +24,6 @@ DOCUMENT = ('{"slot_minutes":60,"days":1,"need":[' + ",".join("1" * 24) + '],"ma
 PROGRAM = """//! Opens the book of a journal and takes a node for each of sixteen workers: `take_nodes JOURNAL`.
 #![tactic(auto)]
 
-ghost use Rattle.std.specs.Prelude.{◌≡◌};
-
 use break_rules::NoMemory;
 use instance_json::laws::canonical_text_is_short;
 use instance_json::read;
@@ -36,6 +34,7 @@ use shift_instance::Instance;
 use std::alloc::Global;
 use std::env;
 use std::process::ExitCode;
+use std::thread::Threads;
 use std::time::Instant;
 
 /// The most bytes of a journal.
@@ -58,10 +57,18 @@ fn first_word(rt: &HostRuntime) -> Result<String, NoMemory> {
 }
 
 /// The book of the journal in a file.
-fn opened(rt: HostRuntime, instance: &Instance, path: String) -> Option<Book<FileDisk<HostRuntime>>> {
+fn opened<R: Threads + Sync>(
+    host: HostRuntime,
+    rt: &R,
+    instance: &Instance,
+    path: String,
+) -> Option<Book<FileDisk<HostRuntime>>> {
     canonical_text_is_short(instance);
-    let disk = FileDisk::new(rt, path);
-    Book::open(&rt, rt.alloc(), instance, disk, 1000, LIMIT, 1).ok()
+    let disk = FileDisk::new(host, path);
+    match Book::open(rt, host.alloc(), instance, disk, 1000, LIMIT, 1) {
+        Ok(book) => Some(book),
+        Err(_) => None,
+    }
 }
 
 /// Takes a node for a worker, and tells how many nanoseconds that took.
@@ -85,7 +92,7 @@ fn main(rt: HostRuntime) -> ExitCode {
     let Ok(instance) = read(rt.alloc(), DOCUMENT.as_bytes()) else {
         return ExitCode::from(3);
     };
-    let Some(mut book) = opened(rt, &instance, path) else {
+    let Some(mut book) = opened(rt, &rt, &instance, path) else {
         return ExitCode::from(4);
     };
     for worker in 0..WORKERS_MAX {
