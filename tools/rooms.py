@@ -1,5 +1,5 @@
 """What `run` and `audit` share: the crates of this repository, and copies of them in which checks run side by side."""
-import glob, hashlib, os, shutil, signal, subprocess, sys, tempfile
+import glob, hashlib, os, shutil, signal, subprocess, sys, tempfile, time
 
 TOP = os.path.dirname(os.path.dirname(os.path.realpath(__file__)))
 PROCESSORS = len(os.sched_getaffinity(0))
@@ -158,3 +158,38 @@ def chains(used, names):
         return length[name]
 
     return {name: of(name) for name in names}
+
+
+def prove(used, names):
+    """Proves these crates, side by side where none stands on the other, longest chain first, and tells each that is done. Returns
+    whether all went well."""
+    say(f"proving {len(names)} crates on {PROCESSORS} processors, which may take more than half an hour the first time:")
+    chain, left, running, done, free = chains(used, names), set(names), {}, set(), PROCESSORS
+    try:
+        while left or running:
+            ready = sorted((it for it in left if done.issuperset(used[it])), key=lambda it: -chain[it])
+            while ready and free:
+                name = ready.pop(0)
+                # a share of the processors by the length of its chain, among those that are ready
+                jobs = max(1, round(free * chain[name] / sum(chain[it] for it in [name, *ready[: free - 1]])))
+                left.remove(name)
+                room = Room(used, name)
+                running[name] = Step(["rt", "check", "--jobs", str(jobs)], room.folder(name)), room, jobs
+                free -= jobs
+            name = next((it for it, (step, _, _) in running.items() if step.is_done()), None)
+            if name is None:
+                time.sleep(0.1)
+                continue
+            step, room, jobs = running.pop(name)
+            room.close()
+            free += jobs
+            if not step.is_proved():
+                say(step.text().replace(room.top, TOP)[-4000:] + f"{name} is not proved")
+                return False
+            done.add(name)
+            say(f"  {name} is done, {len(left) + len(running)} left")
+        return True
+    finally:
+        for step, room, _ in running.values():
+            step.end()
+            room.close()
