@@ -1,6 +1,5 @@
-use Rattle.std.proofs.Common.{rules, arith, ap, ◌∙◌}
-use Rattle.crossbeam_utils.specs.Seq.{cell_view}
-use Rattle.best_cell.specs.Told.{Follows, last_of}
+use Rattle.std.proofs.Common.{rules, arith, ap}
+use Rattle.best_cell.specs.Told.{last_of}
 use Rattle.best_cell.proofs.Moves.{reads_as, later_as, longer}
 use Rattle.best_cell.proofs.cell.Reader.read.Goals as goal
 

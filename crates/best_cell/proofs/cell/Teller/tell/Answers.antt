@@ -1,4 +1,4 @@
-use Rattle.std.proofs.Common.{rules, ◌≡◌, ◌++◌, ◌≢◌, [], ◌∷◌, ap, sym, ◌∙◌, subst}
+use Rattle.std.proofs.Common.{rules, ◌≢◌, [], ◌∷◌, ap, sym, ◌∙◌, subst}
 use Rattle.crossbeam_utils.specs.Seq.{cell_view}
 use Rattle.best_cell.specs.Told.{last_of, Follows, IsOrderly}
 use Rattle.best_cell.specs.Telling.{teller}

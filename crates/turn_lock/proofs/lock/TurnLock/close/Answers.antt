@@ -1,4 +1,4 @@
-use Rattle.std.proofs.Common.{arith, ◌∷◌, ◌++◌, ap, sym, ◌∙◌}
+use Rattle.std.proofs.Common.{arith, ◌++◌, ap, sym, ◌∙◌}
 use Rattle.std.specs.Prelude.{option_to_list}
 use Rattle.turn_lock.specs.Turning.{first_of}
 use Rattle.turn_lock.proofs.Closing.{closed_all, never_empty, nothing_left}
