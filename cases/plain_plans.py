@@ -257,7 +257,7 @@ def journal_of_the_first_version(folder):
     path, content = folder.path / "week.journal", b"SHIFTJ1\n" + bytes(5)
     path.write_bytes(content)
     run = folder.plan("--seconds", "1")
-    told = "the journal is one of the first version", "shift_migrate 'week.journal' 'week.journal.new'"
+    told = "the journal is one of the first version", "or begin this one anew"
     return ends(run, 9, *told) + ([] if path.read_bytes() == content else ["the journal was changed"])
 
 

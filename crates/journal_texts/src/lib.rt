@@ -17,10 +17,6 @@ use std::alloc::{AllocError, Global};
 const ANEW: &str =
     "; name another journal, or begin this one anew: the old file is kept under another name then";
 
-/// What to do about a journal of the first version.
-const MIGRATE: &str =
-    "; type `shift_migrate OLD NEW`, with this file for OLD and a file that isn't there yet for NEW, and go on with NEW, which keeps all that was found";
-
 /// What is wrong with a post that isn't allowed.
 fn why_not_allowed(fault: &StepFault) -> &'static str {
     match fault {
@@ -86,7 +82,7 @@ fn what_is_wrong(alloc: Global, fault: &OpenFault) -> Result<String, AllocError>
         OpenFault::OldVersion => {
             String::from_str(
                 alloc,
-                "the journal is one of the first version, which earlier programs wrote; it was left as it is",
+                "the journal is one of the first version, which earlier programs wrote and this one doesn't go on with; it was left as it is",
             )
         }
     }
@@ -96,7 +92,6 @@ fn what_is_wrong(alloc: Global, fault: &OpenFault) -> Result<String, AllocError>
 fn what_to_do(fault: &OpenFault) -> &'static str {
     match fault {
         OpenFault::DiskFault | OpenFault::NoMemory => "",
-        OpenFault::OldVersion => MIGRATE,
         _ => ANEW,
     }
 }

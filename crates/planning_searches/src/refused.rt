@@ -36,13 +36,6 @@ fn tell_torn(rt: HostRuntime, journal: &str, canonical: &[u8]) -> Result<(), Ref
     Ok(())
 }
 
-/// Says which line makes a journal that goes on of one of the first version.
-fn tell_old(rt: HostRuntime, journal: &str) {
-    let _ = eprintln!(rt;
-        "shift_plan: note that this line makes a journal that goes on: shift_migrate '{journal}' '{journal}.new'; then go on with --journal '{journal}.new'"
-    );
-}
-
 /// Says what a planner should know of a journal that is refused for this.
 fn tell_fault(
     rt: HostRuntime,
@@ -53,10 +46,6 @@ fn tell_fault(
     match fault {
         OpenFault::OtherInstance { at } => tell_difference(rt, journal, canonical, *at),
         OpenFault::NotAJournal | OpenFault::Damaged { .. } => tell_torn(rt, journal, canonical),
-        OpenFault::OldVersion => {
-            tell_old(rt, journal);
-            Ok(())
-        }
         _ => Ok(()),
     }
 }
