@@ -4,6 +4,8 @@
 
 pub mod fixtures;
 #[cfg(test)]
+mod newest;
+#[cfg(test)]
 mod side_by_side;
 #[cfg(test)]
 mod stopping;
