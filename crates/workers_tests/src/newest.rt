@@ -155,12 +155,7 @@ fn two_seats(alloc: Global, signals: &Arc<Signals>) -> Result<Vec<Seat>, Fail>
 /// used up their turns.
 fn ask_late<R: Threads + Wait + Sync>(rt: &R, alloc: Global) -> Result<(RunEnd, u64, u64), Fail> {
     let instance = morning(alloc, "2")?;
-    let bytes = parted(
-        rt,
-        alloc,
-        &instance,
-        Box::new(alloc, priceless(alloc))?,
-    )?;
+    let bytes = parted(rt, alloc, &instance, Box::new(alloc, priceless(alloc))?)?;
     let signals = Arc::new(alloc, Signals::new())?;
     let seats = two_seats(alloc, &signals)?;
     let end = run_two(rt, alloc, &instance, bytes, seats, &*signals)?;

@@ -50,12 +50,7 @@ fn two_seats(alloc: Global) -> Result<Vec<Seat>, Fail>
 /// How a run ends of two workers who go on from the first step, how many entered the gate, and how many missed each other there.
 fn meet<R: Threads + Wait + Sync>(rt: &R, alloc: Global) -> Result<(RunEnd, u64, u64), Fail> {
     let instance = morning(alloc, "2")?;
-    let bytes = parted(
-        rt,
-        alloc,
-        &instance,
-        Box::new(alloc, Greedy::new(alloc))?,
-    )?;
+    let bytes = parted(rt, alloc, &instance, Box::new(alloc, Greedy::new(alloc))?)?;
     let gate = Meeting {
         entered: AtomicU64::new(0),
         missed: AtomicU64::new(0),
