@@ -91,7 +91,13 @@ fn run(rt: HostRuntime, words: &[String]) -> Result<GraftStatus, AllocError> {
     let mut bundle = FileSource::new(rt, String::from_str(alloc, files.report)?);
     let mut out = StdSink::new(rt);
     Ok(graft_top_by(
-        alloc, words, &mut document, &mut bundle, &mut out, &mut thorough, &stop,
+        alloc,
+        words,
+        &mut document,
+        &mut bundle,
+        &mut out,
+        &mut thorough,
+        &stop,
     ))
 }
 

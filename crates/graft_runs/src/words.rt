@@ -133,8 +133,7 @@ pub fn request_of(words: &[String]) -> Option<Request<'_>>
             below(node.as_str(), steps.as_str())?,
         ),
         [name, instance, report, node, steps, last]
-            if name.as_str() == "below" && last.as_str() == "--thorough" =>
-        {
+            if name.as_str() == "below" && last.as_str() == "--thorough" => {
             request_with(
                 instance.as_str(),
                 report.as_str(),
@@ -144,8 +143,7 @@ pub fn request_of(words: &[String]) -> Option<Request<'_>>
         [name, instance, report, node, flag, seconds, last]
             if name.as_str() == "below"
                 && flag.as_str() == "--seconds"
-                && last.as_str() == "--thorough" =>
-        {
+                && last.as_str() == "--thorough" => {
             request_with(
                 instance.as_str(),
                 report.as_str(),

@@ -41,11 +41,7 @@ fn the_second_part_of_a_split_is_exported(rt: HostRuntime) -> Result<(), Fail> {
 }
 
 /// The sides and numbers of the cuts that pin the rows of a report, which are legal.
-fn pinned(
-    alloc: Global,
-    instance: &Instance,
-    whole: &Cert,
-) -> Result<Vec<(Side, u16)>, Fail> {
+fn pinned(alloc: Global, instance: &Instance, whole: &Cert) -> Result<Vec<(Side, u16)>, Fail> {
     match &whole.plan {
         Some((_, rows)) if legal_rows(instance, rows).is_ok() => {
             numbers(alloc, &pins(alloc, instance, rows)?)

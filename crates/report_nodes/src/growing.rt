@@ -16,12 +16,7 @@ use shift_instance::Instance;
 use std::alloc::{AllocError, Global};
 
 /// The nodes after one of them is split by the number of a class's duties.
-fn divided(
-    nodes: Vec<TreeNode>,
-    k: usize,
-    class: Class,
-    m: u16,
-) -> Result<Vec<TreeNode>, NoMemory>
+fn divided(nodes: Vec<TreeNode>, k: usize, class: Class, m: u16) -> Result<Vec<TreeNode>, NoMemory>
     requires there { k < length nodes.items }
     requires small { m ≤ 200 }
     ensures { IfOk result (λ next. IsSomeAnd (slice_get nodes.items k) (λ n. next.items ≡ with_split nodes.items k n class m)) }
