@@ -1,0 +1,64 @@
+-- What is carried over from an old file, and why it isn't.
+use Rattle.std.proofs.Common.{◌≡◌, ◌⊎◌, inl, inr, ℕ, ◌+◌, ◌<◌, ◌≤◌, ◌^◌, List, length, refl, sym, ◌∙◌, ap, subst, arith}
+use Rattle.std.specs.Prelude.{Option, None, Some, IfSome, Ok, Err}
+use Rattle.instance_json.specs.Canonical.{canonical_text}
+use Rattle.instance_json.specs.Reading.{reading_of, IsAnswer}
+use Rattle.instance_json.specs.declared.ReadRefusal.{ReadRefusal}
+use Rattle.instance_json.specs.declared.ReadRefusal.TheVariants.{TooLong, NotJson, Missing, UnknownField, WrongKind, Invalid, NoMemory as ReadsMemory}
+use Rattle.instance_json.proofs.Restored.{canonical_read}
+use Rattle.shift_instance.specs.Problem.{Problem}
+use Rattle.post_codec.specs.declared.post.Post.{Post}
+use Rattle.gated_journal.specs.declared.TheConstants.{JOURNAL_MAX}
+use Rattle.gated_journal.specs.declared.fault.JournalFault.{JournalFault}
+use Rattle.gated_journal.specs.declared.fault.JournalFault.TheVariants.{DiskFault as JournalsDisk, NoMemory as JournalsMemory, NotAJournal as NoJournal, Damaged as IsDamaged, Full, OldVersion}
+use Rattle.gated_journal.specs.Faults.{OpenV1Fails}
+use Rattle.gated_journal.specs.Format.{StoodFor}
+use Rattle.gated_journal.proofs.Once.{stands_once_in, stands_journal_in, stands_whole_in}
+use Rattle.migrate_runs.specs.Migrate.{ended_by, IsInstance, OldBook, OldFails}
+use Rattle.migrate_runs.specs.declared.status.MigrateStatus.{MigrateStatus}
+use Rattle.migrate_runs.specs.declared.status.MigrateStatus.TheVariants.{NoMemory, DiskFault}
+
+-- a file that isn't opened is refused for its cause
+pub unopened : (reads : Option (List ℕ)) (before now : ℕ) (fault : JournalFault) → OpenV1Fails JOURNAL_MAX reads before now fault → OldFails reads before now (ended_by fault)
+unopened reads before now JournalsDisk fails = fails
+unopened reads before now JournalsMemory fails = tt
+unopened reads before now (IsDamaged at) fails = fails
+unopened reads before now NoJournal fails = fails
+unopened reads before now OldVersion fails = absurd fails
+unopened reads before now (Full end limit) fails = absurd fails
+
+-- and one that stands for posts is opened, but for faults and want of memory
+pub opens : (i : Problem) (posts : List Post) (file : List ℕ) (before now : ℕ) (fault : JournalFault) → OldBook i posts file → OpenV1Fails JOURNAL_MAX (Some file) before now fault → (ended_by fault ≡ NoMemory) ⊎ (ended_by fault ≡ DiskFault)
+opens i posts file before now JournalsDisk book fails = inr refl
+opens i posts file before now JournalsMemory book fails = inl refl
+opens i posts file before now (IsDamaged at) book fails = absurd (stands_whole_in 49 JOURNAL_MAX (canonical_text i) book.records file at (omega arith) book.stood fails.1)
+opens i posts file before now NoJournal book fails = absurd (stands_journal_in 49 JOURNAL_MAX (canonical_text i) book.records file (omega arith) book.stood fails)
+opens i posts file before now OldVersion book fails = absurd fails
+opens i posts file before now (Full end limit) book fails = absurd fails
+
+-- a text is that of one instance
+pub one_instance : (i j : Problem) → IsInstance i → IsInstance j → canonical_text i ≡ canonical_text j → i ≡ j
+one_instance i j valid other same =
+    let read : reading_of (canonical_text i) ≡ Ok i = canonical_read i valid.0 valid.1 in
+    let read' : reading_of (canonical_text j) ≡ Ok j = canonical_read j other.0 other.1 in
+    cc
+
+unread : (head : List ℕ) (e : ReadRefusal) → reading_of head ≡ Err e → (i : Problem) → IsInstance i → head ≡ canonical_text i → ⊥
+unread head e answer i valid is =
+    let read : reading_of head ≡ Ok i = ap reading_of is ∙ canonical_read i valid.0 valid.1 in
+    grind (answer, read)
+
+-- a head that is refused, or read as an instance of another text, is no instance's canonical text
+pub not_read : (head : List ℕ) (e : ReadRefusal) → (e ≡ ReadsMemory → ⊥) → IsAnswer e (reading_of head) → (i : Problem) → IsInstance i → head ≡ canonical_text i → ⊥
+not_read head TooLong some answer i valid is = unread head TooLong answer i valid is
+not_read head NotJson some answer i valid is = unread head NotJson answer i valid is
+not_read head (Missing at field) some answer i valid is = unread head (Missing at field) answer i valid is
+not_read head (UnknownField at field) some answer i valid is = unread head (UnknownField at field) answer i valid is
+not_read head (WrongKind at field) some answer i valid is = unread head (WrongKind at field) answer i valid is
+not_read head (Invalid fault) some answer i valid is = unread head (Invalid fault) answer i valid is
+not_read head ReadsMemory some answer i valid is = absurd (some refl)
+
+pub other_text : (head : List ℕ) (j : Problem) → IsInstance j → (canonical_text j ≡ head → ⊥) → reading_of head ≡ Ok j → (i : Problem) → IsInstance i → head ≡ canonical_text i → ⊥
+other_text head j own other read i valid is =
+    let same : Ok {E = ReadRefusal} i ≡ Ok j = sym (canonical_read i valid.0 valid.1) ∙ ap reading_of (sym is) ∙ read in
+    other (grind (same, is))

@@ -1,0 +1,3 @@
+pub mod Shorter
+pub mod Carried
+pub mod Migrated
