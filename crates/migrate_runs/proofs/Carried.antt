@@ -8,15 +8,20 @@ use Rattle.instance_json.specs.declared.ReadRefusal.TheVariants.{TooLong, NotJso
 use Rattle.instance_json.proofs.Restored.{canonical_read}
 use Rattle.shift_instance.specs.Problem.{Problem}
 use Rattle.post_codec.specs.declared.post.Post.{Post}
+use Rattle.post_codec.specs.declared.price_width.PriceWidth.TheVariants.{Eight}
+use Rattle.recovery.specs.declared.fault.Why.{Why}
+use Rattle.recovery.specs.Records.{MakeBookBy}
+use Rattle.recovery.specs.Refusals.{IsFirstRejectedBy}
 use Rattle.gated_journal.specs.declared.TheConstants.{JOURNAL_MAX}
 use Rattle.gated_journal.specs.declared.fault.JournalFault.{JournalFault}
 use Rattle.gated_journal.specs.declared.fault.JournalFault.TheVariants.{DiskFault as JournalsDisk, NoMemory as JournalsMemory, NotAJournal as NoJournal, Damaged as IsDamaged, Full, OldVersion}
 use Rattle.gated_journal.specs.Faults.{OpenV1Fails}
 use Rattle.gated_journal.specs.Format.{StoodFor}
 use Rattle.gated_journal.proofs.Once.{stands_once_in, stands_journal_in, stands_whole_in}
-use Rattle.migrate_runs.specs.Migrate.{ended_by, IsInstance, OldBook, OldFails}
+use Rattle.migrate_runs.specs.Migrate.{ended_by, HasNoInstance, HeadFails, IsInstance, OldBook, OldCause, OldFails}
+use Rattle.migrate_runs.specs.declared.status.OldFault.TheVariants.{NotAJournal, Damaged, Rejected, Head}
 use Rattle.migrate_runs.specs.declared.status.MigrateStatus.{MigrateStatus}
-use Rattle.migrate_runs.specs.declared.status.MigrateStatus.TheVariants.{NoMemory, DiskFault}
+use Rattle.migrate_runs.specs.declared.status.MigrateStatus.TheVariants.{Migrated, Usage, WriteFault, DiskFault, NoMemory, Old, Target}
 
 -- a file that isn't opened is refused for its cause
 pub unopened : (reads : Option (List ℕ)) (before now : ℕ) (fault : JournalFault) → OpenV1Fails JOURNAL_MAX reads before now fault → OldFails reads before now (ended_by fault)
@@ -62,3 +67,47 @@ pub other_text : (head : List ℕ) (j : Problem) → IsInstance j → (canonical
 other_text head j own other read i valid is =
     let same : Ok {E = ReadRefusal} i ≡ Ok j = sym (canonical_read i valid.0 valid.1) ∙ ap reading_of (sym is) ∙ read in
     other (grind (same, is))
+
+-- an old file whose head makes no instance
+no_instance : (reads : Option (List ℕ)) (head : List ℕ) (records : List (List ℕ)) → IfSome reads (StoodFor JOURNAL_MAX head records) → ((i : Problem) → IsInstance i → head ≡ canonical_text i → ⊥) → IfSome reads HasNoInstance
+no_instance None head records stood none = tt
+no_instance (Some file) head records stood none = record { head = head; records = records; stood = stood; none = none }
+
+pub headless : (reads : Option (List ℕ)) (before now : ℕ) (head : List ℕ) (records : List (List ℕ)) (status : MigrateStatus) → IfSome reads (StoodFor JOURNAL_MAX head records) → HeadFails head status → OldFails reads before now status
+headless reads before now head records (Old Head) stood fails = no_instance reads head records stood fails
+headless reads before now head records (Old NotAJournal) stood fails = absurd fails
+headless reads before now head records (Old (Damaged at)) stood fails = absurd fails
+headless reads before now head records (Old (Rejected at why)) stood fails = absurd fails
+headless reads before now head records NoMemory stood fails = tt
+headless reads before now head records DiskFault stood fails = absurd fails
+headless reads before now head records Migrated stood fails = absurd fails
+headless reads before now head records Usage stood fails = absurd fails
+headless reads before now head records WriteFault stood fails = absurd fails
+headless reads before now head records (Target len) stood fails = absurd fails
+
+-- an old file that stands for posts of an instance has a head
+pub has_head : (i : Problem) (posts : List Post) (file head : List ℕ) (records : List (List ℕ)) (status : MigrateStatus) → OldBook i posts file → StoodFor JOURNAL_MAX head records file → HeadFails head status → (status ≡ NoMemory) ⊎ (status ≡ DiskFault)
+has_head i posts file head records (Old Head) book stood fails = absurd (fails i book.instance (stands_once_in 49 JOURNAL_MAX head (canonical_text i) records book.records file (omega arith) stood book.stood).0)
+has_head i posts file head records (Old NotAJournal) book stood fails = absurd fails
+has_head i posts file head records (Old (Damaged at)) book stood fails = absurd fails
+has_head i posts file head records (Old (Rejected at why)) book stood fails = absurd fails
+has_head i posts file head records NoMemory book stood fails = inl refl
+has_head i posts file head records DiskFault book stood fails = absurd fails
+has_head i posts file head records Migrated book stood fails = absurd fails
+has_head i posts file head records Usage book stood fails = absurd fails
+has_head i posts file head records WriteFault book stood fails = absurd fails
+has_head i posts file head records (Target len) book stood fails = absurd fails
+
+-- an old file with a record that is rejected
+pub rejected : (reads : Option (List ℕ)) (i : Problem) (head : List ℕ) (records : List (List ℕ)) (at : ℕ) (why : Why) → IsInstance i → head ≡ canonical_text i → IfSome reads (StoodFor JOURNAL_MAX head records) → IsFirstRejectedBy Eight i records at why → IfSome reads (λ file. OldCause file (Rejected at why))
+rejected None i head records at why valid text stood first = tt
+rejected (Some file) i head records at why valid text stood first =
+    record { instance = i; valid = valid; records = records; stood = subst (λ (h : List ℕ). StoodFor JOURNAL_MAX h records file) text stood; first = first }
+
+-- the records of an old file that stands for posts of an instance make their book
+pub makes : (i j : Problem) (posts : List Post) (file head : List ℕ) (records : List (List ℕ)) → IsInstance j → head ≡ canonical_text j → (book : OldBook i posts file) → StoodFor JOURNAL_MAX head records file → MakeBookBy Eight j records posts book.book
+makes i j posts file head records valid text book stood =
+    let once = stands_once_in 49 JOURNAL_MAX head (canonical_text i) records book.records file (omega arith) stood book.stood in
+    let same : i ≡ j = one_instance i j book.instance valid (sym once.0 ∙ text) in
+    subst (λ (k : Problem). MakeBookBy Eight k records posts book.book) same
+    (subst (λ (l : List (List ℕ)). MakeBookBy Eight i l posts book.book) (sym once.1) book.make)

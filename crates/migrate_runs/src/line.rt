@@ -19,14 +19,13 @@ pub(crate) fn migrated_line(alloc: Global, records: usize, posts: u64) -> Result
 
 /// How many posts records spell.
 pub(crate) fn count_posts(alloc: Global, records: &[Vec<u8>]) -> Result<u64, AllocError>
-    requires { (posts : List APost) × SpellPosts (map (λ r. r.items) records.now) posts }
     ensures { (posts : List APost) → SpellPosts (map (λ r. r.items) records.now) posts → IfOk result (λ n. n ≡ length posts) }
 {
     let mut count = 0;
     for record in records {
         match read(alloc, record) {
             Ok(posts) => count = u64::checked_add(count, posts.len() as u64).ok_or(AllocError)?,
-            // the records spell posts, so memory ran out
+            // where the records spell posts, memory ran out
             Err(_) => return Err(AllocError),
         }
     }
