@@ -1,6 +1,7 @@
 -- What is carried over from an old file, and why it isn't.
 use Rattle.std.proofs.Common.{◌≡◌, ◌⊎◌, inl, inr, ℕ, ◌+◌, ◌<◌, ◌≤◌, ◌^◌, List, length, refl, sym, ◌∙◌, ap, subst, arith}
-use Rattle.std.specs.Prelude.{Option, None, Some, IfSome, Ok, Err}
+use Rattle.std.specs.List.{AllZip}
+use Rattle.std.specs.Prelude.{Option, None, Some, Result, Ok, Err, IfOk, OnOk, IfSome}
 use Rattle.instance_json.specs.Canonical.{canonical_text}
 use Rattle.instance_json.specs.Reading.{reading_of, IsAnswer}
 use Rattle.instance_json.specs.declared.ReadRefusal.{ReadRefusal}
@@ -10,18 +11,22 @@ use Rattle.shift_instance.specs.Problem.{Problem}
 use Rattle.post_codec.specs.declared.post.Post.{Post}
 use Rattle.post_codec.specs.declared.price_width.PriceWidth.TheVariants.{Eight}
 use Rattle.recovery.specs.declared.fault.Why.{Why}
-use Rattle.recovery.specs.Records.{MakeBookBy}
+use Rattle.post_codec.specs.Batches.{SpellPosts}
+use Rattle.search_core.specs.Book.{Book}
+use Rattle.recovery.specs.Migrating.{SpellSame}
+use Rattle.recovery.specs.Records.{MakeBook, MakeBookBy}
 use Rattle.recovery.specs.Refusals.{IsFirstRejectedBy}
 use Rattle.gated_journal.specs.declared.TheConstants.{JOURNAL_MAX}
 use Rattle.gated_journal.specs.declared.fault.JournalFault.{JournalFault}
 use Rattle.gated_journal.specs.declared.fault.JournalFault.TheVariants.{DiskFault as JournalsDisk, NoMemory as JournalsMemory, NotAJournal as NoJournal, Damaged as IsDamaged, Full, OldVersion}
 use Rattle.gated_journal.specs.Faults.{OpenV1Fails}
-use Rattle.gated_journal.specs.Format.{StoodFor}
+use Rattle.gated_journal.specs.Format.{spelled_in, StoodFor}
 use Rattle.gated_journal.proofs.Once.{stands_once_in, stands_journal_in, stands_whole_in}
-use Rattle.migrate_runs.specs.Migrate.{ended_by, HasNoInstance, HeadFails, IsInstance, OldBook, OldCause, OldFails}
+use Rattle.migrate_runs.specs.Migrate.{ended_by, HasNoInstance, HeadFails, IsCarried, IsInstance, OldBook, OldCause, OldFails}
 use Rattle.migrate_runs.specs.declared.status.OldFault.TheVariants.{NotAJournal, Damaged, Rejected, Head}
 use Rattle.migrate_runs.specs.declared.status.MigrateStatus.{MigrateStatus}
 use Rattle.migrate_runs.specs.declared.status.MigrateStatus.TheVariants.{Migrated, Usage, WriteFault, DiskFault, NoMemory, Old, Target}
+use Rattle.migrate_runs.proofs.Shorter.{journal_shorter}
 
 -- a file that isn't opened is refused for its cause
 pub unopened : (reads : Option (List ℕ)) (before now : ℕ) (fault : JournalFault) → OpenV1Fails JOURNAL_MAX reads before now fault → OldFails reads before now (ended_by fault)
@@ -42,16 +47,17 @@ opens i posts file before now OldVersion book fails = absurd fails
 opens i posts file before now (Full end limit) book fails = absurd fails
 
 -- a text is that of one instance
+same_read : (i j : Problem) → Ok {E = ReadRefusal} i ≡ Ok j → i ≡ j
+same_read i j same = subst (λ (r : Result Problem ReadRefusal). IfOk r (λ k. i ≡ k)) same refl
+
 pub one_instance : (i j : Problem) → IsInstance i → IsInstance j → canonical_text i ≡ canonical_text j → i ≡ j
 one_instance i j valid other same =
-    let read : reading_of (canonical_text i) ≡ Ok i = canonical_read i valid.0 valid.1 in
-    let read' : reading_of (canonical_text j) ≡ Ok j = canonical_read j other.0 other.1 in
-    cc
+    same_read i j (sym (canonical_read i valid.0 valid.1) ∙ ap reading_of same ∙ canonical_read j other.0 other.1)
 
 unread : (head : List ℕ) (e : ReadRefusal) → reading_of head ≡ Err e → (i : Problem) → IsInstance i → head ≡ canonical_text i → ⊥
 unread head e answer i valid is =
     let read : reading_of head ≡ Ok i = ap reading_of is ∙ canonical_read i valid.0 valid.1 in
-    grind (answer, read)
+    subst (λ (r : Result Problem ReadRefusal). OnOk r ⊥) (sym answer ∙ read) tt
 
 -- a head that is refused, or read as an instance of another text, is no instance's canonical text
 pub not_read : (head : List ℕ) (e : ReadRefusal) → (e ≡ ReadsMemory → ⊥) → IsAnswer e (reading_of head) → (i : Problem) → IsInstance i → head ≡ canonical_text i → ⊥
@@ -65,8 +71,8 @@ not_read head ReadsMemory some answer i valid is = absurd (some refl)
 
 pub other_text : (head : List ℕ) (j : Problem) → IsInstance j → (canonical_text j ≡ head → ⊥) → reading_of head ≡ Ok j → (i : Problem) → IsInstance i → head ≡ canonical_text i → ⊥
 other_text head j own other read i valid is =
-    let same : Ok {E = ReadRefusal} i ≡ Ok j = sym (canonical_read i valid.0 valid.1) ∙ ap reading_of (sym is) ∙ read in
-    other (grind (same, is))
+    let same : i ≡ j = same_read i j (sym (canonical_read i valid.0 valid.1) ∙ ap reading_of (sym is) ∙ read) in
+    other (sym (is ∙ ap canonical_text same))
 
 -- an old file whose head makes no instance
 no_instance : (reads : Option (List ℕ)) (head : List ℕ) (records : List (List ℕ)) → IfSome reads (StoodFor JOURNAL_MAX head records) → ((i : Problem) → IsInstance i → head ≡ canonical_text i → ⊥) → IfSome reads HasNoInstance
@@ -111,3 +117,21 @@ makes i j posts file head records valid text book stood =
     let same : i ≡ j = one_instance i j book.instance valid (sym once.0 ∙ text) in
     subst (λ (k : Problem). MakeBookBy Eight k records posts book.book) same
     (subst (λ (l : List (List ℕ)). MakeBookBy Eight i l posts book.book) (sym once.1) book.make)
+
+-- what is carried over
+pub carried_over : (reads : Option (List ℕ)) (i : Problem) (head : List ℕ) (old new : List (List ℕ)) (count : ℕ) → IsInstance i → head ≡ canonical_text i → IfSome reads (StoodFor JOURNAL_MAX head old) → length (spelled_in 49 head old) + 1 ≤ JOURNAL_MAX
+    → AllZip SpellSame old new → ((posts : List Post) × (book : Book) × MakeBookBy Eight i old posts book × MakeBook i new posts book) → ((posts : List Post) → SpellPosts new posts → count ≡ length posts) → IsCarried reads head new count
+carried_over reads i head old new count valid text stood fits same makes counts = record {
+  instance = i;
+  valid = valid;
+  text = text;
+  posts = makes.0;
+  counted = counts makes.0 makes.2.1.spell;
+  old = old;
+  stood = stood;
+  before = makes.1;
+  make = makes.2.0;
+  now = makes.1;
+  make_now = makes.2.1;
+  room = omega (arith, fits, journal_shorter head old new same);
+}
