@@ -96,12 +96,15 @@ fn lent<'a>(alloc: Global, names: &'a [String]) -> Result<Vec<&'a str>, AllocErr
     Ok(texts)
 }
 
-/// A text of its own with a title.
-fn section(alloc: Global, title: &str, text: String) -> Result<Section, AllocError> {
-    Ok(Section {
-        title: String::from_str(alloc, title)?,
-        text,
-    })
+/// Adds a text of its own with a title.
+fn add(
+    sections: &mut Vec<Section>,
+    alloc: Global,
+    title: &str,
+    text: String,
+) -> Result<(), AllocError> {
+    let title = String::from_str(alloc, title)?;
+    Ok(sections.push(Section { title, text })?)
 }
 
 /// The text above the days: how well the slots are covered.
@@ -111,8 +114,66 @@ fn above(alloc: Global, instance: &Instance, rows: &Rows) -> Result<Vec<Section>
     let attendance = Attendance::new(alloc, instance, rows)?;
     let cover = short_text(alloc, instance, &attendance, SHORT_ON_PAGE)?;
     let mut sections = Vec::new(alloc);
-    sections.push(section(alloc, "Cover", cover)?)?;
+    add(&mut sections, alloc, "Cover", cover)?;
     Ok(sections)
+}
+
+/// The heads by shift and day.
+fn heads(
+    alloc: Global,
+    instance: &Instance,
+    rows: &Rows,
+    beside: &Beside,
+) -> Result<String, AllocError>
+    requires { IsTrue (are_legal_rows instance.now rows.now) }
+{
+    let names = beside.short_names(alloc, instance)?;
+    let names = lent(alloc, names.as_slice())?;
+    heads_text(alloc, instance, rows, names.as_slice())
+}
+
+/// The breaks by time of day.
+fn breaks(
+    alloc: Global,
+    instance: &Instance,
+    rows: &Rows,
+    beside: &Beside,
+) -> Result<String, AllocError>
+    requires { IsTrue (are_legal_rows instance.now rows.now) }
+{
+    let names = beside.names(alloc, instance)?;
+    let names = lent(alloc, names.as_slice())?;
+    breaks_text(alloc, instance, rows, names.as_slice())
+}
+
+/// Adds the heads by shift and day, and the breaks by time of day.
+fn add_counts(
+    sections: &mut Vec<Section>,
+    alloc: Global,
+    instance: &Instance,
+    rows: &Rows,
+    beside: &Beside,
+) -> Result<(), AllocError>
+    requires { IsTrue (are_legal_rows instance.now rows.now) }
+{
+    let heads = heads(alloc, instance, rows, beside)?;
+    add(sections, alloc, "Heads by shift and day", heads)?;
+    let breaks = breaks(alloc, instance, rows, beside)?;
+    add(sections, alloc, "Breaks by time of day", breaks)
+}
+
+/// Adds the rules, and the notes where there are some.
+fn add_rules(
+    sections: &mut Vec<Section>,
+    alloc: Global,
+    instance: &Instance,
+    beside: &Beside,
+) -> Result<(), AllocError> {
+    add(sections, alloc, "Rules", rules_text(alloc, instance)?)?;
+    if beside.notes.is_empty() {
+        return Ok(());
+    }
+    add(sections, alloc, "Notes", beside.note_lines(alloc)?)
 }
 
 /// The texts below the days: the heads by shift and day, the breaks by time of day, the rules, and the notes.
@@ -124,20 +185,9 @@ fn below(
 ) -> Result<Vec<Section>, AllocError>
     requires { IsTrue (are_legal_rows instance.now rows.now) }
 {
-    let short_names = beside.short_names(alloc, instance)?;
-    let names = beside.names(alloc, instance)?;
-    let short_names = lent(alloc, short_names.as_slice())?;
-    let names = lent(alloc, names.as_slice())?;
-    let heads = heads_text(alloc, instance, rows, short_names.as_slice())?;
-    let breaks = breaks_text(alloc, instance, rows, names.as_slice())?;
-    let rules = rules_text(alloc, instance)?;
     let mut sections = Vec::new(alloc);
-    sections.push(section(alloc, "Heads by shift and day", heads)?)?;
-    sections.push(section(alloc, "Breaks by time of day", breaks)?)?;
-    sections.push(section(alloc, "Rules", rules)?)?;
-    if !beside.notes.is_empty() {
-        sections.push(section(alloc, "Notes", beside.note_lines(alloc)?)?)?;
-    }
+    add_counts(&mut sections, alloc, instance, rows, beside)?;
+    add_rules(&mut sections, alloc, instance, beside)?;
     Ok(sections)
 }
 
@@ -147,6 +197,15 @@ fn file_name(path: &str) -> &str {
         Some((_, name)) => name,
         None => path,
     }
+}
+
+/// The line on how the plan stands, and what the gap says where it has one.
+fn standing_line(alloc: Global, standing: &str, has_gap: bool) -> Result<String, AllocError> {
+    let mut line = String::from_str(alloc, standing)?;
+    if has_gap {
+        line.push_str(OF_THE_GAP)?;
+    }
+    Ok(line)
 }
 
 /// What the page of legal rows says beside them, with a line on how the plan stands.
@@ -160,15 +219,16 @@ pub(crate) fn page_texts(
 ) -> Result<PageTexts, AllocError>
     requires { IsTrue (are_legal_rows instance.now rows.now) }
 {
-    let mut line = String::from_str(alloc, standing)?;
-    if has_gap {
-        line.push_str(OF_THE_GAP)?;
-    }
+    let heading = String::from_str(alloc, file_name(beside.instance))?;
+    let standing = standing_line(alloc, standing, has_gap)?;
+    let days = beside.names_behind(alloc, instance)?;
+    let above = above(alloc, instance, rows)?;
+    let below = below(alloc, instance, rows, beside)?;
     Ok(PageTexts {
-        heading: String::from_str(alloc, file_name(beside.instance))?,
-        standing: line,
-        days: beside.names_behind(alloc, instance)?,
-        above: above(alloc, instance, rows)?,
-        below: below(alloc, instance, rows, beside)?,
+        heading,
+        standing,
+        days,
+        above,
+        below,
     })
 }

@@ -9,7 +9,7 @@ use crate::standings::{standing, why_empty};
 use certificate::{CertStatus, CertText};
 use plan_page::{PageTexts, plan_page};
 use plan_tables::{Attendance, Summary, cover_csv, duties_csv, duties_table, summary_text};
-use planning_files::{PLAN_FILES, PlanFile, make_folder};
+use planning_files::{PLAN_FILES, PlanFile, PlanFolder, make_folder};
 use planning_refusals::{Cause, Refusal};
 use planning_runs::{Plan, judged_plan};
 use refusal_texts::Role;
@@ -171,6 +171,33 @@ fn stands(alloc: Global, plan: &Plan, cost: u64, is_empty: bool) -> Result<Strin
     Ok(stands)
 }
 
+/// What is said where a cheaper plan stands in a folder.
+fn cheaper_text(alloc: Global, folder: &str, cheaper: u64) -> Result<String, AllocError> {
+    format!(in alloc;
+        "The folder {folder} has a cheaper plan of this document, which costs {cheaper}: it stays, and nothing was written. Name another folder with --out to have this one too."
+    )
+}
+
+/// What is said where a plan is written to a folder.
+fn placed_text(alloc: Global, folder: &str) -> Result<String, AllocError> {
+    format!(in alloc;
+        "The plan is in the folder {folder}: plan.html, rota.csv, duties.csv, cover.csv and report."
+    )
+}
+
+/// Writes the files of a plan to its folder, which is open, and tells so.
+fn put_sheets(
+    rt: HostRuntime,
+    folder: &str,
+    place: &mut PlanFolder,
+    report: &[u8],
+    sheets: &Sheets,
+) -> Result<String, Refusal> {
+    let files = sheets.files(rt.alloc(), report)?;
+    put_files(rt, folder, place, files.as_slice())?;
+    Ok(placed_text(rt.alloc(), folder)?)
+}
+
 /// Writes the files of a plan of that cost to a folder, unless a cheaper plan of the same document stands there, and tells which it did.
 fn placed(
     rt: HostRuntime,
@@ -180,18 +207,61 @@ fn placed(
     cost: u64,
     sheets: &Sheets,
 ) -> Result<String, Refusal> {
-    let alloc = rt.alloc();
     let mut place = opened(rt, folder)?;
-    if let Some(cheaper) = cheaper_cost(rt, document, folder, cost)? {
-        return Ok(format!(in alloc;
-            "The folder {folder} has a cheaper plan of this document, which costs {cheaper}: it stays, and nothing was written. Name another folder with --out to have this one too."
-        )?);
+    match cheaper_cost(rt, document, folder, cost)? {
+        Some(cheaper) => Ok(cheaper_text(rt.alloc(), folder, cheaper)?),
+        None => put_sheets(rt, folder, &mut place, report, sheets),
     }
-    let files = sheets.files(alloc, report)?;
-    put_files(rt, folder, &mut place, files.as_slice())?;
-    Ok(format!(in alloc;
-        "The plan is in the folder {folder}: plan.html, rota.csv, duties.csv, cover.csv and report."
-    )?)
+}
+
+/// Says that a report has no plan.
+fn tell_none(rt: HostRuntime, bound: u64) -> Result<(), Refusal> {
+    let text = format!(in rt.alloc();
+        "The report has no plan. No legal plan costs less than {bound}.\n"
+    )?;
+    say(rt, text.as_str());
+    Ok(())
+}
+
+/// The files of a plan with those rows, and what is said of it, with a line on how it stands.
+fn sheets_of(
+    alloc: Global,
+    plan: &Plan,
+    rows: &Rows,
+    beside: &Beside,
+    stands: &str,
+) -> Result<Sheets, AllocError>
+    requires { IsTrue (are_legal_rows plan.now.instance rows.now) }
+{
+    let has_gap = plan.cert.status != CertStatus::Optimal;
+    let texts = page_texts(alloc, &plan.instance, rows, beside, stands, has_gap)?;
+    Sheets::new(alloc, &plan.instance, rows, &texts)
+}
+
+/// Writes a plan of that cost with those rows to a folder, and says it.
+fn show_rows(
+    rt: HostRuntime,
+    beside: &Beside,
+    folder: &str,
+    plan: &Plan,
+    cost: u64,
+    rows: &Rows,
+) -> Result<(), Refusal>
+    requires { IsTrue (are_legal_rows plan.now.instance rows.now) }
+{
+    let alloc = rt.alloc();
+    let stands = stands(alloc, plan, cost, rows.is_empty())?;
+    let sheets = sheets_of(alloc, plan, rows, beside, stands.as_str())?;
+    let report = plan.report.as_slice();
+    let place = placed(rt, beside.document, folder, report, cost, &sheets)?;
+    let text = format!(in alloc;
+        "{}\n\n{}\n{}\n",
+        stands.as_str(),
+        sheets.said.as_str(),
+        place.as_str()
+    )?;
+    say(rt, text.as_str());
+    Ok(())
 }
 
 /// Writes a plan to a folder, all its files together, and says it on standard output, with what is known beside it. Where a cheaper plan
@@ -202,40 +272,8 @@ pub fn show_plan(
     folder: &str,
     plan: &Plan,
 ) -> Result<(), Refusal> {
-    let alloc = rt.alloc();
-    let Some((cost, rows)) = &plan.cert.plan else {
-        let bound = plan.cert.bound;
-        let text = format!(in alloc;
-            "The report has no plan. No legal plan costs less than {bound}.\n"
-        )?;
-        say(rt, text.as_str());
-        return Ok(());
-    };
-    let stands = stands(alloc, plan, *cost, rows.is_empty())?;
-    let has_gap = plan.cert.status != CertStatus::Optimal;
-    let texts = page_texts(
-        alloc,
-        &plan.instance,
-        rows,
-        beside,
-        stands.as_str(),
-        has_gap,
-    )?;
-    let sheets = Sheets::new(alloc, &plan.instance, rows, &texts)?;
-    let place = placed(
-        rt,
-        beside.document,
-        folder,
-        plan.report.as_slice(),
-        *cost,
-        &sheets,
-    )?;
-    let text = format!(in alloc;
-        "{}\n\n{}\n{}\n",
-        stands.as_str(),
-        sheets.said.as_str(),
-        place.as_str()
-    )?;
-    say(rt, text.as_str());
-    Ok(())
+    match &plan.cert.plan {
+        Some((cost, rows)) => show_rows(rt, beside, folder, plan, *cost, rows),
+        None => tell_none(rt, plan.cert.bound),
+    }
 }
