@@ -137,6 +137,11 @@ fn change_of(words: &LikeWords, instance: &Instance) -> u32 {
 }
 
 impl Older {
+    /// Whether no older plan is named.
+    pub(crate) fn is_none(&self) -> bool {
+        self.wanted.is_empty()
+    }
+
     /// No older plan.
     fn none(alloc: Global) -> Older {
         Older {

@@ -141,6 +141,7 @@ pub fn search_as_asked<R: Threads + Wait + Sync>(
         words,
         progress: &progress,
         older,
+        before: journals.before.as_ref(),
         shown: shown_on(host, enter_ends(host, rt, words, &progress)),
     };
     let found = search_by(rt, &team, instance, &journals.now)?;

@@ -179,6 +179,9 @@ impl Gate for Beginning {
 fn tell_full(rt: HostRuntime, end: u64, limit: u32) {
     if let Ok(sentence) = full_sentence(rt.alloc(), end, limit) {
         let _ = eprintln!(rt; "shift_plan: {}", sentence.as_str());
+        let _ = eprintln!(rt;
+            "shift_plan: the plan is written; the same line with --anew goes on from it in a new journal, where its bound begins anew"
+        );
     }
 }
 
