@@ -1,7 +1,6 @@
 //! The advisers of a search's workers.
 
 use crate::keeping::Older;
-use advice::Adviser;
 use break_rules::NoMemory;
 use kept_duties::Keeping;
 use planning_progress::{Progress, Shown, Until, Watched};
@@ -56,34 +55,11 @@ impl Team<'_> {
         Keeping::new(self.host.alloc(), instance, thorough, wanted, begin)
     }
 
-    /// The same adviser, which tells how far the search has come.
-    fn watched(&self, instance: &Instance, worker: u16) -> Result<Worker, NoMemory> {
+    /// The adviser of a worker: the same, which tells how far the search has come.
+    pub(crate) fn watched(&self, instance: &Instance, worker: u16) -> Result<Worker, NoMemory> {
         let seen = Arc::try_clone(self.progress)?;
         let adviser = self.keeping(instance, worker)?;
         let alloc = self.host.alloc();
         Ok(Watched::new(alloc, adviser, worker, seen, self.host, self.shown))
-    }
-
-    /// The adviser of a worker.
-    fn adviser(
-        &self,
-        instance: &Instance,
-        worker: u16,
-    ) -> Result<Box<dyn Adviser + Send>, NoMemory> {
-        let watched = self.watched(instance, worker)?;
-        let adviser: Box<dyn Adviser + Send> = Box::new(self.host.alloc(), watched)?;
-        Ok(adviser)
-    }
-
-    /// The advisers of all workers, each with a seed of its own.
-    pub(crate) fn advisers(
-        &self,
-        instance: &Instance,
-    ) -> Result<Vec<Box<dyn Adviser + Send>>, NoMemory> {
-        let mut advisers: Vec<Box<dyn Adviser + Send>> = Vec::new(self.host.alloc());
-        for worker in 0..self.words.workers {
-            advisers.push(self.adviser(instance, worker)?)?;
-        }
-        Ok(advisers)
     }
 }

@@ -106,7 +106,12 @@ fn search_by<R: Threads + Wait + Sync>(
 ) -> Result<Plan, Refusal>
     requires some { 0 < team.now.words.now.workers }
 {
-    let advisers = team.advisers(&instance)?;
+    let alloc = team.host.alloc();
+    let mut advisers: Vec<Box<dyn Adviser + Send>> = Vec::new(alloc);
+    for worker in 0..team.words.workers {
+        let adviser = team.watched(&instance, worker)?;
+        advisers.push(Box::new(alloc, adviser)?)?;
+    }
     let planned = advised(rt, team, instance, journal, advisers)?;
     ended(team, planned)
 }

@@ -40,17 +40,17 @@ fn command_words(rt: &HostRuntime) -> Result<Vec<String>, Refusal> {
 }
 
 /// Does what the words ask for.
-fn done<R: Threads + Wait + Sync>(host: HostRuntime, rt: &R, wanted: Wanted) -> Result<(), Refusal>
-    requires within { IsWithin wanted }
+fn done<R: Threads + Wait + Sync>(host: HostRuntime, rt: &R, wanted: &Wanted) -> Result<(), Refusal>
+    requires within { IsWithin wanted.now }
 {
     match wanted {
-        Wanted::Plan(words) => planning::plan(host, rt, &words),
-        Wanted::Show(words) => showing::show(host, &words),
-        Wanted::Check(words) => checking::check(host, &words),
-        Wanted::Compare(words) => comparing::compare(host, &words),
-        Wanted::Rules(words) => ruling::rules(host, &words),
-        Wanted::Import(words) => tables::import(host, &words),
-        Wanted::Export(words) => tables::export(host, &words),
+        Wanted::Plan(words) => planning::plan(host, rt, words),
+        Wanted::Show(words) => showing::show(host, words),
+        Wanted::Check(words) => checking::check(host, words),
+        Wanted::Compare(words) => comparing::compare(host, words),
+        Wanted::Rules(words) => ruling::rules(host, words),
+        Wanted::Import(words) => tables::import(host, words),
+        Wanted::Export(words) => tables::export(host, words),
     }
 }
 
@@ -73,7 +73,7 @@ fn answer<R: Threads + Wait + Sync>(
 ) -> Result<u8, Refusal> {
     match wanted_by(host.alloc(), words) {
         Ok(wanted) => {
-            done(host, rt, wanted)?;
+            done(host, rt, &wanted)?;
             Ok(0)
         }
         Err(why) => tell_unasked(host, why),
