@@ -6,7 +6,7 @@ use lib.ListN.{get_elem?}
 use Rattle.crossbeam_utils.specs.Register.{Turns, Forks}
 use Rattle.atomic_table.proofs.Lists.{at_set, at_snoc, set_again}
 use Rattle.best_cell.specs.declared.view.View.{View}
-use Rattle.best_cell.specs.Told.{last_behind, last_of, Follows, IsFront, IsOrderly, IsOrderlyBehind}
+use Rattle.best_cell.specs.Told.{last_behind, last_of, AreTold, Follows, IsFront, IsOrderly, IsOrderlyBehind}
 use Rattle.best_cell.specs.Telling.{reader, reader_of, teller, AddsOne, FindsLast, Fits, IsKept}
 
 off : false ≡ true → ⊥
@@ -62,17 +62,30 @@ fits_set seat log views by w others mine j u e =
     (λ (x : (j ≢ by) × (get_elem? views j ≡ some u)). others j u x.0 x.1)
     (at_set views by j w u e)
 
-pub begins : (words : List ℕ) → IsKept words (teller [] ∷ [])
-begins words = (0, [], tt, (λ full. absurd (full refl)), one)
+told_more : (tells : ℕ → ℕ → Type 0) (xs : List (ℕ × ℕ)) (q : ℕ × ℕ) → AreTold tells xs → tells q.0 q.1 → AreTold tells (xs ++ q ∷ [])
+told_more tells [] q h t = (t, tt)
+told_more tells (x ∷ xs) q h t = (h.0, told_more tells xs q h.1 t)
+
+told_behind : (tells : ℕ → ℕ → Type 0) (p : ℕ × ℕ) (xs : List (ℕ × ℕ)) → tells p.0 p.1 → AreTold tells xs → tells (last_behind p xs).0 (last_behind p xs).1
+told_behind tells p [] t h = t
+told_behind tells p (x ∷ xs) t h = told_behind tells x xs h.0 h.1
+
+-- the last of the told pairs was told
+pub last_told : (tells : ℕ → ℕ → Type 0) (xs : List (ℕ × ℕ)) → xs ≢ [] → AreTold tells xs → tells (last_of xs).0 (last_of xs).1
+last_told tells [] full h = absurd (full refl)
+last_told tells (x ∷ xs) full h = told_behind tells x xs h.0 h.1
+
+pub begins : (tells : ℕ → ℕ → Type 0) (words : List ℕ) → IsKept tells words (teller [] ∷ [])
+begins tells words = (0, [], tt, (λ full. absurd (full refl)), tt, one)
   where
     one : (by : ℕ) (v : View) → get_elem? (teller [] ∷ []) by ≡ some v → Fits 0 [] by v
     one zero v e = subst (Fits 0 [] 0) (some-injective _ _ e) (([], refl), (λ _. (refl, refl)))
     one (suc by) v e = absurd (some-ne-none v (sym e))
 
-pub tells : (by : ℕ) (told : List (ℕ × ℕ)) (new : List ℕ) → IsOrderly (told ++ (slice_index new 0, slice_index new 1) ∷ []) → Turns IsKept by (teller told) (λ _. new) AddsOne
-tells by told new ord words views h at =
+pub telling : (tells : ℕ → ℕ → Type 0) (by : ℕ) (told : List (ℕ × ℕ)) (new : List ℕ) → IsOrderly (told ++ (slice_index new 0, slice_index new 1) ∷ []) → tells (slice_index new 0) (slice_index new 1) → Turns (IsKept tells) by (teller told) (λ _. new) AddsOne
+telling tells by told new ord may words views h at =
     let pair : ℕ × ℕ = (slice_index new 0, slice_index new 1) in
-    let mine = (h.4 by (teller told) at).1 refl in
+    let mine = (h.5 by (teller told) at).1 refl in
     let w = teller (told ++ pair ∷ []) in
     let log = h.1 ++ pair ∷ [] in (
       w,
@@ -81,34 +94,36 @@ tells by told new ord words views h at =
         log,
         subst (λ (l : List (ℕ × ℕ)). IsOrderly (l ++ pair ∷ [])) mine.1 ord,
         (λ _. last_push h.1 pair),
+        told_more tells h.1 pair h.4 may,
         fits_set h.0 log views by w
-            (λ j u apart e. let f = h.4 j u e in ((f.0.0 ++ pair ∷ [], ap (λ (l : List (ℕ × ℕ)). l ++ pair ∷ []) f.0.1 ∙ append_assoc u.told f.0.0 (pair ∷ [])), (λ k. absurd (apart ((f.1 k).0 ∙ sym mine.0)))))
+            (λ j u apart e. let f = h.5 j u e in ((f.0.0 ++ pair ∷ [], ap (λ (l : List (ℕ × ℕ)). l ++ pair ∷ []) f.0.1 ∙ append_assoc u.told f.0.0 (pair ∷ [])), (λ k. absurd (apart ((f.1 k).0 ∙ sym mine.0)))))
             (([], ap (λ (l : List (ℕ × ℕ)). l ++ pair ∷ []) (sym mine.1) ∙ sym (append-nil (told ++ pair ∷ []))), (λ _. (mine.0, ap (λ (l : List (ℕ × ℕ)). l ++ pair ∷ []) mine.1))),
       ),
       refl,
     )
 
-pub reads : (by : ℕ) (told : List (ℕ × ℕ)) → Turns IsKept by (reader told) (λ x. x) FindsLast
-reads by told words views h at =
-    let f = h.4 by (reader told) at in
+pub reads : (tells : ℕ → ℕ → Type 0) (by : ℕ) (told : List (ℕ × ℕ)) → Turns (IsKept tells) by (reader told) (λ x. x) (FindsLast tells)
+reads tells by told words views h at =
+    let f = h.5 by (reader told) at in
     let w = reader h.1 in
-    (w, (h.0, h.1, h.2, h.3, fits_set h.0 h.1 views by w (λ j u apart e. h.4 j u e) (([], sym (append-nil h.1)), (λ t. absurd (off t)))), (refl, f.0, h.2, h.3))
+    (w, (h.0, h.1, h.2, h.3, h.4, fits_set h.0 h.1 views by w (λ j u apart e. h.5 j u e) (([], sym (append-nil h.1)), (λ t. absurd (off t)))), (refl, f.0, h.2, h.3, h.4))
 
-pub informs : (by : ℕ) (v : View) → Forks IsKept by v v (reader_of v)
-informs by v words views h at = (
+pub informs : (tells : ℕ → ℕ → Type 0) (by : ℕ) (v : View) → Forks (IsKept tells) by v v (reader_of v)
+informs tells by v words views h at = (
   h.0,
   h.1,
   h.2,
   h.3,
+  h.4,
   λ j u e. ⊎_elim
-      (λ was. h.4 j u (subst (λ l. get_elem? l j ≡ some u) (set_again views by v at) was))
-      (λ (same : reader_of v ≡ u). subst (Fits h.0 h.1 j) same ((h.4 by v at).0, (λ t. absurd (off t))))
+      (λ was. h.5 j u (subst (λ l. get_elem? l j ≡ some u) (set_again views by v at) was))
+      (λ (same : reader_of v ≡ u). subst (Fits h.0 h.1 j) same ((h.5 by v at).0, (λ t. absurd (off t))))
       (at_snoc (set views by v) (reader_of v) u j e),
 )
 
 -- the same, at a view that is known by an equation
-pub tells_as : (by : ℕ) (v : View) (told : List (ℕ × ℕ)) (new : List ℕ) → v ≡ teller told → IsOrderly (told ++ (slice_index new 0, slice_index new 1) ∷ []) → Turns IsKept by v (λ _. new) AddsOne
-tells_as by v told new is ord = subst (λ (u : View). Turns IsKept by u (λ _. new) AddsOne) (sym is) (tells by told new ord)
+pub tells_as : (tells : ℕ → ℕ → Type 0) (by : ℕ) (v : View) (told : List (ℕ × ℕ)) (new : List ℕ) → v ≡ teller told → IsOrderly (told ++ (slice_index new 0, slice_index new 1) ∷ []) → tells (slice_index new 0) (slice_index new 1) → Turns (IsKept tells) by v (λ _. new) AddsOne
+tells_as tells by v told new is ord may = subst (λ (u : View). Turns (IsKept tells) by u (λ _. new) AddsOne) (sym is) (telling tells by told new ord may)
 
-pub reads_as : (by : ℕ) (v : View) (told : List (ℕ × ℕ)) → v ≡ reader told → Turns IsKept by v (λ x. x) FindsLast
-reads_as by v told is = subst (λ (u : View). Turns IsKept by u (λ x. x) FindsLast) (sym is) (reads by told)
+pub reads_as : (tells : ℕ → ℕ → Type 0) (by : ℕ) (v : View) (told : List (ℕ × ℕ)) → v ≡ reader told → Turns (IsKept tells) by v (λ x. x) (FindsLast tells)
+reads_as tells by v told is = subst (λ (u : View). Turns (IsKept tells) by u (λ x. x) (FindsLast tells)) (sym is) (reads tells by told)

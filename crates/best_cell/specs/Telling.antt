@@ -4,7 +4,7 @@ use Rattle.std.specs.Prelude.{◌≡◌, ◌≢◌, ℕ, List, [], ◌∷◌, �
 use mathlib.Core.Option.{some}
 use lib.ListN.{get_elem?}
 use Rattle.best_cell.specs.declared.view.View.{View}
-use Rattle.best_cell.specs.Told.{last_of, IsFront, IsOrderly}
+use Rattle.best_cell.specs.Told.{last_of, AreTold, IsFront, IsOrderly}
 
 abbrev pub teller : List (ℕ × ℕ) → View
 teller told = record { tells = true; told = told }
@@ -19,10 +19,11 @@ reader_of v = reader v.told
 abbrev pub Fits : ℕ → List (ℕ × ℕ) → ℕ → View → Type 0
 Fits teller told by v = IsFront v.told told × (v.tells ≡ true → (by ≡ teller) × (v.told ≡ told))
 
-abbrev pub IsKept : List ℕ → List View → Type 0
-IsKept words views =
+abbrev pub IsKept : (ℕ → ℕ → Type 0) → List ℕ → List View → Type 0
+IsKept tells words views =
     (teller : ℕ) × (told : List (ℕ × ℕ)) × IsOrderly told
     × (told ≢ [] → last_of told ≡ (slice_index words 0, slice_index words 1))
+    × AreTold tells told
     × ((by : ℕ) (v : View) → get_elem? views by ≡ some v → Fits teller told by v)
 
 -- the teller adds the pair that it writes
@@ -30,6 +31,7 @@ abbrev pub AddsOne : View → List ℕ → List ℕ → View → Type 0
 AddsOne v before after w = w ≡ teller (v.told ++ (slice_index after 0, slice_index after 1) ∷ [])
 
 -- a reader knows all pairs so far, and finds the last of them
-abbrev pub FindsLast : View → List ℕ → List ℕ → View → Type 0
-FindsLast v before after w =
+abbrev pub FindsLast : (ℕ → ℕ → Type 0) → View → List ℕ → List ℕ → View → Type 0
+FindsLast tells v before after w =
     (w.tells ≡ false) × IsFront v.told w.told × IsOrderly w.told × (w.told ≢ [] → last_of w.told ≡ (slice_index after 0, slice_index after 1))
+    × AreTold tells w.told

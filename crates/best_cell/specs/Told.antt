@@ -28,3 +28,8 @@ last_of (x ∷ xs) = last_behind x xs
 -- the pairs begin with these
 abbrev pub IsFront : List (ℕ × ℕ) → List (ℕ × ℕ) → Type 0
 IsFront front pairs = (rest : List (ℕ × ℕ)) × (pairs ≡ front ++ rest)
+
+-- each of the pairs may be told
+abbrev pub AreTold : (ℕ → ℕ → Type 0) → List (ℕ × ℕ) → Type 0
+AreTold tells [] = Unit {0}
+AreTold tells (x ∷ xs) = tells x.0 x.1 × AreTold tells xs

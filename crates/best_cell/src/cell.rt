@@ -3,23 +3,23 @@ ghost use Rattle.std.specs.Prelude.{◌≡◌, ◌++◌, [], ◌∷◌, IfOk};
 ghost use Rattle.best_cell.specs.Told.{last_of, Follows, IsFront};
 
 use crate::NoMemory;
-use crate::rule::{Informs, Latest, Reads, Tells};
+use crate::rule::{Informs, Latest, Reads, Telling, Tells};
 use crate::view::View;
 use crossbeam_utils::atomic::seq_cell::{Pass, RuledSeqCell};
 use std::alloc::Global;
 use std::marker::Model;
 use std::sync::{Arc, Wait};
 
-type Cell = RuledSeqCell<[u64; 2], View, Latest, 2>;
+type Cell<W> = RuledSeqCell<[u64; 2], View, Latest<W>, 2>;
 
 /// Tells the cell how many posts there are, and what the best plan costs. Contracts see it as the pairs that it told, in order.
 #[derive(Drop)]
-pub struct Teller {
-    cell: Arc<Cell, Global>,
+pub struct Teller<W: Telling> {
+    cell: Arc<Cell<W>, Global>,
     pass: Pass<[u64; 2], View>,
 }
 
-impl Model for Teller {
+impl<W: Telling> Model for Teller<W> {
     ghost use Rattle.std.specs.Prelude.{◌≡◌, ◌≢◌, ℕ, List, []};
     ghost use Rattle.std.specs.Arc.{arc_value};
     ghost use Rattle.crossbeam_utils.specs.Seq.{cell_view};
@@ -36,12 +36,12 @@ impl Model for Teller {
 /// Reads what the cell was told. Contracts see it as the pairs of which it knows that they were told, in order: the last of them is the one
 /// that it read last.
 #[derive(Drop)]
-pub struct Reader {
-    cell: Arc<Cell, Global>,
+pub struct Reader<W: Telling> {
+    cell: Arc<Cell<W>, Global>,
     pass: Pass<[u64; 2], View>,
 }
 
-impl Model for Reader {
+impl<W: Telling> Model for Reader<W> {
     ghost use Rattle.std.specs.Prelude.{◌≡◌, ◌≢◌, ℕ, List, []};
     ghost use Rattle.std.specs.Arc.{arc_value};
     ghost use Rattle.crossbeam_utils.specs.Seq.{cell_view};
@@ -56,16 +56,17 @@ impl Model for Reader {
 }
 
 /// A cell that was told one pair, with the one that tells it more, and one that reads it.
-pub fn pair<R: Wait>(
+pub fn pair<W: Telling, R: Wait>(
     rt: &R,
     alloc: Global,
     posts: u64,
     cost: u64,
-) -> Result<(Teller, Reader), NoMemory>
+) -> Result<(Teller<W>, Reader<W>), NoMemory>
+    requires { W.tells posts cost }
     ensures teller { IfOk result (λ made. made.0 ≡ (posts, cost) ∷ []) }
     ensures reader { IfOk result (λ made. made.1 ≡ (posts, cost) ∷ []) }
 {
-    let (cell, mut pass) = Cell::ruled(alloc, [posts, cost])?;
+    let (cell, mut pass) = Cell::<W>::ruled(alloc, [posts, cost])?;
     cell.swap_as::<Tells, R>(rt, &mut pass, [posts, cost]);
     let theirs = cell.split_pass::<Informs>(&mut pass);
     let cell = Arc::new(alloc, cell)?;
@@ -77,10 +78,11 @@ pub fn pair<R: Wait>(
     Ok((Teller { cell, pass }, reader))
 }
 
-impl Teller {
+impl<W: Telling> Teller<W> {
     /// Tells the cell a pair with no fewer posts and no greater cost than the one before it.
     pub fn tell<R: Wait>(&mut self, rt: &R, posts: u64, cost: u64)
-        requires { Follows (last_of self.old) (posts, cost) }
+        requires follows { Follows (last_of self.old) (posts, cost) }
+        requires tells { W.tells posts cost }
         ensures { self.new ≡ self.old ++ (posts, cost) ∷ [] }
     {
         self.cell
@@ -88,19 +90,20 @@ impl Teller {
     }
 }
 
-impl Reader {
+impl<W: Telling> Reader<W> {
     /// Reads one pair that was told, whole: it has no fewer posts and no greater cost than the one that this reader read before.
     pub fn read<R: Wait>(&mut self, rt: &R) -> (u64, u64)
         ensures told { result ≡ last_of self.new }
+        ensures tells { W.tells result.0 result.1 }
         ensures begins { IsFront self.old self.new }
         ensures follows { Follows (last_of self.old) result }
     {
-        let [posts, cost] = self.cell.load_as::<Reads, R>(rt, &mut self.pass);
+        let [posts, cost] = self.cell.load_as::<Reads<W>, R>(rt, &mut self.pass);
         (posts, cost)
     }
 
     /// One more reader, which knows what this one knows.
-    pub fn split(&mut self) -> Result<Reader, NoMemory>
+    pub fn split(&mut self) -> Result<Reader<W>, NoMemory>
         ensures same { self.new ≡ self.old }
         ensures other { IfOk result (λ other. other ≡ self.old) }
     {

@@ -6,6 +6,7 @@ mod rule;
 mod view;
 
 pub use cell::{Reader, Teller, pair};
+pub use rule::Telling;
 use std::alloc::AllocError;
 
 /// Running out of memory.

@@ -1,4 +1,5 @@
 pub mod Bounded
+pub mod Costs
 mod Keeps
 pub mod Shutting
 pub mod Turned

@@ -1,3 +1,4 @@
+pub mod Best
 pub mod Locking
 pub mod Passes
 pub mod Roots

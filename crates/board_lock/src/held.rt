@@ -1,19 +1,20 @@
 // What lies behind the lock of a board: the board, and how many commits its workers made.
-ghost use Rattle.std.specs.Prelude.{◌≡◌, ◌≤◌, IsTrue};
+ghost use Rattle.std.specs.Prelude.{◌≡◌, ◌≤◌, IsTrue, Some};
 ghost use Rattle.search_core.specs.Core.{empty_hands};
 ghost use Rattle.board_lock.specs.Shut.{is_same_shut};
 ghost use Rattle.board_lock.specs.Turns.{AreTurns};
 
+use crate::begun::Begun;
 use crate::roots::BoardRoot;
 use crate::rule::Rooted;
 use crate::shut::shut_by;
 use search_core::{Board, CommitFault, Kept, Shutting, StepPosts, Taken};
 use std::snapshot::Snapshot;
-use std::sync::ledger::{Book, Ledger, Share};
+use std::sync::ledger::{Book, Share};
 
 /// A board with a ledger of its commits. What turns of its workers have made of it since it was opened stays with it, in whatever
 /// order they came.
-pub struct Held<B: Board, L: Ledger> {
+pub struct Held<B: Board, L: Begun> {
     /// The board.
     pub board: B,
     /// The board as it was opened. It stands in contracts alone.
@@ -27,6 +28,8 @@ pub struct Held<B: Board, L: Ledger> {
     /// The commits that answered `Ok`: each is in the share of the worker that made it.
     pub commits: Book<L>,
     ghost sixteen: { workers ≤ 16 },
+    ghost begun: { L.begun_at ≡ Some (B.seen opened.value) },
+    ghost as_many: { L.begun_by ≡ workers },
     ghost untaken: { (B.seen opened.value).taken ≡ 0 },
     ghost empty: { (B.seen opened.value).hands ≡ empty_hands },
     ghost closed: { IsTrue (is_same_shut (B.seen board).shut shut) },
@@ -34,7 +37,7 @@ pub struct Held<B: Board, L: Ledger> {
     ghost turns: { ∥ AreTurns workers (B.seen opened.value) (B.seen board) commits.total ∥₁ },
 }
 
-impl<B: Board, L: Ledger> Rooted for Held<B, L> {
+impl<B: Board, L: Begun> Rooted for Held<B, L> {
     type Root = BoardRoot<B>;
 
     ghost use Rattle.board_lock.specs.Roots.{root_at};
@@ -42,7 +45,7 @@ impl<B: Board, L: Ledger> Rooted for Held<B, L> {
     ghost root = { λ h. root_at h.opened h.workers };
 }
 
-impl<B: Board, L: Ledger> Held<B, L> {
+impl<B: Board, L: Begun> Held<B, L> {
     ghost use Rattle.std.specs.Prelude.{◌+◌, ◌<◌, None, false, IfErr, IfOk, OnErr, OnOk};
     ghost use Rattle.search_core.specs.Board.{yields, CommitRefuses, Commits, TakeMakes};
     ghost use Rattle.search_core.specs.Core.{hand};
@@ -52,6 +55,8 @@ impl<B: Board, L: Ledger> Held<B, L> {
     /// A board as it is opened, with an empty ledger.
     pub fn new(board: B, workers: u32, commits: Book<L>) -> Held<B, L>
         requires sixteen { workers ≤ 16 }
+        requires begun { L.begun_at ≡ Some (B.seen board) }
+        requires as_many { L.begun_by ≡ workers }
         requires untaken { (B.seen board).taken ≡ 0 }
         requires empty { (B.seen board).hands ≡ empty_hands }
         requires running { (B.seen board).shut ≡ None }

@@ -23,7 +23,7 @@ fn write_first_byte_last<D: Disk>(disk: &mut D, bytes: &[u8]) -> Result<(), Fail
     ensures durable { OnOk result (IsSynced (D.reads disk.new) (D.images disk.new)) }
     ensures any_moment { OnSome (D.reads disk.old) (HoldsThroughout D.calls D.images_since disk.old disk.new (IsUnfinishedOrThis bytes.now)) }
     ensures six { OnOk result (D.calls disk.new ≡ D.calls disk.old + 6) }
-    ensures least { D.calls disk.old ≤ D.calls disk.new }
+    ensures least { D.calls disk.old < D.calls disk.new }
     ensures most { D.calls disk.new ≤ D.calls disk.old + 6 }
     ensures telling { TellsAlike (D.reads disk.old) (D.reads disk.new) }
     ensures cause { CountsFaults (D.faults disk.old) (D.faults disk.new) result }
@@ -58,6 +58,7 @@ pub fn install<D: Disk>(
     ensures six { OnOk result (D.calls disk.new ≡ D.calls disk.old + 6) }
     ensures least { D.calls disk.old ≤ D.calls disk.new }
     ensures most { D.calls disk.new ≤ D.calls disk.old + 6 }
+    ensures called { IsErrOf result JournalFault.DiskFault → D.calls disk.old < D.calls disk.new }
     ensures telling { TellsAlike (D.reads disk.old) (D.reads disk.new) }
     ensures cause { IfErr result (CreateFails (D.faults disk.old) (D.faults disk.new)) }
     ensures faults { D.faults disk.old ≤ D.faults disk.new }

@@ -15,7 +15,7 @@ pub(crate) fn write_synced<D: Disk>(disk: &mut D, at: u64, bytes: &[u8]) -> Resu
     ensures any_moment { IsSynced (D.reads disk.old) (D.images disk.old) → IfSome (D.reads disk.old) (λ file. HoldsThroughout D.calls D.images_since disk.old disk.new (WritesPart at (length bytes.now) file)) }
     ensures telling { TellsAlike (D.reads disk.old) (D.reads disk.new) }
     ensures count { OnOk result (D.calls disk.new ≡ D.calls disk.old + 2) }
-    ensures least { D.calls disk.old ≤ D.calls disk.new }
+    ensures least { D.calls disk.old < D.calls disk.new }
     ensures most { D.calls disk.new ≤ D.calls disk.old + 2 }
     ensures cause { CountsFaults (D.faults disk.old) (D.faults disk.new) result }
 {

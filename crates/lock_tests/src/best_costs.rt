@@ -3,6 +3,7 @@ ghost use Rattle.std.specs.Prelude.{◌≡◌, [], ◌∷◌};
 ghost use Rattle.best_cell.specs.Told.{last_of};
 
 use best_cell::{Reader, Teller, pair};
+use std::marker::Brand;
 use std::sync::Wait;
 use std::test::Fail;
 use std::thread::{Threads, join};
@@ -12,7 +13,7 @@ const PAIRS: u64 = 2_000;
 
 #[test]
 fn the_pair_told_last_is_read(rt: HostRuntime) -> Result<(), Fail> {
-    let (mut teller, mut reader) = pair(&rt, rt.alloc(), 3, 40)?;
+    let (mut teller, mut reader) = pair::<Brand, _>(&rt, rt.alloc(), 3, 40)?;
     assert_eq!(rt; reader.read(&rt), (3, 40));
     teller.tell(&rt, 5, 40);
     teller.tell(&rt, 7, 31);
@@ -26,7 +27,7 @@ fn the_pair_told_last_is_read(rt: HostRuntime) -> Result<(), Fail> {
 }
 
 /// Tells pairs whose posts and cost are together always as many.
-fn tell_all<R: Wait>(rt: &R, teller: Teller)
+fn tell_all<R: Wait>(rt: &R, teller: Teller<Brand>)
     requires { teller ≡ (0, 2000) ∷ [] }
 {
     let mut teller = teller;
@@ -36,7 +37,7 @@ fn tell_all<R: Wait>(rt: &R, teller: Teller)
 }
 
 /// Reads until the last pair is told, and counts what no reader may find: a pair that was never told, or an earlier one than before.
-fn faults<R: Wait>(rt: &R, reader: Reader) -> u32 {
+fn faults<R: Wait>(rt: &R, reader: Reader<Brand>) -> u32 {
     let mut reader = reader;
     let mut faults = 0u32;
     let mut before = 0;
@@ -55,9 +56,9 @@ fn faults<R: Wait>(rt: &R, reader: Reader) -> u32 {
 
 fn read_while_told<R: Threads + Wait + Sync>(
     rt: &R,
-    teller: Teller,
-    one: Reader,
-    other: Reader,
+    teller: Teller<Brand>,
+    one: Reader<Brand>,
+    other: Reader<Brand>,
 ) -> (u32, u32)
     requires { teller ≡ (0, 2000) ∷ [] }
 {
@@ -73,7 +74,7 @@ fn read_while_told<R: Threads + Wait + Sync>(
 
 #[test]
 fn readers_never_go_back(rt: HostRuntime) -> Result<(), Fail> {
-    let (teller, mut one) = pair(&rt, rt.alloc(), 0, PAIRS)?;
+    let (teller, mut one) = pair::<Brand, _>(&rt, rt.alloc(), 0, PAIRS)?;
     let other = one.split()?;
     assert_eq!(rt; read_while_told(&rt, teller, one, other), (0, 0));
     Ok(())

@@ -9,18 +9,18 @@ use crate::seat::Place;
 use crate::turns::BoardLock;
 use crate::worker::work;
 use advice::{Adviser, Stop};
+use board_lock::Begun;
 use search_core::Board;
 use shift_instance::Instance;
 use std::alloc::Global;
 use std::sync::Wait;
-use std::sync::ledger::Ledger;
 use std::thread;
 use std::thread::Threads;
 
 /// The worker at each place works until there is nothing more to do, or it sees that it is asked to stop.
 fn work_all<
     B: Board + Send,
-    L: Ledger + Send + Sync,
+    L: Begun + Send + Sync,
     G: Gate + Sync,
     S: Stop + Sync,
     R: Threads + Wait + Sync,
@@ -62,7 +62,7 @@ fn work_all<
 /// The same for a bench that owns its places.
 pub(crate) fn work_bench<
     B: Board + Send,
-    L: Ledger + Send + Sync,
+    L: Begun + Send + Sync,
     G: Gate + Sync,
     S: Stop + Sync,
     R: Threads + Wait + Sync,

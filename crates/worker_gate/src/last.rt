@@ -13,12 +13,12 @@ use crate::turns::{Left, Rest, Work, commit_in, work_of};
 use crate::worker::{closed_again, decide};
 use crate::{Gate, RunEnd};
 use advice::{Adviser, Stop};
-use board_lock::Held;
+use board_lock::{Begun, Held};
 use dual_bound::Buffers;
 use search_core::{Board, Kept, Shutting, StepPosts, Taken};
 use shift_instance::Instance;
 use std::alloc::Global;
-use std::sync::ledger::{Ledger, Share};
+use std::sync::ledger::Share;
 
 /// How a run ends on a board that is shut.
 fn end_of(shut: Shutting) -> RunEnd
@@ -34,7 +34,7 @@ fn end_of(shut: Shutting) -> RunEnd
 
 /// Commits a step for the node in a hand. Where by its price alone it would leave the node open, it is committed once more, closed by
 /// the split or the settled plan that its cuts have. Unless the board is shut, the hand is empty afterwards.
-fn commit_alone<B: Board, L: Ledger>(
+fn commit_alone<B: Board, L: Begun>(
     alloc: Global,
     instance: &Instance,
     held: &mut Held<B, L>,
@@ -77,7 +77,7 @@ fn commit_alone<B: Board, L: Ledger>(
 }
 
 /// Finishes the node in a hand with that hand's seat. Unless the board is shut, the hand is empty afterwards.
-fn finish<B: Board, L: Ledger>(
+fn finish<B: Board, L: Begun>(
     alloc: Global,
     instance: &Instance,
     buffers: &mut Buffers,
@@ -105,6 +105,7 @@ fn finish<B: Board, L: Ledger>(
         seat,
         share,
         number,
+        reader: _,
         steps: _,
         asked: _,
     } = place;
@@ -125,7 +126,7 @@ fn finish<B: Board, L: Ledger>(
 
 /// Finishes the node in a hand, or lets go of it where there is no memory for its cuts. Unless the board is shut, the hand is empty
 /// afterwards.
-fn finish_node<B: Board, L: Ledger>(
+fn finish_node<B: Board, L: Begun>(
     alloc: Global,
     instance: &Instance,
     buffers: &mut Buffers,
@@ -154,7 +155,7 @@ fn finish_node<B: Board, L: Ledger>(
 }
 
 /// Empties a hand, unless the board is shut: its node is finished with its seat, or let go of where a worker gave up.
-fn empty_hand<B: Board, L: Ledger>(
+fn empty_hand<B: Board, L: Begun>(
     alloc: Global,
     instance: &Instance,
     buffers: &mut Buffers,
@@ -188,7 +189,7 @@ fn empty_hand<B: Board, L: Ledger>(
 }
 
 /// Empties each hand, unless the board is shut. The places have the numbers of the hands.
-pub(crate) fn empty_all<B: Board, L: Ledger>(
+pub(crate) fn empty_all<B: Board, L: Begun>(
     alloc: Global,
     instance: &Instance,
     buffers: &mut Buffers,
@@ -216,7 +217,7 @@ pub(crate) fn empty_all<B: Board, L: Ledger>(
 
 /// Goes on with the first seat, as its worker did, until nothing is taken any more, and tells how the run ends. Where a worker saw
 /// that the run is asked to stop, nothing is taken. Unless the board is shut, all hands are empty before and afterwards.
-pub(crate) fn go_on<B: Board, L: Ledger, G: Gate, S: Stop>(
+pub(crate) fn go_on<B: Board, L: Begun, G: Gate, S: Stop>(
     alloc: Global,
     instance: &Instance,
     buffers: &mut Buffers,

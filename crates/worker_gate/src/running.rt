@@ -1,7 +1,9 @@
 //! The run of workers over a board, for a ledger of its commits.
-ghost use Rattle.std.specs.Prelude.{◌≡◌, ◌+◌, ◌<◌, ◌≤◌, ◌^◌, ℕ, All, None, false, true, length, slice_index_or, sum_by, vec_len};
+ghost use Rattle.std.specs.Prelude.{◌≡◌, ◌+◌, ◌<◌, ◌≤◌, ◌^◌, ℕ, All, IfOk, None, Some, false, true, length, slice_index_or, sum_by, vec_len};
+ghost use Rattle.best_cell.specs.Told.{last_of};
 ghost use Rattle.search_core.specs.Board.{BoardView};
 ghost use Rattle.search_core.specs.Core.{empty_hands};
+ghost use Rattle.board_lock.specs.Best.{best_of};
 ghost use Rattle.board_lock.specs.Roots.{root_at};
 ghost use Rattle.board_lock.specs.Turns.{AreTurns};
 ghost use Rattle.worker_gate.specs.Workers.{IsToldLast, WorkersEnd};
@@ -12,17 +14,19 @@ use crate::seat::Place;
 use crate::seating::{seat_all, unseat_all};
 use crate::{Gate, RunEnd, Seat};
 use advice::{Adviser, Stop};
-use board_lock::{Held, Lock};
+use best_cell::{Reader, Teller, pair};
+use board_lock::{Begun, BestOf, Desk, Held, Lock};
+use break_rules::NoMemory;
 use dual_bound::Buffers;
 use search_core::Board;
 use shift_instance::Instance;
 use std::alloc::Global;
 use std::sync::Wait;
-use std::sync::ledger::{Blank, Ledger};
+use std::sync::ledger::Blank;
 use std::thread::Threads;
 
 /// Whether a worker saw that the run is asked to stop.
-fn saw_stop<B: Board, L: Ledger, S: Stop>(bench: &[Place<B, L>], _stop: &S) -> bool
+fn saw_stop<B: Board, L: Begun, S: Stop>(bench: &[Place<B, L>], _stop: &S) -> bool
     requires asked { (i : ℕ) (d : _) → i < length bench.now → (slice_index_or bench.now i d).asked ≡ true → S.can_ask _stop.now ≡ true }
     ensures { result ≡ true → S.can_ask _stop.now ≡ true }
 {
@@ -36,7 +40,7 @@ fn saw_stop<B: Board, L: Ledger, S: Stop>(bench: &[Place<B, L>], _stop: &S) -> b
 
 /// Once all workers have ended: empties each hand, goes on with the first seat unless a worker saw that the run is asked to stop, and
 /// tells how the run ends.
-fn finish_all<B: Board, L: Ledger, G: Gate, S: Stop>(
+fn finish_all<B: Board, L: Begun, G: Gate, S: Stop>(
     alloc: Global,
     instance: &Instance,
     held: &mut Held<B, L>,
@@ -74,10 +78,42 @@ fn finish_all<B: Board, L: Ledger, G: Gate, S: Stop>(
     )
 }
 
+/// So many readers of a cell.
+fn readers_of<L: Begun>(
+    alloc: Global,
+    first: Reader<BestOf<L>>,
+    count: usize,
+) -> Result<Vec<Reader<BestOf<L>>>, NoMemory>
+    ensures { IfOk result (λ readers. vec_len readers ≡ count) }
+{
+    let mut first = first;
+    let mut readers = Vec::with_capacity(alloc, count)?;
+    while readers.len() < count {
+        readers.push_reserved(first.split()?);
+    }
+    Ok(readers)
+}
+
+/// A teller that has told what the best rota costs on a board as it was opened, and so many readers.
+fn tellings<B: Board, L: Begun, R: Wait>(
+    rt: &R,
+    alloc: Global,
+    board: &B,
+    count: usize,
+) -> Result<(Teller<BestOf<L>>, Vec<Reader<BestOf<L>>>), NoMemory>
+    requires { L.begun_at ≡ Some (B.seen board.now) }
+    ensures teller { IfOk result (λ made. last_of made.0 ≡ best_of (B.seen board.now)) }
+    ensures readers { IfOk result (λ made. vec_len made.1 ≡ count) }
+{
+    let (teller, first) = pair::<BestOf<L>, R>(rt, alloc, board.posts(), board.best_cost())?;
+    let readers = readers_of(alloc, first, count)?;
+    Ok((teller, readers))
+}
+
 /// What `run_workers` does, for the ledger that the blank stands for.
 pub(crate) fn run_in<
     B: Board + Send,
-    L: Ledger + Send + Sync,
+    L: Begun + Send + Sync,
     G: Gate + Sync,
     S: Stop + Sync,
     R: Threads + Wait + Sync,
@@ -92,6 +128,7 @@ pub(crate) fn run_in<
     blank: Blank,
 ) -> (B, Vec<Seat>, RunEnd)
     requires ledger { (blank.name ≡ L.name) × (blank.parts ≡ L.parts) × (blank.parts ≡ vec_len seats + 1) }
+    requires begun { (L.begun_at ≡ Some (B.seen board)) × (L.begun_by ≡ vec_len seats) }
     requires instance { (B.seen board).instance ≡ instance.now }
     requires fresh { (B.seen board).taken ≡ 0 }
     requires running { (B.seen board).shut ≡ None }
@@ -114,18 +151,32 @@ pub(crate) fn run_in<
     let Ok(mut bench) = Vec::<Place<B, L>>::with_capacity(alloc, seats.len()) else {
         return (board, seats, RunEnd::NoMemory);
     };
+    let Ok((teller, mut readers)) = tellings(rt, alloc, &board, seats.len()) else {
+        return (board, seats, RunEnd::NoMemory);
+    };
     let (commits, mut all) = blank.open::<L>();
     let held = Held::new(board, seats.len() as u32, commits);
-    let (lock, mut first) = match Lock::new(alloc, held) {
+    let (lock, mut first) = match Lock::new(alloc, Desk { held, teller }) {
         Ok(made) => made,
-        Err(held) => {
+        Err(desk) => {
+            let Desk { held, teller: _ } = desk;
             let board = held.into_board(&mut all);
             return (board, seats, RunEnd::NoMemory);
         }
     };
-    seat_all(&lock, &mut first, &mut all, &mut seats, &mut bench);
+    seat_all(
+        &lock,
+        &mut first,
+        &mut all,
+        &mut seats,
+        &mut readers,
+        &mut bench,
+    );
     work_bench(rt, alloc, instance, &lock, gate, stop, &mut bench);
-    let mut held = lock.enter(rt, &mut first);
+    let Desk {
+        mut held,
+        teller: _,
+    } = lock.enter(rt, &mut first);
     lock.retire(first);
     let end = finish_all(alloc, instance, &mut held, gate, stop, &mut bench);
     unseat_all(&mut bench, &mut seats, &mut all);

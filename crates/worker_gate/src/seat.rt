@@ -4,9 +4,10 @@ ghost use Rattle.worker_gate.specs.Runs.{news_of};
 
 use advice::{Adviser, Told};
 use atomic_table::Badge;
-use board_lock::{BoardRoot, View};
+use best_cell::Reader;
+use board_lock::{Begun, BestOf, BoardRoot, View};
 use search_core::Kept;
-use std::sync::ledger::{Ledger, Share};
+use std::sync::ledger::Share;
 
 /// A seat for a worker, with its adviser.
 #[derive(Drop)]
@@ -39,13 +40,16 @@ impl Seat {
     }
 }
 
-/// A seat with what its worker needs: a seat at the lock of the board, a share of the ledger of commits, and its number.
+/// A seat with what its worker needs: a seat at the lock of the board, a share of the ledger of commits,
+/// its number, and a reader of the best cost.
 #[derive(Drop)]
-pub(crate) struct Place<B, L: Ledger> {
+pub(crate) struct Place<B, L: Begun> {
     pub(crate) badge: Badge<View<BoardRoot<B>>>,
     pub(crate) seat: Seat,
     pub(crate) share: Share<L>,
     pub(crate) number: u32,
+    /// Reads what the best rota costs without the lock.
+    pub(crate) reader: Reader<BestOf<L>>,
     /// How many nodes the worker has taken in the run, which is what the gate is told.
     pub(crate) steps: u64,
     /// Whether the worker saw that the run is asked to stop.

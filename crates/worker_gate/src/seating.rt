@@ -5,16 +5,19 @@ ghost use Rattle.board_lock.specs.Passes.{root_of, IsOutside, RestsAt};
 
 use crate::seat::{Place, Seat};
 use crate::turns::{BoardLock, BoardPass};
+use best_cell::Reader;
+use board_lock::{Begun, BestOf};
 use search_core::Board;
-use std::sync::ledger::{Ledger, Share};
+use std::sync::ledger::Share;
 
-/// A place for a seat, with a seat at the lock and a share of the ledger.
-fn seat_one<B: Board, L: Ledger>(
+/// A place for a seat, with a seat at the lock, a share of the ledger, and a reader.
+fn seat_one<B: Board, L: Begun>(
     lock: &BoardLock<B, L>,
     first: &mut BoardPass<B, L>,
     all: &mut Share<L>,
     seat: Seat,
     number: u32,
+    reader: Reader<BestOf<L>>,
 ) -> Place<B, L>
     requires first { IsOutside lock.now first.old }
     requires number { number < 16 }
@@ -37,22 +40,25 @@ fn seat_one<B: Board, L: Ledger>(
         seat,
         share,
         number,
+        reader,
         steps: 0,
         asked: false,
     }
 }
 
-/// A place for each seat, in their order.
-pub(crate) fn seat_all<B: Board, L: Ledger>(
+/// A place for each seat, in their order, with a reader for each.
+pub(crate) fn seat_all<B: Board, L: Begun>(
     lock: &BoardLock<B, L>,
     first: &mut BoardPass<B, L>,
     all: &mut Share<L>,
     seats: &mut Vec<Seat>,
+    readers: &mut Vec<Reader<BestOf<L>>>,
     bench: &mut Vec<Place<B, L>>,
 )
     requires first { IsOutside lock.now first.old }
     requires sixteen { vec_len seats.old ≤ 16 }
     requires new { All (λ s. (s.told ≡ 0) × (s.share ≡ 0)) seats.old.items }
+    requires readers { vec_len readers.old ≡ vec_len seats.old }
     requires empty { bench.old.items ≡ [] }
     requires room { vec_len seats.old ≤ vec_capacity bench.old }
     requires parts { vec_len seats.old < all.old.parts }
@@ -71,13 +77,16 @@ pub(crate) fn seat_all<B: Board, L: Ledger>(
     while !seats.is_empty() {
         let seat = seats.remove(0);
         let number = bench.len() as u32;
-        let place = seat_one(lock, first, all, seat, number);
+        let Some(reader) = readers.pop() else {
+            unreachable!()
+        };
+        let place = seat_one(lock, first, all, seat, number, reader);
         bench.push_reserved(place);
     }
 }
 
 /// The seats come back in their order, and their shares are put together.
-pub(crate) fn unseat_all<B: Board, L: Ledger>(
+pub(crate) fn unseat_all<B: Board, L: Begun>(
     bench: &mut Vec<Place<B, L>>,
     seats: &mut Vec<Seat>,
     all: &mut Share<L>,
@@ -95,6 +104,7 @@ pub(crate) fn unseat_all<B: Board, L: Ledger>(
             seat,
             share,
             number: _,
+            reader: _,
             steps: _,
             asked: _,
         } = bench.remove(0);

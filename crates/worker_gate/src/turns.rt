@@ -4,6 +4,8 @@ ghost use Rattle.search_core.specs.Board.{book_at, yields, Commits};
 ghost use Rattle.search_core.specs.Core.{hand};
 ghost use Rattle.search_core.specs.Kept.{cuts_in};
 ghost use Rattle.search_core.specs.Steps.{Fits};
+ghost use Rattle.best_cell.specs.Told.{Follows};
+ghost use Rattle.board_lock.specs.Best.{best_of};
 ghost use Rattle.board_lock.specs.Passes.{root_of, IsOutside};
 ghost use Rattle.board_lock.specs.Roots.{root_at};
 ghost use Rattle.worker_gate.specs.Runs.{news_of};
@@ -11,15 +13,15 @@ ghost use Rattle.worker_gate.specs.Workers.{IsLeft, IsNews, LeavesStep};
 
 use crate::asking::ask_of;
 use advice::Ask;
-use board_lock::{BoardRoot, Held, Lock, Pass};
+use board_lock::{Begun, BoardRoot, Desk, Held, Lock, Pass};
 use search_core::{Board, CommitFault, Kept, StepPosts, Taken};
 use std::sync::Wait;
-use std::sync::ledger::{Ledger, Share};
+use std::sync::ledger::Share;
 
 /// The lock of a board, and a seat at it.
-pub(crate) type BoardLock<B, L> = Lock<Held<B, L>>;
+pub(crate) type BoardLock<B, L> = Lock<Desk<B, L>>;
 
-pub(crate) type BoardPass<B, L> = Pass<Held<B, L>, BoardRoot<B>>;
+pub(crate) type BoardPass<B, L> = Pass<Desk<B, L>, BoardRoot<B>>;
 
 /// The node in a worker's hand, with what to ask for it.
 #[derive(Drop)]
@@ -53,7 +55,7 @@ pub(crate) enum Left {
 }
 
 /// The worker's node with its cuts. Without memory for these the worker lets go of it.
-pub(crate) fn work_of<B: Board, L: Ledger>(
+pub(crate) fn work_of<B: Board, L: Begun>(
     held: &mut Held<B, L>,
     worker: u32,
     node: u32,
@@ -70,6 +72,7 @@ pub(crate) fn work_of<B: Board, L: Ledger>(
     ensures same { OnOk result (B.seen held.new.board ≡ B.seen held.old.board) }
     ensures let_go { OnErr result (B.seen held.new.board ≡ yields worker (B.seen held.old.board)) }
     ensures end { IfErr result (λ rest. rest ≡ Rest.End) }
+    ensures best { best_of (B.seen held.new.board) ≡ best_of (B.seen held.old.board) }
 {
     match ask_of(&held.board, worker, floor, best) {
         Ok(ask) => Ok(Work { node, ask, taken }),
@@ -81,7 +84,7 @@ pub(crate) fn work_of<B: Board, L: Ledger>(
 }
 
 /// The node that the worker's hand holds, or else one that it takes, unless it is asked to stop.
-fn next_work<B: Board, L: Ledger>(
+fn next_work<B: Board, L: Begun>(
     held: &mut Held<B, L>,
     worker: u32,
     asked: bool,
@@ -90,6 +93,7 @@ fn next_work<B: Board, L: Ledger>(
     ensures root { root_at held.new.opened held.new.workers ≡ root_at held.old.opened held.old.workers }
     ensures few { IfOk result (λ work. length work.ask.cuts ≤ 2 ^ 24) }
     ensures asked { IfErr result (λ rest. rest ≡ Rest.Asked → asked ≡ true) }
+    ensures best { best_of (B.seen held.new.board) ≡ best_of (B.seen held.old.board) }
 {
     match held.board.held(worker) {
         Some(node) => {
@@ -109,7 +113,7 @@ fn next_work<B: Board, L: Ledger>(
 }
 
 /// A turn for a node to work on. A worker that is asked to stop takes none.
-pub(crate) fn take_turn<B: Board, L: Ledger, R: Wait>(
+pub(crate) fn take_turn<B: Board, L: Begun, R: Wait>(
     rt: &R,
     lock: &BoardLock<B, L>,
     pass: &mut BoardPass<B, L>,
@@ -123,14 +127,14 @@ pub(crate) fn take_turn<B: Board, L: Ledger, R: Wait>(
     ensures few { IfOk result (λ work. length work.ask.cuts ≤ 2 ^ 24) }
     ensures asked { IfErr result (λ rest. rest ≡ Rest.Asked → asked ≡ true) }
 {
-    let mut held = lock.enter(rt, pass);
+    let Desk { mut held, teller } = lock.enter(rt, pass);
     let work = next_work(&mut held, worker, asked);
-    lock.leave(held, pass);
+    lock.leave(Desk { held, teller }, pass);
     work
 }
 
 /// Commits the worker's step, or tells how it goes on. Without memory the worker lets go of its node.
-pub(crate) fn commit_in<B: Board, L: Ledger>(
+pub(crate) fn commit_in<B: Board, L: Begun>(
     held: &mut Held<B, L>,
     worker: u32,
     step: StepPosts,
@@ -147,6 +151,7 @@ pub(crate) fn commit_in<B: Board, L: Ledger>(
     ensures kept { IfOk result (Commits worker step (B.seen held.old.board) (B.seen held.new.board)) }
     ensures left { IfErr result (LeavesStep worker step (B.seen held.old.board) (B.seen held.new.board)) }
     ensures news { IfOk result (λ kept. ∥ IsNews held.old.workers (B.seen held.old.opened.value) worker (news_of step.node kept) ∥₁) }
+    ensures best { Follows (best_of (B.seen held.old.board)) (best_of (B.seen held.new.board)) }
 {
     match held.commit(worker, step, share) {
         Ok(kept) => Ok(kept),
@@ -163,8 +168,8 @@ pub(crate) fn commit_in<B: Board, L: Ledger>(
     }
 }
 
-/// A turn to commit a step for the worker's node.
-pub(crate) fn commit_turn<B: Board, L: Ledger, R: Wait>(
+/// A turn to commit a step for the worker's node, which then tells what the best rota costs.
+pub(crate) fn commit_turn<B: Board, L: Begun, R: Wait>(
     rt: &R,
     lock: &BoardLock<B, L>,
     pass: &mut BoardPass<B, L>,
@@ -185,14 +190,18 @@ pub(crate) fn commit_turn<B: Board, L: Ledger, R: Wait>(
     ensures left { IfErr result (IsLeft step) }
     ensures news { IfOk result (λ kept. ∥ IsNews (root_of pass.old).workers (B.seen (root_of pass.old).opened.value) worker (news_of step.node kept) ∥₁) }
 {
-    let mut held = lock.enter(rt, pass);
+    let Desk {
+        mut held,
+        mut teller,
+    } = lock.enter(rt, pass);
     let kept = commit_in(&mut held, worker, step, share);
-    lock.leave(held, pass);
+    held.tell(rt, &mut teller);
+    lock.leave(Desk { held, teller }, pass);
     kept
 }
 
 /// A turn to let go of the worker's node on running out of memory.
-pub(crate) fn yield_turn<B: Board, L: Ledger, R: Wait>(
+pub(crate) fn yield_turn<B: Board, L: Begun, R: Wait>(
     rt: &R,
     lock: &BoardLock<B, L>,
     pass: &mut BoardPass<B, L>,
@@ -203,7 +212,7 @@ pub(crate) fn yield_turn<B: Board, L: Ledger, R: Wait>(
     ensures pass { IsOutside lock.now pass.new }
     ensures root { root_of pass.new ≡ root_of pass.old }
 {
-    let mut held = lock.enter(rt, pass);
+    let Desk { mut held, teller } = lock.enter(rt, pass);
     held.yield_node(worker);
-    lock.leave(held, pass);
+    lock.leave(Desk { held, teller }, pass);
 }

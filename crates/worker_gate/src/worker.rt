@@ -9,12 +9,14 @@ ghost use Rattle.worker_gate.specs.Decision.{IsDecision};
 ghost use Rattle.worker_gate.specs.Runs.{news_of};
 ghost use Rattle.worker_gate.specs.Workers.{IsNews, IsToldLast, KnowsBoard};
 
+use crate::asking::with_newest;
 use crate::decision::{close_of, copy_of, step_in};
 use crate::gate::Gate;
 use crate::seat::{Place, Seat};
 use crate::turns::{BoardLock, BoardPass, Left, Rest, Work, commit_turn, take_turn, yield_turn};
 use advice::{Adviser, Ask, Stop};
 use atomic_table::Badge;
+use board_lock::Begun;
 use break_rules::NoMemory;
 use dual_bound::Buffers;
 use search_core::{Board, Kept, StepPosts};
@@ -22,7 +24,7 @@ use shift_instance::Instance;
 use std::alloc::Global;
 use std::mem;
 use std::sync::Wait;
-use std::sync::ledger::{Ledger, Share};
+use std::sync::ledger::Share;
 use std::thread::Parker;
 use std::time::Duration;
 
@@ -84,7 +86,7 @@ pub(crate) fn closed_again(
 }
 
 /// Commits a step that came back, closed by the split or the settled plan that its cuts have.
-fn commit_again<B: Board, L: Ledger, R: Wait>(
+fn commit_again<B: Board, L: Begun, R: Wait>(
     rt: &R,
     alloc: Global,
     instance: &Instance,
@@ -123,7 +125,7 @@ fn commit_again<B: Board, L: Ledger, R: Wait>(
 
 /// Commits a step for the worker's node. Where by its price alone it would leave the node open, it is committed once more, closed by
 /// the split or the settled plan that its cuts have.
-fn commit_closing<B: Board, L: Ledger, R: Wait>(
+fn commit_closing<B: Board, L: Begun, R: Wait>(
     rt: &R,
     alloc: Global,
     instance: &Instance,
@@ -163,7 +165,7 @@ fn wait_for_nodes<R: Wait>(rt: &R) {
 }
 
 /// One round of a worker, and whether it goes on.
-fn round<B: Board, L: Ledger, G: Gate, S: Stop, R: Wait>(
+fn round<B: Board, L: Begun, G: Gate, S: Stop, R: Wait>(
     rt: &R,
     alloc: Global,
     instance: &Instance,
@@ -191,6 +193,7 @@ fn round<B: Board, L: Ledger, G: Gate, S: Stop, R: Wait>(
         seat,
         share,
         number,
+        reader,
         steps,
         asked,
     } = place;
@@ -210,6 +213,7 @@ fn round<B: Board, L: Ledger, G: Gate, S: Stop, R: Wait>(
         *steps = steps.saturating_add(1);
         gate.enter(*number, *steps);
     }
+    let ask = with_newest(rt, reader, ask);
     let Ok(step) = decide(alloc, instance, buffers, seat, node, ask) else {
         yield_turn(rt, lock, pass, *number);
         return false;
@@ -227,7 +231,7 @@ fn round<B: Board, L: Ledger, G: Gate, S: Stop, R: Wait>(
 }
 
 /// Round after round, until there is nothing more to do or the worker sees that it is asked to stop.
-fn rounds<B: Board, L: Ledger, G: Gate, S: Stop, R: Wait>(
+fn rounds<B: Board, L: Begun, G: Gate, S: Stop, R: Wait>(
     rt: &R,
     alloc: Global,
     instance: &Instance,
@@ -264,7 +268,7 @@ fn rounds<B: Board, L: Ledger, G: Gate, S: Stop, R: Wait>(
 }
 
 /// Works until there is nothing more to do, or the worker sees that it is asked to stop.
-pub(crate) fn work<B: Board, L: Ledger, G: Gate, S: Stop, R: Wait>(
+pub(crate) fn work<B: Board, L: Begun, G: Gate, S: Stop, R: Wait>(
     rt: &R,
     alloc: Global,
     instance: &Instance,

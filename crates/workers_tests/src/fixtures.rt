@@ -2,12 +2,16 @@
 ghost use Rattle.std.specs.Prelude.{◌≡◌, ◌+◌, All, IfOk, OnOk, length, vec_len};
 ghost use Rattle.instance_json.specs.Canonical.{canonical_text};
 
-use advice::Adviser;
+use advice::{Adviser, Never};
 use instance_json::{canonical, read};
+use plan_base::MemDisk;
+use search_book::Book;
 use shift_instance::Instance;
 use std::alloc::Global;
+use std::sync::Wait;
 use std::test::Fail;
-use worker_gate::Seat;
+use std::thread::Threads;
+use worker_gate::{Gate, Open, RunEnd, Seat, run_seat, run_workers};
 
 /// The most bytes of a journal.
 pub const LIMIT: u32 = 1 << 26;
@@ -64,5 +68,48 @@ pub fn seat_with(adviser: Box<dyn Adviser + Send>) -> Seat
         adviser,
         told: 0,
         share: 0,
+    }
+}
+
+/// The bytes of the journal of a first step with this adviser, which splits the root and leaves both parts open.
+pub fn parted<R: Threads + Sync>(
+    rt: &R,
+    alloc: Global,
+    instance: &Instance,
+    adviser: Box<dyn Adviser + Send>,
+) -> Result<Vec<u8>, Fail>
+    requires { length (canonical_text instance.now) ≡ 372 }
+{
+    let mut seat = seat_with(adviser);
+    let disk = MemDisk::new(alloc, Vec::new(alloc), Vec::new(alloc));
+    match Book::open(rt, alloc, instance, disk, 1, LIMIT, 1) {
+        Ok(mut book) => {
+            run_seat(alloc, instance, &mut book, &mut seat, &Open, &Never);
+            Ok(Vec::from_slice(alloc, book.into_disk().bytes())?)
+        }
+        Err(_) => Err("it isn't opened")?,
+    }
+}
+
+/// How a run of two workers ends who go on from these bytes of a journal.
+pub fn run_two<G: Gate + Sync, R: Threads + Wait + Sync>(
+    rt: &R,
+    alloc: Global,
+    instance: &Instance,
+    bytes: Vec<u8>,
+    seats: Vec<Seat>,
+    gate: &G,
+) -> Result<RunEnd, Fail>
+    requires canonical { length (canonical_text instance.now) ≡ 372 }
+    requires two { vec_len seats ≡ 2 }
+    requires new { All (λ s. (s.told ≡ 0) × (s.share ≡ 0)) seats.items }
+{
+    let disk = MemDisk::new(alloc, bytes, Vec::new(alloc));
+    match Book::open(rt, alloc, instance, disk, 100, LIMIT, 2) {
+        Ok(book) => {
+            let (_book, _seats, end) = run_workers(rt, alloc, instance, book, seats, gate, &Never);
+            Ok(end)
+        }
+        Err(_) => Err("it isn't opened")?,
     }
 }

@@ -1,8 +1,10 @@
-//! Tests of two workers that work at the same time over a book on a disk in memory, and of runs that are asked to stop; and a small
-//! instance for runs of workers.
+//! Tests of two workers that work at the same time over a book on a disk in memory, of which one reads the best cost that the other one's commit told,
+//! and of runs that are asked to stop; and a small instance for runs of workers.
 #![tactic(auto)]
 
 pub mod fixtures;
+#[cfg(test)]
+mod newest;
 #[cfg(test)]
 mod side_by_side;
 #[cfg(test)]

@@ -3,8 +3,8 @@ use Rattle.best_cell.specs.Told.{last_of}
 use Rattle.lock_tests.proofs.Lists.{last_push}
 use Rattle.lock_tests.proofs.best_costs.tell_all.Goals as goal
 
-pub tell-requires : goal.tell-requires
-tell-requires g c =
+pub tell-requires-clause-follows : goal.tell-requires-clause-follows
+tell-requires-clause-follows g c =
     let i = c.loop-posts.invariant in
     (omega (arith, ap (λ p. p.0) i.last, i.some), omega (arith, ap (λ p. p.1) i.last, i.some))
 

@@ -19,7 +19,7 @@ returns-in_default-clause-turns g c =
 pub returns-in-Err-clause-turns : goal.returns-in-Err-clause-turns
 returns-in-Err-clause-turns g c =
     let none = sum_none (λ s. s.share) c.args.seats.items (λ k d l. (c.requires.new k d l).1) in
-    let back = c.into_board-board.ensures.board ∙ ap (λ h. h.board) c.in-Err.ensures.refused ∙ c.new-held.ensures.board in
+    let back = c.into_board-board.ensures.board ∙ ap (λ desk. desk.held.board) c.in-Err.ensures.refused ∙ c.new-held.ensures.board in
     no_turns (vec_len c.args.seats) (g.B.Board.seen c.args.board) (g.B.Board.seen c.into_board-board.result) (sum_by (λ s. s.share) c.args.seats.items) (ap g.B.Board.seen (sym back)) none
 
 pub work_bench-requires-clause-rest : goal.work_bench-requires-clause-rest
@@ -31,7 +31,7 @@ work_bench-requires-clause-rest g c κs within =
     let budget = subst (λ b. (g.B.Board.seen b).budget < 2 ^ 63) (sym c.new-held.ensures.opened) c.requires.budget in
     all_know g.B.Board.seen (λ p. p.number) (λ p. p.badge) c.in-Ok-new.made.0 c.args.instance.now (root_of c.in-Ok-new.made.1) xs
     (λ k low. subst (λ r. KnowsBoard g.B.Board.seen c.args.instance.now k r) (sym c.in-Ok-new.ensures.root)
-    (knows g.B.Board.seen c.args.instance.now k c.new-held.result.workers c.new-held.result.opened instance budget (omega (arith, low, many, mapped, c.new-held.ensures.workers, c.len-2.ensures, c.args.seats.ok, c.requires.sixteen))))
+    (knows g.B.Board.seen c.args.instance.now k c.new-held.result.workers c.new-held.result.opened instance budget (omega (arith, low, many, mapped, c.new-held.ensures.workers, c.len-3.ensures, c.args.seats.ok, c.requires.sixteen))))
     (λ k d low. c.seat_all.ensures.numbers k d (omega (arith, low, many, mapped, c.args.seats.ok)))
     c.seat_all.ensures.rest
 
@@ -82,7 +82,7 @@ returns-clause-last g c =
     (λ i d low. told_at g.B.Board.seen root root i (slice_index_or first i d).number (slice_index_or first i d).seat.told (slice_index_or mid i d).seat.told
     ((goal.Adviser-dyn g ((slice_index_or first i d).seat.adviser.vtable, (slice_index_or first i d).seat.adviser.value)).last (slice_index_or first i d).seat.adviser.value) ((goal.Adviser-dyn g ((slice_index_or mid i d).seat.adviser.vtable, (slice_index_or mid i d).seat.adviser.value)).last (slice_index_or mid i d).seat.adviser.value)
     refl (numbers i d (omega (arith, low, many, mapped, c.args.seats.ok))) (worked i d (omega (arith, low, c.seat_all.new.bench.ok))))
-    (λ i d low. told_at g.B.Board.seen root (root_at c.enter-held.result.opened c.enter-held.result.workers) i i (slice_index_or mid i d).seat.told (slice_index_or last i d).seat.told
+    (λ i d low. told_at g.B.Board.seen root (root_at c.enter-held.result.held.opened c.enter-held.result.held.workers) i i (slice_index_or mid i d).seat.told (slice_index_or last i d).seat.told
     ((goal.Adviser-dyn g ((slice_index_or mid i d).seat.adviser.vtable, (slice_index_or mid i d).seat.adviser.value)).last (slice_index_or mid i d).seat.adviser.value) ((goal.Adviser-dyn g ((slice_index_or last i d).seat.adviser.vtable, (slice_index_or last i d).seat.adviser.value)).last (slice_index_or last i d).seat.adviser.value)
     entered refl (c.finish_all-end.ensures.last i d (omega (arith, low, c.work_bench.new.bench.ok))))) in
     let opened = c.in-Ok-new.ensures.root in
@@ -92,7 +92,7 @@ returns-clause-last g c =
     let of_workers = subst (λ n. IsToldLast n (g.B.Board.seen root.opened.value) i (slice_index_or c.args.seats.items i d).told (slice_index_or c.unseat_all.new.seats.items i d).told
     ((goal.Adviser-dyn g ((slice_index_or c.args.seats.items i d).adviser.vtable, (slice_index_or c.args.seats.items i d).adviser.value)).last (slice_index_or c.args.seats.items i d).adviser.value)
     ((goal.Adviser-dyn g ((slice_index_or c.unseat_all.new.seats.items i d).adviser.vtable, (slice_index_or c.unseat_all.new.seats.items i d).adviser.value)).last (slice_index_or c.unseat_all.new.seats.items i d).adviser.value))
-    (ap (λ r. r.workers) opened ∙ c.new-held.ensures.workers ∙ c.len-2.ensures) one in
+    (ap (λ r. r.workers) opened ∙ c.new-held.ensures.workers ∙ c.len-3.ensures) one in
     let of_board = subst (λ b. IsToldLast (vec_len c.args.seats) (g.B.Board.seen b) i (slice_index_or c.args.seats.items i d).told (slice_index_or c.unseat_all.new.seats.items i d).told
     ((goal.Adviser-dyn g ((slice_index_or c.args.seats.items i d).adviser.vtable, (slice_index_or c.args.seats.items i d).adviser.value)).last (slice_index_or c.args.seats.items i d).adviser.value)
     ((goal.Adviser-dyn g ((slice_index_or c.unseat_all.new.seats.items i d).adviser.vtable, (slice_index_or c.unseat_all.new.seats.items i d).adviser.value)).last (slice_index_or c.unseat_all.new.seats.items i d).adviser.value))
@@ -111,6 +111,18 @@ returns-in_default-clause-last g c =
 
 pub returns-in-Err-clause-last : goal.returns-in-Err-clause-last
 returns-in-Err-clause-last g c =
+    λ i d low. told_nothing (vec_len c.args.seats) (g.B.Board.seen c.args.board) i 0 (slice_index_or c.args.seats.items i d).told
+    ((goal.Adviser-dyn g ((slice_index_or c.args.seats.items i d).adviser.vtable, (slice_index_or c.args.seats.items i d).adviser.value)).last (slice_index_or c.args.seats.items i d).adviser.value)
+    ((goal.Adviser-dyn g ((slice_index_or c.args.seats.items i d).adviser.vtable, (slice_index_or c.args.seats.items i d).adviser.value)).last (slice_index_or c.args.seats.items i d).adviser.value)
+    (c.requires.new i d (omega (arith, low, c.args.seats.ok))).0 refl
+
+pub returns-in_default-tellings-clause-turns : goal.returns-in_default-tellings-clause-turns
+returns-in_default-tellings-clause-turns g c =
+    let none = sum_none (λ s. s.share) c.args.seats.items (λ k d l. (c.requires.new k d l).1) in
+    no_turns (vec_len c.args.seats) (g.B.Board.seen c.args.board) (g.B.Board.seen c.args.board) (sum_by (λ s. s.share) c.args.seats.items) refl none
+
+pub returns-in_default-tellings-clause-last : goal.returns-in_default-tellings-clause-last
+returns-in_default-tellings-clause-last g c =
     λ i d low. told_nothing (vec_len c.args.seats) (g.B.Board.seen c.args.board) i 0 (slice_index_or c.args.seats.items i d).told
     ((goal.Adviser-dyn g ((slice_index_or c.args.seats.items i d).adviser.vtable, (slice_index_or c.args.seats.items i d).adviser.value)).last (slice_index_or c.args.seats.items i d).adviser.value)
     ((goal.Adviser-dyn g ((slice_index_or c.args.seats.items i d).adviser.vtable, (slice_index_or c.args.seats.items i d).adviser.value)).last (slice_index_or c.args.seats.items i d).adviser.value)

@@ -19,6 +19,7 @@ loop-seats-preserved g c =
       numbers = rw push.items (all_placed (λ k p. p.number ≡ k) c.loop-seats.bench.items c.seat_one-place.result i.numbers (omega (arith, one.number, c.loop-seats.bench.ok)));
       unasked = rw push.items (all_more (λ p. p.asked ≡ false) c.loop-seats.bench.items c.seat_one-place.result i.unasked one.unasked);
       rest = rw push.items (all_more (λ p. RestsAt (λ r. r ≡ root_of c.args.first.now) c.args.lock.now p.badge) c.loop-seats.bench.items c.seat_one-place.result i.rest (subst (λ root. RestsAt (λ r. r ≡ root) c.args.lock.now c.seat_one-place.result.badge) i.root one.rests));
+      readers = omega (arith, c.in-Some.ensures.len, took.len, i.readers);
       new = rw took.items (all_rest (λ s. (s.told ≡ 0) × (s.share ≡ 0)) c.loop-seats.seats.items i.new);
       room = push.capacity ∙ i.room;
       kept = took.capacity ∙ i.kept;

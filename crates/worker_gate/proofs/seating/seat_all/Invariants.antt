@@ -14,6 +14,7 @@ invariant-loop-seats g l = record {
   numbers : (i : ℕ) (d : _) → i < length l.bench.items → (slice_index_or l.bench.items i d).number ≡ i;
   unasked : All (λ p. p.asked ≡ false) l.bench.items;
   rest : All (λ p. RestsAt (λ r. r ≡ root_of l.initial.first) l.lock p.badge) l.bench.items;
+  readers : vec_len l.readers ≡ vec_len l.seats;
   new : All (λ s. (s.told ≡ 0) × (s.share ≡ 0)) l.seats.items;
   room : vec_capacity l.bench ≡ vec_capacity l.initial.bench;
   kept : vec_capacity l.seats ≡ vec_capacity l.initial.seats;

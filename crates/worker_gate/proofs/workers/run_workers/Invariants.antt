@@ -1,4 +1,8 @@
+use Rattle.std.proofs.Common.{Some, vec_len}
 use Rattle.worker_gate.proofs.workers.run_workers.Given as goal
 
-abbrev pub ghosts-run_in : goal.ghosts-run_in
-ghosts-run_in g a = record { name = a.blank.name; parts = a.blank.parts }
+abbrev pub ghosts-run_in-L-Ledger : goal.ghosts-run_in-L-Ledger
+ghosts-run_in-L-Ledger g a = record { name = a.blank.name; parts = a.blank.parts }
+
+abbrev pub ghosts-run_in-L-Begun : goal.ghosts-run_in-L-Begun
+ghosts-run_in-L-Begun g a = record { begun_at = Some (g.B.Board.seen a.board); begun_by = vec_len a.seats }

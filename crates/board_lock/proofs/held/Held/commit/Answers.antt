@@ -22,6 +22,8 @@ invariant_of-self g c =
     let after : BoardView = g.B.Board.seen c.commit.new.self in
     record {
       sixteen = held.sixteen;
+      begun = held.begun;
+      as_many = held.as_many;
       untaken = held.untaken;
       empty = held.empty;
       closed = commit_shut before after held.shut held.halted held.closed held.stopped c.args.worker c.args.step c.in-Ok.kept c.in-Ok.ensures.ok;
@@ -52,6 +54,8 @@ invariant_of-self-in-Err g c =
     let after : BoardView = g.B.Board.seen c.commit.new.self in
     record {
       sixteen = held.sixteen;
+      begun = held.begun;
+      as_many = held.as_many;
       untaken = held.untaken;
       empty = held.empty;
       closed = refusal_shut before after held.shut held.halted held.closed held.stopped c.args.worker c.args.step c.in-Err.fault c.shut_by.result c.shut_by.ensures c.in-Err.ensures.err;

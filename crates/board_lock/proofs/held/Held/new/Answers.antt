@@ -1,4 +1,4 @@
-use Rattle.std.proofs.Common.{ap, ◌∙◌, None}
+use Rattle.std.proofs.Common.{ap, sym, ◌∙◌, None, Some}
 use Rattle.board_lock.proofs.Shutting.{is_same}
 use Rattle.board_lock.proofs.Turned.{no_turns}
 use Rattle.board_lock.proofs.held.Held.new.Goals as goal
@@ -8,6 +8,8 @@ invariant_of-result g c =
     let same = ap g.B.Board.seen c.of-opened.ensures in
     record {
       sixteen = c.requires.sixteen;
+      begun = c.requires.begun ∙ ap (λ v. Some v) (sym same);
+      as_many = c.requires.as_many;
       untaken = ap (λ v. v.taken) same ∙ c.requires.untaken;
       empty = ap (λ v. v.hands) same ∙ c.requires.empty;
       closed = is_same (g.B.Board.seen c.args.board).shut None c.requires.running;

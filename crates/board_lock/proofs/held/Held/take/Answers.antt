@@ -12,6 +12,8 @@ invariant_of-self g c =
     let after : BoardView = g.B.Board.seen c.take.new.self in
     record {
       sixteen = held.sixteen;
+      begun = held.begun;
+      as_many = held.as_many;
       untaken = held.untaken;
       empty = held.empty;
       closed = take_shut before after held.shut held.halted held.closed held.stopped c.take.result c.args.worker c.take.ensures;

@@ -13,6 +13,8 @@ invariant_of-self g c =
     let after : BoardView = g.B.Board.seen c.yield_node.new.self in
     record {
       sixteen = held.sixteen;
+      begun = held.begun;
+      as_many = held.as_many;
       untaken = held.untaken;
       empty = held.empty;
       closed = is_same after.shut held.shut (ap (λ v. v.shut) c.yield_node.ensures ∙ same_is before.shut held.shut held.closed);
