@@ -4,11 +4,14 @@ spliced with one another, or with some bytes changed. Words: the number of files
 `shift_solve` and `shift_check` where they aren't those that are built. A run that doesn't end by a named status, or a journal that opens to
 a plan that `shift_check` doesn't count at its cost, is printed with its number; `bench/bent.py NUMBER SEED` with a greater number tries the
 same files first. The last line is `N passed, M failed`."""
-import concurrent.futures
+import multiprocessing
 import os
 import pathlib
 import random
+import select
+import signal
 import sys
+import tempfile
 
 TOP = pathlib.Path(__file__).resolve().parent.parent
 sys.path.insert(0, str(TOP / "cases"))
@@ -16,7 +19,47 @@ import bent_bytes
 
 TEXTS = ("morning.json", "noon.json", "early_and_late.json", "quarters.json")
 STEPS = 6              # of the searches whose journals and reports are bent
-AT_ONCE = 1000         # files that are waited for together
+AT_ONCE = 50           # files that a process takes at a time
+
+
+class Spawned(bent_bytes.Programs):
+    """The programs, started without a fork of this process, with files in place of pipes: three to four times as many runs in a second."""
+
+    def __init__(self, solve=None, check=None):
+        super().__init__(solve, check)
+        self.folder = None
+
+    def files(self):
+        """The files of the standard streams, those of this process alone."""
+        if self.folder is None:
+            self.folder = tempfile.TemporaryDirectory()
+        return [os.path.join(self.folder.name, name) for name in ("in", "out", "err")]
+
+    def run(self, words, source=b""):
+        given, told, said = self.files()
+        pathlib.Path(given).write_bytes(source)
+        made = os.O_WRONLY | os.O_CREAT | os.O_TRUNC
+        streams = [(os.POSIX_SPAWN_OPEN, 0, given, os.O_RDONLY, 0), (os.POSIX_SPAWN_OPEN, 1, told, made, 0o600), (os.POSIX_SPAWN_OPEN, 2, said, made, 0o600)]
+        number = os.posix_spawn(words[0], words, os.environ, file_actions=streams)
+        status = ended(number)
+        if status is None:
+            return None, b"", b"it doesn't end"
+        return status, pathlib.Path(told).read_bytes(), pathlib.Path(said).read_bytes()
+
+
+def ended(number):
+    """The status of a process once it has ended; it is killed where it takes too long."""
+    handle = os.pidfd_open(number)
+    try:
+        poll = select.poll()
+        poll.register(handle, select.POLLIN)
+        is_late = not poll.poll(1000 * bent_bytes.SECONDS)
+        if is_late:
+            os.kill(number, signal.SIGKILL)
+        status = os.waitstatus_to_exitcode(os.waitpid(number, 0)[1])
+        return None if is_late else status
+    finally:
+        os.close(handle)
 
 
 def cut(draw, content, other):
@@ -72,20 +115,26 @@ def faults_of(programs, number, seed, whole):
     return ["file %d, a %s %s: %s" % (number, kind, way.__name__, fault) for fault in found]
 
 
-def main(words):
-    count, seed = (int(word) for word in (words + ["100000", "1"][len(words):])[:2])
-    programs = bent_bytes.Programs(*words[2:4])
-    whole = []
+def prepared(words):
+    """Keeps for this process what all files are made of: the programs, the seed, and each document with its journal and its report."""
+    global PROGRAMS, SEED, WHOLE
+    SEED, PROGRAMS, WHOLE = int(words[1]), Spawned(*words[2:4]), []
     for name in TEXTS:
         document = (TOP / "cases" / "texts" / name).read_bytes()
-        whole.append((document, *bent_bytes.made(programs, document, STEPS)))
-    failed = 0
-    with concurrent.futures.ThreadPoolExecutor(os.cpu_count()) as pool:
-        for begin in range(0, count, AT_ONCE):
-            numbers = range(begin, min(count, begin + AT_ONCE))
-            for found in pool.map(lambda number: faults_of(programs, number, seed, whole), numbers):
-                print("".join(fault + "\n" for fault in found), end="", flush=True)
-                failed += found != []
+        WHOLE.append((document, *bent_bytes.made(PROGRAMS, document, STEPS)))
+
+
+def tried(number):
+    return faults_of(PROGRAMS, number, SEED, WHOLE)
+
+
+def main(words):
+    words = words + ["100000", "1"][len(words):]
+    count, failed = int(words[0]), 0
+    with multiprocessing.Pool(os.cpu_count(), prepared, (words,)) as pool:
+        for found in pool.imap(tried, range(count), AT_ONCE):
+            print("".join(fault + "\n" for fault in found), end="", flush=True)
+            failed += found != []
     print("%d passed, %d failed" % (count - failed, failed))
     return int(failed > 0)
 
