@@ -61,7 +61,7 @@ fn ended(team: &Team, planned: Planned<FileDisk<HostRuntime>>) -> Result<Plan, R
     let Planned { searched, plan } = planned;
     match plan {
         Some(plan) => {
-            tell_end(team.host, team.progress, &searched.end);
+            tell_end(team.host, team.words, team.progress, &searched.end);
             Ok(plan)
         }
         None => Err(unplanned(team.host, team.words, &searched.end)),
@@ -146,6 +146,7 @@ pub fn search_as_asked<R: Threads + Wait + Sync>(
         words,
         progress: &progress,
         older,
+        before: journals.before.as_ref(),
         shown: shown_on(host, enter_ends(host, rt, words, &progress)),
     };
     let found = search_by(rt, &team, instance, &journals.now)?;
