@@ -9,7 +9,7 @@ use planning_words::PlanWords;
 use shift_instance::{Instance, Rows};
 use std::alloc::AllocError;
 use std::sync::Arc;
-use thorough_search::Thorough;
+use thorough_search::{Budget, Thorough};
 
 /// What the advisers of a search are made of.
 #[derive(Clone, Copy)]
@@ -23,6 +23,8 @@ pub(crate) struct Team<'a> {
     pub(crate) older: &'a Older,
     /// The best plan of an old journal, where it begins with that. There is no older plan then.
     pub(crate) before: Option<&'a Before>,
+    /// What the steps of each worker may take.
+    pub(crate) budget: Budget,
     /// Where and how often the line of the search is said.
     pub(crate) shown: Shown,
 }
@@ -43,7 +45,13 @@ impl Team<'_> {
         worker: u16,
     ) -> Result<Thorough<Until<HostRuntime>>, NoMemory> {
         let seed = u64::from(self.words.seed) + u64::from(worker);
-        Thorough::of(self.host.alloc(), instance, seed, self.until()?)
+        Thorough::within(
+            self.host.alloc(),
+            instance,
+            seed,
+            self.until()?,
+            self.budget,
+        )
     }
 
     /// The rows that the search begins with: those of an old journal's best plan, or else those of the older plan.
