@@ -1,0 +1,4 @@
+pub mod Shorter
+pub mod Carried
+pub mod Migrated
+pub mod Ending
