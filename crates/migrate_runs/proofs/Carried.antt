@@ -133,5 +133,6 @@ carried_over reads i head old new count valid text stood fits same makes counts 
   make = makes.2.0;
   now = makes.1;
   make_now = makes.2.1;
+  alike = same;
   room = omega (arith, fits, journal_shorter head old new same);
 }

@@ -7,7 +7,7 @@ use Rattle.shift_instance.specs.Problem.{Problem}
 use Rattle.post_codec.specs.declared.post.Post.{Post}
 use Rattle.gated_journal.specs.declared.TheConstants.{JOURNAL_MAX}
 use Rattle.gated_journal.specs.View.{IsSettled, JournalView}
-use Rattle.migrate_runs.specs.Migrate.{CanMigrate, Explains, HasFiles, IsCarried, IsDone, IsEarlierOrSame, IsSameBook, Met, NewFails, OldBook, OldFails, SaysPosts}
+use Rattle.migrate_runs.specs.Migrate.{CanMigrate, EndsEarly, Explains, HasFiles, IsCarried, IsDone, IsEarlierOrSame, IsOldBook, IsSameBook, Met, NewFails, OldBook, OldFails, SaysPosts}
 use Rattle.migrate_runs.specs.declared.status.MigrateStatus.{MigrateStatus}
 use Rattle.migrate_runs.specs.declared.status.MigrateStatus.TheVariants.{Migrated, Usage, WriteFault, DiskFault, NoMemory, Old, Target}
 use Rattle.migrate_runs.proofs.Migrated.{same_book}
@@ -30,15 +30,18 @@ well_by_old met status fails only can =
 pub old_unsynced : (reads : Option (List ℕ)) (before now : ℕ) (status : MigrateStatus) → OldFails reads before now status → status ≡ Migrated → ⊥
 old_unsynced reads before now status fails is = subst (OldFails reads before now) is fails
 
+pub old_worded : (reads : Option (List ℕ)) (before now : ℕ) (status : MigrateStatus) → OldFails reads before now status → status ≡ Usage → ⊥
+old_worded reads before now status fails is = subst (OldFails reads before now) is fails
+
 -- ---- where the new file isn't written
-pub by_new : (met : Met) (status : MigrateStatus) → HasFiles met → NewFails met.new.file met.new.faults.0 met.new.faults.1 status → Explains met status
-by_new met (Target len) files fails = (files, fails)
-by_new met DiskFault files fails = (files, inr fails)
-by_new met NoMemory files fails = files
-by_new met (Old why) files fails = absurd fails
-by_new met Migrated files fails = absurd fails
-by_new met Usage files fails = absurd fails
-by_new met WriteFault files fails = absurd fails
+pub by_new : (met : Met) (status : MigrateStatus) → HasFiles met → IfSome met.old.file IsOldBook → NewFails met.new.file met.new.faults.0 met.new.faults.1 status → Explains met status
+by_new met (Target len) files old fails = (files, old, fails)
+by_new met DiskFault files old fails = (files, inr fails)
+by_new met NoMemory files old fails = files
+by_new met (Old why) files old fails = absurd fails
+by_new met Migrated files old fails = absurd fails
+by_new met Usage files old fails = absurd fails
+by_new met WriteFault files old fails = absurd fails
 
 no_target : (o : Option (List ℕ)) (len : ℕ) → o ≡ Some [] → IfSome o (λ file. len ≡ length file) → 0 < len → ⊥
 no_target o len empty long some =
@@ -56,6 +59,18 @@ well_by_new met WriteFault fails can = absurd fails
 
 pub new_unsynced : (reads : Option (List ℕ)) (before now : ℕ) (status : MigrateStatus) → NewFails reads before now status → status ≡ Migrated → ⊥
 new_unsynced reads before now status fails is = subst (NewFails reads before now) is fails
+
+pub new_worded : (reads : Option (List ℕ)) (before now : ℕ) (status : MigrateStatus) → NewFails reads before now status → status ≡ Usage → ⊥
+new_worded reads before now status fails is = subst (NewFails reads before now) is fails
+
+pub new_late : (reads : Option (List ℕ)) (before now : ℕ) (status : MigrateStatus) → NewFails reads before now status → EndsEarly status → ⊥
+new_late reads before now (Old why) fails early = fails
+new_late reads before now Usage fails early = fails
+new_late reads before now Migrated fails early = early
+new_late reads before now WriteFault fails early = early
+new_late reads before now DiskFault fails early = early
+new_late reads before now NoMemory fails early = early
+new_late reads before now (Target len) fails early = early
 
 -- ---- where it is
 same_files : (before after : Option (List ℕ)) (head : List ℕ) (records : List (List ℕ)) (n count : ℕ) (images : List ℕ → Type 0) → n ≡ length records → IsCarried before head records count
@@ -89,6 +104,18 @@ well_by_line met n count Usage says can = absurd says
 well_by_line met n count DiskFault says can = absurd says
 well_by_line met n count (Old why) says can = absurd says
 well_by_line met n count (Target len) says can = absurd says
+
+pub line_worded : (records posts : ℕ) (held holds : Option (List ℕ)) (faults : ℕ × ℕ) (status : MigrateStatus) → SaysPosts records posts held holds faults status → status ≡ Usage → ⊥
+line_worded records posts held holds faults status says is = subst (SaysPosts records posts held holds faults) is says
+
+pub line_late : (records posts : ℕ) (held holds : Option (List ℕ)) (faults : ℕ × ℕ) (status : MigrateStatus) → SaysPosts records posts held holds faults status → EndsEarly status → ⊥
+line_late records posts held holds faults (Old why) says early = says
+line_late records posts held holds faults Usage says early = says
+line_late records posts held holds faults Migrated says early = early
+line_late records posts held holds faults WriteFault says early = early
+line_late records posts held holds faults DiskFault says early = early
+line_late records posts held holds faults NoMemory says early = early
+line_late records posts held holds faults (Target len) says early = early
 
 pub synced_by_settled : (journal : JournalView) (reads : Option (List ℕ)) (images : List ℕ → Type 0) → IsSettled journal reads images → IsSynced reads images
 synced_by_settled journal None images settled = tt

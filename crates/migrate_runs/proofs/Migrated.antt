@@ -6,20 +6,30 @@ use Rattle.plan_base.proofs.Moments.{weaker, then_run}
 use Rattle.instance_json.specs.Canonical.{canonical_text}
 use Rattle.gated_journal.specs.declared.TheConstants.{JOURNAL_MAX}
 use Rattle.gated_journal.specs.Format.{IsUnfinished, IsUnfinishedOr, StandsFor, StoodFor}
-use Rattle.migrate_runs.specs.Migrate.{IsCarried, IsEarlierOr, IsEarlierOrSame, IsSameBook, IsUnfinishedOrSame, NewBook, OldBook}
+use Rattle.migrate_runs.specs.Migrate.{IsCarried, IsEarlierOr, IsEarlierOrSame, IsOldBook, IsSameBook, IsUnfinishedOrSame, NewBook, OldBook}
 
 -- a file that stands for what was carried over stands for the posts of the old file
 pub same_book : (before : Option (List ℕ)) (head : List ℕ) (records : List (List ℕ)) (count : ℕ) → IsCarried before head records count → (image : List ℕ) → StandsFor JOURNAL_MAX head records image → IfSome before (λ file. IsSameBook file image (length records) count)
 same_book None head records count carried image stands = tt
-same_book (Some file) head records count carried image stands =
-    (carried.instance, carried.posts,
-    record { instance = carried.valid; records = carried.old; stood = subst (λ (h : List ℕ). StoodFor JOURNAL_MAX h carried.old file) carried.text carried.stood; book = carried.before; make = carried.make },
-    record { records = records; counted = refl; stands = subst (λ (h : List ℕ). StandsFor JOURNAL_MAX h records image) carried.text stands; book = carried.now; make = carried.make_now },
-    carried.counted)
+same_book (Some file) head records count carried image stands = record {
+  instance = carried.instance;
+  posts = carried.posts;
+  old = record { instance = carried.valid; records = carried.old; stood = subst (λ (h : List ℕ). StoodFor JOURNAL_MAX h carried.old file) carried.text carried.stood; book = carried.before; make = carried.make };
+  new = record { records = records; stands = subst (λ (h : List ℕ). StandsFor JOURNAL_MAX h records image) carried.text stands; book = carried.now; make = carried.make_now };
+  alike = carried.alike;
+  counted = refl;
+  posted = carried.counted;
+}
 
 pub unfinished_or_same : (before : Option (List ℕ)) (head : List ℕ) (records : List (List ℕ)) (count : ℕ) → IsCarried before head records count → (image : List ℕ) → IsUnfinishedOr JOURNAL_MAX head records image → IsUnfinishedOrSame before image
 unfinished_or_same before head records count carried image (inl less) = inl less
 unfinished_or_same before head records count carried image (inr stands) = inr (length records, count, same_book before head records count carried image stands)
+
+-- what was carried over stands in the old file
+pub was_book : (before : Option (List ℕ)) (head : List ℕ) (records : List (List ℕ)) (count : ℕ) → IsCarried before head records count → IfSome before IsOldBook
+was_book None head records count carried = tt
+was_book (Some file) head records count carried =
+    (carried.instance, carried.posts, record { instance = carried.valid; records = carried.old; stood = subst (λ (h : List ℕ). StoodFor JOURNAL_MAX h carried.old file) carried.text carried.stood; book = carried.before; make = carried.make })
 
 -- at each moment of a run
 pub same_moments : {D : Type 0} (calls : D → ℕ) (since : D → ℕ → List ℕ → Type 0) (images : List ℕ → Type 0) (old new : D) (reads before : Option (List ℕ)) (head : List ℕ) (records : List (List ℕ)) (count : ℕ) → IsCarried before head records count

@@ -2,6 +2,7 @@
 use Rattle.std.specs.Prelude.{◌≡◌, ◌⊎◌, ⊤, ℕ, ◌+◌, ◌<◌, ◌≤◌, List, [], ◌∷◌, ◌++◌, length, Option, Some, None, IsSome, IfSome, codes}
 use Rattle.std.specs.Fmt.{decimal}
 use Rattle.std.specs.Io.KnownBytes.{Appends}
+use Rattle.std.specs.List.{AllZip}
 use Rattle.plan_base.specs.Causes.{Rose}
 use Rattle.plan_base.specs.Streams.{AppendsPart}
 use Rattle.break_rules.specs.Causes.{first_cause}
@@ -13,6 +14,7 @@ use Rattle.post_codec.specs.declared.post.Post.{Post}
 use Rattle.post_codec.specs.declared.price_width.PriceWidth.TheVariants.{Eight}
 use Rattle.search_core.specs.Book.{Book}
 use Rattle.recovery.specs.declared.fault.Why.{Why}
+use Rattle.recovery.specs.Migrating.{SpellSame}
 use Rattle.recovery.specs.Records.{MakeBook, MakeBookBy}
 use Rattle.recovery.specs.Refusals.{IsFirstRejectedBy}
 use Rattle.gated_journal.specs.declared.TheConstants.{JOURNAL_MAX}
@@ -39,18 +41,26 @@ pub record OldBook (i : Problem) (posts : List Post) (file : List ℕ) : Type 0 
   pub book : Book
   pub make : MakeBookBy Eight i records posts book
 
--- a file of the present version stands for so many records of an instance, which spell posts that make a book
-pub record NewBook (i : Problem) (count : ℕ) (posts : List Post) (file : List ℕ) : Type 0 where
+-- a file of the present version does
+pub record NewBook (i : Problem) (posts : List Post) (file : List ℕ) : Type 0 where
   pub records : List (List ℕ)
-  pub counted : count ≡ length records
   pub stands : StandsFor JOURNAL_MAX (canonical_text i) records file
   pub book : Book
   pub make : MakeBook i records posts book
 
--- the old file and the new one stand for the same posts of one instance, by so many records and posts
-abbrev pub IsSameBook : List ℕ → List ℕ → ℕ → ℕ → Type 0
-IsSameBook before after records count =
-    (i : Problem) × (posts : List Post) × OldBook i posts before × NewBook i records posts after × (count ≡ length posts)
+-- the old file and the new one stand for the same posts of one instance, record by record, by so many records and posts
+pub record IsSameBook (before after : List ℕ) (records count : ℕ) : Type 0 where
+  pub instance : Problem
+  pub posts : List Post
+  pub old : OldBook instance posts before
+  pub new : NewBook instance posts after
+  pub alike : AllZip SpellSame old.records new.records
+  pub counted : records ≡ length new.records
+  pub posted : count ≡ length posts
+
+-- a file of the first version stands for posts of an instance that make a book
+abbrev pub IsOldBook : List ℕ → Type 0
+IsOldBook file = (i : Problem) × (posts : List Post) × OldBook i posts file
 
 -- a new file that is unfinished, or stands for all posts for which the old one, if it tells, stands
 abbrev pub IsUnfinishedOrSame : Option (List ℕ) → List ℕ → Type 0
@@ -135,6 +145,7 @@ pub record IsCarried (reads : Option (List ℕ)) (head : List ℕ) (records : Li
   pub make : MakeBookBy Eight instance old posts before
   pub now : Book
   pub make_now : MakeBook instance records posts now
+  pub alike : AllZip SpellSame old records
   pub room : length (spelled head records) + 1 ≤ JOURNAL_MAX
 
 -- why the new file isn't written
@@ -180,7 +191,7 @@ abbrev pub Explains : Met → MigrateStatus → Type 0
 Explains met Usage = files_of met.words ≡ None
 Explains met (Old why) = HasFiles met × IfSome met.old.file (λ file. OldCause file why)
 Explains met DiskFault = HasFiles met × (Rose met.old.faults.0 met.old.faults.1 ⊎ Rose met.new.faults.0 met.new.faults.1)
-Explains met (Target len) = HasFiles met × IfSome met.new.file (λ file. len ≡ length file) × (0 < len)
+Explains met (Target len) = HasFiles met × IfSome met.old.file IsOldBook × IfSome met.new.file (λ file. len ≡ length file) × (0 < len)
 Explains met NoMemory = HasFiles met
 Explains met Migrated = HasFiles met × ((records : ℕ) × (count : ℕ) × IsDone met records count × Appends met.sink.held met.sink.held_after (migrated_line records count))
 Explains met WriteFault = HasFiles met × ((records : ℕ) × (count : ℕ) × IsDone met records count × AppendsPart met.sink.held met.sink.held_after (migrated_line records count)) × Rose met.sink.faults.0 met.sink.faults.1
@@ -194,6 +205,16 @@ EndsUnwritten DiskFault = ⊤
 EndsUnwritten NoMemory = ⊤
 EndsUnwritten (Old why) = ⊤
 EndsUnwritten (Target len) = ⊤
+
+-- a run with this end hasn't come to the new file
+abbrev pub EndsEarly : MigrateStatus → Type 0
+EndsEarly Usage = ⊤
+EndsEarly (Old why) = ⊤
+EndsEarly Migrated = ⊥
+EndsEarly WriteFault = ⊥
+EndsEarly DiskFault = ⊥
+EndsEarly NoMemory = ⊥
+EndsEarly (Target len) = ⊥
 
 -- what keeps a run from its end: a fault of a disk or of the sink
 abbrev pub HasFault : Met → Type 0

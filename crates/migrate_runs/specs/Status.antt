@@ -19,7 +19,7 @@ status_number (Target len) = 13
 
 -- what is said of a refused old journal, behind its number
 abbrev pub old_text : OldFault → List ℕ
-old_text NotAJournal = codes "old journal refused: 2 it is no journal of the first version; one that solve opens needs no migration"
+old_text NotAJournal = codes "old journal refused: 2"
 old_text (Damaged at) = codes "old journal refused: 4 " ++ decimal at
 old_text (Rejected at why) = codes "old journal refused: 5 " ++ (decimal at ++ (codes " " ++ why_text why))
 old_text Head = codes "old journal refused: 6"
@@ -32,4 +32,4 @@ status_text WriteFault = codes "write fault"
 status_text DiskFault = codes "disk fault"
 status_text NoMemory = codes "no memory"
 status_text (Old why) = old_text why
-status_text (Target len) = codes "the new file isn't empty, its length is " ++ decimal len
+status_text (Target len) = codes "new file not empty, " ++ (decimal len ++ codes " bytes")

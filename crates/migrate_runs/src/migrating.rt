@@ -4,7 +4,7 @@ ghost use Rattle.std.specs.Prelude.{◌≡◌, ◌≢◌, ◌⊎◌, ◌+◌, �
 ghost use Rattle.plan_base.specs.Disk.{HoldsThroughout, IsSynced, OnlyLooks};
 ghost use Rattle.gated_journal.specs.Format.{spelled, IsUnfinishedOr};
 ghost use Rattle.gated_journal.specs.View.{IsSettled};
-ghost use Rattle.migrate_runs.specs.Migrate.{CanMigrate, EndsUnwritten, Explains, IsCarried, IsEarlierOr, IsEarlierOrSame, IsUnfinishedOrSame, Met, NewFails, SaysPosts};
+ghost use Rattle.migrate_runs.specs.Migrate.{CanMigrate, EndsEarly, EndsUnwritten, Explains, IsCarried, IsEarlierOr, IsEarlierOrSame, IsUnfinishedOrSame, Met, NewFails, SaysPosts};
 
 use crate::carrying::{Carried, carry};
 use crate::line::migrated_line;
@@ -105,6 +105,9 @@ pub fn migrate_run<R: Threads + Sync, D: Disk, E: Disk, K: Sink>(
     ensures later { OnSome (E.reads new.old) (E.calls new.old + 2 < E.calls new.new → (image : List ℕ) → E.images_since new.new (E.calls new.old + 2) image → IsUnfinishedOrSame (D.reads old.old) image) }
     ensures synced { result ≡ MigrateStatus.Migrated → IsSynced (E.reads new.new) (E.images new.new) }
     ensures unwritten { EndsUnwritten result → out.new ≡ out.old }
+    // Where the words or the old file are refused, the new file isn't touched, and for the words the old one isn't either.
+    ensures early { EndsEarly result → new.new ≡ new.old }
+    ensures wordless { result ≡ MigrateStatus.Usage → old.new ≡ old.old }
 {
     if files_of(words).is_none() {
         return MigrateStatus::Usage;

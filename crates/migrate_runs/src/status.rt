@@ -65,10 +65,9 @@ pub fn status_line(alloc: Global, status: &MigrateStatus) -> Result<String, Allo
         MigrateStatus::WriteFault => String::from_str(alloc, "write fault"),
         MigrateStatus::DiskFault => String::from_str(alloc, "disk fault"),
         MigrateStatus::NoMemory => String::from_str(alloc, "no memory"),
-        MigrateStatus::Old(OldFault::NotAJournal) => String::from_str(
-            alloc,
-            "old journal refused: 2 it is no journal of the first version; one that solve opens needs no migration",
-        ),
+        MigrateStatus::Old(OldFault::NotAJournal) => {
+            String::from_str(alloc, "old journal refused: 2")
+        }
         MigrateStatus::Old(OldFault::Damaged { at }) => {
             format!(in alloc; "old journal refused: 4 {at}")
         }
@@ -77,7 +76,7 @@ pub fn status_line(alloc: Global, status: &MigrateStatus) -> Result<String, Allo
         }
         MigrateStatus::Old(OldFault::Head) => String::from_str(alloc, "old journal refused: 6"),
         MigrateStatus::Target { len } => {
-            format!(in alloc; "the new file isn't empty, its length is {len}")
+            format!(in alloc; "new file not empty, {len} bytes")
         }
     }
 }

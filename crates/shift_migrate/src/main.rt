@@ -44,6 +44,9 @@ fn migrate<R: Threads + Sync>(
     Ok(migrate_run(rt, alloc, words, &mut old, &mut new, &mut out))
 }
 
+/// What is said beside the status where the old file is no journal of the first version.
+const NO_MIGRATION: &str = "a journal that solve opens needs no migration";
+
 /// Says a status on standard error, unless all went well.
 fn tell(rt: &HostRuntime, status: &MigrateStatus) {
     if matches!(status, MigrateStatus::Migrated) {
@@ -51,6 +54,9 @@ fn tell(rt: &HostRuntime, status: &MigrateStatus) {
     }
     if let Ok(line) = status_line(rt.alloc(), status) {
         let _ = eprintln!(rt; "shift_migrate: {line}");
+    }
+    if matches!(status, MigrateStatus::Old(OldFault::NotAJournal)) {
+        let _ = eprintln!(rt; "shift_migrate: {NO_MIGRATION}");
     }
 }
 
