@@ -136,3 +136,19 @@ carried_over reads i head old new count valid text stood fits same makes counts 
   alike = same;
   room = omega (arith, fits, journal_shorter head old new same);
 }
+
+-- ---- the same of what a disk tells
+pub only_opened : (reads : Option (List ℕ)) (before now : ℕ) (fault : JournalFault) → OpenV1Fails JOURNAL_MAX reads before now fault
+    → (i : Problem) (posts : List Post) (file : List ℕ) → reads ≡ Some file → OldBook i posts file → (ended_by fault ≡ NoMemory) ⊎ (ended_by fault ≡ DiskFault)
+only_opened reads before now fault fails i posts file told book =
+    opens i posts file before now fault book (subst (λ (o : Option (List ℕ)). OpenV1Fails JOURNAL_MAX o before now fault) told fails)
+
+pub only_headed : (reads : Option (List ℕ)) (head : List ℕ) (records : List (List ℕ)) (status : MigrateStatus) → IfSome reads (StoodFor JOURNAL_MAX head records) → HeadFails head status
+    → (i : Problem) (posts : List Post) (file : List ℕ) → reads ≡ Some file → OldBook i posts file → (status ≡ NoMemory) ⊎ (status ≡ DiskFault)
+only_headed reads head records status stood fails i posts file told book =
+    has_head i posts file head records status book (subst (λ (o : Option (List ℕ)). IfSome o (StoodFor JOURNAL_MAX head records)) told stood) fails
+
+pub only_made : (reads : Option (List ℕ)) (j : Problem) (head : List ℕ) (records : List (List ℕ)) (status : MigrateStatus) → IsInstance j → head ≡ canonical_text j → IfSome reads (StoodFor JOURNAL_MAX head records)
+    → ((posts : List Post) (book : Book) → MakeBookBy Eight j records posts book → ⊥) → (i : Problem) (posts : List Post) (file : List ℕ) → reads ≡ Some file → OldBook i posts file → (status ≡ NoMemory) ⊎ (status ≡ DiskFault)
+only_made reads j head records status valid text stood none i posts file told book =
+    absurd (none posts book.book (makes i j posts file head records valid text book (subst (λ (o : Option (List ℕ)). IfSome o (StoodFor JOURNAL_MAX head records)) told stood)))
