@@ -22,7 +22,7 @@ use Rattle.gated_journal.specs.declared.fault.JournalFault.TheVariants.{DiskFaul
 use Rattle.gated_journal.specs.Faults.{OpenV1Fails}
 use Rattle.gated_journal.specs.Format.{spelled_in, StoodFor}
 use Rattle.gated_journal.proofs.Once.{stands_once_in, stands_journal_in, stands_whole_in}
-use Rattle.migrate_runs.specs.Migrate.{ended_by, HasNoInstance, HeadFails, IsCarried, IsInstance, OldBook, OldCause, OldFails}
+use Rattle.migrate_runs.specs.Migrate.{ended_by, HasNoInstance, HeadFails, IsCarried, IsInstance, OldBook, OldCause, OldFails, unread_by}
 use Rattle.migrate_runs.specs.declared.status.OldFault.TheVariants.{NotAJournal, Damaged, Rejected, Head}
 use Rattle.migrate_runs.specs.declared.status.MigrateStatus.{MigrateStatus}
 use Rattle.migrate_runs.specs.declared.status.MigrateStatus.TheVariants.{Migrated, Usage, WriteFault, DiskFault, NoMemory, Old, Target}
@@ -60,14 +60,14 @@ unread head e answer i valid is =
     subst (λ (r : Result Problem ReadRefusal). OnOk r ⊥) (sym answer ∙ read) tt
 
 -- a head that is refused, or read as an instance of another text, is no instance's canonical text
-pub not_read : (head : List ℕ) (e : ReadRefusal) → (e ≡ ReadsMemory → ⊥) → IsAnswer e (reading_of head) → (i : Problem) → IsInstance i → head ≡ canonical_text i → ⊥
-not_read head TooLong some answer i valid is = unread head TooLong answer i valid is
-not_read head NotJson some answer i valid is = unread head NotJson answer i valid is
-not_read head (Missing at field) some answer i valid is = unread head (Missing at field) answer i valid is
-not_read head (UnknownField at field) some answer i valid is = unread head (UnknownField at field) answer i valid is
-not_read head (WrongKind at field) some answer i valid is = unread head (WrongKind at field) answer i valid is
-not_read head (Invalid fault) some answer i valid is = unread head (Invalid fault) answer i valid is
-not_read head ReadsMemory some answer i valid is = absurd (some refl)
+pub not_read : (head : List ℕ) (e : ReadRefusal) → IsAnswer e (reading_of head) → HeadFails head (unread_by e)
+not_read head TooLong answer = unread head TooLong answer
+not_read head NotJson answer = unread head NotJson answer
+not_read head (Missing at field) answer = unread head (Missing at field) answer
+not_read head (UnknownField at field) answer = unread head (UnknownField at field) answer
+not_read head (WrongKind at field) answer = unread head (WrongKind at field) answer
+not_read head (Invalid fault) answer = unread head (Invalid fault) answer
+not_read head ReadsMemory answer = tt
 
 pub other_text : (head : List ℕ) (j : Problem) → IsInstance j → (canonical_text j ≡ head → ⊥) → reading_of head ≡ Ok j → (i : Problem) → IsInstance i → head ≡ canonical_text i → ⊥
 other_text head j own other read i valid is =

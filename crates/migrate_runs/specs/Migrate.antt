@@ -10,6 +10,8 @@ use Rattle.shift_instance.specs.Faults.{instance_causes}
 use Rattle.shift_instance.specs.Problem.{Problem}
 use Rattle.shift_instance.specs.Valid.{IsValid}
 use Rattle.instance_json.specs.Canonical.{canonical_text}
+use Rattle.instance_json.specs.declared.ReadRefusal.{ReadRefusal}
+use Rattle.instance_json.specs.declared.ReadRefusal.TheVariants.{TooLong, NotJson, Missing, UnknownField, WrongKind, Invalid, NoMemory as ReadsMemory}
 use Rattle.post_codec.specs.declared.post.Post.{Post}
 use Rattle.post_codec.specs.declared.price_width.PriceWidth.TheVariants.{Eight}
 use Rattle.search_core.specs.Book.{Book}
@@ -118,6 +120,16 @@ ended_by (IsDamaged at) = Old (Damaged at)
 ended_by NoJournal = Old NotAJournal
 ended_by OldVersion = Old NotAJournal
 ended_by (Full end limit) = Old NotAJournal
+
+-- how a run ends where a head isn't read
+abbrev pub unread_by : ReadRefusal → MigrateStatus
+unread_by TooLong = Old Head
+unread_by NotJson = Old Head
+unread_by (Missing at field) = Old Head
+unread_by (UnknownField at field) = Old Head
+unread_by (WrongKind at field) = Old Head
+unread_by (Invalid fault) = Old Head
+unread_by ReadsMemory = NoMemory
 
 -- why nothing is carried over from a head
 abbrev pub HeadFails : List ℕ → MigrateStatus → Type 0

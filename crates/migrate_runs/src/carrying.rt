@@ -5,7 +5,7 @@ ghost use Rattle.plan_base.specs.Disk.{OnlyLooks};
 ghost use Rattle.shift_instance.specs.Problem.{Problem};
 ghost use Rattle.post_codec.specs.declared.post.Post.{Post as APost};
 ghost use Rattle.instance_json.specs.Canonical.{canonical_text};
-ghost use Rattle.migrate_runs.specs.Migrate.{ended_by, HeadFails, IsCarried, IsInstance, OldBook, OldFails};
+ghost use Rattle.migrate_runs.specs.Migrate.{ended_by, HeadFails, IsCarried, IsInstance, OldBook, OldFails, unread_by};
 
 use crate::line::count_posts;
 use crate::status::{MigrateStatus, OldFault};
@@ -38,6 +38,21 @@ impl From<AllocError> for MigrateStatus {
     }
 }
 
+/// How the run ends where a head isn't read.
+fn end_of_reading(refusal: ReadRefusal) -> MigrateStatus
+    ensures { result ≡ unread_by refusal }
+{
+    match refusal {
+        ReadRefusal::NoMemory => MigrateStatus::NoMemory,
+        ReadRefusal::TooLong
+        | ReadRefusal::NotJson
+        | ReadRefusal::Missing { .. }
+        | ReadRefusal::UnknownField { .. }
+        | ReadRefusal::WrongKind { .. }
+        | ReadRefusal::Invalid(_) => MigrateStatus::Old(OldFault::Head),
+    }
+}
+
 /// The instance whose canonical text a head is.
 fn instance_of(alloc: Global, head: &[u8]) -> Result<Instance, MigrateStatus>
     ensures text { IfOk result (λ i. head.now ≡ canonical_text i) }
@@ -46,8 +61,7 @@ fn instance_of(alloc: Global, head: &[u8]) -> Result<Instance, MigrateStatus>
 {
     let instance = match read(alloc, head) {
         Ok(instance) => instance,
-        Err(ReadRefusal::NoMemory) => return Err(MigrateStatus::NoMemory),
-        Err(_) => return Err(MigrateStatus::Old(OldFault::Head)),
+        Err(refusal) => return Err(end_of_reading(refusal)),
     };
     let _parts = instance.parts();
     if canonical(alloc, &instance)?.as_slice() != head {
