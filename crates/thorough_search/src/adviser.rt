@@ -117,10 +117,7 @@ impl<S: Stop + Clone> Thorough<S> {
     ) -> Result<Thorough<S>, NoMemory>
         ensures { IfOk result (λ t. t ≡ record { told = 0; last = None }) }
     {
-        let mut thorough = Thorough::new(alloc, seed, stop);
-        let kept = thorough.take_kept(instance)?;
-        thorough.kept = Some(kept);
-        Ok(thorough)
+        Thorough::new(alloc, seed, stop).made_of(instance)
     }
 
     /// The adviser of an instance for a search within a budget: the more of the bytes it has taken beyond their part of the time, by counted
@@ -136,9 +133,16 @@ impl<S: Stop + Clone> Thorough<S> {
     {
         let mut thorough = Thorough::new(alloc, seed, stop);
         thorough.budget = Some(budget);
-        let kept = thorough.take_kept(instance)?;
-        thorough.kept = Some(kept);
-        Ok(thorough)
+        thorough.made_of(instance)
+    }
+
+    /// The same adviser, which has all that it keeps of an instance.
+    fn made_of(mut self, instance: &Instance) -> Result<Thorough<S>, NoMemory>
+        ensures { IfOk result (λ t. t ≡ self) }
+    {
+        let kept = self.take_kept(instance)?;
+        self.kept = Some(kept);
+        Ok(self)
     }
 
     /// What is kept, taken out, or made of this instance now.
