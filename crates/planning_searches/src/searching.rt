@@ -64,7 +64,7 @@ fn budget_of(words: &PlanWords, journal: &LockedJournal<HostRuntime>) -> Budget 
     let room = u64::from(JOURNAL_MAX).saturating_sub(journal.len().unwrap_or(0));
     let workers = u64::from(words.workers.max(1));
     Budget {
-        bytes: room / 10 * 8 / workers,
+        bytes: (room / 10).saturating_mul(8) / workers,
         seconds: words.seconds,
     }
 }
