@@ -18,7 +18,8 @@ const ANEW: &str =
     "; name another journal, or begin this one anew: the old file is kept under another name then";
 
 /// What to do about a journal of the first version.
-const CARRIED_OVER: &str = "; to go on with its search, type ./run shift_migrate OLD NEW, where OLD is this file and NEW a new one, and name NEW as the journal";
+const CARRIED_OVER: &str =
+    "; to go on with its search, type ./run shift_migrate OLD NEW, where OLD is this file and NEW a new one, and name NEW as the journal";
 
 /// What is wrong with a post that isn't allowed.
 fn why_not_allowed(fault: &StepFault) -> &'static str {

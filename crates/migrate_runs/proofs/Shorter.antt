@@ -29,11 +29,19 @@ cuts_shorter (p ∷ prices) =
 
 prices_shorter : (p : Prices) → length (prices_bytes Five p) ≤ length (prices_bytes Eight p)
 prices_shorter p =
-    omega (arith, slots_shorter p.slots, cuts_shorter p.cuts,
-    length-append (u16_bytes p.q ++ slots_bytes Five p.slots) (cuts_bytes Five p.cuts), length-append (u16_bytes p.q) (slots_bytes Five p.slots),
-    length-append (u32_bytes (length p.slots)) (flat_map (slot_bytes Five) p.slots), length-append (u32_bytes (length p.cuts)) (flat_map (price_bytes Five) p.cuts),
-    length-append (u16_bytes p.q ++ slots_bytes Eight p.slots) (cuts_bytes Eight p.cuts), length-append (u16_bytes p.q) (slots_bytes Eight p.slots),
-    length-append (u32_bytes (length p.slots)) (flat_map (slot_bytes Eight) p.slots), length-append (u32_bytes (length p.cuts)) (flat_map (price_bytes Eight) p.cuts))
+    omega (
+      arith,
+      slots_shorter p.slots,
+      cuts_shorter p.cuts,
+      length-append (u16_bytes p.q ++ slots_bytes Five p.slots) (cuts_bytes Five p.cuts),
+      length-append (u16_bytes p.q) (slots_bytes Five p.slots),
+      length-append (u32_bytes (length p.slots)) (flat_map (slot_bytes Five) p.slots),
+      length-append (u32_bytes (length p.cuts)) (flat_map (price_bytes Five) p.cuts),
+      length-append (u16_bytes p.q ++ slots_bytes Eight p.slots) (cuts_bytes Eight p.cuts),
+      length-append (u16_bytes p.q) (slots_bytes Eight p.slots),
+      length-append (u32_bytes (length p.slots)) (flat_map (slot_bytes Eight) p.slots),
+      length-append (u32_bytes (length p.cuts)) (flat_map (price_bytes Eight) p.cuts),
+    )
 
 post_shorter : (post : Post) → length (post_bytes Five post) ≤ length (post_bytes Eight post)
 post_shorter (Plan worker rows cost) = omega arith
