@@ -15,10 +15,11 @@ none_counted = ([], none_spelled, refl)
 
 -- one record more
 pub counted_more : (records : List (Vec ℕ Global)) (k : ℕ) (x : Vec ℕ Global) (count more : ℕ) (batch : List Post) → k < length records → x ≡ get_or records k x → IsCounted (take k records) count → Spells x.items batch → more ≡ length batch → IsCounted (take (k + 1) records) (count + more)
-counted_more records k x count more batch small at before spells is =
-    (before.0 ++ batch,
-    spell_next (λ (r : Vec ℕ Global). r.items) records k x before.0 batch small at before.1 spells,
-    omega (arith, before.2, is, length-append before.0 batch))
+counted_more records k x count more batch small at before spells is = (
+  before.0 ++ batch,
+  spell_next (λ (r : Vec ℕ Global). r.items) records k x before.0 batch small at before.1 spells,
+  omega (arith, before.2, is, length-append before.0 batch),
+)
 
 -- and no list of another length is spelled so
 pub counted : (records : List (Vec ℕ Global)) (count : ℕ) → IsCounted records count → (posts : List Post) → SpellPosts (map (λ r. r.items) records) posts → count ≡ length posts

@@ -1,5 +1,5 @@
 -- How a migration ends.
-use Rattle.std.proofs.Common.{◌≡◌, ◌⊎◌, inl, inr, ⊎_elim, ℕ, ◌+◌, ◌<◌, ◌≤◌, List, [], length, refl, sym, ◌∙◌, ap, subst, arith}
+use Rattle.std.proofs.Common.{◌≡◌, ◌⊎◌, inl, inr, ⊎_elim, ℕ, ◌<◌, List, [], length, refl, sym, subst, arith}
 use Rattle.std.specs.Prelude.{Option, None, Some, IfSome, OnSome}
 use Rattle.plan_base.specs.Disk.{HoldsThroughout, IsSynced}
 use Rattle.plan_base.proofs.Moments.{started, told_all}

@@ -1,5 +1,5 @@
 -- A journal of the present version is no longer than the one of the first version with the same posts.
-use Rattle.std.proofs.Common.{◌≡◌, ℕ, ℤ, ◌+◌, ◌≤◌, List, [], ◌∷◌, ◌++◌, length, refl, ap, arith, length-append}
+use Rattle.std.proofs.Common.{◌≡◌, ℕ, ℤ, ◌≤◌, List, [], ◌∷◌, ◌++◌, length, refl, ap, arith, length-append}
 use Rattle.std.specs.List.{AllZip, flat_map}
 use Rattle.head_splits.specs.declared.Prices.{Prices}
 use Rattle.gated_journal.specs.Format.{framed, gated, mark_of, spelled, spelled_in}
@@ -29,11 +29,19 @@ cuts_shorter (p ∷ prices) =
 
 prices_shorter : (p : Prices) → length (prices_bytes Five p) ≤ length (prices_bytes Eight p)
 prices_shorter p =
-    omega (arith, slots_shorter p.slots, cuts_shorter p.cuts,
-    length-append (u16_bytes p.q ++ slots_bytes Five p.slots) (cuts_bytes Five p.cuts), length-append (u16_bytes p.q) (slots_bytes Five p.slots),
-    length-append (u32_bytes (length p.slots)) (flat_map (slot_bytes Five) p.slots), length-append (u32_bytes (length p.cuts)) (flat_map (price_bytes Five) p.cuts),
-    length-append (u16_bytes p.q ++ slots_bytes Eight p.slots) (cuts_bytes Eight p.cuts), length-append (u16_bytes p.q) (slots_bytes Eight p.slots),
-    length-append (u32_bytes (length p.slots)) (flat_map (slot_bytes Eight) p.slots), length-append (u32_bytes (length p.cuts)) (flat_map (price_bytes Eight) p.cuts))
+    omega (
+      arith,
+      slots_shorter p.slots,
+      cuts_shorter p.cuts,
+      length-append (u16_bytes p.q ++ slots_bytes Five p.slots) (cuts_bytes Five p.cuts),
+      length-append (u16_bytes p.q) (slots_bytes Five p.slots),
+      length-append (u32_bytes (length p.slots)) (flat_map (slot_bytes Five) p.slots),
+      length-append (u32_bytes (length p.cuts)) (flat_map (price_bytes Five) p.cuts),
+      length-append (u16_bytes p.q ++ slots_bytes Eight p.slots) (cuts_bytes Eight p.cuts),
+      length-append (u16_bytes p.q) (slots_bytes Eight p.slots),
+      length-append (u32_bytes (length p.slots)) (flat_map (slot_bytes Eight) p.slots),
+      length-append (u32_bytes (length p.cuts)) (flat_map (price_bytes Eight) p.cuts),
+    )
 
 post_shorter : (post : Post) → length (post_bytes Five post) ≤ length (post_bytes Eight post)
 post_shorter (Plan worker rows cost) = omega arith

@@ -75,8 +75,6 @@ pub fn status_line(alloc: Global, status: &MigrateStatus) -> Result<String, Allo
             format!(in alloc; "old journal refused: 5 {at_record} {why}")
         }
         MigrateStatus::Old(OldFault::Head) => String::from_str(alloc, "old journal refused: 6"),
-        MigrateStatus::Target { len } => {
-            format!(in alloc; "new file not empty, {len} bytes")
-        }
+        MigrateStatus::Target { len } => { format!(in alloc; "new file not empty, {len} bytes") }
     }
 }

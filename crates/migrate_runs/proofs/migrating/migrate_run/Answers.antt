@@ -1,4 +1,4 @@
-use Rattle.std.proofs.Common.{◌≡◌, ℕ, ◌+◌, List, map, length, string_bytes, arith, rules, Vec, Global}
+use Rattle.std.proofs.Common.{◌≡◌, ℕ, ◌+◌, map, length, string_bytes, arith, rules, Vec, Global}
 use Rattle.std.proofs.lemmas.List.{length-map}
 use Rattle.migrate_runs.specs.Migrate.{HasFiles, Met}
 use Rattle.migrate_runs.proofs.Ending.{by_line, is_done, well_by_old}
