@@ -95,14 +95,7 @@ fn run<R: Threads + Sync>(rt: &R, alloc: Global, faults: Faults) -> Result<Ran, 
     let mut old = MemDisk::new(alloc, journal(alloc, FIRST)?, vec![in alloc; faults.old]?);
     let mut new = MemDisk::new(alloc, Vec::new(alloc), vec![in alloc; faults.new]?);
     let mut sink = MemSink::new(alloc, vec![in alloc; faults.write]?, 5);
-    let status = migrate_run(
-        rt,
-        alloc,
-        words.as_slice(),
-        &mut old,
-        &mut new,
-        &mut sink,
-    );
+    let status = migrate_run(rt, alloc, words.as_slice(), &mut old, &mut new, &mut sink);
     Ok(Ran {
         status,
         old,
@@ -116,7 +109,10 @@ fn a_journal_is_carried_over(rt: HostRuntime) -> Result<(), Fail> {
     let alloc = rt.alloc();
     let ran = run(&rt, alloc, NONE)?;
     assert!(rt; matches!(ran.status, MigrateStatus::Migrated));
-    assert_eq!(rt; ran.sink.bytes(), b"migrated records 1 posts 2\n".as_slice());
+    assert_eq!(rt;
+        ran.sink.bytes(),
+        b"migrated records 1 posts 2\n".as_slice()
+    );
     assert_eq!(rt; ran.new.bytes(), journal(alloc, PRESENT)?.as_slice());
     assert_eq!(rt; ran.new.bytes().len(), 550);
     assert_eq!(rt; ran.new.calls(), 8);
