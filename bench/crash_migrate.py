@@ -1,6 +1,6 @@
 #!/usr/bin/env python3
 """Kills `shift_migrate` (`kill -9`) at random moments of the way of an old journal to the present version, some hundred times, each time to a
-file of its own, and looks at both files: the old one must be as it was, and the new one refused, empty or whole. Then cuts a small old journal
+file of its own and every second time once that is there, and looks at both files: the old one must be as it was, and the new one refused, empty or whole. Then cuts a small old journal
 at each byte: none but the whole one is carried over, and none changes. Prints how many files were left how; the exit status is 1 where one
 was left otherwise.
 Build the program first, by `./run --build shift_migrate`. Words: the number of runs (200 where none is given), and the program in place of
@@ -57,6 +57,12 @@ def left_at(path, whole):
     return None
 
 
+def wait_for(child, path):
+    """Waits until the file is there or the program has ended."""
+    while not os.path.exists(path) and child.poll() is None:
+        time.sleep(0.0005)
+
+
 def killed_runs(program, runs, folder):
     """Kills so many runs, and counts how they left their files."""
     old = os.path.join(folder, "old.journal")
@@ -65,20 +71,25 @@ def killed_runs(program, runs, folder):
     whole, before = journal(MARK, 5, RECORDS), sum_of(old)
     first = os.path.join(folder, "first.journal")
     begin = time.perf_counter()
-    done = subprocess.run([program, old, first], stdout=subprocess.PIPE, check=True)
-    seconds = time.perf_counter() - begin
-    assert done.stdout == b"migrated records %d posts %d\n" % (RECORDS, RECORDS), done.stdout
+    child = subprocess.Popen([program, old, first], stdout=subprocess.PIPE)
+    wait_for(child, first)
+    there = time.perf_counter()
+    said = child.communicate()[0]
+    end = time.perf_counter()
+    assert said == b"migrated records %d posts %d\n" % (RECORDS, RECORDS), said
     found = collections.Counter({left_at(first, whole): 1})
     for number in range(runs):
         new = os.path.join(folder, "new%d.journal" % number)
         child = subprocess.Popen([program, old, new], stdout=subprocess.DEVNULL, stderr=subprocess.DEVNULL)
-        time.sleep(random.uniform(0, 1.2 * seconds))
+        if number % 2:
+            wait_for(child, new)
+        time.sleep(random.uniform(0, 1.2 * (end - there if number % 2 else end - begin)))
         child.send_signal(signal.SIGKILL)
         child.wait()
         found[left_at(new, whole) if sum_of(old) == before else None] += 1
         if os.path.exists(new):
             os.remove(new)
-    print("%d runs of a run of %.3f s over %d bytes" % (runs, seconds, os.path.getsize(old)))
+    print("%d runs of a run of %.3f s over %d bytes, %.3f s of it with the new file" % (runs, end - begin, os.path.getsize(old), end - there))
     return found
 
 

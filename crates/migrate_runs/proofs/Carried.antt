@@ -1,7 +1,7 @@
 -- What is carried over from an old file, and why it isn't.
-use Rattle.std.proofs.Common.{◌≡◌, ◌⊎◌, inl, inr, ℕ, ◌+◌, ◌<◌, ◌≤◌, ◌^◌, List, length, refl, sym, ◌∙◌, ap, subst, arith}
+use Rattle.std.proofs.Common.{◌≡◌, ◌⊎◌, inl, inr, ℕ, ◌+◌, ◌≤◌, List, length, refl, sym, ◌∙◌, ap, subst, arith}
 use Rattle.std.specs.List.{AllZip}
-use Rattle.std.specs.Prelude.{Option, None, Some, Result, Ok, Err, IfOk, OnOk, IfSome}
+use Rattle.std.specs.Prelude.{Option, None, Some, Result, Ok, Err, IfOk, IfErr, OnOk, IfSome}
 use Rattle.instance_json.specs.Canonical.{canonical_text}
 use Rattle.instance_json.specs.Reading.{reading_of, IsAnswer}
 use Rattle.instance_json.specs.declared.ReadRefusal.{ReadRefusal}
@@ -47,12 +47,14 @@ opens i posts file before now OldVersion book fails = absurd fails
 opens i posts file before now (Full end limit) book fails = absurd fails
 
 -- a text is that of one instance
-same_read : (i j : Problem) → Ok {E = ReadRefusal} i ≡ Ok j → i ≡ j
-same_read i j same = subst (λ (r : Result Problem ReadRefusal). IfOk r (λ k. i ≡ k)) same refl
+same_read : (i j : Problem) (r : Result Problem ReadRefusal) → r ≡ Ok i → r ≡ Ok j → i ≡ j
+same_read i j r one other =
+    let own : IfOk r (λ k. i ≡ k) = subst (λ (x : Result Problem ReadRefusal). IfOk x (λ k. i ≡ k)) (sym one) refl in
+    subst (λ (x : Result Problem ReadRefusal). IfOk x (λ k. i ≡ k)) other own
 
 pub one_instance : (i j : Problem) → IsInstance i → IsInstance j → canonical_text i ≡ canonical_text j → i ≡ j
 one_instance i j valid other same =
-    same_read i j (sym (canonical_read i valid.0 valid.1) ∙ ap reading_of same ∙ canonical_read j other.0 other.1)
+    same_read i j (reading_of (canonical_text i)) (canonical_read i valid.0 valid.1) (ap reading_of same ∙ canonical_read j other.0 other.1)
 
 unread : (head : List ℕ) (e : ReadRefusal) → reading_of head ≡ Err e → (i : Problem) → IsInstance i → head ≡ canonical_text i → ⊥
 unread head e answer i valid is =
@@ -71,7 +73,7 @@ not_read head ReadsMemory answer = tt
 
 pub other_text : (head : List ℕ) (j : Problem) → IsInstance j → (canonical_text j ≡ head → ⊥) → reading_of head ≡ Ok j → (i : Problem) → IsInstance i → head ≡ canonical_text i → ⊥
 other_text head j own other read i valid is =
-    let same : i ≡ j = same_read i j (sym (canonical_read i valid.0 valid.1) ∙ ap reading_of (sym is) ∙ read) in
+    let same : i ≡ j = same_read i j (reading_of head) (ap reading_of is ∙ canonical_read i valid.0 valid.1) read in
     other (sym (is ∙ ap canonical_text same))
 
 -- an old file whose head makes no instance
@@ -121,18 +123,18 @@ makes i j posts file head records valid text book stood =
 -- what is carried over
 pub carried_over : (reads : Option (List ℕ)) (i : Problem) (head : List ℕ) (old new : List (List ℕ)) (count : ℕ) → IsInstance i → head ≡ canonical_text i → IfSome reads (StoodFor JOURNAL_MAX head old) → length (spelled_in 49 head old) + 1 ≤ JOURNAL_MAX
     → AllZip SpellSame old new → ((posts : List Post) × (book : Book) × MakeBookBy Eight i old posts book × MakeBook i new posts book) → ((posts : List Post) → SpellPosts new posts → count ≡ length posts) → IsCarried reads head new count
-carried_over reads i head old new count valid text stood fits same makes counts = record {
+carried_over reads i head old new count valid text stood fits same made counts = record {
   instance = i;
   valid = valid;
   text = text;
-  posts = makes.0;
-  counted = counts makes.0 makes.2.1.spell;
+  posts = made.0;
+  counted = counts made.0 made.3.spell;
   old = old;
   stood = stood;
-  before = makes.1;
-  make = makes.2.0;
-  now = makes.1;
-  make_now = makes.2.1;
+  before = made.1;
+  make = made.2;
+  now = made.1;
+  make_now = made.3;
   alike = same;
   room = omega (arith, fits, journal_shorter head old new same);
 }
@@ -147,6 +149,11 @@ pub only_headed : (reads : Option (List ℕ)) (head : List ℕ) (records : List 
     → (i : Problem) (posts : List Post) (file : List ℕ) → reads ≡ Some file → OldBook i posts file → (status ≡ NoMemory) ⊎ (status ≡ DiskFault)
 only_headed reads head records status stood fails i posts file told book =
     has_head i posts file head records status book (subst (λ (o : Option (List ℕ)). IfSome o (StoodFor JOURNAL_MAX head records)) told stood) fails
+
+pub only_headed_in : {A : Type 0} (reads : Option (List ℕ)) (head : List ℕ) (records : List (List ℕ)) (r : Result A MigrateStatus) → IfSome reads (StoodFor JOURNAL_MAX head records) → IfErr r (HeadFails head)
+    → (i : Problem) (posts : List Post) (file : List ℕ) → reads ≡ Some file → OldBook i posts file → IfErr r (λ status. (status ≡ NoMemory) ⊎ (status ≡ DiskFault))
+only_headed_in reads head records (Ok x) stood fails i posts file told book = tt
+only_headed_in reads head records (Err status) stood fails i posts file told book = only_headed reads head records status stood fails i posts file told book
 
 pub only_made : (reads : Option (List ℕ)) (j : Problem) (head : List ℕ) (records : List (List ℕ)) (status : MigrateStatus) → IsInstance j → head ≡ canonical_text j → IfSome reads (StoodFor JOURNAL_MAX head records)
     → ((posts : List Post) (book : Book) → MakeBookBy Eight j records posts book → ⊥) → (i : Problem) (posts : List Post) (file : List ℕ) → reads ≡ Some file → OldBook i posts file → (status ≡ NoMemory) ⊎ (status ≡ DiskFault)

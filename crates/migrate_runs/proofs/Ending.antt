@@ -1,5 +1,5 @@
 -- How a migration ends.
-use Rattle.std.proofs.Common.{◌≡◌, ◌⊎◌, inl, inr, ⊎_elim, ℕ, ◌+◌, ◌<◌, ◌≤◌, List, [], length, refl, sym, ◌∙◌, ap, subst, arith}
+use Rattle.std.proofs.Common.{◌≡◌, ◌⊎◌, inl, inr, ⊎_elim, ℕ, ◌<◌, List, [], length, refl, sym, subst, arith}
 use Rattle.std.specs.Prelude.{Option, None, Some, IfSome, OnSome}
 use Rattle.plan_base.specs.Disk.{HoldsThroughout, IsSynced}
 use Rattle.plan_base.proofs.Moments.{started, told_all}
@@ -35,7 +35,7 @@ old_worded reads before now status fails is = subst (OldFails reads before now) 
 
 -- ---- where the new file isn't written
 pub by_new : (met : Met) (status : MigrateStatus) → HasFiles met → IfSome met.old.file IsOldBook → NewFails met.new.file met.new.faults.0 met.new.faults.1 status → Explains met status
-by_new met (Target len) files old fails = (files, old, fails)
+by_new met (Target len) files old fails = (files, old, fails.0, fails.1)
 by_new met DiskFault files old fails = (files, inr fails)
 by_new met NoMemory files old fails = files
 by_new met (Old why) files old fails = absurd fails
@@ -88,7 +88,7 @@ is_done met head records n count images is carried empty settled = record {
 }
 
 pub by_line : (met : Met) (n count : ℕ) (status : MigrateStatus) → HasFiles met → IsDone met n count → SaysPosts n count met.sink.held met.sink.held_after met.sink.faults status → Explains met status
-by_line met n count Migrated files done says = (files, n, count, done, says)
+by_line met n count Migrated files done says = (files, (n, count, done, says))
 by_line met n count WriteFault files done says = (files, (n, count, done, says.0), says.1)
 by_line met n count NoMemory files done says = files
 by_line met n count Usage files done says = absurd says

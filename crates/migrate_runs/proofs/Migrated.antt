@@ -1,12 +1,11 @@
 -- The files of a migration.
-use Rattle.std.proofs.Common.{◌≡◌, ◌⊎◌, inl, inr, ⊎_elim, ℕ, ◌+◌, ◌<◌, ◌≤◌, List, length, refl, sym, ◌∙◌, ap, subst, arith}
+use Rattle.std.proofs.Common.{inl, inr, ⊎_elim, ℕ, ◌+◌, ◌<◌, List, length, refl, subst}
 use Rattle.std.specs.Prelude.{Option, None, Some, IfSome, OnSome}
 use Rattle.plan_base.specs.Disk.{HoldsThroughout, OnlyLooks}
 use Rattle.plan_base.proofs.Moments.{weaker, then_run}
-use Rattle.instance_json.specs.Canonical.{canonical_text}
 use Rattle.gated_journal.specs.declared.TheConstants.{JOURNAL_MAX}
-use Rattle.gated_journal.specs.Format.{IsUnfinished, IsUnfinishedOr, StandsFor, StoodFor}
-use Rattle.migrate_runs.specs.Migrate.{IsCarried, IsEarlierOr, IsEarlierOrSame, IsOldBook, IsSameBook, IsUnfinishedOrSame, NewBook, OldBook}
+use Rattle.gated_journal.specs.Format.{IsUnfinishedOr, StandsFor, StoodFor}
+use Rattle.migrate_runs.specs.Migrate.{IsCarried, IsEarlierOr, IsEarlierOrSame, IsOldBook, IsSameBook, IsUnfinishedOrSame}
 
 -- a file that stands for what was carried over stands for the posts of the old file
 pub same_book : (before : Option (List ℕ)) (head : List ℕ) (records : List (List ℕ)) (count : ℕ) → IsCarried before head records count → (image : List ℕ) → StandsFor JOURNAL_MAX head records image → IfSome before (λ file. IsSameBook file image (length records) count)

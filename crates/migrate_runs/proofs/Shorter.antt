@@ -1,5 +1,5 @@
 -- A journal of the present version is no longer than the one of the first version with the same posts.
-use Rattle.std.proofs.Common.{◌≡◌, ℕ, ℤ, ◌+◌, ◌≤◌, List, [], ◌∷◌, ◌++◌, length, refl, ap, arith, length-append}
+use Rattle.std.proofs.Common.{◌≡◌, ℕ, ℤ, ◌≤◌, List, [], ◌∷◌, ◌++◌, length, refl, ap, arith, length-append}
 use Rattle.std.specs.List.{AllZip, flat_map}
 use Rattle.head_splits.specs.declared.Prices.{Prices}
 use Rattle.gated_journal.specs.Format.{framed, gated, mark_of, spelled, spelled_in}

@@ -23,11 +23,14 @@ pub(crate) fn count_posts(alloc: Global, records: &[Vec<u8>]) -> Result<u64, All
 {
     let mut count = 0;
     for record in records {
-        match read(alloc, record) {
-            Ok(posts) => count = u64::checked_add(count, posts.len() as u64).ok_or(AllocError)?,
-            // where the records spell posts, memory ran out
-            Err(_) => return Err(AllocError),
-        }
+        // where the records spell posts, a fault is want of memory
+        let Ok(posts) = read(alloc, record) else {
+            return Err(AllocError);
+        };
+        let Some(sum) = u64::checked_add(count, posts.len() as u64) else {
+            return Err(AllocError);
+        };
+        count = sum;
     }
     Ok(count)
 }

@@ -1,5 +1,4 @@
-use Rattle.std.proofs.Common.{ℕ, List, map, length, arith, rules}
-use Rattle.std.proofs.lemmas.Grind.{common_steps}
+use Rattle.std.proofs.Common.{map, arith, rules}
 use Rattle.gated_journal.specs.declared.TheConstants.{JOURNAL_MAX}
 use Rattle.gated_journal.specs.Format.{IsUnfinishedOr}
 use Rattle.migrate_runs.proofs.Migrated.{looked_then}
