@@ -5,6 +5,7 @@ ghost use Rattle.std.specs.Prelude.{◌<◌};
 use crate::reading::copy_of;
 use advice::{Adviser, Never};
 use break_rules::NoMemory;
+use plan_base::FileDisk;
 use planning_files::LockedJournal;
 use planning_refusals::Refusal;
 use planning_runs::{Plan, Planned, search_plan};
@@ -36,19 +37,6 @@ pub(crate) enum Taken {
     Nothing(&'static str),
 }
 
-/// Advisers of so many workers that take no step.
-fn idle_advisers(
-    host: HostRuntime,
-    workers: u16,
-) -> Result<Vec<Box<dyn Adviser + Send>>, NoMemory> {
-    let alloc = host.alloc();
-    let mut advisers: Vec<Box<dyn Adviser + Send>> = Vec::new(alloc);
-    for _ in 0..workers {
-        advisers.push(Box::new(alloc, Thorough::new(alloc, 0, Never))?)?;
-    }
-    Ok(advisers)
-}
-
 /// The best plan of a plan's report, where that has duties.
 fn best_of(plan: &Plan) -> Result<Taken, NoMemory> {
     match &plan.cert.plan {
@@ -75,6 +63,35 @@ fn nothing_of(end: &SearchEnd) -> Result<Taken, NoMemory> {
     Ok(Taken::Nothing(why))
 }
 
+/// What comes of a search of no steps over a journal as it is, by these advisers.
+fn unsearched<R: Threads + Wait + Sync>(
+    host: HostRuntime,
+    rt: &R,
+    words: &PlanWords,
+    instance: &Instance,
+    journal: &LockedJournal<HostRuntime>,
+    advisers: Vec<Box<dyn Adviser + Send>>,
+) -> Result<Planned<FileDisk<HostRuntime>>, Refusal>
+    requires some { 0 < words.now.workers }
+{
+    let instance = copy_of(host.alloc(), instance)?;
+    let disk = journal.disk()?;
+    let request = Request {
+        workers: words.workers,
+        steps: 0,
+    };
+    Ok(search_plan(
+        rt,
+        host.alloc(),
+        instance,
+        request,
+        disk,
+        advisers,
+        &Open,
+        &Never,
+    ))
+}
+
 /// What a search of an instance as the words say takes from an old journal: the best plan of that, judged, where it is a whole journal of this
 /// instance. The journal stays as it is.
 pub(crate) fn taken_from<R: Threads + Wait + Sync>(
@@ -86,23 +103,12 @@ pub(crate) fn taken_from<R: Threads + Wait + Sync>(
 ) -> Result<Taken, Refusal>
     requires some { 0 < words.now.workers }
 {
-    let instance = copy_of(host.alloc(), instance)?;
-    let advisers = idle_advisers(host, words.workers)?;
-    let disk = journal.disk()?;
-    let request = Request {
-        workers: words.workers,
-        steps: 0,
-    };
-    let Planned { searched, plan } = search_plan(
-        rt,
-        host.alloc(),
-        instance,
-        request,
-        disk,
-        advisers,
-        &Open,
-        &Never,
-    );
+    let alloc = host.alloc();
+    let mut advisers: Vec<Box<dyn Adviser + Send>> = Vec::new(alloc);
+    for _ in 0..words.workers {
+        advisers.push(Box::new(alloc, Thorough::new(alloc, 0, Never))?)?;
+    }
+    let Planned { searched, plan } = unsearched(host, rt, words, instance, journal, advisers)?;
     match plan {
         Some(plan) => Ok(best_of(&plan)?),
         None => Ok(nothing_of(&searched.end)?),
