@@ -1,7 +1,7 @@
 #!/usr/bin/env python3
 """Runs of `graft_run` on random instances, beside a second reading of what docs/DEFINITIONS.md says of runs below a node: which numbers their nodes get in
-the report into which they are grafted, that each line is good from the node's cuts on, which node each step takes, what the plan and the bound are, and that a run
-that left no node open found the cheapest rota. Words: the number of instances (100 where none is given), a seed (1), and a folder that holds the
+the report into which they are grafted, that each line is good from the node's cuts on, which node each step takes, what the plan and the bound are, that a run
+that left no node open found the cheapest rota, and which nodes are listed as open. Words: the number of instances (100 where none is given), a seed (1), and a folder that holds the
 programs (where none is given, they are taken as they are built). Prints each difference, and last `N passed, M failed`, counted in instances."""
 import itertools
 import math
@@ -147,6 +147,16 @@ class Grafts(Trial):
         ]
         return [fault for fault, is_so in holds if not is_so]
 
+    def nodes_faults(self, report):
+        """What is wrong with the open nodes that are listed."""
+        most, nodes = self.draw.choice((0, 1, 2, 5, 1000)), Nodes(self.reading)
+        for line in report.lines:
+            nodes.take(line)
+        opened = sorted((floor, number, len(cuts)) for number, (cuts, floor) in nodes.items() if floor < report.cost)
+        wanted = "".join("node %d floor %d cuts %d\n" % (number, floor, cuts) for floor, number, cuts in opened[:most])
+        answer = self.run([self.graft, "nodes", self.folder / "instance", self.folder / "report", str(most)], "")
+        return ["nodes %d answers %s, the reading says %s" % (most, answer, wanted)] * (answer != (0, wanted, ""))
+
     def faults(self):
         """What is wrong with some runs one after another, each in the report of the last."""
         report, found = self.begun(), []
@@ -154,7 +164,7 @@ class Grafts(Trial):
             faults, report = self.below_faults(report)
             found += faults
             (self.folder / "report").write_text(report_text(report))
-        return found + self.breaks_faults(report)
+        return found + self.nodes_faults(report) + self.breaks_faults(report)
 
 
 def differences(number, programs, seed=1, first=0):

@@ -1,5 +1,6 @@
 //! `graft_run below INSTANCE REPORT NODE STEPS` searches below one node of a report, apart from the search that made it, and writes the
-//! report with what it found; `graft_run breaks INSTANCE REPORT STEPS` plans the breaks of a report's rows anew.
+//! report with what it found; `graft_run breaks INSTANCE REPORT STEPS` plans the breaks of a report's rows anew; `graft_run nodes
+//! INSTANCE REPORT N` lists the open nodes below which can be searched.
 #![tactic(auto)]
 
 ghost use Rattle.std.specs.Prelude.{true};

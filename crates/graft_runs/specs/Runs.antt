@@ -1,5 +1,5 @@
 -- What a run of `graft_run` answers, and why.
-use Rattle.std.specs.Prelude.{◌≡◌, ◌⊎◌, ⊤, ℕ, ◌≤◌, IsTrue, Bool, true, false, List, Option, Some, None, IsSome, IfSome}
+use Rattle.std.specs.Prelude.{◌≡◌, ◌⊎◌, ⊤, ℕ, ◌≤◌, IsTrue, Bool, true, false, List, Option, Some, None, IsSome, IfSome, map}
 use Rattle.std.specs.Option.{option_map, option_map_or}
 use Rattle.std.specs.Io.KnownBytes.{Appends}
 use Rattle.plan_base.specs.Causes.{Rose}
@@ -23,12 +23,14 @@ use Rattle.report_grafts.specs.Faults.{HasOpenEnd, IsExportFault}
 use Rattle.report_grafts.specs.Grafted.{found_by, grafted_lines, grafted_plan, status_of}
 use Rattle.report_grafts.specs.Pins.{pins_of}
 use Rattle.report_grafts.specs.Run.{Run, is_finished}
+use Rattle.report_nodes.specs.declared.listing.OpenNode.{OpenNode}
+use Rattle.report_nodes.specs.Listed.{AreFirst, IsRefusal}
 use Rattle.subtree_search.specs.Stepping.{IsSearched}
 use Rattle.graft_runs.specs.declared.status.GraftStatus.{GraftStatus}
 use Rattle.graft_runs.specs.declared.status.GraftStatus.TheVariants.{Written, Refused, Usage, Input, Bundle, ReadFault, WriteFault, NoMemory}
 use Rattle.graft_runs.specs.declared.words.Command.{Command}
-use Rattle.graft_runs.specs.declared.words.Command.TheVariants.{Below, Thorough, Breaks}
-use Rattle.graft_runs.specs.Texts.{breaks_lines, fault_text, IsNamed}
+use Rattle.graft_runs.specs.declared.words.Command.TheVariants.{Below, Thorough, Breaks, Nodes}
+use Rattle.graft_runs.specs.Texts.{breaks_lines, fault_text, open_line, IsNamed}
 use Rattle.graft_runs.specs.Words.{most_steps, request_of}
 
 -- what the plan of a certificate costs, and TOP where it has none
@@ -70,11 +72,16 @@ pub record ArePlannedAnew (i : Problem) (whole : Cert) (steps : ℕ) (text : Lis
   pub search : IsSearch i (pins_of i (rota_of plan.1)) plan.0 steps false run
   pub lines : text ≡ lines_text (breaks_lines run plan)
 
+-- the lines of the first so many open nodes of a certificate
+abbrev pub AreListed : Problem → Cert → ℕ → List ℕ → Type 0
+AreListed i whole most text = (list : List OpenNode) × AreFirst i whole most list × (text ≡ lines_text (map open_line list))
+
 -- what a command writes of a certificate; a thorough search may be asked to stop
 abbrev pub Writes : Bool → Command → Problem → Cert → List ℕ → Type 0
 Writes asks (Below node steps) i whole text = GrowsBelow i whole node steps false text
 Writes asks (Thorough node budget) i whole text = GrowsBelow i whole node (most_steps budget) asks text
 Writes asks (Breaks steps) i whole text = ArePlannedAnew i whole steps text
+Writes asks (Nodes most) i whole text = AreListed i whole most text
 
 -- why breaks aren't planned anew: the certificate isn't accepted, and for what; or it has no rows
 abbrev pub IsBreaksFault : Problem → Cert → GraftFault → Type 0
@@ -90,6 +97,7 @@ abbrev pub IsFaultOf : Command → Problem → Cert → GraftFault → Type 0
 IsFaultOf (Below node steps) i whole why = IsExportFault i whole node why
 IsFaultOf (Thorough node budget) i whole why = IsExportFault i whole node why
 IsFaultOf (Breaks steps) i whole why = IsBreaksFault i whole why
+IsFaultOf (Nodes most) i whole why = IsRefusal i whole why
 
 -- what a command writes of a certificate, or the line that says why it has nothing to write
 abbrev pub Says : Bool → Command → Problem → Cert → List ℕ → Type 0

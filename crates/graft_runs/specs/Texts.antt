@@ -9,6 +9,7 @@ use Rattle.cert_check.specs.declared.judged.Refused.TheVariants.{BadSplit, BadPr
 use Rattle.report_grafts.specs.declared.fault.GraftFault.{GraftFault}
 use Rattle.report_grafts.specs.declared.fault.GraftFault.TheVariants.{Refused, NoNode, IsSplit, OtherCuts, NoRows, NoMemory}
 use Rattle.report_grafts.specs.Run.{Run, is_finished}
+use Rattle.report_nodes.specs.declared.listing.OpenNode.{OpenNode}
 
 -- the number and the numbers of a refusal of the checker; running out of memory is none
 abbrev pub refused_numbers : Refusal → List ℕ
@@ -47,3 +48,7 @@ rows_lines r p =
 -- the lines of rows whose breaks were planned anew
 abbrev pub breaks_lines : Run → ℕ × List Row → List Line
 breaks_lines r p = rows_lines r (rows_after r p)
+
+-- the line of an open node: its number, its floor and how many cuts it has
+abbrev pub open_line : OpenNode → Line
+open_line n = codes "node " ++ (decimal n.node ++ (codes " floor " ++ (decimal n.floor ++ (codes " cuts " ++ decimal n.cuts))))

@@ -6,7 +6,7 @@ use Rattle.std.specs.Option.{option_and_then}
 use Rattle.std.specs.Str.Parse.{digits_value}
 use Rattle.std.specs.Cmp.Lexicographic.{pointwise}
 use Rattle.graft_runs.specs.declared.words.Command.{Command}
-use Rattle.graft_runs.specs.declared.words.Command.TheVariants.{Below, Thorough, Breaks}
+use Rattle.graft_runs.specs.declared.words.Command.TheVariants.{Below, Thorough, Breaks, Nodes}
 use Rattle.graft_runs.specs.declared.words.Budget.{Budget}
 use Rattle.graft_runs.specs.declared.words.Budget.TheVariants.{Steps, Seconds}
 
@@ -15,11 +15,12 @@ abbrev pub most_steps : Budget → ℕ
 most_steps (Steps steps) = steps
 most_steps (Seconds seconds) = 10 ^ 9
 
--- the most steps of a command
+-- the most steps of a command; a list of nodes takes none
 abbrev pub steps_of : Command → ℕ
 steps_of (Below node steps) = steps
 steps_of (Thorough node budget) = most_steps budget
 steps_of (Breaks steps) = steps
+steps_of (Nodes most) = 0
 
 -- whether two words are the same
 abbrev pub is_word : List ℕ → List ℕ → Bool
@@ -72,14 +73,21 @@ timed_of node seconds =
 abbrev pub breaks_of : List ℕ → Option Command
 breaks_of steps = option_and_then (λ n. Some (Breaks n)) (number_within (10 ^ 9) steps)
 
--- what `below INSTANCE REPORT NODE STEPS`, with `--thorough` behind it or not, `below INSTANCE REPORT NODE --seconds T --thorough` and
--- `breaks INSTANCE REPORT STEPS` ask for; other words ask for nothing
+-- the command `nodes` of at most 10^9 nodes
+abbrev pub nodes_of : List ℕ → Option Command
+nodes_of most = option_and_then (λ n. Some (Nodes n)) (number_within (10 ^ 9) most)
+
+-- what `below INSTANCE REPORT NODE STEPS`, with `--thorough` behind it or not, `below INSTANCE REPORT NODE --seconds T --thorough`,
+-- `breaks INSTANCE REPORT STEPS` and `nodes INSTANCE REPORT N` ask for; other words ask for nothing
 abbrev pub request_of : List (List ℕ) → Option Asked
 request_of [] = None
 request_of (name ∷ []) = None
 request_of (name ∷ instance ∷ []) = None
 request_of (name ∷ instance ∷ report ∷ []) = None
-request_of (name ∷ instance ∷ report ∷ steps ∷ []) = if is_word name (codes "breaks") then option_and_then (asked instance report) (breaks_of steps) else None
+request_of (name ∷ instance ∷ report ∷ number ∷ []) =
+    if is_word name (codes "breaks") then option_and_then (asked instance report) (breaks_of number)
+    else if is_word name (codes "nodes") then option_and_then (asked instance report) (nodes_of number)
+    else None
 request_of (name ∷ instance ∷ report ∷ node ∷ steps ∷ []) = if is_word name (codes "below") then option_and_then (asked instance report) (below_of node steps) else None
 request_of (name ∷ instance ∷ report ∷ node ∷ steps ∷ last ∷ []) =
     if is_word name (codes "below") && is_word last (codes "--thorough") then option_and_then (asked instance report) (thorough_of node steps) else None

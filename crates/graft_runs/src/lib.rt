@@ -1,8 +1,10 @@
-//! Runs of `graft_run`: from the words and the two files that they name to a grafted report, or to breaks that are planned anew.
+//! Runs of `graft_run`: from the words and the two files that they name to a grafted report, to breaks that are planned anew, or to the
+//! open nodes of a report.
 #![tactic(auto)]
 
 mod below;
 mod breaks;
+mod nodes;
 mod numbers;
 mod reading;
 mod refusals;

@@ -3,10 +3,12 @@ ghost use Rattle.std.specs.Prelude.{false, ◌≡◌, ◌≤◌, ◌^◌, IfErr,
 ghost use Rattle.check_runs.specs.Check.{IsReportOf};
 ghost use Rattle.graft_runs.specs.Runs.{EndsOver, Explains, IsFaultOf, Writes};
 ghost use Rattle.graft_runs.specs.Running.{EndsWith, Told};
+ghost use Rattle.graft_runs.specs.Status.{EndsEarly, EndsUnwritten};
 ghost use Rattle.graft_runs.specs.Words.{most_steps, steps_of};
 
 use crate::below::{grown_text, grown_text_by};
 use crate::breaks::breaks_text;
+use crate::nodes::nodes_text;
 use crate::reading::read_report;
 use crate::refusals::refusal_line;
 use crate::status::GraftStatus;
@@ -61,6 +63,7 @@ fn text_for<A: Adviser, P: Stop>(
             grown_text_by(alloc, instance, whole, node, steps, thorough, stop)
         }
         Command::Breaks { steps } => breaks_text(alloc, instance, whole, steps),
+        Command::Nodes { most } => nodes_text(alloc, instance, whole, most),
     }
 }
 
@@ -76,7 +79,8 @@ fn run_over<K: Sink, A: Adviser, P: Stop>(
 ) -> GraftStatus
     requires few { length whole.now.lines ≤ 2 ^ 28 }
     requires steps { steps_of command ≤ 10 ^ 9 }
-    ensures { EndsWith (P.can_ask stop.now) command instance.now whole.now (record { held = K.held out.old; held_after = K.held out.new; faults = (K.faults out.old, K.faults out.new) }) result }
+    ensures status { EndsWith (P.can_ask stop.now) command instance.now whole.now (record { held = K.held out.old; held_after = K.held out.new; faults = (K.faults out.old, K.faults out.new) }) result }
+    ensures unwritten { EndsUnwritten result → out.new ≡ out.old }
 {
     match text_for(alloc, command, instance, whole, thorough, stop) {
         Ok(text) => tell(out, text.as_slice(), GraftStatus::Written),
@@ -98,10 +102,11 @@ fn run_report<T: Source, K: Sink, A: Adviser, P: Stop>(
     stop: &P,
 ) -> GraftStatus
     requires steps { steps_of command ≤ 10 ^ 9 }
-    ensures { EndsOver (P.can_ask stop.now) command instance.now
+    ensures status { EndsOver (P.can_ask stop.now) command instance.now
         (record { left = T.left bundle.old; faults = (T.faults bundle.old, T.faults bundle.new) })
         (record { held = K.held out.old; held_after = K.held out.new; faults = (K.faults out.old, K.faults out.new) })
         result }
+    ensures unwritten { EndsUnwritten result → out.new ≡ out.old }
 {
     match read_report(alloc, bundle) {
         Ok(whole) => run_over(alloc, command, instance, &whole, out, thorough, stop),
@@ -109,15 +114,16 @@ fn run_report<T: Source, K: Sink, A: Adviser, P: Stop>(
     }
 }
 
-/// The run of `below INSTANCE REPORT NODE STEPS`, with `--thorough` or not, of `below INSTANCE REPORT NODE --seconds T --thorough`, or of
-/// `breaks INSTANCE REPORT STEPS`: reads the instance document and then the report to their ends, and writes to `out`.
+/// The run of `below INSTANCE REPORT NODE STEPS`, with `--thorough` or not, of `below INSTANCE REPORT NODE --seconds T --thorough`, of
+/// `breaks INSTANCE REPORT STEPS`, or of `nodes INSTANCE REPORT N`: reads the instance document and then the report to their ends, and writes to `out`.
 ///
 /// `below` searches below a node of the report, in at most STEPS steps, for rotas that are cheaper than the report's plan, and writes the
 /// report into which what it found is grafted. The checker accepts it, and its bound is at least the report's. With `--thorough` it asks
 /// the adviser that is handed in, and ends early where the stop asks; how long T seconds are the stop alone knows. `breaks` searches below
 /// the cuts by which each shift has on each day as many duties as in the report's rows, and writes the line `breaks optimal cost C bound L`
 /// or `breaks stopped cost C bound L`, the rows of cost C, and `end`: no rota with so many duties of each shift on each day costs less
-/// than L, and under `optimal` none is cheaper than these rows.
+/// than L, and under `optimal` none is cheaper than these rows. `nodes` writes a line `node NODE floor FLOOR cuts CUTS` for each of the
+/// first N open nodes of the report: those that aren't split and whose floor is below what its plan costs, by floor and then by number.
 ///
 /// The status is `Written`, or `Refused` where the line `graft refused K` with its numbers was written: 1 where the checker refuses the
 /// report, with its own numbers, 2 where it has no such node, 3 where that node is split, and 5 where it has no rows. `Usage`, `Input`,
@@ -139,6 +145,9 @@ pub fn graft_top_by<S: Source, T: Source, K: Sink, A: Adviser, P: Stop>(
           sink = record { held = K.held out.old; held_after = K.held out.new; faults = (K.faults out.old, K.faults out.new) };
         })
         result }
+    ensures unread { result ≡ GraftStatus.Usage → instance.new ≡ instance.old }
+    ensures untouched { EndsEarly result → bundle.new ≡ bundle.old }
+    ensures unwritten { EndsUnwritten result → out.new ≡ out.old }
 {
     let command = match request_of(words) {
         Some(request) => request.command,
@@ -169,6 +178,9 @@ pub fn graft_top<S: Source, T: Source, K: Sink>(
           sink = record { held = K.held out.old; held_after = K.held out.new; faults = (K.faults out.old, K.faults out.new) };
         })
         result }
+    ensures unread { result ≡ GraftStatus.Usage → instance.new ≡ instance.old }
+    ensures untouched { EndsEarly result → bundle.new ≡ bundle.old }
+    ensures unwritten { EndsUnwritten result → out.new ≡ out.old }
 {
     let mut greedy = Greedy::of_first(alloc);
     graft_top_by(alloc, words, instance, bundle, out, &mut greedy, &Never)

@@ -14,8 +14,8 @@ pub enum GraftStatus {
     /// There is nothing to write, and the line that says why was written. Never holds `NoMemory`.
     Refused(GraftFault),
     /// The words aren't `below INSTANCE REPORT NODE STEPS`, with `--thorough` behind it or not, `below INSTANCE REPORT NODE --seconds T
-    /// --thorough` or `breaks INSTANCE REPORT STEPS`, with files that aren't empty and don't begin with `-`, and numbers of one to ten
-    /// digits: a node below 2^32, and at most 1,000,000,000 steps or seconds.
+    /// --thorough`, `breaks INSTANCE REPORT STEPS` or `nodes INSTANCE REPORT N`, with files that aren't empty and don't begin with `-`,
+    /// and numbers of one to ten digits: a node below 2^32, and at most 1,000,000,000 steps, seconds or nodes.
     Usage,
     /// The instance document is refused. Never holds `NoMemory`.
     Input(ReadRefusal),

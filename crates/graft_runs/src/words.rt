@@ -1,12 +1,15 @@
 //! The words of the command line.
 ghost use Rattle.std.specs.Prelude.{◌≡◌, ◌≤◌, ◌-◌, ◌^◌, IfSome, map, string_bytes};
 ghost use Rattle.std.specs.Option.{option_map};
-ghost use Rattle.graft_runs.specs.Words.{asked, below_of, breaks_of, is_file, number_within, request_of, steps_of, thorough_of, timed_of};
+ghost use Rattle.graft_runs.specs.Words.{asked, below_of, breaks_of, is_file, nodes_of, number_within, request_of, steps_of, thorough_of, timed_of};
 
 use crate::numbers::number_within;
 
 /// The most steps of a run.
 const STEPS_MOST: u64 = 1_000_000_000;
+
+/// The most nodes of a list.
+const NODES_MOST: u64 = 1_000_000_000;
 
 /// The most seconds of a run.
 const SECONDS_MOST: u64 = 1_000_000_000;
@@ -29,6 +32,8 @@ pub enum Command {
     Thorough { node: u32, budget: Budget },
     /// The breaks of its rows are planned anew, in so many steps.
     Breaks { steps: u64 },
+    /// Its open nodes are listed, no more than so many.
+    Nodes { most: u64 },
 }
 
 /// The files that a command names.
@@ -120,8 +125,17 @@ fn breaks(steps: &str) -> Option<Command>
     Some(Command::Breaks { steps })
 }
 
-/// What `below INSTANCE REPORT NODE STEPS`, `below INSTANCE REPORT NODE STEPS --thorough`, `below INSTANCE REPORT NODE --seconds T --thorough`
-/// and `breaks INSTANCE REPORT STEPS` ask for, and `None` of any other words.
+/// The command `nodes` of a number of nodes.
+fn nodes(most: &str) -> Option<Command>
+    ensures command { result ≡ nodes_of most.now }
+    ensures few { IfSome result (λ c. steps_of c ≤ 10 ^ 9) }
+{
+    let most = number_within(NODES_MOST, most)?;
+    Some(Command::Nodes { most })
+}
+
+/// What `below INSTANCE REPORT NODE STEPS`, `below INSTANCE REPORT NODE STEPS --thorough`, `below INSTANCE REPORT NODE --seconds T --thorough`,
+/// `breaks INSTANCE REPORT STEPS` and `nodes INSTANCE REPORT N` ask for, and `None` of any other words.
 pub fn request_of(words: &[String]) -> Option<Request<'_>>
     ensures asked { option_map (λ r. record { command = r.command; files = record { instance = r.files.instance.now; report = r.files.report.now } }) result ≡ request_of (map string_bytes words.now) }
     ensures few { IfSome result (λ r. steps_of r.command ≤ 10 ^ 9) }
@@ -155,6 +169,9 @@ pub fn request_of(words: &[String]) -> Option<Request<'_>>
             report.as_str(),
             breaks(steps.as_str())?,
         ),
+        [name, instance, report, most] if name.as_str() == "nodes" => {
+            request_with(instance.as_str(), report.as_str(), nodes(most.as_str())?)
+        }
         _ => None,
     }
 }

@@ -17,4 +17,4 @@ returns-in-Ok-clause-status g c =
     } in
     explained (P.can_ask c.args.stop.now) met c.in-Some.request.command c.in-Ok.instance c.run_report.result
     (record { asked = asked_for _ c.request_of.result c.in-Some.request met.words c.request_of.ensures.asked c.in-Some.is; document = c.in-Ok.ensures.ok })
-    c.run_report.ensures
+    c.run_report.ensures.status
