@@ -91,7 +91,7 @@ class Grafts(Trial):
         (self.folder / "report").write_text(text)
         return read_report(text)
 
-    def least(self, is_meant):
+    def least_cost(self, is_meant):
         """The least cost of the legal rotas that are meant, if they are few."""
         return None if self.rotas is None else min((self.reading.cost(rows) for rows in self.rotas if is_meant(rows)), default=MOST_COST)
 
@@ -111,7 +111,7 @@ class Grafts(Trial):
         taken = sum(isinstance(line, Priced) for line in grown)
         top = min(report.cost, after.cost)
         is_finished = all(top <= floor for _, floor in run.values())
-        least = self.least(lambda rows: meets(rows, cuts))
+        least = self.least_cost(lambda rows: meets(rows, cuts))
         answer = self.run([self.check, "check", self.folder / "instance", "/dev/stdin"], text)
         holds = [
             ("the report's own lines aren't kept", after.lines[: len(report.lines)] == report.lines),
@@ -137,7 +137,7 @@ class Grafts(Trial):
         first, *lines, last = [line.split(" ") for line in text.splitlines()]
         rows = [Row(*map(read_field, Row._fields, words[1:])) for words in lines]
         word, cost, bound = first[1], int(first[3]), int(first[5])
-        least = self.least(lambda others: heads(others) == heads(report.rows))
+        least = self.least_cost(lambda others: heads(others) == heads(report.rows))
         holds = [
             ("the lines are %s and %s" % (first, last), (first[0], first[2], first[4], last) == ("breaks", "cost", "bound", ["end"])),
             ("the rows aren't legal at their cost", self.reading.are_legal(rows) and self.reading.cost(rows) == cost),

@@ -1,19 +1,38 @@
-//! The nodes that the proof lines of a report make.
-ghost use Rattle.std.specs.Prelude.{◌<◌, ◌≤◌, ◌≡◌, ◌^◌, IfOk, IsSomeAnd, IsTrue, Some, length, max, slice_get};
+//! The nodes that proof lines make below some cuts.
+ghost use Rattle.std.specs.Prelude.{◌<◌, ◌≤◌, ◌≡◌, ◌^◌, ◌∷◌, [], false, true, not, IfOk, IsSomeAnd, None, Some, length, max, slice_get, if◌then◌else◌};
+ghost use Rattle.std.specs.Option.{option_map, option_map_or};
 ghost use Rattle.head_splits.specs.Bound.{are_prices, bound_of};
-ghost use Rattle.head_splits.specs.Nodes.{settled_floor, with_floor, with_split};
+ghost use Rattle.head_splits.specs.Nodes.{new_node, settled_floor, with_floor, with_split};
 ghost use Rattle.head_splits.specs.Settled.{is_settled};
-ghost use Rattle.certificate.specs.Accepted.{nodes_of};
-ghost use Rattle.report_grafts.specs.Grafted.{AreGood};
-ghost use Rattle.report_nodes.specs.Made.{HasFewCuts, Makes, MakesSome};
+ghost use Rattle.certificate.specs.declared.proof_lines.Line.TheVariants.{Priced, Settled, Split};
+ghost use Rattle.certificate.specs.Accepted.{is_split, nodes_after};
+ghost use Rattle.report_nodes.specs.Made.{HasFewCuts};
 
 use crate::node::TreeNode;
 use break_rules::NoMemory;
 use certificate::{Line, Lines};
 use dual_bound::{Buffers, Fixing, PriceFault, settle};
-use head_splits::{Class, Prices, Side};
+use head_splits::{Class, Cuts, Prices, Side};
 use shift_instance::Instance;
 use std::alloc::{AllocError, Global};
+
+/// Whether a node of that number is there and unsplit.
+fn is_unsplit(nodes: &[TreeNode], k: usize) -> bool
+    ensures { result ≡ option_map_or (λ n. not n.split) (slice_get nodes.now k) false }
+{
+    k < nodes.len() && !nodes[k].is_split()
+}
+
+/// Whether a node may be split by the number of a class's duties into at most `m` and at least `m + 1`.
+fn is_split(instance: &Instance, class: &Class, m: u16) -> bool
+    ensures split { result ≡ is_split instance.now class.now m }
+    ensures number { result ≡ true → m ≤ 200 }
+{
+    usize::from(class.shift) < instance.shifts().len()
+        && class.day < instance.days()
+        && class.prefix.as_slice().len() <= 48
+        && m <= 200
+}
 
 /// The nodes after one of them is split by the number of a class's duties.
 fn divided(nodes: Vec<TreeNode>, k: usize, class: Class, m: u16) -> Result<Vec<TreeNode>, NoMemory>
@@ -40,79 +59,133 @@ fn lifted(nodes: Vec<TreeNode>, k: usize, floor: u64) -> Vec<TreeNode>
     nodes
 }
 
-/// The floor of a node after it is priced by these prices, which are a price set for its cuts.
+/// The floor of a node after it is priced by these prices, where they are a price set for its cuts.
 fn priced_floor(
     instance: &Instance,
     buffers: &mut Buffers,
     node: &TreeNode,
     prices: Prices,
-) -> Result<u64, NoMemory>
+) -> Result<Option<u64>, NoMemory>
     requires few { length node.now.cuts ≤ 2 ^ 33 }
-    requires lawful { IsTrue (are_prices instance.now node.now.cuts prices) }
     requires buffers { buffers.old ≡ instance.now }
-    ensures floor { IfOk result (λ floor. floor ≡ max node.now.floor (bound_of instance.now node.now.cuts prices)) }
+    ensures floor { IfOk result (λ floor. floor ≡ (if are_prices instance.now node.now.cuts prices then Some (max node.now.floor (bound_of instance.now node.now.cuts prices)) else None)) }
     ensures buffers { buffers.new ≡ buffers.old }
 {
     match buffers.prove(instance, node.copy_of_cuts()?, prices) {
-        Ok(proved) => Ok(node.floor().max(proved.bound())),
+        Ok(proved) => Ok(Some(node.floor().max(proved.bound()))),
         Err(PriceFault::NoMemory) => Err(AllocError),
-        Err(_) => unreachable!(),
+        Err(_) => Ok(None),
     }
 }
 
-/// The floor of a node whose cuts fix the number of each legal duty.
-fn fixed_floor(alloc: Global, instance: &Instance, node: &TreeNode) -> Result<u64, NoMemory>
-    requires { IsTrue (is_settled instance.now node.now.cuts) }
-    ensures { IfOk result (λ floor. floor ≡ settled_floor instance.now node.now.cuts) }
+/// The floor of a node after it is settled, where its cuts fix the number of each legal duty.
+fn fixed_floor(alloc: Global, instance: &Instance, node: &TreeNode) -> Result<Option<u64>, NoMemory>
+    ensures { IfOk result (λ floor. floor ≡ (if is_settled instance.now node.now.cuts then Some (settled_floor instance.now node.now.cuts) else None)) }
 {
     match settle(alloc, instance, node.copy_of_cuts()?)? {
-        Fixing::Done(settled) => Ok(settled.floor()),
-        Fixing::Open { class: _, m: _ } => unreachable!(),
+        Fixing::Done(settled) => Ok(Some(settled.floor())),
+        Fixing::Open { class: _, m: _ } => Ok(None),
     }
 }
 
-/// The nodes after a proof line that is good for them.
+/// The nodes after one of them is split, where it is there and unsplit and may be split so.
+fn split_at(
+    instance: &Instance,
+    nodes: Vec<TreeNode>,
+    node: u32,
+    class: Class,
+    m: u16,
+) -> Result<Option<Vec<TreeNode>>, NoMemory>
+    ensures { IfOk result (λ next. option_map (λ v. v.items) next ≡ nodes_after instance.now nodes.items (Split node class m ∷ [])) }
+{
+    let k = node as usize;
+    if !is_unsplit(&nodes, k) || !is_split(instance, &class, m) {
+        return Ok(None);
+    }
+    Ok(Some(divided(nodes, k, class, m)?))
+}
+
+/// The nodes after one of them is priced, where it is there and unsplit and the prices are a price set for its cuts.
+fn price_at(
+    instance: &Instance,
+    buffers: &mut Buffers,
+    nodes: Vec<TreeNode>,
+    node: u32,
+    prices: Prices,
+) -> Result<Option<Vec<TreeNode>>, NoMemory>
+    requires few { HasFewCuts nodes.items }
+    requires buffers { buffers.old ≡ instance.now }
+    ensures made { IfOk result (λ next. option_map (λ v. v.items) next ≡ nodes_after instance.now nodes.items (Priced node prices ∷ [])) }
+    ensures buffers { buffers.new ≡ buffers.old }
+{
+    let k = node as usize;
+    if !is_unsplit(&nodes, k) {
+        return Ok(None);
+    }
+    match priced_floor(instance, buffers, &nodes[k], prices)? {
+        Some(floor) => Ok(Some(lifted(nodes, k, floor))),
+        None => Ok(None),
+    }
+}
+
+/// The nodes after one of them is settled, where it is there and unsplit and its cuts fix the number of each legal duty.
+fn settle_at(
+    alloc: Global,
+    instance: &Instance,
+    nodes: Vec<TreeNode>,
+    node: u32,
+) -> Result<Option<Vec<TreeNode>>, NoMemory>
+    ensures { IfOk result (λ next. option_map (λ v. v.items) next ≡ nodes_after instance.now nodes.items (Settled node ∷ [])) }
+{
+    let k = node as usize;
+    if !is_unsplit(&nodes, k) {
+        return Ok(None);
+    }
+    match fixed_floor(alloc, instance, &nodes[k])? {
+        Some(floor) => Ok(Some(lifted(nodes, k, floor))),
+        None => Ok(None),
+    }
+}
+
+/// The nodes after a proof line, where it is good for them.
 fn grown(
     alloc: Global,
     instance: &Instance,
     buffers: &mut Buffers,
     nodes: Vec<TreeNode>,
     line: Line,
-) -> Result<Vec<TreeNode>, NoMemory>
-    requires good { MakesSome instance.now nodes.items line }
+) -> Result<Option<Vec<TreeNode>>, NoMemory>
     requires few { HasFewCuts nodes.items }
     requires buffers { buffers.old ≡ instance.now }
-    ensures made { IfOk result (λ next. Makes instance.now nodes.items line next.items) }
+    ensures made { IfOk result (λ next. option_map (λ v. v.items) next ≡ nodes_after instance.now nodes.items (line ∷ [])) }
     ensures buffers { buffers.new ≡ buffers.old }
 {
     match line {
-        Line::Split { node, class, m } => divided(nodes, node as usize, class, m),
-        Line::Priced { node, prices } => {
-            let floor = priced_floor(instance, buffers, &nodes[node as usize], prices)?;
-            Ok(lifted(nodes, node as usize, floor))
-        }
-        Line::Settled { node } => {
-            let floor = fixed_floor(alloc, instance, &nodes[node as usize])?;
-            Ok(lifted(nodes, node as usize, floor))
-        }
+        Line::Split { node, class, m } => split_at(instance, nodes, node, class, m),
+        Line::Priced { node, prices } => price_at(instance, buffers, nodes, node, prices),
+        Line::Settled { node } => settle_at(alloc, instance, nodes, node),
     }
 }
 
-/// The nodes that good proof lines make of the root.
-pub(crate) fn tree_of(
+/// The nodes that proof lines make of one with these cuts, where each is good.
+pub(crate) fn nodes_below(
     alloc: Global,
     instance: &Instance,
+    base: Cuts,
     lines: &Lines,
-) -> Result<Vec<TreeNode>, NoMemory>
-    requires good { AreGood instance.now lines.now }
-    requires few { length lines.now ≤ 2 ^ 33 }
-    ensures { IfOk result (λ nodes. nodes_of instance.now lines.now ≡ Some nodes.items) }
+) -> Result<Option<Vec<TreeNode>>, NoMemory>
+    requires base { length base ≤ 2 ^ 32 }
+    requires lines { length lines.now ≤ 2 ^ 32 }
+    ensures { IfOk result (λ last. option_map (λ v. v.items) last ≡ nodes_after instance.now (new_node base ∷ []) lines.now) }
 {
     let mut buffers = Buffers::new(alloc, instance);
-    let mut nodes = vec![in alloc; TreeNode::root(alloc)]?;
+    let mut nodes = vec![in alloc; TreeNode::new(base)]?;
     let mut reader = lines.reader();
     while let Some(line) = reader.next_line(alloc)? {
-        nodes = grown(alloc, instance, &mut buffers, nodes, line)?;
+        let Some(next) = grown(alloc, instance, &mut buffers, nodes, line)? else {
+            return Ok(None);
+        };
+        nodes = next;
     }
-    Ok(nodes)
+    Ok(Some(nodes))
 }

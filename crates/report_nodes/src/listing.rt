@@ -2,11 +2,12 @@
 ghost use Rattle.std.specs.Prelude.{◌≡◌, ◌≤◌, ◌^◌, IfErr, IfOk, length};
 ghost use Rattle.report_nodes.specs.Listed.{open_from, top_of, AreFirst, IsRefusal};
 
-use crate::growing::tree_of;
+use crate::growing::nodes_below;
 use crate::node::TreeNode;
 use break_rules::NoMemory;
 use cert_check::{Refused, check};
 use certificate::Cert;
+use head_splits::Cuts;
 use report_grafts::GraftFault;
 use shift_instance::{Instance, TOP};
 use std::alloc::Global;
@@ -69,7 +70,10 @@ pub fn open_nodes(
         Err(Refused::NoMemory) => return Err(GraftFault::NoMemory),
         Err(why) => return Err(GraftFault::Refused(why)),
     }
-    let nodes = tree_of(alloc, instance, &whole.lines)?;
+    let root = Cuts::new(Vec::new(alloc));
+    let Some(nodes) = nodes_below(alloc, instance, root, &whole.lines)? else {
+        unreachable!()
+    };
     let mut list = open_of(alloc, nodes.as_slice(), top_of(whole))?;
     list.sort_by_key(|open| (open.floor, open.node))?;
     list.truncate(most);

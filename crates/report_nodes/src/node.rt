@@ -1,11 +1,10 @@
 //! Nodes of a report.
-ghost use Rattle.std.specs.Prelude.{[], ◌≡◌, true, IfOk, length};
+ghost use Rattle.std.specs.Prelude.{◌≡◌, true, IfOk, length};
 ghost use Rattle.head_splits.specs.Nodes.{child, new_node};
 ghost use Rattle.report_nodes.specs.Listed.{is_open};
 
 use break_rules::NoMemory;
 use head_splits::{Class, Cut, Cuts, Side};
-use std::alloc::Global;
 use std::marker::Model;
 
 /// A node: its cuts, what every legal rota that meets them costs at least, and whether it is split.
@@ -25,12 +24,12 @@ impl Model for TreeNode {
 }
 
 impl TreeNode {
-    /// The root, which has no cut.
-    pub(crate) fn root(alloc: Global) -> TreeNode
-        ensures { result ≡ new_node [] }
+    /// The node with these cuts of which nothing is known.
+    pub(crate) fn new(cuts: Cuts) -> TreeNode
+        ensures { result ≡ new_node cuts }
     {
         TreeNode {
-            cuts: Cuts::new(Vec::new(alloc)),
+            cuts,
             floor: 0,
             split: false,
         }
@@ -69,6 +68,13 @@ impl TreeNode {
         ensures { result ≡ self.now.floor }
     {
         self.floor
+    }
+
+    /// Whether the node is split.
+    pub(crate) fn is_split(&self) -> bool
+        ensures { result ≡ self.now.split }
+    {
+        self.split
     }
 
     /// Whether the node is open below a cost: it is unsplit, and its floor is less.
