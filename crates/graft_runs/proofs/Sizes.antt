@@ -1,34 +1,30 @@
 -- How many lines a report has, how many cuts a node of it, and how many pins its rows.
-use Rattle.std.proofs.Common.{◌≡◌, inl, inr, ℕ, zero, suc, ◌+◌, ◌*◌, ◌^◌, ◌<◌, ◌≤◌, max, Bool, true, false, cond, ◌&&◌, not, List, [], ◌∷◌, ◌++◌, length, map, set, refl, sym, ap, ◌∙◌, subst, arith, Option, Some, None}
+use Rattle.std.proofs.Common.{◌≡◌, inl, inr, ℕ, zero, suc, ◌+◌, ◌*◌, ◌^◌, ◌<◌, ◌≤◌, ◌&&◌, List, [], ◌∷◌, ◌++◌, length, map, refl, sym, ap, ◌∙◌, subst, arith, Option, Some, None}
 use Rattle.std.specs.Prelude.{slice_get, codes, IsFalse, IsSomeAnd}
 use Rattle.std.specs.List.{flat_map, range_with_len}
 use Rattle.std.proofs.lemmas.Bool.{cond_both}
 use Rattle.std.proofs.lemmas.List.{length-append, length-map, length_push}
-use Rattle.std.proofs.lemmas.Option.{slice_get_within}
 use Rattle.break_rules.specs.Lists.{Has}
-use Rattle.break_rules.proofs.Lists.{Has-append_cases}
 use Rattle.shift_instance.specs.declared.Duty.{Duty}
 use Rattle.shift_instance.specs.Problem.{Problem, shift_list, below}
 use Rattle.shift_instance.specs.Valid.{IsValid}
 use Rattle.shift_instance.specs.Rota.{heads_on, lists_of}
-use Rattle.head_splits.specs.declared.Class.{Class}
 use Rattle.head_splits.specs.declared.Cut.{Cut}
-use Rattle.head_splits.specs.declared.Side.TheVariants.{AtMost, AtLeast}
 use Rattle.head_splits.specs.Bound.{is_nil}
-use Rattle.head_splits.specs.Nodes.{Node, new_node, child, with_floor, with_split}
-use Rattle.head_splits.proofs.Nodes.{Has-slice_get, from_set}
+use Rattle.head_splits.specs.Nodes.{Node, new_node}
+use Rattle.head_splits.proofs.Nodes.{Has-slice_get}
 use Rattle.certificate.specs.declared.Cert.{Cert}
 use Rattle.certificate.specs.declared.proof_lines.Line.{Line}
-use Rattle.certificate.specs.declared.proof_lines.Line.TheVariants.{Split, Priced, Settled}
-use Rattle.certificate.specs.Accepted.{is_split, node_line, node_of, nodes_after}
+use Rattle.certificate.specs.Accepted.{nodes_after}
 use Rattle.certificate.specs.Departing.{Spells}
 use Rattle.certificate.specs.LineText.{Line as TextLine, line_text, lines_text, proof_line}
 use Rattle.certificate.specs.Text.{cert_lines, plan_lines, proof_lines}
 use Rattle.report_grafts.specs.Faults.{HasOpenEnd}
 use Rattle.report_grafts.specs.Grafted.{nodes_made}
 use Rattle.report_grafts.specs.Pins.{pins_of, pins_of_shift, pins_on}
-use Rattle.report_grafts.proofs.Lines.{cond_some, first_good, priced_lifts, settled_lifts}
+use Rattle.report_grafts.proofs.Lines.{first_good}
 use Rattle.report_grafts.proofs.Plans.{made_is, tree_of}
+use Rattle.report_nodes.proofs.Growing.{CutsWithin, within_line}
 
 -- ---- lines
 
@@ -60,52 +56,6 @@ few_lines bytes c s =
     omega (arith, text, same, whole, inner)
 
 -- ---- cuts
-
--- each node of some has no more cuts than a number
-abbrev pub CutsWithin : ℕ → List Node → Type 0
-CutsWithin most nodes = (n : Node) → Has nodes n → length n.cuts ≤ most
-
-within_floor : (most floor : ℕ) (nodes : List Node) (k : ℕ) (n : Node) → slice_get nodes k ≡ Some n → CutsWithin most nodes → CutsWithin (most + 1) (with_floor nodes k n floor)
-within_floor most floor nodes k n at w x there =
-    elim (from_set nodes k (record n { floor = floor }) x there) [
-      | inl e ↦ let old : length n.cuts ≤ most = w n (Has-slice_get nodes k n at) in subst (λ (z : Node). length z.cuts ≤ most + 1) e (omega (arith, old))
-      | inr m ↦ let old : length x.cuts ≤ most = w x m in omega (arith, old)
-    ]
-
-within_split : (most : ℕ) (nodes : List Node) (k : ℕ) (n : Node) (class : Class) (m : ℕ) → slice_get nodes k ≡ Some n → CutsWithin most nodes → CutsWithin (most + 1) (with_split nodes k n class m)
-within_split most nodes k n class m at w x there =
-    let left = child n class AtMost m in
-    let right = child n class AtLeast (m + 1) in
-    let old : length n.cuts ≤ most = w n (Has-slice_get nodes k n at) in
-    let one : length left.cuts ≡ length n.cuts + 1 = length_push n.cuts _ in
-    let two : length right.cuts ≡ length n.cuts + 1 = length_push n.cuts _ in
-    elim (Has-append_cases (set nodes k (record n { split = true })) (left ∷ right ∷ []) x there) [
-      | inl front ↦
-          elim (from_set nodes k (record n { split = true }) x front) [
-            | inl e ↦ subst (λ (z : Node). length z.cuts ≤ most + 1) e (omega (arith, old))
-            | inr q ↦ let other : length x.cuts ≤ most = w x q in omega (arith, other)
-          ]
-      | inr new ↦
-          elim new [
-            | inl e ↦ subst (λ (z : Node). length z.cuts ≤ most + 1) e (omega (arith, old, one))
-            | inr last ↦
-                elim last [
-                  | inl e ↦ subst (λ (z : Node). length z.cuts ≤ most + 1) e (omega (arith, old, two))
-                  | inr no ↦ absurd no
-                ]
-          ]
-    ]
-
-within_line : (i : Problem) (most : ℕ) (nodes next : List Node) (n : Node) (line : Line) → slice_get nodes (node_of line) ≡ Some n → node_line i nodes n line ≡ Some next → CutsWithin most nodes → CutsWithin (most + 1) next
-within_line i most nodes next n (Split k class m) at e w =
-    let q = cond_some (not n.split && is_split i class m) (with_split nodes k n class m) next e in
-    subst (CutsWithin (most + 1)) q.1 (within_split most nodes k n class m at w)
-within_line i most nodes next n (Priced k prices) at e w =
-    let l = priced_lifts i nodes next k prices n e in
-    subst (CutsWithin (most + 1)) (sym l.is) (within_floor most l.floor nodes k n at w)
-within_line i most nodes next n (Settled k) at e w =
-    let l = settled_lifts i nodes next k n e in
-    subst (CutsWithin (most + 1)) (sym l.is) (within_floor most l.floor nodes k n at w)
 
 within_lines : (i : Problem) (most : ℕ) (nodes last : List Node) (lines : List Line) → nodes_after i nodes lines ≡ Some last → CutsWithin most nodes → CutsWithin (most + length lines) last
 within_lines i most nodes last [] e w = let same : nodes ≡ last = cc in λ n there. let old : length n.cuts ≤ most = w n (subst (λ (ns : List Node). Has ns n) (sym same) there) in omega (arith, old)

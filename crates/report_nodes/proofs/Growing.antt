@@ -1,30 +1,45 @@
 -- Nodes that grow line by line.
-use Rattle.std.proofs.Common.{◌≡◌, ◌⊎◌, inl, inr, ℕ, ◌+◌, ◌≤◌, ◌<◌, ◌^◌, max, Bool, true, false, cond, ◌&&◌, not, List, [], ◌∷◌, ◌++◌, length, set, refl, sym, ap, ◌∙◌, subst, arith, Option, Some, None}
-use Rattle.std.specs.Prelude.{slice_get, All}
+use Rattle.std.proofs.Common.{◌≡◌, inl, inr, ℕ, ◌+◌, ◌≤◌, ◌^◌, max, true, false, cond, ◌&&◌, not, List, [], ◌∷◌, ◌++◌, length, get_or, set, refl, sym, ap, ◌∙◌, subst, arith, Option, Some, None}
+use Rattle.std.specs.Prelude.{slice_get}
+use Rattle.std.specs.Option.{option_and_then}
+use Rattle.std.proofs.lemmas.Bool.{cases_Bool}
 use Rattle.std.proofs.lemmas.List.{length_push}
+use Rattle.break_rules.specs.Causes.{first_cause}
 use Rattle.break_rules.specs.Lists.{Has}
 use Rattle.break_rules.proofs.Lists.{Has-append_cases}
 use Rattle.shift_instance.specs.Problem.{Problem}
 use Rattle.head_splits.specs.declared.Class.{Class}
+use Rattle.head_splits.specs.declared.Cut.{Cut}
 use Rattle.head_splits.specs.declared.Prices.{Prices}
 use Rattle.head_splits.specs.declared.Side.TheVariants.{AtMost, AtLeast}
 use Rattle.head_splits.specs.Bound.{are_prices, bound_of}
 use Rattle.head_splits.specs.Settled.{is_settled}
 use Rattle.head_splits.specs.Nodes.{Node, new_node, child, with_floor, with_split, settled_floor}
-use Rattle.head_splits.proofs.Nodes.{Has-slice_get, from_set}
+use Rattle.head_splits.proofs.Nodes.{Has-slice_get, Has-get_or, from_set}
+use Rattle.certificate.specs.declared.Cert.{Cert}
 use Rattle.certificate.specs.declared.proof_lines.Line.{Line}
 use Rattle.certificate.specs.declared.proof_lines.Line.TheVariants.{Split, Priced, Settled}
-use Rattle.certificate.specs.Accepted.{is_split, node_line, node_of, nodes_after}
+use Rattle.certificate.specs.Accepted.{is_accepted, is_split, node_line, node_of, nodes_after}
 use Rattle.dual_bound.specs.declared.PriceFault.{PriceFault}
 use Rattle.dual_bound.specs.declared.PriceFault.TheVariants.{NoMemory}
-use Rattle.dual_bound.specs.Faults.{Answers}
+use Rattle.dual_bound.specs.Faults.{price_causes, Answers}
+use Rattle.dual_bound.proofs.Causes.{faultless}
 use Rattle.report_grafts.proofs.Lines.{Good, cond_some, first_good, one_good, priced_lifts, settled_lifts}
-use Rattle.report_nodes.specs.Made.{Makes, MakesSome}
+use Rattle.report_grafts.proofs.Places.{same_some}
+use Rattle.report_grafts.proofs.Plans.{tree_of}
+use Rattle.report_nodes.specs.Made.{HasFewCuts}
 
--- where prices have no cause of a fault, memory alone can be one
-pub no_fault : (e : PriceFault) (cause : Option PriceFault) → cause ≡ None → Answers e cause → e ≡ NoMemory
-no_fault e cause none (inl some) = let f : None ≡ Some e = sym none ∙ some in absurd (cc)
-no_fault e cause none (inr memory) = memory.0
+-- prices with a fault that isn't running out of memory aren't a price set
+pub no_prices : (i : Problem) (cuts : List Cut) (prices : Prices) (e : PriceFault) → (e ≡ NoMemory → ⊥) → Answers e (first_cause (price_causes i cuts prices)) → are_prices i cuts prices ≡ false
+no_prices i cuts prices e other (inr memory) = absurd (other memory.0)
+no_prices i cuts prices e other (inl some) =
+    elim (cases_Bool (are_prices i cuts prices)) [
+      | inl good ↦
+          let none : first_cause (price_causes i cuts prices) ≡ None = faultless i cuts prices good in
+          let f : None ≡ Some e = sym none ∙ some in
+          absurd (cc)
+      | inr bad ↦ bad
+    ]
 
 -- ---- how many cuts nodes have
 
@@ -63,7 +78,8 @@ within_split most nodes k n class m at w x there =
           ]
     ]
 
-within_line : (i : Problem) (most : ℕ) (nodes next : List Node) (n : Node) (line : Line) → slice_get nodes (node_of line) ≡ Some n → node_line i nodes n line ≡ Some next → CutsWithin most nodes → CutsWithin (most + 1) next
+-- a good line adds no more than one cut to a node
+pub within_line : (i : Problem) (most : ℕ) (nodes next : List Node) (n : Node) (line : Line) → slice_get nodes (node_of line) ≡ Some n → node_line i nodes n line ≡ Some next → CutsWithin most nodes → CutsWithin (most + 1) next
 within_line i most nodes next n (Split k class m) at e w =
     let q = cond_some (not n.split && is_split i class m) (with_split nodes k n class m) next e in
     subst (CutsWithin (most + 1)) q.1 (within_split most nodes k n class m at w)
@@ -76,54 +92,69 @@ within_line i most nodes next n (Settled k) at e w =
 
 -- ---- one line after another
 
--- What holds while lines are read: the nodes and the lines that are left make what all lines make, and no node has more cuts than lines were
--- read.
-pub record Grows (i : Problem) (lines left : List Line) (nodes : List Node) : Type 0 where
-  pub last : List Node
-  pub all : nodes_after i (new_node [] ∷ []) lines ≡ Some last
-  pub rest : nodes_after i nodes left ≡ Some last
+-- What holds while lines are read: the nodes and the lines that are left make what all lines make, and no node has more cuts than the base
+-- and one for each line that was read.
+pub record Grows (i : Problem) (base : List Cut) (lines left : List Line) (nodes : List Node) : Type 0 where
+  pub rest : nodes_after i nodes left ≡ nodes_after i (new_node base ∷ []) lines
   pub read : ℕ
   pub counted : read + length left ≡ length lines
-  pub deep : CutsWithin read nodes
+  pub deep : CutsWithin (length base + read) nodes
 
-pub grows_first : (i : Problem) (lines : List Line) (last : List Node) → nodes_after i (new_node [] ∷ []) lines ≡ Some last → Grows i lines lines (new_node [] ∷ [])
-grows_first i lines last e = record {
-  last = last;
-  all = e;
-  rest = e;
+pub grows_first : (i : Problem) (base : List Cut) (lines : List Line) → Grows i base lines lines (new_node base ∷ [])
+grows_first i base lines = record {
+  rest = refl;
   read = 0;
   counted = refl;
-  deep = λ n there. elim there [ inl same ↦ subst (λ (z : Node). length z.cuts ≤ 0) same (omega arith) | inr no ↦ absurd no ];
+  deep = λ n there. elim there [ inl same ↦ subst (λ (z : Node). length z.cuts ≤ length base + 0) same (omega arith) | inr no ↦ absurd no ];
 }
 
--- the next line is good
-pub grows_good : (i : Problem) (lines left rest : List Line) (nodes : List Node) (line : Line) → Grows i lines left nodes → left ≡ line ∷ rest → MakesSome i nodes line
-grows_good i lines left rest nodes line g e =
-    let r = first_good i nodes g.last line rest (ap (nodes_after i nodes) (sym e) ∙ g.rest) in
-    (r.0, record { node = r.1.node; there = r.1.at; made = r.1.made })
-
--- no node has more cuts than there are lines
-pub grows_few : (i : Problem) (lines left : List Line) (nodes : List Node) (n : Node) → Grows i lines left nodes → Has nodes n → length n.cuts ≤ length lines
-grows_few i lines left nodes n g there =
-    let deep : length n.cuts ≤ g.read = g.deep n there in
+-- no node has more cuts than can be priced
+pub grows_few : (i : Problem) (base : List Cut) (lines left : List Line) (nodes : List Node) → Grows i base lines left nodes → length base ≤ 2 ^ 32 → length lines ≤ 2 ^ 32 → HasFewCuts nodes
+grows_few i base lines left nodes g few short =
+    λ k d less.
+    let deep : length (get_or nodes k d).cuts ≤ length base + g.read = g.deep (get_or nodes k d) (Has-get_or nodes k d less) in
     let counted = g.counted in
-    omega (arith, deep, counted)
+    omega (arith, deep, counted, few, short)
 
--- and makes the next nodes
-pub grows_more : (i : Problem) (lines left rest : List Line) (nodes next : List Node) (line : Line) → Grows i lines left nodes → left ≡ line ∷ rest → Makes i nodes line next → Grows i lines rest next
-grows_more i lines left rest nodes next line g e m =
-    let one : nodes_after i nodes (line ∷ rest) ≡ nodes_after i next rest = one_good i nodes next line rest (record { node = m.node; at = m.there; made = m.made }) in
+-- one line makes the next nodes
+grows_by : (i : Problem) (nodes next : List Node) (line : Line) → nodes_after i nodes (line ∷ []) ≡ Some next → Good i nodes next line
+grows_by i nodes next line e =
+    let r = first_good i nodes next line [] e in
+    let same : r.0 ≡ next = same_some r.0 next r.2 in
+    subst (λ (ns : List Node). Good i nodes ns line) same r.1
+
+pub grows_more : (i : Problem) (base : List Cut) (lines left rest : List Line) (nodes next : List Node) (line : Line) → Grows i base lines left nodes → left ≡ line ∷ rest → nodes_after i nodes (line ∷ []) ≡ Some next → Grows i base lines rest next
+grows_more i base lines left rest nodes next line g e made =
+    let good = grows_by i nodes next line made in
+    let one : nodes_after i nodes (line ∷ rest) ≡ nodes_after i next rest = one_good i nodes next line rest good in
     let counted : g.read + length left ≡ length lines = g.counted in
     let long : length left ≡ length rest + 1 = ap (λ (ls : List Line). length ls) e in
+    let wide : CutsWithin (length base + g.read + 1) next = within_line i (length base + g.read) nodes next good.node line good.at good.made g.deep in
     record {
-      last = g.last;
-      all = g.all;
       rest = sym one ∙ ap (nodes_after i nodes) (sym e) ∙ g.rest;
       read = g.read + 1;
       counted = omega (arith, counted, long);
-      deep = within_line i g.read nodes next m.node line m.there m.made g.deep;
+      deep = λ n there. let w : length n.cuts ≤ length base + g.read + 1 = wide n there in omega (arith, w);
     }
 
+-- a line that isn't good leaves nothing
+none_after : (i : Problem) (nodes : List Node) (line : Line) (lines : List Line) → nodes_after i nodes (line ∷ []) ≡ None → nodes_after i nodes (line ∷ lines) ≡ None
+none_after i nodes line lines e = of_made (option_and_then (λ n. node_line i nodes n line) (slice_get nodes (node_of line))) e
+  where
+    of_made : (made : Option (List Node)) → option_and_then (λ next. nodes_after i next []) made ≡ None → option_and_then (λ next. nodes_after i next lines) made ≡ None
+    of_made None h = refl
+    of_made (Some next) h = absurd (cc)
+
+pub grows_none : (i : Problem) (base : List Cut) (lines left rest : List Line) (nodes : List Node) (line : Line) → Grows i base lines left nodes → left ≡ line ∷ rest → nodes_after i nodes (line ∷ []) ≡ None → nodes_after i (new_node base ∷ []) lines ≡ None
+grows_none i base lines left rest nodes line g e bad = sym g.rest ∙ ap (nodes_after i nodes) e ∙ none_after i nodes line rest bad
+
 -- at the end the nodes are those that all lines make
-pub grows_last : (i : Problem) (lines left : List Line) (nodes : List Node) → Grows i lines left nodes → left ≡ [] → nodes_after i (new_node [] ∷ []) lines ≡ Some nodes
-grows_last i lines left nodes g e = g.all ∙ sym (sym (ap (nodes_after i nodes) e) ∙ g.rest)
+pub grows_last : (i : Problem) (base : List Cut) (lines left : List Line) (nodes : List Node) → Grows i base lines left nodes → left ≡ [] → nodes_after i (new_node base ∷ []) lines ≡ Some nodes
+grows_last i base lines left nodes g e = sym g.rest ∙ ap (nodes_after i nodes) e
+
+-- what an accepted certificate's lines make
+pub accepted_nodes : (i : Problem) (c : Cert) → is_accepted i c ≡ true → nodes_after i (new_node [] ∷ []) c.lines ≡ None → ⊥
+accepted_nodes i c accepted none =
+    let t = tree_of i c accepted in
+    let f : None ≡ Some t.0 = sym none ∙ t.1 in
+    absurd (cc)
