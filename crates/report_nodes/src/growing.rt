@@ -2,7 +2,7 @@
 ghost use Rattle.std.specs.Prelude.{◌<◌, ◌≤◌, ◌≡◌, ◌^◌, ◌∷◌, [], false, true, not, IfOk, IsSomeAnd, None, Some, length, max, slice_get, if◌then◌else◌};
 ghost use Rattle.std.specs.Option.{option_map, option_map_or};
 ghost use Rattle.head_splits.specs.Bound.{are_prices, bound_of};
-ghost use Rattle.head_splits.specs.Nodes.{new_node, settled_floor, with_floor, with_split};
+ghost use Rattle.head_splits.specs.Nodes.{child, new_node, settled_floor, with_floor, with_split};
 ghost use Rattle.head_splits.specs.Settled.{is_settled};
 ghost use Rattle.certificate.specs.declared.proof_lines.Line.TheVariants.{Priced, Settled, Split};
 ghost use Rattle.certificate.specs.Accepted.{is_split, nodes_after};
@@ -34,6 +34,20 @@ fn is_split(instance: &Instance, class: &Class, m: u16) -> bool
         && m <= 200
 }
 
+/// The part of a node that has one cut more.
+fn part_of(
+    nodes: &[TreeNode],
+    k: usize,
+    class: Class,
+    side: Side,
+    m: u16,
+) -> Result<TreeNode, NoMemory>
+    requires { k < length nodes.now }
+    ensures { IfOk result (λ part. IsSomeAnd (slice_get nodes.now k) (λ n. part ≡ child n class side m)) }
+{
+    nodes[k].part(class, side, m)
+}
+
 /// The nodes after one of them is split by the number of a class's duties.
 fn divided(nodes: Vec<TreeNode>, k: usize, class: Class, m: u16) -> Result<Vec<TreeNode>, NoMemory>
     requires there { k < length nodes.items }
@@ -41,8 +55,8 @@ fn divided(nodes: Vec<TreeNode>, k: usize, class: Class, m: u16) -> Result<Vec<T
     ensures { IfOk result (λ next. IsSomeAnd (slice_get nodes.items k) (λ n. next.items ≡ with_split nodes.items k n class m)) }
 {
     let mut nodes = nodes;
-    let at_most = nodes[k].part(class.clone()?, Side::AtMost, m)?;
-    let at_least = nodes[k].part(class, Side::AtLeast, m + 1)?;
+    let at_most = part_of(&nodes, k, class.clone()?, Side::AtMost, m)?;
+    let at_least = part_of(&nodes, k, class, Side::AtLeast, m + 1)?;
     nodes[k].split();
     nodes.push(at_most)?;
     nodes.push(at_least)?;
@@ -73,8 +87,10 @@ fn priced_floor(
 {
     match buffers.prove(instance, node.copy_of_cuts()?, prices) {
         Ok(proved) => Ok(Some(node.floor().max(proved.bound()))),
-        Err(PriceFault::NoMemory) => Err(AllocError),
-        Err(_) => Ok(None),
+        Err(fault) => match fault {
+            PriceFault::NoMemory => Err(AllocError),
+            _ => Ok(None),
+        },
     }
 }
 

@@ -1,5 +1,5 @@
 //! Which nodes of a report are open.
-ghost use Rattle.std.specs.Prelude.{◌≡◌, ◌≤◌, ◌^◌, IfErr, IfOk, length};
+ghost use Rattle.std.specs.Prelude.{◌≡◌, ◌≤◌, ◌^◌, ◌∷◌, ◌++◌, [], IfErr, IfOk, length};
 ghost use Rattle.report_nodes.specs.Listed.{open_from, top_of, AreFirst, IsRefusal};
 
 use crate::growing::nodes_below;
@@ -33,6 +33,26 @@ fn top_of(cert: &Cert) -> u64
     }
 }
 
+/// Listed nodes, and then a further one where it is open below a cost.
+fn with_open(
+    list: Vec<OpenNode>,
+    k: u32,
+    node: &TreeNode,
+    cost: u64,
+) -> Result<Vec<OpenNode>, NoMemory>
+    ensures { IfOk result (λ more. more.items ≡ list.items ++ open_from cost k (node.now ∷ [])) }
+{
+    let mut list = list;
+    if node.is_open(cost) {
+        list.push(OpenNode {
+            node: k,
+            floor: node.floor(),
+            cuts: node.cut_count() as u64,
+        })?;
+    }
+    Ok(list)
+}
+
 /// The nodes of some that are open below a cost, by their numbers.
 fn open_of(alloc: Global, nodes: &[TreeNode], cost: u64) -> Result<Vec<OpenNode>, NoMemory>
     requires { length nodes.now ≤ 2 ^ 31 }
@@ -40,13 +60,7 @@ fn open_of(alloc: Global, nodes: &[TreeNode], cost: u64) -> Result<Vec<OpenNode>
 {
     let mut list = Vec::new(alloc);
     for (k, node) in nodes.iter().enumerate() {
-        if node.is_open(cost) {
-            list.push(OpenNode {
-                node: k as u32,
-                floor: node.floor(),
-                cuts: node.cut_count() as u64,
-            })?;
-        }
+        list = with_open(list, k as u32, node, cost)?;
     }
     Ok(list)
 }

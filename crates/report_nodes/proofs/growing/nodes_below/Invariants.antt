@@ -1,5 +1,5 @@
 use Rattle.std.proofs.Common.{◌≡◌, length}
-use Rattle.report_nodes.proofs.Growing.{Grows}
+use Rattle.report_nodes.proofs.Grown.{Grows}
 use Rattle.report_nodes.proofs.growing.nodes_below.Given as goal
 
 abbrev pub invariant-loop-line : goal.invariant-loop-line

@@ -1,7 +1,7 @@
 -- Nodes that grow line by line.
-use Rattle.std.proofs.Common.{◌≡◌, inl, inr, ℕ, ◌+◌, ◌≤◌, ◌^◌, max, true, false, cond, ◌&&◌, not, List, [], ◌∷◌, ◌++◌, length, get_or, set, refl, sym, ap, ◌∙◌, subst, arith, Option, Some, None}
-use Rattle.std.specs.Prelude.{slice_get}
-use Rattle.std.specs.Option.{option_and_then}
+use Rattle.std.proofs.Common.{◌≡◌, inl, inr, ℕ, ◌+◌, ◌≤◌, ◌^◌, max, true, false, cond, ◌&&◌, not, List, [], ◌∷◌, ◌++◌, length, get_or, set, refl, sym, ap, ◌∙◌, subst, append_assoc, arith, Option, Some, None}
+use Rattle.std.specs.Prelude.{slice_get, IsSomeAnd}
+use Rattle.std.specs.Option.{option_and_then, option_map_or}
 use Rattle.std.proofs.lemmas.Bool.{cases_Bool}
 use Rattle.std.proofs.lemmas.List.{length_push}
 use Rattle.break_rules.specs.Causes.{first_cause}
@@ -24,9 +24,12 @@ use Rattle.dual_bound.specs.declared.PriceFault.{PriceFault}
 use Rattle.dual_bound.specs.declared.PriceFault.TheVariants.{NoMemory}
 use Rattle.dual_bound.specs.Faults.{price_causes, Answers}
 use Rattle.dual_bound.proofs.Causes.{faultless}
+use Rattle.cert_check.proofs.Causes.{settle_bad, settle_good}
 use Rattle.report_grafts.proofs.Lines.{Good, cond_some, first_good, one_good, priced_lifts, settled_lifts}
 use Rattle.report_grafts.proofs.Places.{same_some}
 use Rattle.report_grafts.proofs.Plans.{tree_of}
+use Rattle.report_nodes.specs.declared.listing.OpenNode.{OpenNode}
+use Rattle.report_nodes.specs.Listed.{is_open, listed, open_from}
 use Rattle.report_nodes.specs.Made.{HasFewCuts}
 
 -- prices with a fault that isn't running out of memory aren't a price set
@@ -40,6 +43,44 @@ no_prices i cuts prices e other (inl some) =
           absurd (cc)
       | inr bad ↦ bad
     ]
+
+-- so they give a node no floor
+pub unpriced : (i : Problem) (cuts copy : List Cut) (prices : Prices) (e : PriceFault) (floor : ℕ) → copy ≡ cuts → Answers e (first_cause (price_causes i copy prices)) → (e ≡ NoMemory → ⊥)
+    → None ≡ cond (are_prices i cuts prices) (Some (max floor (bound_of i cuts prices))) None
+unpriced i cuts copy prices e floor same why other =
+    let bad : are_prices i cuts prices ≡ false = no_prices i cuts prices e other (subst (λ (cs : List Cut). Answers e (first_cause (price_causes i cs prices))) same why) in
+    sym (ap (λ b. cond b (Some (max floor (bound_of i cuts prices))) None) bad)
+
+-- a settled node gets its floor
+pub settle_lifted : (i : Problem) (nodes new : List Node) (k : ℕ) (x : Node) (found : Option ℕ) (floor : ℕ) → option_map_or (λ (n : Node). not n.split) (slice_get nodes k) false ≡ true → slice_get nodes k ≡ Some x
+    → found ≡ cond (is_settled i x.cuts) (Some (settled_floor i x.cuts)) None → found ≡ Some floor → IsSomeAnd (slice_get nodes k) (λ (n : Node). new ≡ with_floor nodes k n floor) → Some new ≡ nodes_after i nodes (Settled k ∷ [])
+settle_lifted i nodes new k x found floor u at f h s =
+    sym (settle_good i nodes new k x.cuts found floor u (subst (λ (o : Option Node). IsSomeAnd o (λ (n : Node). x.cuts ≡ n.cuts)) (sym at) refl) f h s)
+
+pub settle_not : (i : Problem) (nodes : List Node) (k : ℕ) (x : Node) (found : Option ℕ) → option_map_or (λ (n : Node). not n.split) (slice_get nodes k) false ≡ true → slice_get nodes k ≡ Some x
+    → found ≡ cond (is_settled i x.cuts) (Some (settled_floor i x.cuts)) None → found ≡ None → None ≡ nodes_after i nodes (Settled k ∷ [])
+settle_not i nodes k x found u at f h =
+    sym (settle_bad i nodes k x.cuts found u (subst (λ (o : Option Node). IsSomeAnd o (λ (n : Node). x.cuts ≡ n.cuts)) (sym at) refl) f h)
+
+-- ---- open nodes, one after another
+
+open_cons : (cost k : ℕ) (n : Node) (nodes : List Node) → open_from cost k (n ∷ nodes) ≡ open_from cost k (n ∷ []) ++ open_from cost (k + 1) nodes
+open_cons cost k n nodes =
+    elim (cases_Bool (is_open cost n)) [
+      | inl e ↦
+          ap (λ b. cond b (listed k n ∷ open_from cost (k + 1) nodes) (open_from cost (k + 1) nodes)) e
+          ∙ sym (ap (λ b. cond b (listed k n ∷ []) [] ++ open_from cost (k + 1) nodes) e)
+      | inr e ↦
+          ap (λ b. cond b (listed k n ∷ open_from cost (k + 1) nodes) (open_from cost (k + 1) nodes)) e
+          ∙ sym (ap (λ b. cond b (listed k n ∷ []) [] ++ open_from cost (k + 1) nodes) e)
+    ]
+
+pub open_more : (cost k : ℕ) (n : Node) (nodes rest : List Node) (list more goal : List OpenNode) → nodes ≡ n ∷ rest → more ≡ list ++ open_from cost k (n ∷ []) → list ++ open_from cost k nodes ≡ goal → more ++ open_from cost (k + 1) rest ≡ goal
+open_more cost k n nodes rest list more goal e m h =
+    ap (λ (xs : List OpenNode). xs ++ open_from cost (k + 1) rest) m
+    ∙ append_assoc list (open_from cost k (n ∷ [])) (open_from cost (k + 1) rest)
+    ∙ ap (λ (xs : List OpenNode). list ++ xs) (sym (open_cons cost k n rest))
+    ∙ ap (λ (ns : List Node). list ++ open_from cost k ns) (sym e) ∙ h
 
 -- ---- how many cuts nodes have
 
