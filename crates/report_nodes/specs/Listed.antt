@@ -28,7 +28,7 @@ abbrev pub listed : ℕ → Node → OpenNode
 listed k n = record { node = k; floor = n.floor; cuts = length n.cuts }
 
 -- the nodes that are open below a cost, of some whose numbers begin with k
-pub open_from : ℕ → ℕ → List Node → List OpenNode
+unfoldable pub open_from : ℕ → ℕ → List Node → List OpenNode
 open_from cost k [] = []
 open_from cost k (n ∷ nodes) = if is_open cost n then listed k n ∷ open_from cost (k + 1) nodes else open_from cost (k + 1) nodes
 

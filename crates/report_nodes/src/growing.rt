@@ -1,5 +1,5 @@
 //! The nodes that proof lines make below some cuts.
-ghost use Rattle.std.specs.Prelude.{◌<◌, ◌≤◌, ◌≡◌, ◌^◌, ◌∷◌, [], false, true, not, IfOk, IsSomeAnd, None, Some, length, max, slice_get, if◌then◌else◌};
+ghost use Rattle.std.specs.Prelude.{◌<◌, ◌≤◌, ◌≡◌, ◌^◌, ◌∷◌, ◌++◌, [], false, true, not, IfOk, IsSomeAnd, None, Some, length, max, slice_get, slice_set, if◌then◌else◌};
 ghost use Rattle.std.specs.Option.{option_map, option_map_or};
 ghost use Rattle.head_splits.specs.Bound.{are_prices, bound_of};
 ghost use Rattle.head_splits.specs.Nodes.{child, new_node, settled_floor, with_floor, with_split};
@@ -38,14 +38,34 @@ fn is_split(instance: &Instance, class: &Class, m: u16) -> bool
 fn part_of(
     nodes: &[TreeNode],
     k: usize,
-    class: Class,
+    class: &Class,
     side: Side,
     m: u16,
 ) -> Result<TreeNode, NoMemory>
     requires { k < length nodes.now }
-    ensures { IfOk result (λ part. IsSomeAnd (slice_get nodes.now k) (λ n. part ≡ child n class side m)) }
+    ensures { IfOk result (λ part. IsSomeAnd (slice_get nodes.now k) (λ n. part ≡ child n class.now side m)) }
 {
+    let class = class.clone()?;
     nodes[k].part(class, side, m)
+}
+
+/// The nodes after one of them is marked as split.
+fn marked(nodes: Vec<TreeNode>, k: usize) -> Vec<TreeNode>
+    requires { k < length nodes.items }
+    ensures { IsSomeAnd (slice_get nodes.items k) (λ n. result.items ≡ slice_set nodes.items k (record n { split = true })) }
+{
+    let mut nodes = nodes;
+    nodes[k].split();
+    nodes
+}
+
+/// The nodes with one more.
+fn with_part(nodes: Vec<TreeNode>, part: TreeNode) -> Result<Vec<TreeNode>, NoMemory>
+    ensures { IfOk result (λ more. more.items ≡ nodes.items ++ part ∷ []) }
+{
+    let mut nodes = nodes;
+    nodes.push(part)?;
+    Ok(nodes)
 }
 
 /// The nodes after one of them is split by the number of a class's duties.
@@ -54,13 +74,11 @@ fn divided(nodes: Vec<TreeNode>, k: usize, class: Class, m: u16) -> Result<Vec<T
     requires small { m ≤ 200 }
     ensures { IfOk result (λ next. IsSomeAnd (slice_get nodes.items k) (λ n. next.items ≡ with_split nodes.items k n class m)) }
 {
-    let mut nodes = nodes;
-    let at_most = part_of(&nodes, k, class.clone()?, Side::AtMost, m)?;
-    let at_least = part_of(&nodes, k, class, Side::AtLeast, m + 1)?;
-    nodes[k].split();
-    nodes.push(at_most)?;
-    nodes.push(at_least)?;
-    Ok(nodes)
+    let at_most = part_of(&nodes, k, &class, Side::AtMost, m)?;
+    let at_least = part_of(&nodes, k, &class, Side::AtLeast, m + 1)?;
+    let longer = with_part(marked(nodes, k), at_most)?;
+    let whole = with_part(longer, at_least)?;
+    Ok(whole)
 }
 
 /// The nodes after one of them gets a floor.
@@ -94,11 +112,19 @@ fn priced_floor(
     }
 }
 
-/// The floor of a node after it is settled, where its cuts fix the number of each legal duty.
-fn fixed_floor(alloc: Global, instance: &Instance, node: &TreeNode) -> Result<Option<u64>, NoMemory>
-    ensures { IfOk result (λ floor. floor ≡ (if is_settled instance.now node.now.cuts then Some (settled_floor instance.now node.now.cuts) else None)) }
+/// The cuts of a node.
+fn cuts_of(nodes: &[TreeNode], k: usize) -> Result<Cuts, NoMemory>
+    requires { k < length nodes.now }
+    ensures { IfOk result (λ cuts. IsSomeAnd (slice_get nodes.now k) (λ n. cuts ≡ n.cuts)) }
 {
-    match settle(alloc, instance, node.copy_of_cuts()?)? {
+    nodes[k].copy_of_cuts()
+}
+
+/// The floor of a node with these cuts after it is settled, where they fix the number of each legal duty.
+fn fixed_floor(alloc: Global, instance: &Instance, cuts: Cuts) -> Result<Option<u64>, NoMemory>
+    ensures { IfOk result (λ floor. floor ≡ (if is_settled instance.now cuts then Some (settled_floor instance.now cuts) else None)) }
+{
+    match settle(alloc, instance, cuts)? {
         Fixing::Done(settled) => Ok(Some(settled.floor())),
         Fixing::Open { class: _, m: _ } => Ok(None),
     }
@@ -157,7 +183,8 @@ fn settle_at(
     if !is_unsplit(&nodes, k) {
         return Ok(None);
     }
-    match fixed_floor(alloc, instance, &nodes[k])? {
+    let cuts = cuts_of(&nodes, k)?;
+    match fixed_floor(alloc, instance, cuts)? {
         Some(floor) => Ok(Some(lifted(nodes, k, floor))),
         None => Ok(None),
     }

@@ -1,6 +1,6 @@
 //! Which nodes of a report are open.
 ghost use Rattle.std.specs.Prelude.{◌≡◌, ◌≤◌, ◌^◌, ◌∷◌, ◌++◌, [], IfErr, IfOk, length};
-ghost use Rattle.report_nodes.specs.Listed.{open_from, top_of, AreFirst, IsRefusal};
+ghost use Rattle.report_nodes.specs.Listed.{listed, open_from, top_of, AreFirst, IsRefusal};
 
 use crate::growing::nodes_below;
 use crate::node::TreeNode;
@@ -33,7 +33,19 @@ fn top_of(cert: &Cert) -> u64
     }
 }
 
+/// A node as it is listed.
+fn listed(k: u32, node: &TreeNode) -> OpenNode
+    ensures { result ≡ listed k node.now }
+{
+    OpenNode {
+        node: k,
+        floor: node.floor(),
+        cuts: node.cut_count() as u64,
+    }
+}
+
 /// Listed nodes, and then a further one where it is open below a cost.
+#[tactic(auto, using(crate::proofs::Grown::opened, crate::proofs::Grown::closed))]
 fn with_open(
     list: Vec<OpenNode>,
     k: u32,
@@ -42,14 +54,11 @@ fn with_open(
 ) -> Result<Vec<OpenNode>, NoMemory>
     ensures { IfOk result (λ more. more.items ≡ list.items ++ open_from cost k (node.now ∷ [])) }
 {
-    let mut list = list;
-    if node.is_open(cost) {
-        list.push(OpenNode {
-            node: k,
-            floor: node.floor(),
-            cuts: node.cut_count() as u64,
-        })?;
+    if !node.is_open(cost) {
+        return Ok(list);
     }
+    let mut list = list;
+    list.push(listed(k, node))?;
     Ok(list)
 }
 

@@ -2,11 +2,11 @@ use Rattle.std.proofs.Common.{◌≡◌, length}
 use Rattle.report_nodes.proofs.Grown.{Grows}
 use Rattle.report_nodes.proofs.growing.nodes_below.Given as goal
 
-abbrev pub invariant-loop-line : goal.invariant-loop-line
-invariant-loop-line l = record {
+abbrev pub invariant-loop-buffers : goal.invariant-loop-buffers
+invariant-loop-buffers l = record {
   grows : Grows l.instance l.fn.base l.lines l.reader l.nodes.items;
   buffers : l.buffers ≡ l.instance;
 }
 
-abbrev pub decreases-loop-line : goal.decreases-loop-line
-decreases-loop-line l = length l.reader
+abbrev pub decreases-loop-buffers : goal.decreases-loop-buffers
+decreases-loop-buffers l = length l.reader
