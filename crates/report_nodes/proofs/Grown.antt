@@ -59,7 +59,7 @@ unpriced i cuts copy prices e floor same why other =
 -- ---- nodes that are seen as a slice
 
 pub unsplit_of : (nodes seen : List Node) (k : ℕ) (b : Bool) → seen ≡ nodes → b ≡ option_map_or (λ (n : Node). not n.split) (slice_get seen k) false → b ≡ true → option_map_or (λ (n : Node). not n.split) (slice_get nodes k) false ≡ true
-unsplit_of nodes seen k b same is yes = subst (λ (ns : List Node). option_map_or (λ (n : Node). not n.split) (slice_get ns k) false ≡ true) same (sym is ∙ yes)
+unsplit_of nodes seen k b same is t = subst (λ (ns : List Node). option_map_or (λ (n : Node). not n.split) (slice_get ns k) false ≡ true) same (sym is ∙ t)
 
 pub cuts_at_place : (nodes seen : List Node) (k : ℕ) (cuts : List Cut) → seen ≡ nodes → IsSomeAnd (slice_get seen k) (λ (n : Node). cuts ≡ n.cuts) → IsSomeAnd (slice_get nodes k) (λ (n : Node). cuts ≡ n.cuts)
 cuts_at_place nodes seen k cuts same h = subst (λ (ns : List Node). IsSomeAnd (slice_get ns k) (λ (n : Node). cuts ≡ n.cuts)) same h
