@@ -1,0 +1,241 @@
+//! A report into which parts are joined, one after another.
+ghost use Rattle.std.specs.Prelude.{◌≡◌, IfErr, IfOk, IsTrue, OnOk, map};
+ghost use Rattle.certificate.specs.Accepted.{is_accepted};
+ghost use Rattle.report_grafts.specs.Grafted.{grafted_line};
+ghost use Rattle.report_joins.specs.Faults.{IsNumberFault, IsRefusal};
+ghost use Rattle.report_joins.specs.Numbers.{with_node};
+
+use crate::fault::PartFault;
+use crate::numbers::{Place, node_of, with_node};
+use crate::parts::{further_lines, lines_of};
+use crate::plans::{cheaper_plan, is_plan_below};
+use break_rules::NoMemory;
+use cert_check::{Refused, check};
+use certificate::{Cert, CertStatus, Line, Lines};
+use dual_bound::Buffers;
+use head_splits::Cuts;
+use report_nodes::NodeTree;
+use shift_instance::{Instance, Rows, TOP};
+use std::alloc::Global;
+
+/// The most proof lines of a joined report.
+const LINES_MOST: usize = 1 << 30;
+
+/// A report, and what it is with the parts that were joined into it so far.
+#[derive(Drop)]
+pub struct Joining {
+    /// The report.
+    whole: Cert,
+    /// The nodes of the report.
+    ends: NodeTree,
+    /// The nodes that parts were of, in their order.
+    nodes: Vec<u32>,
+    /// The proof lines so far.
+    lines: Vec<Line>,
+    /// The nodes that they make.
+    tree: NodeTree,
+    /// The cheapest plan so far.
+    plan: Option<(u64, Rows)>,
+}
+
+/// The nodes that proof lines make of the root, with the lines themselves.
+fn tree_of(
+    alloc: Global,
+    instance: &Instance,
+    lines: &Lines,
+) -> Result<Option<NodeTree>, NoMemory> {
+    let mut buffers = Buffers::new(alloc, instance);
+    let mut tree = NodeTree::below(alloc, Cuts::new(Vec::new(alloc)))?;
+    let mut reader = lines.reader();
+    while let Some(line) = reader.next_line(alloc)? {
+        let Some(next) = tree.after(alloc, instance, &mut buffers, line)? else {
+            return Ok(None);
+        };
+        tree = next;
+    }
+    Ok(Some(tree))
+}
+
+/// Whether the checker accepts a part, and else why it doesn't.
+fn judged(alloc: Global, instance: &Instance, part: &Cert) -> Result<(), PartFault>
+    ensures accepted { OnOk result (IsTrue (is_accepted instance.now part.now)) }
+    ensures fault { IfErr result (IsRefusal instance.now part.now) }
+{
+    match check(alloc, instance, part) {
+        Ok(_) => Ok(()),
+        Err(Refused::NoMemory) => Err(PartFault::NoMemory),
+        Err(why) => Err(PartFault::Refused(why)),
+    }
+}
+
+/// A proof line once more, for another node.
+fn copy_at(line: &Line, node: u32) -> Result<Line, NoMemory>
+    ensures { IfOk result (λ copy. copy ≡ with_node node line.now) }
+{
+    match line {
+        Line::Split { node: _, class, m } => {
+            let class = class.clone()?;
+            Ok(Line::Split { node, class, m: *m })
+        }
+        Line::Priced { node: _, prices } => {
+            let prices = prices.clone()?;
+            Ok(Line::Priced { node, prices })
+        }
+        Line::Settled { node: _ } => Ok(Line::Settled { node }),
+    }
+}
+
+/// The lines of the run by which a part grew, with the numbers that nodes have in it. The first line stands at a place of the part.
+fn run_lines(
+    alloc: Global,
+    place: Place,
+    further: &[Line],
+    first: usize,
+) -> Result<Vec<Line>, PartFault>
+    ensures run { IfOk result (λ run. further.now ≡ map (grafted_line place.node place.splits) run.items) }
+    ensures fault { IfErr result (IsNumberFault place.node place.splits first further.now) }
+{
+    let mut run = Vec::new(alloc);
+    for (k, line) in further.iter().enumerate() {
+        match place.run_number(node_of(line)) {
+            Some(node) => run.push(copy_at(line, node)?)?,
+            None => {
+                let at = (first + k) as u64;
+                return Err(PartFault::OtherNode { at });
+            }
+        }
+    }
+    Ok(run)
+}
+
+impl Joining {
+    /// A report into which no part was joined yet. Of the faults only `Refused` and `NoMemory` come.
+    pub fn of(alloc: Global, instance: &Instance, whole: Cert) -> Result<Joining, PartFault> {
+        judged(alloc, instance, &whole)?;
+        let Some(tree) = tree_of(alloc, instance, &whole.lines)? else {
+            unreachable!()
+        };
+        let ends = tree.copy(alloc)?;
+        let lines = lines_of(alloc, &whole.lines)?;
+        let plan = copy_of_plan(&whole.plan)?;
+        Ok(Joining {
+            whole,
+            ends,
+            nodes: Vec::new(alloc),
+            lines,
+            tree,
+            plan,
+        })
+    }
+
+    /// Where the run of a part was grafted that has these further lines.
+    fn place_of(&self, further: &[Line]) -> Result<Place, PartFault> {
+        let Some(first) = further.first() else {
+            return Err(PartFault::NothingFurther);
+        };
+        let node = node_of(first);
+        if node as usize >= self.ends.len() || self.ends.is_split(node as usize) {
+            return Err(PartFault::NoEnd { node });
+        }
+        let splits = ((self.ends.len() - 1) / 2) as u32;
+        Ok(Place { node, splits })
+    }
+
+    /// The report with a further part: the further lines of the part are grafted into it, and its plan is kept where it is cheaper.
+    ///
+    /// [`PartFault`] says why the part isn't joined, each cause in its order.
+    pub fn add(
+        self,
+        alloc: Global,
+        instance: &Instance,
+        part: &Cert,
+    ) -> Result<Joining, PartFault> {
+        judged(alloc, instance, part)?;
+        let further = further_lines(alloc, &self.whole.lines, &part.lines)?;
+        let place = self.place_of(&further)?;
+        let run = run_lines(alloc, place, &further, self.whole.lines.len())?;
+        let node = place.node;
+        let cuts = self.ends.cuts_of(node as usize)?;
+        if !is_plan_below(instance, &cuts, &self.whole.plan, &part.plan) {
+            return Err(PartFault::OtherPlan);
+        }
+        if self.nodes.contains(&node) {
+            return Err(PartFault::SameNode { node });
+        }
+        self.grafted(alloc, instance, node, run, &part.plan)
+    }
+
+    /// The report with a run at one of its nodes, and with a plan where that is cheaper.
+    fn grafted(
+        self,
+        alloc: Global,
+        instance: &Instance,
+        node: u32,
+        run: Vec<Line>,
+        own: &Option<(u64, Rows)>,
+    ) -> Result<Joining, PartFault> {
+        let Joining {
+            whole,
+            ends,
+            mut nodes,
+            mut lines,
+            mut tree,
+            plan,
+        } = self;
+        if lines.len() + run.len() > LINES_MOST {
+            return Err(PartFault::TooMany);
+        }
+        let splits = ((tree.len() - 1) / 2) as u32;
+        let place = Place { node, splits };
+        let mut buffers = Buffers::new(alloc, instance);
+        for line in run {
+            let number = place.number(node_of(&line));
+            let line = with_node(line, number);
+            let copy = copy_at(&line, number)?;
+            let Some(next) = tree.after(alloc, instance, &mut buffers, copy)? else {
+                unreachable!()
+            };
+            tree = next;
+            lines.push(line)?;
+        }
+        nodes.push(node)?;
+        let plan = cheaper_plan(plan, own)?;
+        Ok(Joining {
+            whole,
+            ends,
+            nodes,
+            lines,
+            tree,
+            plan,
+        })
+    }
+
+    /// The report with all parts that were joined into it.
+    pub fn into_cert(self, alloc: Global) -> Result<Cert, NoMemory> {
+        let bound = self.tree.least_floor(TOP);
+        let lines = Lines::from_slice(alloc, &self.lines)?;
+        Ok(Cert {
+            status: status_of(&self.plan, bound),
+            plan: self.plan,
+            bound,
+            lines,
+        })
+    }
+}
+
+/// What is said of a plan and a bound.
+fn status_of(plan: &Option<(u64, Rows)>, bound: u64) -> CertStatus {
+    match plan {
+        None => CertStatus::Bound,
+        Some((cost, _)) if *cost == bound => CertStatus::Optimal,
+        Some(_) => CertStatus::Stopped,
+    }
+}
+
+/// A plan once more.
+fn copy_of_plan(plan: &Option<(u64, Rows)>) -> Result<Option<(u64, Rows)>, NoMemory> {
+    match plan {
+        None => Ok(None),
+        Some((cost, rows)) => Ok(Some((*cost, rows.clone()?))),
+    }
+}
