@@ -34,6 +34,9 @@ pub enum PartFault {
     /// The joined report would have too many proof lines.
     #[error("too many proof lines")]
     TooMany,
+    /// The line that would stand at this place of the joined report isn't good there.
+    #[error("line {at} of the joined report isn't good")]
+    NotGood { at: u64 },
     /// No memory was left.
     #[error("out of memory")]
     NoMemory,

@@ -1,8 +1,11 @@
 //! A report into which parts are joined, one after another.
-ghost use Rattle.std.specs.Prelude.{◌≡◌, IfErr, IfOk, IsTrue, OnOk, map};
-ghost use Rattle.certificate.specs.Accepted.{is_accepted};
-ghost use Rattle.report_grafts.specs.Grafted.{grafted_line};
-ghost use Rattle.report_joins.specs.Faults.{IsNumberFault, IsRefusal};
+ghost use Rattle.std.specs.Prelude.{◌≡◌, ◌∷◌, ◌++◌, ◌≤◌, ◌<◌, ◌^◌, [], IfErr, IfOk, IsTrue, OnOk, Some, map, length};
+ghost use Rattle.std.specs.Option.{option_map};
+ghost use Rattle.head_splits.specs.Nodes.{new_node};
+ghost use Rattle.certificate.specs.Accepted.{is_accepted, nodes_after, nodes_of};
+ghost use Rattle.report_grafts.specs.Grafted.{grafted_line, grafted_lines, status_of};
+ghost use Rattle.report_joins.specs.Faults.{IsNumberFault, IsPartFault, IsPlaceFault, IsRefusal};
+ghost use Rattle.report_joins.specs.Joined.{alone, cheaper_plan, IsJoinedCert, IsPlace, JoinsPart};
 ghost use Rattle.report_joins.specs.Numbers.{with_node};
 
 use crate::fault::PartFault;
@@ -17,6 +20,8 @@ use head_splits::Cuts;
 use report_nodes::NodeTree;
 use shift_instance::{Instance, Rows, TOP};
 use std::alloc::Global;
+use std::marker::Model;
+use std::snapshot::Snapshot;
 
 /// The most proof lines of a joined report.
 const LINES_MOST: usize = 1 << 30;
@@ -24,6 +29,7 @@ const LINES_MOST: usize = 1 << 30;
 /// A report, and what it is with the parts that were joined into it so far.
 #[derive(Drop)]
 pub struct Joining {
+    instance: Snapshot<Instance>,
     /// The report.
     whole: Cert,
     /// The nodes of the report.
@@ -38,12 +44,33 @@ pub struct Joining {
     plan: Option<(u64, Rows)>,
 }
 
-/// The nodes that proof lines make of the root, with the lines themselves.
-fn tree_of(
-    alloc: Global,
-    instance: &Instance,
-    lines: &Lines,
-) -> Result<Option<NodeTree>, NoMemory> {
+impl Model for Joining {
+    ghost use Rattle.report_joins.specs.Joined.{Joined, IsJoining};
+
+    ghost Value = { Joined };
+
+    ghost view = { λ j. record {
+      instance = j.instance.value;
+      whole = j.whole;
+      nodes = j.nodes.items;
+      lines = j.lines.items;
+      plan = j.plan;
+    } };
+
+    ghost invariant = { λ j. IsJoining j.ends j.tree (record {
+      instance = j.instance.value;
+      whole = j.whole;
+      nodes = j.nodes.items;
+      lines = j.lines.items;
+      plan = j.plan;
+    }) };
+}
+
+/// The nodes that proof lines make of the root, where each is good.
+fn tree_of(alloc: Global, instance: &Instance, lines: &Lines) -> Result<Option<NodeTree>, NoMemory>
+    requires { length lines.now ≤ 2 ^ 28 }
+    ensures { IfOk result (λ tree. tree ≡ nodes_of instance.now lines.now) }
+{
     let mut buffers = Buffers::new(alloc, instance);
     let mut tree = NodeTree::below(alloc, Cuts::new(Vec::new(alloc)))?;
     let mut reader = lines.reader();
@@ -92,6 +119,8 @@ fn run_lines(
     further: &[Line],
     first: usize,
 ) -> Result<Vec<Line>, PartFault>
+    requires splits { 2 * place.splits < 2 ^ 32 }
+    requires first { first + length further.now < 2 ^ 64 }
     ensures run { IfOk result (λ run. further.now ≡ map (grafted_line place.node place.splits) run.items) }
     ensures fault { IfErr result (IsNumberFault place.node place.splits first further.now) }
 {
@@ -108,9 +137,36 @@ fn run_lines(
     Ok(run)
 }
 
+/// What is said of a plan and a bound.
+fn status_of(plan: &Option<(u64, Rows)>, bound: u64) -> CertStatus
+    ensures { result ≡ status_of plan.now bound }
+{
+    match plan {
+        None => CertStatus::Bound,
+        Some((cost, _)) if *cost == bound => CertStatus::Optimal,
+        Some(_) => CertStatus::Stopped,
+    }
+}
+
+/// A plan once more.
+fn copy_of_plan(plan: &Option<(u64, Rows)>) -> Result<Option<(u64, Rows)>, NoMemory>
+    ensures { IfOk result (λ copy. copy ≡ plan.now) }
+{
+    match plan {
+        None => Ok(None),
+        Some((cost, rows)) => Ok(Some((*cost, rows.clone()?))),
+    }
+}
+
 impl Joining {
-    /// A report into which no part was joined yet. Of the faults only `Refused` and `NoMemory` come.
-    pub fn of(alloc: Global, instance: &Instance, whole: Cert) -> Result<Joining, PartFault> {
+    /// A report into which no part was joined yet.
+    ///
+    /// Of the faults only `Refused` and `NoMemory` come.
+    pub fn of(alloc: Global, instance: &Instance, whole: Cert) -> Result<Joining, PartFault>
+        requires { length whole.lines ≤ 2 ^ 28 }
+        ensures alone { IfOk result (λ j. j ≡ alone instance.now whole) }
+        ensures fault { IfErr result (IsRefusal instance.now whole) }
+    {
         judged(alloc, instance, &whole)?;
         let Some(tree) = tree_of(alloc, instance, &whole.lines)? else {
             unreachable!()
@@ -119,6 +175,7 @@ impl Joining {
         let lines = lines_of(alloc, &whole.lines)?;
         let plan = copy_of_plan(&whole.plan)?;
         Ok(Joining {
+            instance: Snapshot::of(instance),
             whole,
             ends,
             nodes: Vec::new(alloc),
@@ -129,7 +186,10 @@ impl Joining {
     }
 
     /// Where the run of a part was grafted that has these further lines.
-    fn place_of(&self, further: &[Line]) -> Result<Place, PartFault> {
+    fn place_of(&self, further: &[Line]) -> Result<Place, PartFault>
+        ensures place { IfOk result (λ place. IsPlace self.now further.now place.node place.splits) }
+        ensures fault { IfErr result (IsPlaceFault self.now further.now) }
+    {
         let Some(first) = further.first() else {
             return Err(PartFault::NothingFurther);
         };
@@ -144,12 +204,12 @@ impl Joining {
     /// The report with a further part: the further lines of the part are grafted into it, and its plan is kept where it is cheaper.
     ///
     /// [`PartFault`] says why the part isn't joined, each cause in its order.
-    pub fn add(
-        self,
-        alloc: Global,
-        instance: &Instance,
-        part: &Cert,
-    ) -> Result<Joining, PartFault> {
+    pub fn add(self, alloc: Global, instance: &Instance, part: &Cert) -> Result<Joining, PartFault>
+        requires same { self.instance ≡ instance.now }
+        requires few { length part.now.lines ≤ 2 ^ 28 }
+        ensures joined { IfOk result (JoinsPart part.now self) }
+        ensures fault { IfErr result (IsPartFault self part.now) }
+    {
         judged(alloc, instance, part)?;
         let further = further_lines(alloc, &self.whole.lines, &part.lines)?;
         let place = self.place_of(&further)?;
@@ -173,8 +233,12 @@ impl Joining {
         node: u32,
         run: Vec<Line>,
         own: &Option<(u64, Rows)>,
-    ) -> Result<Joining, PartFault> {
+    ) -> Result<Joining, PartFault>
+        requires same { self.instance ≡ instance.now }
+        ensures grafted { IfOk result (λ j. j ≡ record self { nodes = self.nodes ++ node ∷ []; lines = grafted_lines self.lines node run.items; plan = cheaper_plan self.plan own.now }) }
+    {
         let Joining {
+            instance: known,
             whole,
             ends,
             mut nodes,
@@ -193,7 +257,9 @@ impl Joining {
             let line = with_node(line, number);
             let copy = copy_at(&line, number)?;
             let Some(next) = tree.after(alloc, instance, &mut buffers, copy)? else {
-                unreachable!()
+                return Err(PartFault::NotGood {
+                    at: lines.len() as u64,
+                });
             };
             tree = next;
             lines.push(line)?;
@@ -201,6 +267,7 @@ impl Joining {
         nodes.push(node)?;
         let plan = cheaper_plan(plan, own)?;
         Ok(Joining {
+            instance: known,
             whole,
             ends,
             nodes,
@@ -210,8 +277,11 @@ impl Joining {
         })
     }
 
-    /// The report with all parts that were joined into it.
-    pub fn into_cert(self, alloc: Global) -> Result<Cert, NoMemory> {
+    /// The report with all parts that were joined into it: the checker accepts it, its bound is at least the report's, and its plan is the
+    /// cheapest of all.
+    pub fn into_cert(self, alloc: Global) -> Result<Cert, NoMemory>
+        ensures { IfOk result (IsJoinedCert self) }
+    {
         let bound = self.tree.least_floor(TOP);
         let lines = Lines::from_slice(alloc, &self.lines)?;
         Ok(Cert {
@@ -220,22 +290,5 @@ impl Joining {
             bound,
             lines,
         })
-    }
-}
-
-/// What is said of a plan and a bound.
-fn status_of(plan: &Option<(u64, Rows)>, bound: u64) -> CertStatus {
-    match plan {
-        None => CertStatus::Bound,
-        Some((cost, _)) if *cost == bound => CertStatus::Optimal,
-        Some(_) => CertStatus::Stopped,
-    }
-}
-
-/// A plan once more.
-fn copy_of_plan(plan: &Option<(u64, Rows)>) -> Result<Option<(u64, Rows)>, NoMemory> {
-    match plan {
-        None => Ok(None),
-        Some((cost, rows)) => Ok(Some((*cost, rows.clone()?))),
     }
 }
