@@ -112,6 +112,24 @@ fn copy_at(line: &Line, node: u32) -> Result<Line, NoMemory>
     }
 }
 
+/// Lines with one more.
+fn with_line(lines: Vec<Line>, line: Line) -> Result<Vec<Line>, NoMemory>
+    ensures { IfOk result (λ more. more.items ≡ lines.items ++ line ∷ []) }
+{
+    let mut lines = lines;
+    lines.push(line)?;
+    Ok(lines)
+}
+
+/// Numbers of nodes with one more.
+fn with_number(nodes: Vec<u32>, node: u32) -> Result<Vec<u32>, NoMemory>
+    ensures { IfOk result (λ more. more.items ≡ nodes.items ++ node ∷ []) }
+{
+    let mut nodes = nodes;
+    nodes.push(node)?;
+    Ok(nodes)
+}
+
 /// The lines of the run by which a part grew, with the numbers that nodes have in it. The first line stands at a place of the part.
 fn run_lines(
     alloc: Global,
@@ -127,7 +145,7 @@ fn run_lines(
     let mut run = Vec::new(alloc);
     for (k, line) in further.iter().enumerate() {
         match place.run_number(node_of(line)) {
-            Some(node) => run.push(copy_at(line, node)?)?,
+            Some(node) => run = with_line(run, copy_at(line, node)?)?,
             None => {
                 let at = (first + k) as u64;
                 return Err(PartFault::OtherNode { at });
@@ -241,7 +259,7 @@ impl Joining {
             instance: known,
             whole,
             ends,
-            mut nodes,
+            nodes,
             mut lines,
             mut tree,
             plan,
@@ -262,9 +280,9 @@ impl Joining {
                 });
             };
             tree = next;
-            lines.push(line)?;
+            lines = with_line(lines, line)?;
         }
-        nodes.push(node)?;
+        let nodes = with_number(nodes, node)?;
         let plan = cheaper_plan(plan, own)?;
         Ok(Joining {
             instance: known,
