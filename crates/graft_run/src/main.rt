@@ -107,7 +107,7 @@ fn run(rt: HostRuntime, words: &[String]) -> Result<GraftStatus, AllocError> {
 }
 
 /// Sources of the files of these paths.
-fn sources(rt: HostRuntime, paths: &[String]) -> Result<Vec<FileSource>, AllocError> {
+fn sources(rt: HostRuntime, paths: &[String]) -> Result<Vec<FileSource<HostRuntime>>, AllocError> {
     let mut list = Vec::new(rt.alloc());
     for path in paths {
         list.push(FileSource::new(rt, path.clone()?))?;

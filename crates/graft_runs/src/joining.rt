@@ -13,7 +13,7 @@ use shift_instance::Instance;
 use std::alloc::Global;
 
 /// Why the parts that sources give up aren't joined, or how the run ends.
-fn join_parts<P: Source>(
+fn join_parts<P: Source + Drop>(
     alloc: Global,
     instance: &Instance,
     joining: Joining,
@@ -50,7 +50,7 @@ fn join_parts<P: Source>(
 }
 
 /// The text of a report with its parts, or how the run ends.
-fn joined_text<T: Source, P: Source>(
+fn joined_text<T: Source, P: Source + Drop>(
     alloc: Global,
     instance: &Instance,
     bundle: &mut T,
@@ -99,7 +99,7 @@ fn tell_refusal<K: Sink>(alloc: Global, out: &mut K, status: JoinStatus) -> Join
 }
 
 /// The run of `join INSTANCE REPORT PART..`.
-pub fn join_top<S: Source, T: Source, P: Source, K: Sink>(
+pub fn join_top<S: Source, T: Source, P: Source + Drop, K: Sink>(
     alloc: Global,
     words: &[String],
     instance: &mut S,
