@@ -1,0 +1,6 @@
+pub mod Chosen
+pub mod Sound
+pub mod Few
+pub mod Enough
+pub mod Stepped
+pub mod Solved

@@ -1,0 +1,89 @@
+//! A step of a search below some cuts.
+ghost use Rattle.std.specs.Prelude.{◌≡◌, ◌<◌, ◌≤◌, ◌^◌, IfOk, IfSome, IsSomeAnd, length, slice_get};
+ghost use Rattle.head_splits.specs.Nodes.{Node};
+ghost use Rattle.subtree_search.specs.Searching.{top, IsNext};
+ghost use Rattle.subtree_search.specs.Stepping.{IsClose, IsOffer, IsStep};
+
+use crate::closing::closing_of;
+use crate::pricing_nodes::{copy_of, prove_lawful};
+use crate::search::Search;
+use advice::{Advice, Adviser, Splitting, Told};
+use break_rules::NoMemory;
+use dual_bound::{Buffers, Fixing};
+use head_splits::Cuts;
+use rota_cost::{Costed, cost_rows};
+use shift_instance::{Instance, Rows};
+use std::alloc::Global;
+
+/// The rows of a plan with their cost, where there are some and they are legal.
+fn cost_plan(instance: &Instance, plan: Option<Rows>) -> Option<Costed>
+    ensures { IsOffer instance.now result }
+{
+    match cost_rows(instance, plan?) {
+        Ok(costed) => {
+            // Its clauses say that the cost is the rows' own.
+            let _cost = costed.cost();
+            Some(costed)
+        }
+        Err(_) => None,
+    }
+}
+
+/// Closes a node with these cuts that was just priced: nothing is left to do where it isn't open. Else it is split, or settled.
+fn close(
+    alloc: Global,
+    instance: &Instance,
+    search: Search,
+    node: usize,
+    cuts: Cuts,
+    split: Option<Splitting>,
+) -> Result<Search, NoMemory>
+    requires there { node < length search.nodes }
+    requires number { node < 2 ^ 32 }
+    ensures { IfOk result (λ t. IsSomeAnd (slice_get search.nodes node) (λ n. n.cuts ≡ cuts → IsClose instance.now node n search t)) }
+{
+    let _valid = instance.slots();
+    if !search.is_open(node) {
+        return Ok(search);
+    }
+    match closing_of(alloc, instance, cuts, split)? {
+        Fixing::Open { class, m } => search.divide(node, class, m),
+        Fixing::Done(settlement) => search.settle(instance, node, settlement),
+    }
+}
+
+/// What a search is after its next step, for that node.
+pub(crate) fn step<A: Adviser>(
+    alloc: Global,
+    instance: &Instance,
+    buffers: &mut Buffers,
+    adviser: &mut A,
+    search: Search,
+    node: usize,
+) -> Result<Search, NoMemory>
+    requires next { (n : Node) × IsNext search.nodes (top search) node n }
+    requires few { (n : Node) → slice_get search.nodes node ≡ Some n → length n.cuts ≤ 2 ^ 33 }
+    requires number { node < 2 ^ 32 }
+    requires room { search.taken < 2 ^ 32 }
+    requires buffers { buffers.old ≡ instance.now }
+    ensures step { IfOk result (IsStep instance.now search) }
+    ensures buffers { buffers.new ≡ buffers.old }
+{
+    let ask = search.ask(alloc, node)?;
+    let Advice {
+        prices,
+        plan,
+        split,
+    } = adviser.advise(instance, &ask)?;
+    let cuts = ask.cuts;
+    let search = search.offer(instance, cost_plan(instance, plan));
+    let proved = prove_lawful(alloc, instance, buffers, &cuts, prices)?;
+    let search = search.price(node, proved)?;
+    let search = close(alloc, instance, search, node, cuts, split)?;
+    adviser.learn(&Told {
+        node: node as u32,
+        floor: search.floor_of(node),
+        best: search.top(),
+    });
+    Ok(search)
+}
