@@ -19,6 +19,7 @@ use Rattle.head_splits.specs.Nodes.{Node, new_node, child, with_floor, with_spli
 use Rattle.head_splits.proofs.Nodes.{Has-slice_get, floor_from}
 use Rattle.head_splits.proofs.PlanRows.{rota_of-settled_rows}
 use Rattle.certificate.specs.declared.proof_lines.Line.TheVariants.{Settled}
+use Rattle.advice.specs.declared.advice.Splitting.{Splitting}
 use Rattle.dual_bound.specs.Settling.{Settling, IsPlan}
 use Rattle.dual_bound.proofs.PlanFloor.{plan_floor}
 use Rattle.search_core.proofs.FewNodes.{sum_set}
@@ -186,7 +187,7 @@ settled_closes i s k n at high =
     set_itself (m ∷ nodes) zero n at = let same : m ≡ n = cc in ap (λ (z : Node). z ∷ nodes) (sym same)
     set_itself (m ∷ nodes) (suc k) n at = ap (λ (ns : List Node). m ∷ ns) (set_itself nodes k n at)
 
-close_closes : (i : Problem) (k : ℕ) (n : Node) (s t : Searching) → s.limit ≤ TOP → Begins s.base n.cuts → slice_get s.nodes k ≡ Some n → IsClose i k n s t → Closes s t k
+close_closes : {advised : Option Splitting} → (i : Problem) (k : ℕ) (n : Node) (s t : Searching) → s.limit ≤ TOP → Begins s.base n.cuts → slice_get s.nodes k ≡ Some n → IsClose i advised k n s t → Closes s t k
 close_closes i k n s t le b at (by_price shut_one) = record {
   last = n;
   more = [];
@@ -230,23 +231,23 @@ pub step_closes : (i : Problem) (base : List Cut) (limit : ℕ) (s t : Searching
 step_closes i base limit s t le h st =
     let k = st.number in
     let n = st.node in
-    let o = offered s st.plan in
-    let y = priced_node i n st.prices in
-    let p = priced i k n st.prices o in
-    let same = offered_nodes s st.plan in
-    let at : slice_get o.nodes k ≡ Some n = ap (λ (ns : List Node). slice_get ns k) same ∙ st.next.there in
-    let begins : Begins s.base n.cuts = subst (λ (cs : List Cut). Begins cs n.cuts) (sym h.based) (h.below n (Has-slice_get s.nodes k n st.next.there)) in
-    let based : o.base ≡ s.base = offered_base s st.plan in
-    let limited : o.limit ≡ limit = offered_limit s st.plan ∙ h.limited in
-    let c : Closes p t k = close_closes i k y p t (omega (arith, limited, le)) (subst (λ (cs : List Cut). Begins cs n.cuts) (sym based) begins) (set_same o.nodes k n y at) st.close in
+    let o = offered s st.step.plan in
+    let y = priced_node i n st.step.prices in
+    let p = priced i k n st.step.prices o in
+    let same = offered_nodes s st.step.plan in
+    let at : slice_get o.nodes k ≡ Some n = ap (λ (ns : List Node). slice_get ns k) same ∙ st.step.next.there in
+    let begins : Begins s.base n.cuts = subst (λ (cs : List Cut). Begins cs n.cuts) (sym h.based) (h.below n (Has-slice_get s.nodes k n st.step.next.there)) in
+    let based : o.base ≡ s.base = offered_base s st.step.plan in
+    let limited : o.limit ≡ limit = offered_limit s st.step.plan ∙ h.limited in
+    let c : Closes p t k = close_closes i k y p t (omega (arith, limited, le)) (subst (λ (cs : List Cut). Begins cs n.cuts) (sym based) begins) (set_same o.nodes k n y at) st.step.close in
     let nodes : t.nodes ≡ set s.nodes k c.last ++ c.more = c.nodes ∙ ap (λ (ns : List Node). ns ++ c.more) (set-set o.nodes k y c.last ∙ ap (λ (ns : List Node). set ns k c.last) same) in
     let a = c.falls in
-    let b = offered_falls s st.plan in
-    let one : closed (top s) s.nodes + 1 ≤ closed (top t) (set s.nodes k c.last) = one_closed (top s) (top t) s.nodes k n c.last (omega (arith, a, b)) st.next.there st.next.opens c.shut in
+    let b = offered_falls s st.step.plan in
+    let one : closed (top s) s.nodes + 1 ≤ closed (top t) (set s.nodes k c.last) = one_closed (top s) (top t) s.nodes k n c.last (omega (arith, a, b)) st.step.next.there st.step.next.opens c.shut in
     let all : closed (top t) (set s.nodes k c.last ++ c.more) ≡ closed (top t) (set s.nodes k c.last) + closed (top t) c.more = sum_by-append (shut (top t)) (set s.nodes k c.last) c.more in
     let is : closed (top t) t.nodes ≡ closed (top t) (set s.nodes k c.last ++ c.more) = ap (closed (top t)) nodes in
     let taken : t.taken ≡ o.taken + 1 = c.taken in
-    let before : o.taken ≡ s.taken = offered_taken s st.plan in
+    let before : o.taken ≡ s.taken = offered_taken s st.step.plan in
     (omega (arith, taken, before), omega (arith, one, all, is))
   where
     offered_base : (s : Searching) (plan : Option Costing) → (offered s plan).base ≡ s.base

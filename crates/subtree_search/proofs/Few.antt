@@ -17,6 +17,7 @@ use Rattle.head_splits.specs.Nodes.{Node, new_node, child, with_floor, with_spli
 use Rattle.head_splits.proofs.Splits.{span_left, span_right}
 use Rattle.certificate.specs.declared.proof_lines.Line.TheVariants.{Settled}
 use Rattle.search_core.proofs.FewNodes.{sum_set}
+use Rattle.advice.specs.declared.advice.Splitting.{Splitting}
 use Rattle.report_grafts.proofs.Places.{set_same}
 use Rattle.subtree_search.specs.Searching.{Searching, is_open, offered, priced, settled, top}
 use Rattle.subtree_search.specs.Stepping.{priced_node, steps_enough, AreSteps, IsClose, IsDivision, IsStep}
@@ -55,7 +56,7 @@ two_weigh a b (suc s) p q =
     let y : 2 ^ b ≤ 2 ^ s = pow-le-pow_right pos (let l : b ≤ s = omega arith in l) in
     omega (arith, pow-suc 2 s)
 
-few_split : (i : Problem) (base : List Cut) (nodes : List Node) (k : ℕ) (class : Class) (m : ℕ) (n : Node) → Few i base nodes → slice_get nodes k ≡ Some n → n.split ≡ false → IsDivision i n.cuts class m → Few i base (with_split nodes k n class m)
+few_split : {advised : Option Splitting} → (i : Problem) (base : List Cut) (nodes : List Node) (k : ℕ) (class : Class) (m : ℕ) (n : Node) → Few i base nodes → slice_get nodes k ≡ Some n → n.split ≡ false → IsDivision i n.cuts advised class m → Few i base (with_split nodes k n class m)
 few_split i base nodes k class m n f at e d =
     let olds = set nodes k (record n { split = true }) in
     let left = child n class AtMost m in
@@ -78,7 +79,7 @@ few_settled i base s k n f at =
     cond_both (is_open (top s) n) (record s { nodes = with_floor s.nodes k n (settled_floor i n.cuts); lines = s.lines ++ Settled k ∷ [] }) s (λ (t : Searching). Few i base t.nodes)
     (λ e. few_floor i base s.nodes k (settled_floor i n.cuts) n f at) (λ e. f)
 
-few_close : (i : Problem) (base : List Cut) (k : ℕ) (n : Node) (s t : Searching) → Few i base s.nodes → slice_get s.nodes k ≡ Some n → n.split ≡ false → IsClose i k n s t → Few i base t.nodes
+few_close : {advised : Option Splitting} → (i : Problem) (base : List Cut) (k : ℕ) (n : Node) (s t : Searching) → Few i base s.nodes → slice_get s.nodes k ≡ Some n → n.split ≡ false → IsClose i advised k n s t → Few i base t.nodes
 few_close i base k n s t f at e (by_price shut) = f
 few_close i base k n s t f at e (by_division class m open_one left d) = few_split i base s.nodes k class m n f at e d
 few_close i base k n s t f at e (by_settling node open_one st) =
@@ -89,14 +90,14 @@ few_step : (i : Problem) (base : List Cut) (s t : Searching) → Few i base s.no
 few_step i base s t f st =
     let k = st.number in
     let n = st.node in
-    let same = offered_nodes s st.plan in
-    let o = offered s st.plan in
-    let at : slice_get o.nodes k ≡ Some n = ap (λ (ns : List Node). slice_get ns k) same ∙ st.next.there in
-    let unsplit_one : n.split ≡ false = (open_parts (top s) n st.next.opens).0 in
-    let y = priced_node i n st.prices in
-    few_close i base k y (priced i k n st.prices o) t
+    let same = offered_nodes s st.step.plan in
+    let o = offered s st.step.plan in
+    let at : slice_get o.nodes k ≡ Some n = ap (λ (ns : List Node). slice_get ns k) same ∙ st.step.next.there in
+    let unsplit_one : n.split ≡ false = (open_parts (top s) n st.step.next.opens).0 in
+    let y = priced_node i n st.step.prices in
+    few_close i base k y (priced i k n st.step.prices o) t
     (few_floor i base o.nodes k y.floor n (subst (Few i base) (sym same) f) at)
-    (set_same o.nodes k n y at) unsplit_one st.close
+    (set_same o.nodes k n y at) unsplit_one st.step.close
 
 few_steps : (i : Problem) (base : List Cut) (limit : ℕ) (s : Searching) → AreSteps i base limit s → Few i base s.nodes
 few_steps i base limit s none = record { within = omega arith; twice = refl }

@@ -26,6 +26,7 @@ use Rattle.head_splits.proofs.Splits.{high_most}
 use Rattle.certificate.specs.declared.proof_lines.Line.{Line}
 use Rattle.certificate.specs.declared.proof_lines.Line.TheVariants.{Split, Priced, Settled}
 use Rattle.certificate.specs.Accepted.{is_split, node_line, node_of, nodes_after}
+use Rattle.advice.specs.declared.advice.Splitting.{Splitting}
 use Rattle.dual_bound.specs.Settling.{Settling, IsSettledNode, IsPlan}
 use Rattle.search_core.proofs.Fits.{class_few}
 use Rattle.report_grafts.specs.Run.{is_division, is_pricing, divisions, pricings, IsBest, IsSound}
@@ -149,7 +150,7 @@ there_short (x ∷ xs) zero p h = omega arith
 there_short (x ∷ xs) (suc k) p h = let rest : k < length xs = there_short xs k p h in omega (arith, rest)
 
 -- a split by the number of a live class is a good line
-pub division_good : (i : Problem) (cuts : List Cut) (class : Class) (m : ℕ) → IsValid i → IsDivision i cuts class m → (is_split i class m ≡ true) × (m < 200)
+pub division_good : {advised : Option Splitting} → (i : Problem) (cuts : List Cut) (class : Class) (m : ℕ) → IsValid i → IsDivision i cuts advised class m → (is_split i class m ≡ true) × (m < 200)
 division_good i cuts class m valid d =
     let p = and_parts (nat_lt class.day i.days) (is_shift_and i class.shift (λ x. is_live x.1 x.0.len class.prefix)) d.live in
     let shift : class.shift < length (shift_list i) = there_short (shift_list i) class.shift (λ x. is_live x.1 x.0.len class.prefix) p.1 in
@@ -282,7 +283,7 @@ settled_offer i cuts node st = of_plan node.plan st.settled.plan
     of_plan None m = tt
     of_plan (Some p) m = (m.instance ∙ st.instance, m.costed)
 
-close_holds : (i : Problem) (base : List Cut) (limit k : ℕ) (n : Node) (s t : Searching) → IsValid i → Holds i base limit s 1 → slice_get s.nodes k ≡ Some n → n.split ≡ false → IsClose i k n s t → Holds i base limit t 0
+close_holds : {advised : Option Splitting} → (i : Problem) (base : List Cut) (limit k : ℕ) (n : Node) (s t : Searching) → IsValid i → Holds i base limit s 1 → slice_get s.nodes k ≡ Some n → n.split ≡ false → IsClose i advised k n s t → Holds i base limit t 0
 close_holds i base limit k n s t valid h at unsplit (by_price shut) = holds_less i base limit s h
 close_holds i base limit k n s t valid h at unsplit (by_division class m open_one left d) = holds_divided i base limit s k n class m h at unsplit (division_good i n.cuts class m valid d).0
 close_holds i base limit k n s t valid h at unsplit (by_settling node open_one st) =
@@ -293,11 +294,11 @@ pub step_holds : (i : Problem) (base : List Cut) (limit : ℕ) (s t : Searching)
 step_holds i base limit s t valid h st =
     let k = st.number in
     let n = st.node in
-    let unsplit : n.split ≡ false = (open_parts (top s) n st.next.opens).0 in
-    let at : slice_get (offered s st.plan).nodes k ≡ Some n = ap (λ (ns : List Node). slice_get ns k) (offered_nodes s st.plan) ∙ st.next.there in
-    close_holds i base limit k (priced_node i n st.prices) (priced i k n st.prices (offered s st.plan)) t valid
-    (holds_priced i base limit (offered s st.plan) k n st.prices (holds_offered i base limit s st.plan 0 h st.offer) at unsplit st.lawful)
-    (set_same (offered s st.plan).nodes k n (priced_node i n st.prices) at) unsplit st.close
+    let unsplit : n.split ≡ false = (open_parts (top s) n st.step.next.opens).0 in
+    let at : slice_get (offered s st.step.plan).nodes k ≡ Some n = ap (λ (ns : List Node). slice_get ns k) (offered_nodes s st.step.plan) ∙ st.step.next.there in
+    close_holds i base limit k (priced_node i n st.step.prices) (priced i k n st.step.prices (offered s st.step.plan)) t valid
+    (holds_priced i base limit (offered s st.step.plan) k n st.step.prices (holds_offered i base limit s st.step.plan 0 h st.step.offer) at unsplit st.step.lawful)
+    (set_same (offered s st.step.plan).nodes k n (priced_node i n st.step.prices) at) unsplit st.step.close
 
 opening_holds : (i : Problem) (base : List Cut) (limit : ℕ) → Holds i base limit (opening base limit) 0
 opening_holds i base limit = record {

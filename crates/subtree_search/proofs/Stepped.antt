@@ -1,6 +1,7 @@
 -- What the parts of a step make of a search.
 use Rattle.std.proofs.Common.{◌≡◌, ℕ, ◌+◌, ◌<◌, ◌≤◌, ◌^◌, true, false, cond, List, [], ◌∷◌, ◌++◌, length, set, refl, sym, ap, ◌∙◌, subst, arith, Option, Some, None}
 use Rattle.std.specs.Prelude.{slice_get, IsTrue, IsSomeAnd}
+use Rattle.std.specs.Option.{option_map}
 use Rattle.std.proofs.lemmas.Bool.{cond_both}
 use Rattle.std.proofs.lemmas.List.{length-append, length-set}
 use Rattle.std.proofs.lemmas.Option.{slice_get_within}
@@ -12,16 +13,18 @@ use Rattle.head_splits.specs.declared.Cut.{Cut}
 use Rattle.head_splits.specs.declared.Side.TheVariants.{AtMost, AtLeast}
 use Rattle.head_splits.specs.Bound.{are_prices}
 use Rattle.head_splits.specs.Nodes.{Node, child, settled_floor}
+use Rattle.advice.specs.declared.advice.Advice.{Advice}
+use Rattle.advice.specs.declared.advice.Splitting.{Splitting}
 use Rattle.dual_bound.specs.Proved.{Proving, IsProved}
 use Rattle.certificate.specs.declared.proof_lines.Line.TheVariants.{Settled}
 use Rattle.report_grafts.proofs.Places.{set_same}
 use Rattle.subtree_search.specs.Searching.{Searching, is_open, offered, priced, settled, top, IsNext}
-use Rattle.subtree_search.specs.Stepping.{priced_node, IsClose, IsDivision, IsOffer, IsStep}
+use Rattle.subtree_search.specs.Stepping.{lawful_plan, lawful_prices, priced_node, IsClose, IsDivision, IsOffer, IsStepBy}
 use Rattle.subtree_search.specs.Stepping.IsClose.{by_price, by_division, by_settling}
 use Rattle.subtree_search.proofs.Sound.{division_good, offered_nodes}
 
 -- the number of a split is small
-pub division_small : (i : Problem) (cuts : List Cut) (class : Class) (m : ℕ) → IsValid i → IsDivision i cuts class m → m ≤ 200
+pub division_small : {advised : Option Splitting} → (i : Problem) (cuts : List Cut) (class : Class) (m : ℕ) → IsValid i → IsDivision i cuts advised class m → m ≤ 200
 division_small i cuts class m valid d = let less : m < 200 = (division_good i cuts class m valid d).1 in omega (arith, less)
 
 -- a node that a search takes is one of its own
@@ -39,7 +42,7 @@ settled_longer i k n s =
     (λ e. omega arith)
 
 -- a close leaves all nodes
-pub close_longer : (i : Problem) (k : ℕ) (n : Node) (s t : Searching) → IsClose i k n s t → length s.nodes ≤ length t.nodes
+pub close_longer : {advised : Option Splitting} → (i : Problem) (k : ℕ) (n : Node) (s t : Searching) → IsClose i advised k n s t → length s.nodes ≤ length t.nodes
 close_longer i k n s t (by_price shut) = omega arith
 close_longer i k n s t (by_division class m open_one left d) =
     let olds = set s.nodes k (record n { split = true }) in
@@ -77,21 +80,22 @@ priced_there i s o p k n plan proved at oe pi nc made =
     }
 
 -- and how it is closed
-pub closed_as : (i : Problem) (s p t : Searching) (k : ℕ) (n : Node) (cuts : List Cut) (plan : Option Costing) (proved : Proving)
-    → Stepped i s p k n plan proved → n.cuts ≡ cuts → IsSomeAnd (slice_get p.nodes k) (λ m. m.cuts ≡ cuts → IsClose i k m p t) → IsClose i k (priced_node i n proved.prices) p t
-closed_as i s p t k n cuts plan proved st nc close =
-    (subst (λ found. IsSomeAnd found (λ m. m.cuts ≡ cuts → IsClose i k m p t)) st.there close) nc
+pub closed_as : {advised : Option Splitting} → (i : Problem) (s p t : Searching) (k : ℕ) (n : Node) (cuts : List Cut) (plan : Option Costing) (proved : Proving)
+    → Stepped i s p k n plan proved → n.cuts ≡ cuts → IsSomeAnd (slice_get p.nodes k) (λ m. m.cuts ≡ cuts → IsClose i advised k m p t) → IsClose i advised k (priced_node i n proved.prices) p t
+closed_as {advised} i s p t k n cuts plan proved st nc close =
+    (subst (λ found. IsSomeAnd found (λ m. m.cuts ≡ cuts → IsClose i advised k m p t)) st.there close) nc
 
 -- so it is a step
-pub step_is : (i : Problem) (s p t : Searching) (k : ℕ) (n : Node) (plan : Option Costing) (proved : Proving)
-    → IsNext s.nodes (top s) k n → IsOffer i plan → proved.instance ≡ i → n.cuts ≡ proved.cuts → IsProved proved → Stepped i s p k n plan proved → IsClose i k (priced_node i n proved.prices) p t → IsStep i s t
-step_is i s p t k n plan proved next offer pi nc proves st close = record {
-  number = k;
-  node = n;
+pub step_is : (i : Problem) (s p t : Searching) (k : ℕ) (n : Node) (advice : Advice) (plan : Option Costing) (proved : Proving)
+    → IsNext s.nodes (top s) k n → option_map (λ x. x.rows) plan ≡ lawful_plan i advice.plan → IsOffer i plan → proved.instance ≡ i → n.cuts ≡ proved.cuts → proved.prices ≡ lawful_prices i n.cuts advice.prices → IsProved proved
+    → Stepped i s p k n plan proved → IsClose i advice.split k (priced_node i n proved.prices) p t → IsStepBy i k n advice s t
+step_is i s p t k n advice plan proved next advised offer pi nc given proves st close = record {
   next = next;
   plan = plan;
+  advised = advised;
   offer = offer;
   prices = proved.prices;
+  given = given;
   lawful = subst (λ (cs : List Cut). are_prices i cs proved.prices ≡ true) (sym nc) (subst (λ (j : Problem). are_prices j proved.cuts proved.prices ≡ true) pi proves.passes);
-  close = subst (λ x. IsClose i k (priced_node i n proved.prices) x t) st.is close;
+  close = subst (λ x. IsClose i advice.split k (priced_node i n proved.prices) x t) st.is close;
 }

@@ -1,6 +1,6 @@
 //! How a node is closed that its bound leaves open.
-ghost use Rattle.std.specs.Prelude.{◌≡◌, IfOk, IfSome};
-ghost use Rattle.subtree_search.specs.Stepping.{IsClosing, IsDivision};
+ghost use Rattle.std.specs.Prelude.{◌≡◌, IfOk};
+ghost use Rattle.subtree_search.specs.Stepping.{is_lawful, lawful_split, IsClosing};
 
 use advice::Splitting;
 use break_rules::NoMemory;
@@ -9,20 +9,32 @@ use head_splits::{Cuts, is_live_class, range};
 use shift_instance::Instance;
 use std::alloc::Global;
 
-/// The advised split, where there is one, its class is live, and the cuts leave the number open there.
+/// Whether a split is one of a node with these cuts: its class is live, and they leave its number open there.
+fn is_lawful(
+    alloc: Global,
+    instance: &Instance,
+    cuts: &Cuts,
+    split: &Splitting,
+) -> Result<bool, NoMemory>
+    ensures { IfOk result (λ answer. answer ≡ is_lawful instance.now cuts.now split.now) }
+{
+    let (low, high) = range(instance, cuts, &split.class);
+    Ok(is_live_class(alloc, instance, &split.class)? && low <= split.m && split.m < high)
+}
+
+/// The advised split, where there is one and it is one of a node with these cuts.
 fn lawful_split(
     alloc: Global,
     instance: &Instance,
     cuts: &Cuts,
     advised: Option<Splitting>,
 ) -> Result<Option<Splitting>, NoMemory>
-    ensures { IfOk result (λ split. IfSome split (λ s. IsDivision instance.now cuts.now s.class s.m)) }
+    ensures { IfOk result (λ split. split ≡ lawful_split instance.now cuts.now advised) }
 {
     let Some(split) = advised else {
         return Ok(None);
     };
-    let (low, high) = range(instance, cuts, &split.class);
-    if low <= split.m && split.m < high && is_live_class(alloc, instance, &split.class)? {
+    if is_lawful(alloc, instance, cuts, &split)? {
         Ok(Some(split))
     } else {
         Ok(None)
@@ -37,7 +49,7 @@ pub(crate) fn closing_of(
     cuts: Cuts,
     advised: Option<Splitting>,
 ) -> Result<Fixing, NoMemory>
-    ensures { IfOk result (IsClosing instance.now cuts) }
+    ensures { IfOk result (IsClosing instance.now cuts advised) }
 {
     let split = lawful_split(alloc, instance, &cuts, advised)?;
     match settle(alloc, instance, cuts)? {

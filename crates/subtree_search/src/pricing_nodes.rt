@@ -1,7 +1,7 @@
 //! Bounds of advised prices.
 ghost use Rattle.std.specs.Prelude.{◌≡◌, ◌≤◌, ◌^◌, IfOk, length};
 ghost use Rattle.dual_bound.specs.Proved.{IsProved};
-ghost use Rattle.subtree_search.specs.Stepping.{IsBoundFor};
+ghost use Rattle.subtree_search.specs.Stepping.{lawful_prices, no_prices, IsBoundFor};
 
 use break_rules::NoMemory;
 use dual_bound::{Buffers, PriceFault, Proved};
@@ -18,11 +18,15 @@ pub(crate) fn copy_of(cuts: &Cuts) -> Result<Cuts, NoMemory>
 }
 
 /// Price 0 for each slot and each cut, at scale 1, which is a price set for all cuts.
-fn no_prices(alloc: Global, instance: &Instance, cuts: &Cuts) -> Result<Prices, NoMemory> {
+fn no_prices(alloc: Global, instance: &Instance, cuts: &Cuts) -> Result<Prices, NoMemory>
+    ensures { IfOk result (λ prices. prices ≡ no_prices instance.now cuts.now) }
+{
+    let slots = vec![in alloc; 0; instance.slots()]?;
+    let cuts = vec![in alloc; 0; cuts.len()]?;
     Ok(Prices {
         q: 1,
-        slots: SlotPrices::new(vec![in alloc; 0; instance.slots()]?),
-        cuts: CutPrices::new(vec![in alloc; 0; cuts.len()]?),
+        slots: SlotPrices::new(slots),
+        cuts: CutPrices::new(cuts),
     })
 }
 
@@ -35,7 +39,7 @@ fn proved_by(
 ) -> Result<Option<Proved>, NoMemory>
     requires few { length cuts.now ≤ 2 ^ 33 }
     requires buffers { buffers.old ≡ instance.now }
-    ensures proved { IfOk result (λ found. IsBoundFor instance.now cuts.now found) }
+    ensures proved { IfOk result (λ found. IsBoundFor instance.now cuts.now prices found) }
     ensures buffers { buffers.new ≡ buffers.old }
 {
     match buffers.prove(instance, copy_of(cuts)?, prices) {
@@ -61,7 +65,7 @@ pub(crate) fn prove_lawful(
 ) -> Result<Proved, NoMemory>
     requires few { length cuts.now ≤ 2 ^ 33 }
     requires buffers { buffers.old ≡ instance.now }
-    ensures prices { IfOk result (λ p. (p.instance ≡ instance.now) × (p.cuts ≡ cuts.now)) }
+    ensures prices { IfOk result (λ p. (p.instance ≡ instance.now) × (p.cuts ≡ cuts.now) × (p.prices ≡ lawful_prices instance.now cuts.now prices)) }
     ensures proved { IfOk result (λ p. IsProved p) }
     ensures buffers { buffers.new ≡ buffers.old }
 {

@@ -10,7 +10,7 @@ use crate::choosing::{least_floor, next_open};
 use crate::hints::hint_of;
 use crate::node::SearchNode;
 use crate::pricing_nodes::copy_of;
-use advice::Ask;
+use advice::{Ask, Told};
 use break_rules::NoMemory;
 use certificate::{Line, Lines};
 use dual_bound::{Proved, SettledNode};
@@ -120,6 +120,18 @@ impl Search {
             best: self.top(),
             hint,
         })
+    }
+
+    /// What became of a step for a node.
+    pub(crate) fn news(&self, node: usize) -> Told
+        requires there { node < length self.now.nodes }
+        requires number { node < 2 ^ 32 }
+    {
+        Told {
+            node: node as u32,
+            floor: self.floor_of(node),
+            best: self.top(),
+        }
     }
 
     /// Whether a node is open.

@@ -4,7 +4,7 @@ ghost use Rattle.shift_instance.specs.declared.TheConstants.{TOP};
 ghost use Rattle.head_splits.specs.Nodes.{Node};
 ghost use Rattle.report_grafts.specs.Run.{is_finished};
 ghost use Rattle.subtree_search.specs.Searching.{top, IsNext};
-ghost use Rattle.subtree_search.specs.Stepping.{steps_enough, IsSearched, WhyEnds};
+ghost use Rattle.subtree_search.specs.Stepping.{steps_enough, IsGreedyRun, IsSearched, WhyEnds};
 
 use crate::search::Search;
 use crate::stepping::step;
@@ -55,7 +55,10 @@ pub fn solve_below_by<A: Adviser, S: Stop>(
     let mut buffers = Buffers::new(alloc, instance);
     let mut search = Search::opening(alloc, base, limit)?;
     while let Some(node) = next_within(&search, budget, stop) {
-        search = step(alloc, instance, &mut buffers, adviser, search, node)?;
+        let ask = search.ask(alloc, node)?;
+        let advice = adviser.advise(instance, &ask)?;
+        search = step(alloc, instance, &mut buffers, search, node, advice)?;
+        adviser.learn(&search.news(node));
     }
     search.into_run(alloc, instance)
 }
@@ -73,9 +76,18 @@ pub fn solve_below(
     requires limit { limit ≤ TOP }
     requires budget { budget ≤ 10 ^ 9 }
     ensures searched { IfOk result (IsSearched instance.now base limit budget) }
+    ensures greedy { IfOk result (IsGreedyRun instance.now base limit) }
     ensures ends { IfOk result (λ run. IsTrue (is_finished run) ⊎ (run.taken ≡ budget)) }
     ensures enough { steps_enough instance.now base ≤ budget → IfOk result (λ run. IsTrue (is_finished run)) }
 {
+    let _valid = instance.slots();
     let mut greedy = Greedy::of_first(alloc);
-    solve_below_by(alloc, instance, base, limit, budget, &mut greedy, &Never)
+    let mut buffers = Buffers::new(alloc, instance);
+    let mut search = Search::opening(alloc, base, limit)?;
+    while let Some(node) = next_within(&search, budget, &Never) {
+        let ask = search.ask(alloc, node)?;
+        let advice = greedy.advise(instance, &ask)?;
+        search = step(alloc, instance, &mut buffers, search, node, advice)?;
+    }
+    search.into_run(alloc, instance)
 }

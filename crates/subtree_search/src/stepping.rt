@@ -1,13 +1,14 @@
 //! A step of a search below some cuts.
 ghost use Rattle.std.specs.Prelude.{◌≡◌, ◌<◌, ◌≤◌, ◌^◌, IfOk, IfSome, IsSomeAnd, length, slice_get};
+ghost use Rattle.std.specs.Option.{option_map};
 ghost use Rattle.head_splits.specs.Nodes.{Node};
 ghost use Rattle.subtree_search.specs.Searching.{top, IsNext};
-ghost use Rattle.subtree_search.specs.Stepping.{IsClose, IsOffer, IsStep};
+ghost use Rattle.subtree_search.specs.Stepping.{lawful_plan, IsClose, IsOffer, IsStepBy};
 
 use crate::closing::closing_of;
-use crate::pricing_nodes::{copy_of, prove_lawful};
+use crate::pricing_nodes::prove_lawful;
 use crate::search::Search;
-use advice::{Advice, Adviser, Splitting, Told};
+use advice::{Advice, Splitting};
 use break_rules::NoMemory;
 use dual_bound::{Buffers, Fixing};
 use head_splits::Cuts;
@@ -17,7 +18,8 @@ use std::alloc::Global;
 
 /// The rows of a plan with their cost, where there are some and they are legal.
 fn cost_plan(instance: &Instance, plan: Option<Rows>) -> Option<Costed>
-    ensures { IsOffer instance.now result }
+    ensures rows { option_map (λ p. p.rows) result ≡ lawful_plan instance.now plan }
+    ensures costed { IsOffer instance.now result }
 {
     match cost_rows(instance, plan?) {
         Ok(costed) => {
@@ -36,54 +38,49 @@ fn close(
     search: Search,
     node: usize,
     cuts: Cuts,
-    split: Option<Splitting>,
+    advised: Option<Splitting>,
 ) -> Result<Search, NoMemory>
     requires there { node < length search.nodes }
     requires number { node < 2 ^ 32 }
-    ensures { IfOk result (λ t. IsSomeAnd (slice_get search.nodes node) (λ n. n.cuts ≡ cuts → IsClose instance.now node n search t)) }
+    ensures { IfOk result (λ t. IsSomeAnd (slice_get search.nodes node) (λ n. n.cuts ≡ cuts → IsClose instance.now advised node n search t)) }
 {
     let _valid = instance.slots();
     if !search.is_open(node) {
         return Ok(search);
     }
-    match closing_of(alloc, instance, cuts, split)? {
+    match closing_of(alloc, instance, cuts, advised)? {
         Fixing::Open { class, m } => search.divide(node, class, m),
         Fixing::Done(settlement) => search.settle(instance, node, settlement),
     }
 }
 
-/// What a search is after its next step, for that node.
-pub(crate) fn step<A: Adviser>(
+/// What a search is after its next step, by this advice for that node.
+pub(crate) fn step(
     alloc: Global,
     instance: &Instance,
     buffers: &mut Buffers,
-    adviser: &mut A,
     search: Search,
     node: usize,
+    advice: Advice,
 ) -> Result<Search, NoMemory>
     requires next { (n : Node) × IsNext search.nodes (top search) node n }
     requires few { (n : Node) → slice_get search.nodes node ≡ Some n → length n.cuts ≤ 2 ^ 33 }
     requires number { node < 2 ^ 32 }
     requires room { search.taken < 2 ^ 32 }
     requires buffers { buffers.old ≡ instance.now }
-    ensures step { IfOk result (IsStep instance.now search) }
+    ensures step { IfOk result (λ t. IsSomeAnd (slice_get search.nodes node) (λ n. IsStepBy instance.now node n advice search t)) }
+    ensures longer { IfOk result (λ t. length search.nodes ≤ length t.nodes) }
     ensures buffers { buffers.new ≡ buffers.old }
 {
-    let ask = search.ask(alloc, node)?;
     let Advice {
         prices,
         plan,
         split,
-    } = adviser.advise(instance, &ask)?;
-    let cuts = ask.cuts;
+    } = advice;
+    let cuts = search.cuts_of(node)?;
     let search = search.offer(instance, cost_plan(instance, plan));
     let proved = prove_lawful(alloc, instance, buffers, &cuts, prices)?;
     let search = search.price(node, proved)?;
     let search = close(alloc, instance, search, node, cuts, split)?;
-    adviser.learn(&Told {
-        node: node as u32,
-        floor: search.floor_of(node),
-        best: search.top(),
-    });
     Ok(search)
 }
