@@ -1,4 +1,5 @@
 pub mod Chosen
+pub mod Lawful
 pub mod Sound
 pub mod Few
 pub mod Enough
