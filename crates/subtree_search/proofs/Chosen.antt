@@ -115,10 +115,10 @@ chosen nodes cost n (Some k) floor all f =
 -- the same where a loop has both in variables of its own
 pub taken_over : (nodes : List Node) (cost n : ℕ) (next after : Option ℕ) (floor low : ℕ) (x : Node) (answer : Bool) → Found nodes cost n next floor → slice_get nodes n ≡ Some x → answer ≡ is_open floor x → answer ≡ true → after ≡ Some n → low ≡ x.floor
     → Found nodes cost (n + 1) after low
-taken_over nodes cost n next after floor low x answer f at is yes same lower =
-    subst (λ (o : Option ℕ). Found nodes cost (n + 1) o low) (sym same) (subst (λ (l : ℕ). Found nodes cost (n + 1) (Some n) l) (sym lower) (found_better nodes cost n next floor x f at (sym is ∙ yes)))
+taken_over nodes cost n next after floor low x answer f at is hit same lower =
+    subst (λ (o : Option ℕ). Found nodes cost (n + 1) o low) (sym same) (subst (λ (l : ℕ). Found nodes cost (n + 1) (Some n) l) (sym lower) (found_better nodes cost n next floor x f at (sym is ∙ hit)))
 
 pub passed_over : (nodes : List Node) (cost n : ℕ) (next after : Option ℕ) (floor low : ℕ) (x : Node) (answer : Bool) → Found nodes cost n next floor → slice_get nodes n ≡ Some x → answer ≡ is_open floor x → answer ≡ false → after ≡ next → low ≡ floor
     → Found nodes cost (n + 1) after low
-passed_over nodes cost n next after floor low x answer f at is no same lower =
-    subst (λ (o : Option ℕ). Found nodes cost (n + 1) o low) (sym same) (subst (λ (l : ℕ). Found nodes cost (n + 1) next l) (sym lower) (found_before nodes cost n next floor x f at (sym is ∙ no)))
+passed_over nodes cost n next after floor low x answer f at is miss same lower =
+    subst (λ (o : Option ℕ). Found nodes cost (n + 1) o low) (sym same) (subst (λ (l : ℕ). Found nodes cost (n + 1) next l) (sym lower) (found_before nodes cost n next floor x f at (sym is ∙ miss)))

@@ -15,7 +15,7 @@ fn deepened(prices: &Prices, cuts: usize) -> Result<Prices, NoMemory> {
         cuts: known,
     } = prices.clone()?;
     let mut all = known.into_vec();
-    while all.len() < cuts {
+    for _ in all.len()..cuts {
         all.push(0)?;
     }
     Ok(Prices {

@@ -1,6 +1,7 @@
 //! A search below some cuts, and what its steps make of it.
-ghost use Rattle.std.specs.Prelude.{◌≡◌, ◌<◌, ◌≤◌, ◌^◌, IfOk, IsSomeAnd, MatchOption, length, slice_get};
-ghost use Rattle.head_splits.specs.Nodes.{Node, child};
+ghost use Rattle.std.specs.Prelude.{◌≡◌, ◌<◌, ◌≤◌, ◌^◌, ◌++◌, ◌∷◌, [], IfOk, IsSomeAnd, MatchOption, length, set, slice_get, true};
+ghost use Rattle.head_splits.specs.Nodes.{Node, child, with_floor};
+ghost use Rattle.certificate.specs.declared.proof_lines.Line.TheVariants.{Split, Settled};
 ghost use Rattle.dual_bound.specs.Proved.{IsProved};
 ghost use Rattle.report_grafts.specs.Run.{IsSound};
 ghost use Rattle.subtree_search.specs.Searching.{divided, is_open, offered, opening, priced, settled, top, IsNext};
@@ -146,7 +147,9 @@ impl Search {
 
     /// Offers a plan to the search, which keeps it where the plan meets its cuts and costs less than its top.
     pub(crate) fn offer(self, instance: &Instance, plan: Option<Costed>) -> Search
-        ensures { result ≡ offered self plan }
+        ensures offered { result ≡ offered self plan }
+        ensures nodes { result.nodes ≡ self.nodes }
+        ensures taken { result.taken ≡ self.taken }
     {
         let mut search = self;
         if let Some(plan) = plan {
@@ -163,7 +166,8 @@ impl Search {
         requires number { node < 2 ^ 32 }
         requires room { self.taken < 2 ^ 32 }
         requires proved { IsProved proved }
-        ensures { IfOk result (λ s. IsSomeAnd (slice_get self.nodes node) (λ n. n.cuts ≡ proved.cuts → s ≡ priced proved.instance node n proved.prices self)) }
+        ensures priced { IfOk result (λ s. IsSomeAnd (slice_get self.nodes node) (λ n. n.cuts ≡ proved.cuts → s ≡ priced proved.instance node n proved.prices self)) }
+        ensures longer { IfOk result (λ s. length s.nodes ≡ length self.nodes) }
     {
         let mut search = self;
         let floor = search.floor_of(node).max(proved.bound());
@@ -185,31 +189,63 @@ impl Search {
         requires small { m ≤ 200 }
         ensures { IfOk result (λ s. IsSomeAnd (slice_get self.nodes node) (λ n. s ≡ divided node n class m self)) }
     {
-        let mut search = self;
-        let at_most = search.part(node, class.clone()?, Side::AtMost, m)?;
-        let at_least = search.part(node, class.clone()?, Side::AtLeast, m + 1)?;
-        search.lines.push(Line::Split {
-            node: node as u32,
-            class,
-            m,
-        })?;
-        search.nodes[node].split();
-        search.nodes.push(at_most)?;
-        search.nodes.push(at_least)?;
+        let at_most = self.part(node, &class, Side::AtMost, m)?;
+        let at_least = self.part(node, &class, Side::AtLeast, m + 1)?;
+        let search = self.with_division(node, class, m)?;
+        let search = search.with_parts(at_most, at_least)?;
         Ok(search)
     }
 
     /// The part of a node that has one cut more.
-    fn part(&self, node: usize, class: Class, side: Side, m: u16) -> Result<SearchNode, NoMemory>
+    fn part(&self, node: usize, class: &Class, side: Side, m: u16) -> Result<SearchNode, NoMemory>
         requires { node < length self.now.nodes }
-        ensures { IfOk result (λ part. IsSomeAnd (slice_get self.now.nodes node) (λ n. part ≡ child n class side m)) }
+        ensures { IfOk result (λ part. IsSomeAnd (slice_get self.now.nodes node) (λ n. part ≡ child n class.now side m)) }
     {
+        let class = class.clone()?;
         let mut cuts = self.cuts_of(node)?.into_vec();
         cuts.push(Cut { class, side, m })?;
         let nodes = &self.nodes;
         let floor = nodes[node].floor();
         let priced_by = nodes[node].priced_by();
         Ok(SearchNode::part(Cuts::new(cuts), floor, priced_by))
+    }
+
+    /// Notes that a node is split, with the line that splits it.
+    fn with_division(self, node: usize, class: Class, m: u16) -> Result<Search, NoMemory>
+        requires there { node < length self.nodes }
+        requires number { node < 2 ^ 32 }
+        ensures { IfOk result (λ s. IsSomeAnd (slice_get self.nodes node) (λ n. s ≡ record self { nodes = set self.nodes node (record n { split = true }); lines = self.lines ++ Split node class m ∷ [] })) }
+    {
+        let mut search = self;
+        search.lines.push(Line::Split {
+            node: node as u32,
+            class,
+            m,
+        })?;
+        search.nodes[node].split();
+        Ok(search)
+    }
+
+    /// Puts two parts behind the nodes.
+    fn with_parts(self, at_most: SearchNode, at_least: SearchNode) -> Result<Search, NoMemory>
+        ensures { IfOk result (λ s. s ≡ record self { nodes = self.nodes ++ at_most ∷ at_least ∷ [] }) }
+    {
+        let mut search = self;
+        search.nodes.push(at_most)?;
+        search.nodes.push(at_least)?;
+        Ok(search)
+    }
+
+    /// Gives a node the floor of its plan, with the line that settles it.
+    fn with_settled(self, node: usize, floor: u64) -> Result<Search, NoMemory>
+        requires there { node < length self.nodes }
+        requires number { node < 2 ^ 32 }
+        ensures { IfOk result (λ s. IsSomeAnd (slice_get self.nodes node) (λ n. s ≡ record self { nodes = with_floor self.nodes node n floor; lines = self.lines ++ Settled node ∷ [] })) }
+    {
+        let mut search = self;
+        search.lines.push(Line::Settled { node: node as u32 })?;
+        search.nodes[node].set_floor(floor);
+        Ok(search)
     }
 
     /// Offers the plan that a settled node's cuts leave, and where the node is still open then, settles it.
@@ -224,10 +260,10 @@ impl Search {
         ensures { IfOk result (λ s. IsSomeAnd (slice_get self.nodes node) (λ n. IsSettlement instance.now n.cuts settlement → s ≡ settled instance.now node n (offered self settlement.plan))) }
     {
         let floor = settlement.floor();
-        let mut search = self.offer(instance, settlement.into_plan());
+        let search = self.offer(instance, settlement.into_plan());
         if search.is_open(node) {
-            search.lines.push(Line::Settled { node: node as u32 })?;
-            search.nodes[node].set_floor(floor);
+            let search = search.with_settled(node, floor)?;
+            return Ok(search);
         }
         Ok(search)
     }

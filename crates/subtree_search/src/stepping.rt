@@ -1,8 +1,8 @@
 //! A step of a search below some cuts.
-ghost use Rattle.std.specs.Prelude.{◌≡◌, ◌<◌, ◌≤◌, ◌^◌, IfOk, IfSome, IsSomeAnd, length, slice_get};
+ghost use Rattle.std.specs.Prelude.{◌≡◌, ◌<◌, ◌≤◌, ◌^◌, IfOk, IsSomeAnd, IsTrue, length, slice_get};
 ghost use Rattle.std.specs.Option.{option_map};
 ghost use Rattle.head_splits.specs.Nodes.{Node};
-ghost use Rattle.subtree_search.specs.Searching.{top, IsNext};
+ghost use Rattle.subtree_search.specs.Searching.{is_open, top, IsNext};
 ghost use Rattle.subtree_search.specs.Stepping.{lawful_plan, IsClose, IsOffer, IsStepBy};
 
 use crate::closing::closing_of;
@@ -31,6 +31,32 @@ fn cost_plan(instance: &Instance, plan: Option<Rows>) -> Option<Costed>
     }
 }
 
+/// Closes an open node with these cuts: it is split, or settled.
+fn close_open(
+    alloc: Global,
+    instance: &Instance,
+    search: Search,
+    node: usize,
+    cuts: Cuts,
+    advised: Option<Splitting>,
+) -> Result<Search, NoMemory>
+    requires there { node < length search.nodes }
+    requires number { node < 2 ^ 32 }
+    ensures { IfOk result (λ t. IsSomeAnd (slice_get search.nodes node) (λ n. n.cuts ≡ cuts → IsTrue (is_open (top search) n) → IsClose instance.now advised node n search t)) }
+{
+    let _valid = instance.slots();
+    match closing_of(alloc, instance, cuts, advised)? {
+        Fixing::Open { class, m } => {
+            let search = search.divide(node, class, m)?;
+            Ok(search)
+        }
+        Fixing::Done(settlement) => {
+            let search = search.settle(instance, node, settlement)?;
+            Ok(search)
+        }
+    }
+}
+
 /// Closes a node with these cuts that was just priced: nothing is left to do where it isn't open. Else it is split, or settled.
 fn close(
     alloc: Global,
@@ -44,14 +70,11 @@ fn close(
     requires number { node < 2 ^ 32 }
     ensures { IfOk result (λ t. IsSomeAnd (slice_get search.nodes node) (λ n. n.cuts ≡ cuts → IsClose instance.now advised node n search t)) }
 {
-    let _valid = instance.slots();
-    if !search.is_open(node) {
+    if search.is_open(node) {
+        let search = close_open(alloc, instance, search, node, cuts, advised)?;
         return Ok(search);
     }
-    match closing_of(alloc, instance, cuts, advised)? {
-        Fixing::Open { class, m } => search.divide(node, class, m),
-        Fixing::Done(settlement) => search.settle(instance, node, settlement),
-    }
+    Ok(search)
 }
 
 /// What a search is after its next step, by this advice for that node.
