@@ -82,8 +82,7 @@ split_fits i cuts (Some a) s e =
 pub split_advised : (i : Problem) (cuts : List Cut) (advised : Option Splitting) (s : Splitting) (class : Class) (m : ℕ) (fixing : Fixing) → lawful_split i cuts advised ≡ Some s → fixing ≡ Open class m → IsFixing i cuts fixing → IsClosing i cuts advised (Open s.class s.m)
 split_advised i cuts advised s class m fixing some is f =
     let fixed = subst (IsFixing i cuts) is f in
-    let fits = split_fits i cuts advised s some in
-    (
+    let fits = split_fits i cuts advised s some in (
       fixed.0,
       record {
         live = fits.0;
@@ -97,8 +96,7 @@ split_advised i cuts advised s class m fixing some is f =
 pub split_settling : (i : Problem) (cuts : List Cut) (advised : Option Splitting) (class : Class) (m : ℕ) (fixing : Fixing) → lawful_split i cuts advised ≡ None → fixing ≡ Open class m → IsFixing i cuts fixing → SplitsLive i cuts fixing → IsClosing i cuts advised (Open class m)
 split_settling i cuts advised class m fixing none is f l =
     let fixed = subst (IsFixing i cuts) is f in
-    let lives = subst (SplitsLive i cuts) is l in
-    (
+    let lives = subst (SplitsLive i cuts) is l in (
       fixed.0,
       record {
         live = lives.0;

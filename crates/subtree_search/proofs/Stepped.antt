@@ -65,8 +65,8 @@ pub parts_made : (k : ℕ) (class : Class) (m : ℕ) (s d : Searching) (a b : No
 parts_made k class m s d a b None first second made t is = absurd first
 parts_made k class m s d a b (Some n) first second made t is =
     is ∙ ap (λ (x : Searching). record x { nodes = x.nodes ++ a ∷ b ∷ [] }) made
-      ∙ ap (λ (x : Node). record s { nodes = set s.nodes k (record n { split = true }) ++ x ∷ b ∷ []; lines = s.lines ++ Split k class m ∷ [] }) first
-      ∙ ap (λ (x : Node). record s { nodes = set s.nodes k (record n { split = true }) ++ child n class AtMost m ∷ x ∷ []; lines = s.lines ++ Split k class m ∷ [] }) second
+    ∙ ap (λ (x : Node). record s { nodes = set s.nodes k (record n { split = true }) ++ x ∷ b ∷ []; lines = s.lines ++ Split k class m ∷ [] }) first
+    ∙ ap (λ (x : Node). record s { nodes = set s.nodes k (record n { split = true }) ++ child n class AtMost m ∷ x ∷ []; lines = s.lines ++ Split k class m ∷ [] }) second
 
 at_offered : (P : Node → Type 0) (s : Searching) (plan : Option Costing) (k : ℕ) → IsSomeAnd (slice_get (offered s plan).nodes k) P → IsSomeAnd (slice_get s.nodes k) P
 at_offered P s plan k h = subst (λ (ns : List Node). IsSomeAnd (slice_get ns k) P) (offered_nodes s plan) h
@@ -87,7 +87,7 @@ settled_made i k s o t plan p answer floor oe pe fe asked hit made =
     go None a b = absurd a
     go (Some n) a b = λ st.
         b ∙ ap (λ f. record o { nodes = with_floor o.nodes k n f; lines = o.lines ++ Settled k ∷ [] }) (fe ∙ settled_floors i n.cuts p st)
-          ∙ sym (ap (λ x. cond x (record o { nodes = with_floor o.nodes k n (settled_floor i n.cuts); lines = o.lines ++ Settled k ∷ [] }) o) (sym a ∙ hit))
+        ∙ sym (ap (λ x. cond x (record o { nodes = with_floor o.nodes k n (settled_floor i n.cuts); lines = o.lines ++ Settled k ∷ [] }) o) (sym a ∙ hit))
 
 -- and one that isn't open is left
 pub settled_left : (i : Problem) (k : ℕ) (s o : Searching) (plan : Option Costing) (p : Settling) (answer : Bool) → o ≡ offered s plan → plan ≡ p.plan → IsSomeAnd (slice_get o.nodes k) (λ n. answer ≡ is_open (top o) n) → answer ≡ false
