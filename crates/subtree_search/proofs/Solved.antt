@@ -1,6 +1,8 @@
 -- The run of a search that has ended.
-use Rattle.std.proofs.Common.{◌≡◌, ◌⊎◌, inl, inr, ℕ, ◌+◌, ◌<◌, ◌≤◌, ◌^◌, Bool, true, false, List, length, sym, ap, ◌∙◌, subst, arith, Option, Some}
-use Rattle.std.specs.Prelude.{slice_get, IsSomeAnd, IsTrue, IsFalse}
+use Rattle.std.proofs.Common.{◌≡◌, ◌⊎◌, inl, inr, ℕ, ◌+◌, ◌<◌, ◌≤◌, ◌^◌, Bool, true, false, List, length, sym, ap, ◌∙◌, subst, arith, Option, Some, None}
+use Rattle.std.specs.Prelude.{slice_get, IsSomeAnd, IsTrue, IsFalse, MatchOption}
+use Rattle.std.proofs.lemmas.Bool.{false≢true}
+use Rattle.std.proofs.lemmas.Option.{slice_get_within}
 use Rattle.shift_instance.specs.declared.TheConstants.{TOP}
 use Rattle.shift_instance.specs.Problem.{Problem}
 use Rattle.shift_instance.specs.Valid.{IsValid}
@@ -10,7 +12,7 @@ use Rattle.advice.specs.declared.advice.Advice.{Advice}
 use Rattle.advisers.specs.Advised.{greedy_advice, kept_after, plan_with_cost, IsOwn}
 use Rattle.advisers.specs.declared.greedy_plan.GreedyPlan.{GreedyPlan}
 use Rattle.report_grafts.specs.Run.{Run, is_finished, IsSound}
-use Rattle.subtree_search.specs.Searching.{Searching, top, IsNext}
+use Rattle.subtree_search.specs.Searching.{Searching, opening, top, IsNext}
 use Rattle.subtree_search.specs.Stepping.{run_of, steps_enough, AreGreedySteps, AreSteps, HasNoOpen, IsGreedyRun, IsGreedyStep, IsSearched, IsStep, IsStepBy, WhyEnds}
 use Rattle.subtree_search.specs.Stepping.AreSteps.{none, one_more}
 use Rattle.subtree_search.specs.Stepping.AreGreedySteps.{no_step, greedy_step}
@@ -31,6 +33,41 @@ one_taken i base limit s t valid le steps st = (step_closes i base limit s t le 
 
 pub within_budget : (i : Problem) (base : List Cut) (limit budget : ℕ) (s t : Searching) → IsValid i → limit ≤ TOP → AreSteps i base limit s → IsStep i s t → s.taken < budget → t.taken ≤ budget
 within_budget i base limit budget s t valid le steps st less = let one : t.taken ≡ s.taken + 1 = one_taken i base limit s t valid le steps st in omega (arith, one, less)
+
+-- a node that a search takes, before the budget is spent
+pub record Takes (budget : ℕ) (s : Searching) (k : ℕ) : Type 0 where
+  pub less : s.taken < budget
+  pub node : Node
+  pub next : IsNext s.nodes (top s) k node
+
+pub takes : (budget : ℕ) (asks : Bool) (s : Searching) (found : Option ℕ) (k : ℕ) → found ≡ Some k → MatchOption found (WhyEnds budget asks s) (λ j. (s.taken < budget) × ((n : Node) × IsNext s.nodes (top s) j n)) → Takes budget s k
+takes budget asks s found k is m =
+    let h : (s.taken < budget) × ((n : Node) × IsNext s.nodes (top s) k n) = subst (λ (o : Option ℕ). MatchOption o (WhyEnds budget asks s) (λ j. (s.taken < budget) × ((n : Node) × IsNext s.nodes (top s) j n))) is m in
+    record { less = h.0; node = h.1; next = h.2 }
+
+pub stops : (budget : ℕ) (asks : Bool) (s : Searching) (found : Option ℕ) → found ≡ None → MatchOption found (WhyEnds budget asks s) (λ j. (s.taken < budget) × ((n : Node) × IsNext s.nodes (top s) j n)) → WhyEnds budget asks s
+stops budget asks s found is m = subst (λ (o : Option ℕ). MatchOption o (WhyEnds budget asks s) (λ j. (s.taken < budget) × ((n : Node) × IsNext s.nodes (top s) j n))) is m
+
+-- it is one of the search's own
+pub takes_within : (budget : ℕ) (s : Searching) (k : ℕ) → Takes budget s k → k < length s.nodes
+takes_within budget s k t = slice_get_within s.nodes k t.node t.next.there
+
+-- an adviser can be asked for it
+pub asked_few : (i : Problem) (base : List Cut) (limit budget : ℕ) (s : Searching) (k : ℕ) (cuts : List Cut) → IsValid i → AreSteps i base limit s → s.taken ≤ budget → budget ≤ 10 ^ 9 → length base ≤ 2 ^ 28 → Takes budget s k → IsSomeAnd (slice_get s.nodes k) (λ n. cuts ≡ n.cuts) → length cuts ≤ 2 ^ 33
+asked_few i base limit budget s k cuts valid steps within small short t asked =
+    let same : cuts ≡ t.node.cuts = subst (λ (found : Option Node). IsSomeAnd found (λ n. cuts ≡ n.cuts)) t.next.there asked in
+    let few : length t.node.cuts ≤ 2 ^ 33 = next_few i base limit budget s k t.node valid steps within small short t.next.there in
+    subst (λ (cs : List Cut). length cs ≤ 2 ^ 33) (sym same) few
+
+-- a search before its first step has taken none
+pub opened : (i : Problem) (base : List Cut) (limit : ℕ) (s : Searching) → s ≡ opening base limit → AreSteps i base limit s
+opened i base limit s is = subst (AreSteps i base limit) (sym is) none
+
+pub opened_greedy : (i : Problem) (base : List Cut) (limit : ℕ) (s : Searching) → s ≡ opening base limit → AreGreedySteps i base limit s
+opened_greedy i base limit s is = subst (AreGreedySteps i base limit) (sym is) no_step
+
+pub opened_within : (base : List Cut) (limit budget : ℕ) (s : Searching) → s ≡ opening base limit → s.taken ≤ budget
+opened_within base limit budget s is = let e : s.taken ≡ 0 = ap (λ (x : Searching). x.taken) is in omega (arith, e)
 
 -- ---- a step, and one by the greedy adviser
 
@@ -91,3 +128,13 @@ pub run_finished : (i : Problem) (base : List Cut) (limit budget : ℕ) (asks : 
 run_finished i base limit budget asks s r valid le steps enough (inl shut) is = inl (ap is_finished is ∙ none_open i s shut)
 run_finished i base limit budget asks s r valid le steps enough (inr (inl spent)) is = inl (ap is_finished is ∙ enough_steps i base limit budget s valid le steps spent enough)
 run_finished i base limit budget asks s r valid le steps enough (inr (inr asked)) is = inr asked
+
+-- a stop that can't ask is no reason
+pub never_ends : (A B : Type 0) → A ⊎ (B ⊎ (false ≡ true)) → A ⊎ B
+never_ends A B (inl a) = inl a
+never_ends A B (inr (inl b)) = inr b
+never_ends A B (inr (inr e)) = absurd (false≢true e)
+
+pub never_asked : (A : Type 0) → A ⊎ (false ≡ true) → A
+never_asked A (inl a) = a
+never_asked A (inr e) = absurd (false≢true e)

@@ -17,7 +17,8 @@ use Rattle.advice.specs.declared.advice.Advice.{Advice}
 use Rattle.advice.specs.declared.advice.Splitting.{Splitting}
 use Rattle.dual_bound.specs.Proved.{Proving, IsProved}
 use Rattle.dual_bound.specs.Settling.{Settling}
-use Rattle.dual_bound.specs.declared.settling.Fixing.TheVariants.{Open}
+use Rattle.dual_bound.specs.declared.settling.Fixing.{Fixing}
+use Rattle.dual_bound.specs.declared.settling.Fixing.TheVariants.{Open, Done}
 use Rattle.certificate.specs.declared.proof_lines.Line.TheVariants.{Split, Settled}
 use Rattle.report_grafts.proofs.Places.{set_same}
 use Rattle.subtree_search.specs.Searching.{Searching, divided, is_open, offered, priced, settled, top, IsNext}
@@ -119,6 +120,20 @@ closed_by_settling i k s t cuts p None c made = absurd made
 closed_by_settling {advised} i k s t cuts p (Some n) c made = λ same open_one.
     let here : IsSettlement i n.cuts p = subst (λ (cs : List Cut). IsSettlement i cs p) (sym same) c in
     subst (λ (x : Searching). IsClose i advised k n s x) (sym (made here)) (by_settling p open_one here)
+
+-- the same, as what settling the cuts gives is looked at
+pub closing_small : (advised : Option Splitting) (i : Problem) (cuts : List Cut) (class : Class) (m : ℕ) (f : Fixing) → IsValid i → f ≡ Open class m → IsClosing i cuts advised f → m ≤ 200
+closing_small advised i cuts class m f valid is c =
+    let here : IsClosing i cuts advised (Open class m) = subst (IsClosing i cuts advised) is c in
+    division_small {advised = advised} i cuts class m valid here.1
+
+pub closed_split : (advised : Option Splitting) (i : Problem) (k : ℕ) (s t : Searching) (cuts : List Cut) (class : Class) (m : ℕ) (f : Fixing) → f ≡ Open class m → IsClosing i cuts advised f
+    → IsSomeAnd (slice_get s.nodes k) (λ n. t ≡ divided k n class m s) → IsSomeAnd (slice_get s.nodes k) (λ n. n.cuts ≡ cuts → IsTrue (is_open (top s) n) → IsClose i advised k n s t)
+closed_split advised i k s t cuts class m f is c made = closed_by_division {advised = advised} i k s t cuts class m (slice_get s.nodes k) (subst (IsClosing i cuts advised) is c) made
+
+pub closed_settled : (advised : Option Splitting) (i : Problem) (k : ℕ) (s t : Searching) (cuts : List Cut) (p : Settling) (f : Fixing) → f ≡ Done p → IsClosing i cuts advised f
+    → IsSomeAnd (slice_get s.nodes k) (λ n. IsSettlement i n.cuts p → t ≡ settled i k n (offered s p.plan)) → IsSomeAnd (slice_get s.nodes k) (λ n. n.cuts ≡ cuts → IsTrue (is_open (top s) n) → IsClose i advised k n s t)
+closed_settled advised i k s t cuts p f is c made = closed_by_settling {advised = advised} i k s t cuts p (slice_get s.nodes k) (subst (IsClosing i cuts advised) is c) made
 
 -- so an open node is closed
 pub closed_open : {advised : Option Splitting} → (i : Problem) (k : ℕ) (s t : Searching) (cuts : List Cut) (answer : Bool) (found : Option Node) → IsSomeAnd found (λ n. answer ≡ is_open (top s) n) → answer ≡ true → IsSomeAnd found (λ n. n.cuts ≡ cuts → IsTrue (is_open (top s) n) → IsClose i advised k n s t)
