@@ -1,5 +1,5 @@
 -- The run of a search that has ended.
-use Rattle.std.proofs.Common.{◌≡◌, ◌⊎◌, inl, inr, ℕ, ◌+◌, ◌<◌, ◌≤◌, ◌^◌, Bool, true, false, List, length, sym, ap, ◌∙◌, subst, arith, Option, Some, None}
+use Rattle.std.proofs.Common.{◌≡◌, ◌⊎◌, inl, inr, ℕ, ◌+◌, ◌-◌, ◌<◌, ◌≤◌, ◌^◌, Bool, true, false, List, length, refl, sym, ap, ◌∙◌, subst, arith, Option, Some, None}
 use Rattle.std.specs.Prelude.{slice_get, IsSomeAnd, IsTrue, IsFalse, MatchOption}
 use Rattle.std.proofs.lemmas.Bool.{false≢true}
 use Rattle.std.proofs.lemmas.Option.{slice_get_within}
@@ -69,6 +69,14 @@ opened_greedy i base limit s is = subst (AreGreedySteps i base limit) (sym is) n
 pub opened_within : (base : List Cut) (limit budget : ℕ) (s : Searching) → s ≡ opening base limit → s.taken ≤ budget
 opened_within base limit budget s is = let e : s.taken ≡ 0 = ap (λ (x : Searching). x.taken) is in omega (arith, e)
 
+-- no step loses a node
+pub within_longer : (k : ℕ) (s t : Searching) → k < length s.nodes → length s.nodes ≤ length t.nodes → k < length t.nodes
+within_longer k s t inside longer = omega (arith, inside, longer)
+
+-- and each leaves fewer for the next
+pub step_smaller : (i : Problem) (base : List Cut) (limit budget : ℕ) (s t : Searching) → IsValid i → limit ≤ TOP → AreSteps i base limit s → IsStep i s t → s.taken < budget → budget - t.taken < budget - s.taken
+step_smaller i base limit budget s t valid le steps st less = let one : t.taken ≡ s.taken + 1 = one_taken i base limit s t valid le steps st in omega (arith, one, less)
+
 -- ---- a step, and one by the greedy adviser
 
 pub is_step : (i : Problem) (k : ℕ) (n : Node) (advice : Advice) (s t : Searching) → slice_get s.nodes k ≡ Some n → IsSomeAnd (slice_get s.nodes k) (λ m. IsStepBy i k m advice s t) → IsStep i s t
@@ -101,6 +109,9 @@ greedy_are i base limit s (greedy_step r t before st) = one_more r t (greedy_are
 pub own_after : (i : Problem) (keeps : Bool) (kept : Option GreedyPlan) → IsOwn kept i → IsOwn (kept_after keeps kept (plan_with_cost i)) i
 own_after i true kept own = own
 own_after i false kept own = own
+
+pub own_opening : (i : Problem) (kept : Option GreedyPlan) → kept ≡ None → IsOwn kept i
+own_opening i kept is = subst (λ (o : Option GreedyPlan). IsOwn o i) (sym is) refl
 
 pub greedy_run : (i : Problem) (base : List Cut) (limit : ℕ) (s : Searching) (r : Run) → AreGreedySteps i base limit s → r ≡ run_of i s → IsGreedyRun i base limit r
 greedy_run i base limit s r steps is = record { search = s; steps = steps; run = is }

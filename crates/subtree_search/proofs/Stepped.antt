@@ -214,3 +214,10 @@ step_made i s o p t k next advice cuts plan proved asked rows offer oe of_proved
       step = subst (λ found. IsSomeAnd found (λ m. IsStepBy i k m advice s t)) (sym at) by;
       longer = omega (arith, more, long);
     }
+
+-- the node is there still after an offer, and after a price
+pub there_offered : (s o : Searching) (k : ℕ) → (n : Node) × IsNext s.nodes (top s) k n → o.nodes ≡ s.nodes → k < length o.nodes
+there_offered s o k next e =
+    let within : k < length s.nodes = next_within s.nodes (top s) k next.0 next.1 in
+    let same : length o.nodes ≡ length s.nodes = ap (λ (ns : List Node). length ns) e in
+    omega (arith, within, same)
