@@ -43,7 +43,7 @@ pub record Takes (budget : ℕ) (s : Searching) (k : ℕ) : Type 0 where
 pub takes : (budget : ℕ) (asks : Bool) (s : Searching) (found : Option ℕ) (k : ℕ) → found ≡ Some k → MatchOption found (WhyEnds budget asks s) (λ j. (s.taken < budget) × ((n : Node) × IsNext s.nodes (top s) j n)) → Takes budget s k
 takes budget asks s found k is m =
     let h : (s.taken < budget) × ((n : Node) × IsNext s.nodes (top s) k n) = subst (λ (o : Option ℕ). MatchOption o (WhyEnds budget asks s) (λ j. (s.taken < budget) × ((n : Node) × IsNext s.nodes (top s) j n))) is m in
-    record { less = h.0; node = h.1; next = h.2 }
+    record { less = h.0; node = h.1.0; next = h.1.1 }
 
 pub stops : (budget : ℕ) (asks : Bool) (s : Searching) (found : Option ℕ) → found ≡ None → MatchOption found (WhyEnds budget asks s) (λ j. (s.taken < budget) × ((n : Node) × IsNext s.nodes (top s) j n)) → WhyEnds budget asks s
 stops budget asks s found is m = subst (λ (o : Option ℕ). MatchOption o (WhyEnds budget asks s) (λ j. (s.taken < budget) × ((n : Node) × IsNext s.nodes (top s) j n))) is m

@@ -19,7 +19,7 @@ use Rattle.head_splits.specs.declared.Prices.{Prices}
 use Rattle.head_splits.specs.declared.Side.TheVariants.{AtMost, AtLeast}
 use Rattle.head_splits.specs.Bound.{are_prices, bound_of}
 use Rattle.head_splits.specs.Cuts.{meets, low, high}
-use Rattle.head_splits.specs.Settled.{is_live_class, is_settled}
+use Rattle.head_splits.specs.Settled.{is_empty, is_live_class, is_settled}
 use Rattle.head_splits.specs.Nodes.{Node, new_node, child, with_floor, with_split, settled_floor}
 use Rattle.head_splits.proofs.Nodes.{Has-slice_get, from_set}
 use Rattle.head_splits.proofs.Splits.{high_most}
@@ -199,7 +199,7 @@ holds_divided i base limit s k n class m h at unsplit lawful =
                   | inr last ↦
                       elim last [
                         | inl e ↦ subst (λ (z : Node). length z.cuts + 0 ≤ length base + s.taken) e (omega (arith, old, two))
-                        | inr no ↦ absurd no
+                        | inr none_left ↦ absurd none_left
                       ]
                 ]
           ];
@@ -216,7 +216,7 @@ holds_divided i base limit s k n class m h at unsplit lawful =
                   | inr last ↦
                       elim last [
                         | inl e ↦ subst (λ (z : Node). Begins base z.cuts) e (begins_more base n.cuts _ (h.below n (Has-slice_get s.nodes k n at)))
-                        | inr no ↦ absurd no
+                        | inr none_left ↦ absurd none_left
                       ]
                 ]
           ];
@@ -279,7 +279,7 @@ holds_settled i base limit s k n h at unsplit all =
 settled_offer : (i : Problem) (cuts : List Cut) (node : Settling) → IsSettlement i cuts node → IsOffer i node.plan
 settled_offer i cuts node st = of_plan node.plan st.settled.plan
   where
-    of_plan : (o : Option Costing) → MatchOption o (_ ≡ true) (IsPlan node.instance node.cuts) → IsOffer i o
+    of_plan : (o : Option Costing) → MatchOption o (is_empty node.instance node.cuts ≡ true) (IsPlan node.instance node.cuts) → IsOffer i o
     of_plan None m = tt
     of_plan (Some p) m = (m.instance ∙ st.instance, m.costed)
 
@@ -308,8 +308,8 @@ opening_holds i base limit = record {
   few = omega arith;
   long = omega arith;
   counted = refl;
-  deep = λ n there. elim there [ inl e ↦ subst (λ (z : Node). length z.cuts + 0 ≤ length base + 0) e (omega arith) | inr no ↦ absurd no ];
-  below = λ n there. elim there [ inl e ↦ subst (λ (z : Node). Begins base z.cuts) e ([], sym (append-nil base)) | inr no ↦ absurd no ];
+  deep = λ n there. elim there [ inl e ↦ subst (λ (z : Node). length z.cuts + 0 ≤ length base + 0) e (omega arith) | inr none_left ↦ absurd none_left ];
+  below = λ n there. elim there [ inl e ↦ subst (λ (z : Node). Begins base z.cuts) e ([], sym (append-nil base)) | inr none_left ↦ absurd none_left ];
   best = tt;
 }
 

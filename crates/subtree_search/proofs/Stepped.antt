@@ -103,21 +103,21 @@ settled_left i k s o plan p answer oe pe asked miss =
     go (Some n) a = λ st. sym (ap (λ x. cond x (record o { nodes = with_floor o.nodes k n (settled_floor i n.cuts); lines = o.lines ++ Settled k ∷ [] }) o) (sym a ∙ miss))
 
 -- the closes of a node, where it is there
-pub closed_by_price : {advised : Option Splitting} → (i : Problem) (k : ℕ) (s : Searching) (cuts : List Cut) (answer : Bool) (found : Option Node) → IsSomeAnd found (λ n. answer ≡ is_open (top s) n) → answer ≡ false → IsSomeAnd found (λ n. n.cuts ≡ cuts → IsClose i advised k n s s)
-closed_by_price i k s cuts answer None asked miss = absurd asked
-closed_by_price i k s cuts answer (Some n) asked miss = λ same. by_price (sym asked ∙ miss)
+pub closed_by_price : (advised : Option Splitting) → (i : Problem) (k : ℕ) (s : Searching) (cuts : List Cut) (answer : Bool) (found : Option Node) → IsSomeAnd found (λ n. answer ≡ is_open (top s) n) → answer ≡ false → IsSomeAnd found (λ n. n.cuts ≡ cuts → IsClose i advised k n s s)
+closed_by_price advised i k s cuts answer None asked miss = absurd asked
+closed_by_price advised i k s cuts answer (Some n) asked miss = λ same. by_price (sym asked ∙ miss)
 
-pub closed_by_division : {advised : Option Splitting} → (i : Problem) (k : ℕ) (s t : Searching) (cuts : List Cut) (class : Class) (m : ℕ) (found : Option Node) → IsClosing i cuts advised (Open class m) → IsSomeAnd found (λ n. t ≡ divided k n class m s)
+pub closed_by_division : (advised : Option Splitting) → (i : Problem) (k : ℕ) (s t : Searching) (cuts : List Cut) (class : Class) (m : ℕ) (found : Option Node) → IsClosing i cuts advised (Open class m) → IsSomeAnd found (λ n. t ≡ divided k n class m s)
     → IsSomeAnd found (λ n. n.cuts ≡ cuts → IsTrue (is_open (top s) n) → IsClose i advised k n s t)
-closed_by_division i k s t cuts class m None c made = absurd made
-closed_by_division {advised} i k s t cuts class m (Some n) c made = λ same open_one.
+closed_by_division advised i k s t cuts class m None c made = absurd made
+closed_by_division advised i k s t cuts class m (Some n) c made = λ same open_one.
     let here : IsClosing i n.cuts advised (Open class m) = subst (λ (cs : List Cut). IsClosing i cs advised (Open class m)) (sym same) c in
     subst (λ (x : Searching). IsClose i advised k n s x) (sym made) (by_division class m open_one here.0 here.1)
 
-pub closed_by_settling : {advised : Option Splitting} → (i : Problem) (k : ℕ) (s t : Searching) (cuts : List Cut) (p : Settling) (found : Option Node) → IsSettlement i cuts p → IsSomeAnd found (λ n. IsSettlement i n.cuts p → t ≡ settled i k n (offered s p.plan))
+pub closed_by_settling : (advised : Option Splitting) → (i : Problem) (k : ℕ) (s t : Searching) (cuts : List Cut) (p : Settling) (found : Option Node) → IsSettlement i cuts p → IsSomeAnd found (λ n. IsSettlement i n.cuts p → t ≡ settled i k n (offered s p.plan))
     → IsSomeAnd found (λ n. n.cuts ≡ cuts → IsTrue (is_open (top s) n) → IsClose i advised k n s t)
-closed_by_settling i k s t cuts p None c made = absurd made
-closed_by_settling {advised} i k s t cuts p (Some n) c made = λ same open_one.
+closed_by_settling advised i k s t cuts p None c made = absurd made
+closed_by_settling advised i k s t cuts p (Some n) c made = λ same open_one.
     let here : IsSettlement i n.cuts p = subst (λ (cs : List Cut). IsSettlement i cs p) (sym same) c in
     subst (λ (x : Searching). IsClose i advised k n s x) (sym (made here)) (by_settling p open_one here)
 
@@ -129,17 +129,17 @@ closing_small advised i cuts class m f valid is c =
 
 pub closed_split : (advised : Option Splitting) (i : Problem) (k : ℕ) (s t : Searching) (cuts : List Cut) (class : Class) (m : ℕ) (f : Fixing) → f ≡ Open class m → IsClosing i cuts advised f
     → IsSomeAnd (slice_get s.nodes k) (λ n. t ≡ divided k n class m s) → IsSomeAnd (slice_get s.nodes k) (λ n. n.cuts ≡ cuts → IsTrue (is_open (top s) n) → IsClose i advised k n s t)
-closed_split advised i k s t cuts class m f is c made = closed_by_division {advised = advised} i k s t cuts class m (slice_get s.nodes k) (subst (IsClosing i cuts advised) is c) made
+closed_split advised i k s t cuts class m f is c made = closed_by_division advised i k s t cuts class m (slice_get s.nodes k) (subst (IsClosing i cuts advised) is c) made
 
 pub closed_settled : (advised : Option Splitting) (i : Problem) (k : ℕ) (s t : Searching) (cuts : List Cut) (p : Settling) (f : Fixing) → f ≡ Done p → IsClosing i cuts advised f
     → IsSomeAnd (slice_get s.nodes k) (λ n. IsSettlement i n.cuts p → t ≡ settled i k n (offered s p.plan)) → IsSomeAnd (slice_get s.nodes k) (λ n. n.cuts ≡ cuts → IsTrue (is_open (top s) n) → IsClose i advised k n s t)
-closed_settled advised i k s t cuts p f is c made = closed_by_settling {advised = advised} i k s t cuts p (slice_get s.nodes k) (subst (IsClosing i cuts advised) is c) made
+closed_settled advised i k s t cuts p f is c made = closed_by_settling advised i k s t cuts p (slice_get s.nodes k) (subst (IsClosing i cuts advised) is c) made
 
 -- so an open node is closed
-pub closed_open : {advised : Option Splitting} → (i : Problem) (k : ℕ) (s t : Searching) (cuts : List Cut) (answer : Bool) (found : Option Node) → IsSomeAnd found (λ n. answer ≡ is_open (top s) n) → answer ≡ true → IsSomeAnd found (λ n. n.cuts ≡ cuts → IsTrue (is_open (top s) n) → IsClose i advised k n s t)
+pub closed_open : (advised : Option Splitting) → (i : Problem) (k : ℕ) (s t : Searching) (cuts : List Cut) (answer : Bool) (found : Option Node) → IsSomeAnd found (λ n. answer ≡ is_open (top s) n) → answer ≡ true → IsSomeAnd found (λ n. n.cuts ≡ cuts → IsTrue (is_open (top s) n) → IsClose i advised k n s t)
     → IsSomeAnd found (λ n. n.cuts ≡ cuts → IsClose i advised k n s t)
-closed_open i k s t cuts answer None asked hit close = absurd asked
-closed_open i k s t cuts answer (Some n) asked hit close = λ same. close same (sym asked ∙ hit)
+closed_open advised i k s t cuts answer None asked hit close = absurd asked
+closed_open advised i k s t cuts answer (Some n) asked hit close = λ same. close same (sym asked ∙ hit)
 
 -- ---- a step
 

@@ -101,12 +101,12 @@ loop-node-preserved c =
     let k = c.in-Some.node in
     let t = takes c.args.budget false s c.next_within.result k c.in-Some.is c.next_within.ensures in
     let greedy = c.in_ok-advice.ensures.own c.loop-node.invariant.own in
-    let st = is_greedy i k t.node c.in_ok-ask.ask.cuts c.in_ok-advice.advice s _ t.next.there c.in_ok-ask.ensures greedy c.in_ok-search-in-loop-node.ensures.step in
+    let st = is_greedy i k t.node c.in_ok-ask.ask.cuts c.in_ok-advice.advice s _ t.next.there c.in_ok-ask.ensures greedy c.in_ok-search-2.ensures.step in
     let steps = greedy_are i c.args.base c.args.limit s c.loop-node.invariant.steps in
     record {
       steps = greedy_step s _ c.loop-node.invariant.steps st;
       within = within_budget i c.args.base c.args.limit c.args.budget s _ c.slots-valid.ensures.valid c.requires.limit steps (greedy_is i s _ st) t.less;
-      buffers = c.in_ok-search-in-loop-node.ensures.buffers ∙ c.loop-node.invariant.buffers;
+      buffers = c.in_ok-search-2.ensures.buffers ∙ c.loop-node.invariant.buffers;
       own = subst (λ (p : Planned). IsOwn p.kept i) (sym c.in_ok-advice.ensures.kept) (own_after i c.loop-node.greedy.keeps c.loop-node.greedy.kept c.loop-node.invariant.own);
     }
 
@@ -117,7 +117,7 @@ loop-node-smaller c =
     let k = c.in-Some.node in
     let t = takes c.args.budget false s c.next_within.result k c.in-Some.is c.next_within.ensures in
     let greedy = c.in_ok-advice.ensures.own c.loop-node.invariant.own in
-    let st = is_greedy i k t.node c.in_ok-ask.ask.cuts c.in_ok-advice.advice s _ t.next.there c.in_ok-ask.ensures greedy c.in_ok-search-in-loop-node.ensures.step in
+    let st = is_greedy i k t.node c.in_ok-ask.ask.cuts c.in_ok-advice.advice s _ t.next.there c.in_ok-ask.ensures greedy c.in_ok-search-2.ensures.step in
     let steps = greedy_are i c.args.base c.args.limit s c.loop-node.invariant.steps in
     step_smaller i c.args.base c.args.limit c.args.budget s _ c.slots-valid.ensures.valid c.requires.limit steps (greedy_is i s _ st) t.less
 

@@ -77,7 +77,7 @@ pub news-requires-clause-there : goal.news-requires-clause-there
 news-requires-clause-there g c =
     let t = takes c.args.budget (g.S.Stop.can_ask c.args.stop.now) c.loop-node.search c.next_within.result c.in-Some.node c.in-Some.is c.next_within.ensures in
     let inside = takes_within c.args.budget c.loop-node.search c.in-Some.node t in
-    within_longer c.in-Some.node c.loop-node.search _ inside c.in_ok-search-in-loop-node.ensures.longer
+    within_longer c.in-Some.node c.loop-node.search _ inside c.in_ok-search-2.ensures.longer
 
 pub news-requires-clause-number : goal.news-requires-clause-number
 news-requires-clause-number g c =
@@ -89,18 +89,18 @@ pub loop-node-preserved : goal.loop-node-preserved
 loop-node-preserved g c =
     let i = c.args.instance.now in
     let t = takes c.args.budget (g.S.Stop.can_ask c.args.stop.now) c.loop-node.search c.next_within.result c.in-Some.node c.in-Some.is c.next_within.ensures in
-    let st = is_step i c.in-Some.node t.node c.in_ok-advice.advice c.loop-node.search _ t.next.there c.in_ok-search-in-loop-node.ensures.step in
+    let st = is_step i c.in-Some.node t.node c.in_ok-advice.advice c.loop-node.search _ t.next.there c.in_ok-search-2.ensures.step in
     record {
       steps = one_more c.loop-node.search _ c.loop-node.invariant.steps st;
       within = within_budget i c.args.base c.args.limit c.args.budget c.loop-node.search _ c.slots-valid.ensures.valid c.requires.limit c.loop-node.invariant.steps st t.less;
-      buffers = c.in_ok-search-in-loop-node.ensures.buffers ∙ c.loop-node.invariant.buffers;
+      buffers = c.in_ok-search-2.ensures.buffers ∙ c.loop-node.invariant.buffers;
     }
 
 pub loop-node-smaller : goal.loop-node-smaller
 loop-node-smaller g c =
     let i = c.args.instance.now in
     let t = takes c.args.budget (g.S.Stop.can_ask c.args.stop.now) c.loop-node.search c.next_within.result c.in-Some.node c.in-Some.is c.next_within.ensures in
-    let st = is_step i c.in-Some.node t.node c.in_ok-advice.advice c.loop-node.search _ t.next.there c.in_ok-search-in-loop-node.ensures.step in
+    let st = is_step i c.in-Some.node t.node c.in_ok-advice.advice c.loop-node.search _ t.next.there c.in_ok-search-2.ensures.step in
     step_smaller i c.args.base c.args.limit c.args.budget c.loop-node.search _ c.slots-valid.ensures.valid c.requires.limit c.loop-node.invariant.steps st t.less
 
 pub into_run-requires : goal.into_run-requires
