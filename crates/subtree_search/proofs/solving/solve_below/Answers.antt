@@ -31,15 +31,9 @@ advise-requires c =
 
 pub step-requires-clause-next : goal.step-requires-clause-next
 step-requires-clause-next c =
-    let i = c.args.instance.now in
     let s = c.loop-node.search in
     let k = c.in-Some.node in
     let t = takes c.args.budget false s c.next_within.result k c.in-Some.is c.next_within.ensures in
-    let valid = c.slots-valid.ensures.valid in
-    let steps = greedy_are i c.args.base c.args.limit s c.loop-node.invariant.steps in
-    let within = c.loop-node.invariant.within in
-    let less : s.taken < c.args.budget = t.less in
-    let small : c.args.budget ≤ 10 ^ 9 = c.requires.budget in
     (t.node, t.next)
 
 pub step-requires-clause-few : goal.step-requires-clause-few
@@ -47,11 +41,9 @@ step-requires-clause-few c =
     let i = c.args.instance.now in
     let s = c.loop-node.search in
     let k = c.in-Some.node in
-    let t = takes c.args.budget false s c.next_within.result k c.in-Some.is c.next_within.ensures in
     let valid = c.slots-valid.ensures.valid in
     let steps = greedy_are i c.args.base c.args.limit s c.loop-node.invariant.steps in
     let within = c.loop-node.invariant.within in
-    let less : s.taken < c.args.budget = t.less in
     let small : c.args.budget ≤ 10 ^ 9 = c.requires.budget in
     λ n at. next_few i c.args.base c.args.limit c.args.budget s k n valid steps within small c.requires.few at
 
@@ -64,34 +56,20 @@ step-requires-clause-number c =
     let valid = c.slots-valid.ensures.valid in
     let steps = greedy_are i c.args.base c.args.limit s c.loop-node.invariant.steps in
     let within = c.loop-node.invariant.within in
-    let less : s.taken < c.args.budget = t.less in
     let small : c.args.budget ≤ 10 ^ 9 = c.requires.budget in
     next_number i c.args.base c.args.limit c.args.budget s k t.node valid steps within small t.next
 
 pub step-requires-clause-room : goal.step-requires-clause-room
 step-requires-clause-room c =
-    let i = c.args.instance.now in
     let s = c.loop-node.search in
     let k = c.in-Some.node in
     let t = takes c.args.budget false s c.next_within.result k c.in-Some.is c.next_within.ensures in
-    let valid = c.slots-valid.ensures.valid in
-    let steps = greedy_are i c.args.base c.args.limit s c.loop-node.invariant.steps in
-    let within = c.loop-node.invariant.within in
     let less : s.taken < c.args.budget = t.less in
     let small : c.args.budget ≤ 10 ^ 9 = c.requires.budget in
     omega (arith, less, small)
 
 pub step-requires-clause-buffers : goal.step-requires-clause-buffers
 step-requires-clause-buffers c =
-    let i = c.args.instance.now in
-    let s = c.loop-node.search in
-    let k = c.in-Some.node in
-    let t = takes c.args.budget false s c.next_within.result k c.in-Some.is c.next_within.ensures in
-    let valid = c.slots-valid.ensures.valid in
-    let steps = greedy_are i c.args.base c.args.limit s c.loop-node.invariant.steps in
-    let within = c.loop-node.invariant.within in
-    let less : s.taken < c.args.budget = t.less in
-    let small : c.args.budget ≤ 10 ^ 9 = c.requires.budget in
     c.loop-node.invariant.buffers
 
 pub loop-node-preserved : goal.loop-node-preserved
@@ -130,23 +108,19 @@ returns-clause-searched c =
     let i = c.args.instance.now in
     let s = c.loop-node.search in
     let steps = greedy_are i c.args.base c.args.limit s c.loop-node.invariant.steps in
-    let why = stops c.args.budget false s c.next_within.result c.in-None.is c.next_within.ensures in
     map_ok c.into_run.result (λ (r : Run). r ≡ run_of i s) (IsSearched i c.args.base c.args.limit c.args.budget) c.into_run.ensures (λ r is. searched_run i c.args.base c.args.limit c.args.budget s r steps c.loop-node.invariant.within is)
 
 pub returns-clause-greedy : goal.returns-clause-greedy
 returns-clause-greedy c =
     let i = c.args.instance.now in
     let s = c.loop-node.search in
-    let steps = greedy_are i c.args.base c.args.limit s c.loop-node.invariant.steps in
-    let why = stops c.args.budget false s c.next_within.result c.in-None.is c.next_within.ensures in
     map_ok c.into_run.result (λ (r : Run). r ≡ run_of i s) (IsGreedyRun i c.args.base c.args.limit) c.into_run.ensures (λ r is. greedy_run i c.args.base c.args.limit s r c.loop-node.invariant.steps is)
 
 pub returns-clause-ends : goal.returns-clause-ends
 returns-clause-ends c =
     let i = c.args.instance.now in
     let s = c.loop-node.search in
-    let steps = greedy_are i c.args.base c.args.limit s c.loop-node.invariant.steps in
-    let why = stops c.args.budget false s c.next_within.result c.in-None.is c.next_within.ensures in
+    let why = stops c.args.budget false s c.next_within.result c.in_default.is c.next_within.ensures in
     map_ok c.into_run.result (λ (r : Run). r ≡ run_of i s) (λ (r : Run). IsTrue (is_finished r) ⊎ (r.taken ≡ c.args.budget)) c.into_run.ensures (λ r is. never_ends (IsTrue (is_finished r)) (r.taken ≡ c.args.budget) (run_ends i c.args.budget false s r why is))
 
 pub returns-clause-enough : goal.returns-clause-enough
@@ -154,5 +128,5 @@ returns-clause-enough c =
     let i = c.args.instance.now in
     let s = c.loop-node.search in
     let steps = greedy_are i c.args.base c.args.limit s c.loop-node.invariant.steps in
-    let why = stops c.args.budget false s c.next_within.result c.in-None.is c.next_within.ensures in
+    let why = stops c.args.budget false s c.next_within.result c.in_default.is c.next_within.ensures in
     λ enough. map_ok c.into_run.result (λ (r : Run). r ≡ run_of i s) (λ (r : Run). IsTrue (is_finished r)) c.into_run.ensures (λ r is. never_asked (IsTrue (is_finished r)) (run_finished i c.args.base c.args.limit c.args.budget false s r c.slots-valid.ensures.valid c.requires.limit steps enough why is))

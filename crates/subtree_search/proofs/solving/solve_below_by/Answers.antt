@@ -21,25 +21,18 @@ ask-requires g c =
 pub advise-requires : goal.advise-requires
 advise-requires g c =
     let t = takes c.args.budget (g.S.Stop.can_ask c.args.stop.now) c.loop-node.search c.next_within.result c.in-Some.node c.in-Some.is c.next_within.ensures in
-    asked_few c.args.instance.now c.args.base c.args.limit c.args.budget c.loop-node.search c.in-Some.node c.in_ok-ask.ask.cuts c.slots-valid.ensures.valid c.loop-node.invariant.steps c.loop-node.invariant.within c.requires.budget c.requires.few t c.in_ok-ask.ensures
+    record { few = asked_few c.args.instance.now c.args.base c.args.limit c.args.budget c.loop-node.search c.in-Some.node c.in_ok-ask.ask.cuts c.slots-valid.ensures.valid c.loop-node.invariant.steps c.loop-node.invariant.within c.requires.budget c.requires.few t c.in_ok-ask.ensures }
 
 pub step-requires-clause-next : goal.step-requires-clause-next
 step-requires-clause-next g c =
     let t = takes c.args.budget (g.S.Stop.can_ask c.args.stop.now) c.loop-node.search c.next_within.result c.in-Some.node c.in-Some.is c.next_within.ensures in
-    let valid = c.slots-valid.ensures.valid in
-    let steps = c.loop-node.invariant.steps in
-    let within = c.loop-node.invariant.within in
-    let less : c.loop-node.search.taken < c.args.budget = t.less in
-    let small : c.args.budget ≤ 10 ^ 9 = c.requires.budget in
     (t.node, t.next)
 
 pub step-requires-clause-few : goal.step-requires-clause-few
 step-requires-clause-few g c =
-    let t = takes c.args.budget (g.S.Stop.can_ask c.args.stop.now) c.loop-node.search c.next_within.result c.in-Some.node c.in-Some.is c.next_within.ensures in
     let valid = c.slots-valid.ensures.valid in
     let steps = c.loop-node.invariant.steps in
     let within = c.loop-node.invariant.within in
-    let less : c.loop-node.search.taken < c.args.budget = t.less in
     let small : c.args.budget ≤ 10 ^ 9 = c.requires.budget in
     λ n at. next_few c.args.instance.now c.args.base c.args.limit c.args.budget c.loop-node.search c.in-Some.node n valid steps within small c.requires.few at
 
@@ -49,40 +42,29 @@ step-requires-clause-number g c =
     let valid = c.slots-valid.ensures.valid in
     let steps = c.loop-node.invariant.steps in
     let within = c.loop-node.invariant.within in
-    let less : c.loop-node.search.taken < c.args.budget = t.less in
     let small : c.args.budget ≤ 10 ^ 9 = c.requires.budget in
     next_number c.args.instance.now c.args.base c.args.limit c.args.budget c.loop-node.search c.in-Some.node t.node valid steps within small t.next
 
 pub step-requires-clause-room : goal.step-requires-clause-room
 step-requires-clause-room g c =
     let t = takes c.args.budget (g.S.Stop.can_ask c.args.stop.now) c.loop-node.search c.next_within.result c.in-Some.node c.in-Some.is c.next_within.ensures in
-    let valid = c.slots-valid.ensures.valid in
-    let steps = c.loop-node.invariant.steps in
-    let within = c.loop-node.invariant.within in
     let less : c.loop-node.search.taken < c.args.budget = t.less in
     let small : c.args.budget ≤ 10 ^ 9 = c.requires.budget in
     omega (arith, less, small)
 
 pub step-requires-clause-buffers : goal.step-requires-clause-buffers
 step-requires-clause-buffers g c =
-    let t = takes c.args.budget (g.S.Stop.can_ask c.args.stop.now) c.loop-node.search c.next_within.result c.in-Some.node c.in-Some.is c.next_within.ensures in
-    let valid = c.slots-valid.ensures.valid in
-    let steps = c.loop-node.invariant.steps in
-    let within = c.loop-node.invariant.within in
-    let less : c.loop-node.search.taken < c.args.budget = t.less in
-    let small : c.args.budget ≤ 10 ^ 9 = c.requires.budget in
     c.loop-node.invariant.buffers
 
 pub news-requires-clause-there : goal.news-requires-clause-there
 news-requires-clause-there g c =
     let t = takes c.args.budget (g.S.Stop.can_ask c.args.stop.now) c.loop-node.search c.next_within.result c.in-Some.node c.in-Some.is c.next_within.ensures in
     let inside = takes_within c.args.budget c.loop-node.search c.in-Some.node t in
-    within_longer c.in-Some.node c.loop-node.search _ inside c.in_ok-search-2.ensures.longer
+    within_longer c.in-Some.node c.loop-node.search c.in_ok-search-2.search inside c.in_ok-search-2.ensures.longer
 
 pub news-requires-clause-number : goal.news-requires-clause-number
 news-requires-clause-number g c =
     let t = takes c.args.budget (g.S.Stop.can_ask c.args.stop.now) c.loop-node.search c.next_within.result c.in-Some.node c.in-Some.is c.next_within.ensures in
-    let inside = takes_within c.args.budget c.loop-node.search c.in-Some.node t in
     next_number c.args.instance.now c.args.base c.args.limit c.args.budget c.loop-node.search c.in-Some.node t.node c.slots-valid.ensures.valid c.loop-node.invariant.steps c.loop-node.invariant.within c.requires.budget t.next
 
 pub loop-node-preserved : goal.loop-node-preserved
@@ -110,10 +92,8 @@ into_run-requires g c =
 pub returns-clause-searched : goal.returns-clause-searched
 returns-clause-searched g c =
     let i = c.args.instance.now in
-    let asks = g.S.Stop.can_ask c.args.stop.now in
     let s = c.loop-node.search in
     let steps = c.loop-node.invariant.steps in
-    let why = stops c.args.budget asks s c.next_within.result c.in-None.is c.next_within.ensures in
     map_ok c.into_run.result (λ (r : Run). r ≡ run_of i s) (IsSearched i c.args.base c.args.limit c.args.budget) c.into_run.ensures (λ r is. searched_run i c.args.base c.args.limit c.args.budget s r steps c.loop-node.invariant.within is)
 
 pub returns-clause-ends : goal.returns-clause-ends
@@ -121,8 +101,7 @@ returns-clause-ends g c =
     let i = c.args.instance.now in
     let asks = g.S.Stop.can_ask c.args.stop.now in
     let s = c.loop-node.search in
-    let steps = c.loop-node.invariant.steps in
-    let why = stops c.args.budget asks s c.next_within.result c.in-None.is c.next_within.ensures in
+    let why = stops c.args.budget asks s c.next_within.result c.in_default.is c.next_within.ensures in
     map_ok c.into_run.result (λ (r : Run). r ≡ run_of i s) (λ (r : Run). IsTrue (is_finished r) ⊎ ((r.taken ≡ c.args.budget) ⊎ (asks ≡ true))) c.into_run.ensures (λ r is. run_ends i c.args.budget asks s r why is)
 
 pub returns-clause-enough : goal.returns-clause-enough
@@ -131,5 +110,5 @@ returns-clause-enough g c =
     let asks = g.S.Stop.can_ask c.args.stop.now in
     let s = c.loop-node.search in
     let steps = c.loop-node.invariant.steps in
-    let why = stops c.args.budget asks s c.next_within.result c.in-None.is c.next_within.ensures in
+    let why = stops c.args.budget asks s c.next_within.result c.in_default.is c.next_within.ensures in
     λ enough. map_ok c.into_run.result (λ (r : Run). r ≡ run_of i s) (λ (r : Run). IsTrue (is_finished r) ⊎ (asks ≡ true)) c.into_run.ensures (λ r is. run_finished i c.args.base c.args.limit c.args.budget asks s r c.slots-valid.ensures.valid c.requires.limit steps enough why is)
