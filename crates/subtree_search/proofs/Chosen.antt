@@ -1,12 +1,9 @@
 -- Which node a search takes next, found node by node.
-use Rattle.std.proofs.Common.{◌≡◌, ◌⊎◌, inl, inr, ℕ, ◌+◌, ◌<◌, ◌≤◌, Bool, true, false, ◌&&◌, not, List, [], ◌∷◌, zero, suc, length, get_or, refl, sym, ap, ◌∙◌, subst, arith, nat_lt, Option, Some, None}
+use Rattle.std.proofs.Common.{◌≡◌, ◌⊎◌, inl, inr, ℕ, ◌+◌, ◌<◌, ◌≤◌, Bool, true, false, not, List, length, refl, sym, ap, ◌∙◌, subst, arith, nat_lt, Option, Some, None}
 use Rattle.std.specs.Prelude.{slice_get, MatchOption, IsSomeAnd, IsFalse}
 use Rattle.std.proofs.lemmas.Bool.{and_parts, and_from, cases_Bool, cases_lt, lt-ltb, ltb-true, false≢true, not-true}
 use Rattle.std.proofs.lemmas.Option.{slice_get_within}
 use Rattle.head_splits.specs.Nodes.{Node}
-use Rattle.head_splits.proofs.Nodes.{floor_from}
-use Rattle.report_grafts.specs.Run.{floor_up_to}
-use Rattle.report_grafts.proofs.Lines.{FloorsFrom, least_from}
 use Rattle.report_grafts.proofs.Places.{same_some}
 use Rattle.subtree_search.specs.Searching.{is_open, IsNext}
 

@@ -1,6 +1,6 @@
 -- Each step closes a node, so a search of many steps is finished.
-use Rattle.std.proofs.Common.{◌≡◌, ◌⊎◌, inl, inr, ℕ, zero, suc, ◌+◌, ◌<◌, ◌≤◌, min, max, Bool, true, false, cond, ◌&&◌, ◌==◌, not, List, [], ◌∷◌, ◌++◌, length, set, refl, sym, ap, ◌∙◌, subst, arith, sum_by, nat_lt, Option, Some, None}
-use Rattle.std.specs.Prelude.{slice_get, IsTrue, IsFalse, MatchOption}
+use Rattle.std.proofs.Common.{◌≡◌, inl, inr, ℕ, zero, suc, ◌+◌, ◌<◌, ◌≤◌, min, true, false, cond, ◌&&◌, List, [], ◌∷◌, ◌++◌, length, set, refl, sym, ap, ◌∙◌, subst, arith, sum_by, nat_lt, Option, Some, None}
+use Rattle.std.specs.Prelude.{slice_get, MatchOption}
 use Rattle.std.proofs.lemmas.Bool.{and_from, and_parts, cases_Bool, cases_lt, cond_both, eq-eqb, false≢true, lt-ltb, ltb-true, not-false}
 use Rattle.std.proofs.lemmas.List.{append-nil, set-set}
 use Rattle.std.proofs.lemmas.List.Folds.{list_all-append}
@@ -14,25 +14,25 @@ use Rattle.rota_cost.specs.Costed.{Costing}
 use Rattle.head_splits.specs.declared.Cut.{Cut}
 use Rattle.head_splits.specs.declared.Side.TheVariants.{AtMost, AtLeast}
 use Rattle.head_splits.specs.Cuts.{meets, meets_cut}
-use Rattle.head_splits.specs.Settled.{is_empty, settled_plan, settled_rows}
-use Rattle.head_splits.specs.Nodes.{Node, new_node, child, with_floor, with_split, settled_floor}
+use Rattle.head_splits.specs.Settled.{is_empty, settled_plan}
+use Rattle.head_splits.specs.Nodes.{Node, child, settled_floor}
 use Rattle.head_splits.proofs.Nodes.{Has-slice_get, floor_from}
 use Rattle.head_splits.proofs.PlanRows.{rota_of-settled_rows}
 use Rattle.certificate.specs.declared.proof_lines.Line.TheVariants.{Settled}
 use Rattle.advice.specs.declared.advice.Splitting.{Splitting}
-use Rattle.dual_bound.specs.Settling.{Settling, IsPlan}
+use Rattle.dual_bound.specs.Settling.{IsPlan}
 use Rattle.dual_bound.proofs.PlanFloor.{plan_floor}
 use Rattle.search_core.proofs.FewNodes.{sum_set}
 use Rattle.report_grafts.specs.Run.{floor_up_to, is_finished}
 use Rattle.report_grafts.proofs.Lines.{FloorsFrom, least_from}
 use Rattle.report_grafts.proofs.Places.{set_same}
-use Rattle.subtree_search.specs.Searching.{Searching, is_open, offered, opening, priced, settled, top, top_of, divided}
-use Rattle.subtree_search.specs.Stepping.{priced_node, run_of, steps_enough, AreSteps, IsClose, IsDivision, IsSettlement, IsStep}
+use Rattle.subtree_search.specs.Searching.{Searching, is_open, offered, priced, settled, top, top_of}
+use Rattle.subtree_search.specs.Stepping.{priced_node, run_of, steps_enough, AreSteps, IsClose, IsStep}
 use Rattle.subtree_search.specs.Stepping.IsClose.{by_price, by_division, by_settling}
 use Rattle.subtree_search.specs.Stepping.AreSteps.{none, one_more}
 use Rattle.subtree_search.proofs.Chosen.{open_parts, open_from}
 use Rattle.subtree_search.proofs.Few.{few_nodes}
-use Rattle.subtree_search.proofs.Sound.{Begins, Holds, offered_nodes, step_holds, steps_hold}
+use Rattle.subtree_search.proofs.Sound.{Begins, Holds, offered_nodes, steps_hold}
 
 -- ---- closed nodes
 

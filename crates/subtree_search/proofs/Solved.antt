@@ -1,6 +1,6 @@
 -- The run of a search that has ended.
 use Rattle.std.proofs.Common.{◌≡◌, ◌⊎◌, inl, inr, ℕ, ◌+◌, ◌-◌, ◌<◌, ◌≤◌, ◌^◌, Bool, true, false, List, length, refl, sym, ap, ◌∙◌, subst, arith, Option, Some, None}
-use Rattle.std.specs.Prelude.{slice_get, IsSomeAnd, IsTrue, IsFalse, MatchOption}
+use Rattle.std.specs.Prelude.{slice_get, IsSomeAnd, IsTrue, MatchOption}
 use Rattle.std.proofs.lemmas.Bool.{false≢true}
 use Rattle.std.proofs.lemmas.Option.{slice_get_within}
 use Rattle.shift_instance.specs.declared.TheConstants.{TOP}
@@ -13,7 +13,7 @@ use Rattle.advisers.specs.Advised.{greedy_advice, kept_after, plan_with_cost, Is
 use Rattle.advisers.specs.declared.greedy_plan.GreedyPlan.{GreedyPlan}
 use Rattle.report_grafts.specs.Run.{Run, is_finished, IsSound}
 use Rattle.subtree_search.specs.Searching.{Searching, opening, top, IsNext}
-use Rattle.subtree_search.specs.Stepping.{run_of, steps_enough, AreGreedySteps, AreSteps, HasNoOpen, IsGreedyRun, IsGreedyStep, IsSearched, IsStep, IsStepBy, WhyEnds}
+use Rattle.subtree_search.specs.Stepping.{run_of, steps_enough, AreGreedySteps, AreSteps, IsGreedyRun, IsGreedyStep, IsSearched, IsStep, IsStepBy, WhyEnds}
 use Rattle.subtree_search.specs.Stepping.AreSteps.{none, one_more}
 use Rattle.subtree_search.specs.Stepping.AreGreedySteps.{no_step, greedy_step}
 use Rattle.subtree_search.proofs.Enough.{enough_steps, none_open, step_closes}

@@ -1,4 +1,4 @@
-use Rattle.std.proofs.Common.{◌≡◌, ◌⊎◌, ◌∙◌, ◌<◌, ◌≤◌, ◌^◌, ◌+◌, false, arith, ap, sym, subst}
+use Rattle.std.proofs.Common.{◌≡◌, ◌⊎◌, ◌∙◌, ◌<◌, ◌≤◌, ◌^◌, false, arith, ap, sym, subst}
 use Rattle.std.specs.Prelude.{IsTrue}
 use Rattle.advisers.specs.Advised.{IsOwn}
 use Rattle.advisers.specs.Hearing.{Planned}

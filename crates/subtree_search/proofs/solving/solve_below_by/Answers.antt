@@ -1,4 +1,4 @@
-use Rattle.std.proofs.Common.{◌≡◌, ◌⊎◌, ◌∙◌, ◌<◌, ◌≤◌, ◌^◌, ◌+◌, true, arith}
+use Rattle.std.proofs.Common.{◌≡◌, ◌⊎◌, ◌∙◌, ◌<◌, ◌≤◌, ◌^◌, true, arith}
 use Rattle.std.specs.Prelude.{IsTrue}
 use Rattle.head_splits.proofs.Walked.{map_ok}
 use Rattle.report_grafts.specs.Run.{is_finished, Run}
