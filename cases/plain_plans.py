@@ -205,12 +205,33 @@ def search_gone_on_with(folder):
     return ends(first, 0) + ends(second, 0, "goes on from ")
 
 
+def reported_cost(folder):
+    return read_report((folder.path / "week.plan" / "report").read_text()).cost
+
+
 def begun_anew(folder):
-    folder.plan("--seconds", "1")
-    old = (folder.path / "week.journal").read_bytes()
+    """A search begun anew beside a journal, of which it takes the best plan."""
+    folder.plan("--seconds", "3")
+    old, cost = (folder.path / "week.journal").read_bytes(), reported_cost(folder)
+    shutil.rmtree(folder.path / "week.plan")
     again = folder.plan("--seconds", "1", "--anew")
-    kept = (folder.path / "week.journal.1").read_bytes() == old
-    return ends(again, 0, "the old journal is week.journal.1") + ([] if kept else ["the old journal is another one"])
+    faults = ends(again, 0, "the old journal is week.journal.1", "begins with the best plan of the old journal, of cost %d;" % cost)
+    page = (folder.path / "week.plan" / "plan.html").read_text()
+    found = [
+        ("the old journal is another one", (folder.path / "week.journal.1").read_bytes() == old),
+        ("a plan that is dearer than the old one's is written", reported_cost(folder) <= cost),
+        ("the page doesn't say what the search began with", "this search began with the best plan of an old journal, of cost %d;" % cost in page),
+    ]
+    return faults + [fault for fault, holds in found if not holds]
+
+
+def begun_anew_for_another_need(folder):
+    """A search begun anew beside a journal of another instance, of which it takes nothing."""
+    folder.plan("--seconds", "1")
+    document = json.loads(folder.text)
+    (folder.path / "week.json").write_text(json.dumps({**document, "max_heads": document["max_heads"] + 1}))
+    again = folder.plan("--seconds", "1", "--anew")
+    return ends(again, 0, "takes nothing from the old journal: it belongs to another instance")
 
 
 def journal_that_is_a_folder(folder):
@@ -636,11 +657,12 @@ def journal_without_room(folder):
     record = bytes.fromhex("01 73270000 0100 02 0000 00000000 0100 e0070000") + bytes(5 * 2016 + 4)
     (folder.path / "week.journal").write_bytes(b"SHIFTJ2\n" + len(canonical).to_bytes(4, "little") + canonical.encode() + record * 6641 + b"\0")
     run = folder.begun("--seconds", "60", "--workers", "1")
-    return ended(folder, run, 0, "goes on from 6641 steps: cost 8, bound 0", "the journal is full", "another journal begins the search anew")
+    faults = ended(folder, run, 0, "goes on from 6641 steps: cost 8, bound 0", "the journal is full", "the same line with --anew goes on from it in a new journal")
+    return faults + ends(folder.plan("--seconds", "1", "--anew"), 0, "takes nothing from the old journal: its best plan has no duty")
 
 
 MEETINGS = (
-    lock_in_use, killed_run, search_gone_on_with, begun_anew, no_search_to_show, journal_that_is_a_folder, journal_of_another_instance, damaged_journal, torn_journal, journal_of_the_first_version,
+    lock_in_use, killed_run, search_gone_on_with, begun_anew, begun_anew_for_another_need, no_search_to_show, journal_that_is_a_folder, journal_of_another_instance, damaged_journal, torn_journal, journal_of_the_first_version,
     journal_on_a_full_device, folder_below_a_file, folder_that_is_a_file, instance_that_isnt_there, instance_that_is_a_folder, journal_of_the_instance, document_with_a_namesake, bent_report, edited_table,
     folder_of_two_plans, folder_in_use, table_that_is_a_folder, cheaper_plan_in_the_folder, searches_with_seeds, week_with_another_need, days_with_names, heading_without_folders,
     words_in_the_wrong_order, report_that_is_none, closed_output, short_time, search_without_a_cheaper_plan, line_in_mid_search, end_of_input_in_mid_search, line_before_the_search,

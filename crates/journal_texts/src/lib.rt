@@ -17,6 +17,10 @@ use std::alloc::{AllocError, Global};
 const ANEW: &str =
     "; name another journal, or begin this one anew: the old file is kept under another name then";
 
+/// What to do about a journal of the first version.
+const CARRIED_OVER: &str =
+    "; to go on with its search, type ./run shift_migrate OLD NEW, where OLD is this file and NEW a new one, and name NEW as the journal";
+
 /// What is wrong with a post that isn't allowed.
 fn why_not_allowed(fault: &StepFault) -> &'static str {
     match fault {
@@ -82,7 +86,7 @@ fn what_is_wrong(alloc: Global, fault: &OpenFault) -> Result<String, AllocError>
         OpenFault::OldVersion => {
             String::from_str(
                 alloc,
-                "the journal is one of the first version, which earlier programs wrote and this one doesn't go on with; it was left as it is",
+                "the journal is one of the first version, which earlier programs wrote; it was left as it is",
             )
         }
     }
@@ -92,6 +96,7 @@ fn what_is_wrong(alloc: Global, fault: &OpenFault) -> Result<String, AllocError>
 fn what_to_do(fault: &OpenFault) -> &'static str {
     match fault {
         OpenFault::DiskFault | OpenFault::NoMemory => "",
+        OpenFault::OldVersion => CARRIED_OVER,
         _ => ANEW,
     }
 }

@@ -71,8 +71,8 @@ fn asked_with(ask: &Ask, rows: Rows, cost: u64) -> Result<Ask, NoMemory>
 }
 
 impl<A: Adviser> Keeping<A> {
-    /// The adviser that gives another's advice for an instance, keeps what it can of the wanted rows and begins with others. Where no row is
-    /// wanted, it gives the other's advice as it is.
+    /// The adviser that gives another's advice for an instance, keeps what it can of the wanted rows and begins with others. Where there are
+    /// neither, it gives the other's advice as it is.
     pub fn new(
         alloc: Global,
         instance: &Instance,
@@ -95,7 +95,8 @@ impl<A: Adviser> Keeping<A> {
 
     /// The rows to begin with, where they weren't advised yet and are a plan that is cheaper than `best`, with what they cost.
     fn first(&self, instance: &Instance, best: u64) -> Result<Option<(Rows, u64)>, NoMemory> {
-        if !self.is_fresh || self.wanted.is_empty() {
+        let has_none = self.wanted.is_empty() && self.begin.is_empty();
+        if !self.is_fresh || has_none {
             return Ok(None);
         }
         Ok(cheaper(instance, self.begin.clone()?, best))

@@ -21,6 +21,9 @@ const TOUCHES: u32 = 60;
 /// After how many moves of a repair days take the duties of cheaper ones.
 const SPREAD: u32 = 100;
 
+/// How many shifts are drawn at most of which a used one becomes that which gains most.
+const DRAWN: u32 = 6;
+
 /// The part of the changes that is repaired, those that raise the cost least.
 const REPAIRED: f64 = 0.03;
 
@@ -96,11 +99,22 @@ impl<S: Stop + Drop> PlanSearch<S> {
         Ok(heads)
     }
 
-    /// Whether one more duty of a shift on a day gains.
-    fn gains(&mut self, tables: &Tables, shift: u16, day: usize) -> bool {
-        self.plan.has_room(tables, shift, day)
-            && 0.0 < self.bound(tables, shift, day)
-            && 0.0 < self.value(tables, shift, day)
+    /// What one more duty of a shift on a day gains, and 0 where it doesn't or there is no room for it.
+    fn gain(&mut self, tables: &Tables, shift: u16, day: usize) -> f64 {
+        if self.plan.has_room(tables, shift, day) && 0.0 < self.bound(tables, shift, day) {
+            self.value(tables, shift, day).max(0.0)
+        } else {
+            0.0
+        }
+    }
+
+    /// What one more duty of a shift gains on each day, summed up.
+    fn gain_of_days(&mut self, tables: &Tables, shift: u16) -> f64 {
+        let mut sum = 0.0;
+        for day in 0..tables.days {
+            sum += self.gain(tables, shift, day);
+        }
+        sum
     }
 
     /// Puts so many duties of a shift in on a day, as far as there is room, and, if `strict`, as long as they gain.
@@ -114,7 +128,7 @@ impl<S: Stop + Drop> PlanSearch<S> {
     ) -> Result<(), NoMemory> {
         for _ in 0..count {
             let goes_on = if strict {
-                self.gains(tables, shift, day)
+                0.0 < self.gain(tables, shift, day)
             } else {
                 self.plan.has_room(tables, shift, day)
             };
@@ -145,20 +159,36 @@ impl<S: Stop + Drop> PlanSearch<S> {
         self.put_heads(tables, shift, &heads, true)
     }
 
-    /// A used shift becomes another one, three times in four one near it.
-    fn become_other(&mut self, tables: &Tables, shift: u16) -> Result<(), NoMemory> {
-        let other = if self.chance.is_once_in(4) {
-            self.candidate(tables)
-        } else {
-            self.neighbour(tables, shift)
-        };
-        let Some(other) = other else {
-            return Ok(());
-        };
-        if other == shift {
-            return Ok(());
+    /// Of some shifts that are drawn, near one or else candidates, the first whose duties gain most; never that one itself.
+    fn most_gaining(&mut self, tables: &Tables, shift: u16, is_near: bool) -> Option<u16> {
+        let mut found = None;
+        let mut most = 0.0;
+        for _ in 0..DRAWN {
+            let drawn = if is_near {
+                self.neighbour(tables, shift)?
+            } else {
+                self.candidate(tables)?
+            };
+            if drawn == shift || found == Some(drawn) || self.is_spent() {
+                continue;
+            }
+            let gain = self.gain_of_days(tables, drawn);
+            if most < gain {
+                most = gain;
+                found = Some(drawn);
+            }
         }
+        found
+    }
+
+    /// A used shift becomes another one, three times in four one near it: of some that are drawn the one that gains most in its place.
+    /// Where none of them gains, the shift goes.
+    fn become_other(&mut self, tables: &Tables, shift: u16) -> Result<(), NoMemory> {
+        let is_near = !self.chance.is_once_in(4);
         let heads = self.drop_shift(tables, shift)?;
+        let Some(other) = self.most_gaining(tables, shift, is_near) else {
+            return Ok(());
+        };
         let strict = self.chance.is_once_in(2);
         self.put_heads(tables, other, &heads, strict)
     }

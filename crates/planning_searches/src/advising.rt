@@ -1,14 +1,15 @@
 //! The advisers of a search's workers.
 
+use crate::before::Before;
 use crate::keeping::Older;
 use break_rules::NoMemory;
 use kept_duties::Keeping;
 use planning_progress::{Progress, Shown, Until, Watched};
 use planning_words::PlanWords;
-use shift_instance::Instance;
+use shift_instance::{Instance, Rows};
 use std::alloc::AllocError;
 use std::sync::Arc;
-use thorough_search::Thorough;
+use thorough_search::{Budget, Thorough};
 
 /// What the advisers of a search are made of.
 #[derive(Clone, Copy)]
@@ -20,6 +21,10 @@ pub(crate) struct Team<'a> {
     pub(crate) progress: &'a Arc<Progress>,
     /// The older plan of which it keeps what it can.
     pub(crate) older: &'a Older,
+    /// The best plan of an old journal, where it begins with that. There is no older plan then.
+    pub(crate) before: Option<&'a Before>,
+    /// What the steps of each worker may take.
+    pub(crate) budget: Budget,
     /// Where and how often the line of the search is said.
     pub(crate) shown: Shown,
 }
@@ -40,17 +45,32 @@ impl Team<'_> {
         worker: u16,
     ) -> Result<Thorough<Until<HostRuntime>>, NoMemory> {
         let seed = u64::from(self.words.seed) + u64::from(worker);
-        Thorough::of(self.host.alloc(), instance, seed, self.until()?)
+        Thorough::within(
+            self.host.alloc(),
+            instance,
+            seed,
+            self.until()?,
+            self.budget,
+        )
     }
 
-    /// The same adviser which, where there is an older plan, begins with that, and whose plans keep what they can of it.
+    /// The rows that the search begins with: those of an old journal's best plan, or else those of the older plan.
+    fn begin(&self) -> &Rows {
+        match self.before {
+            Some(before) => &before.rows,
+            None => &self.older.begin,
+        }
+    }
+
+    /// The same adviser, which begins with an older plan or an old journal's where there is one, and whose plans keep what they can of the
+    /// older one.
     fn keeping(
         &self,
         instance: &Instance,
         worker: u16,
     ) -> Result<Keeping<Thorough<Until<HostRuntime>>>, NoMemory> {
         let wanted = self.older.wanted.clone()?;
-        let begin = self.older.begin.clone()?;
+        let begin = self.begin().clone()?;
         let thorough = self.thorough(instance, worker)?;
         Keeping::new(self.host.alloc(), instance, thorough, wanted, begin)
     }

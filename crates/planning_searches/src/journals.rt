@@ -1,13 +1,19 @@
 //! The journal of a search, locked for its run.
 
+ghost use Rattle.std.specs.Prelude.{◌<◌};
+
+use crate::before::{Before, Taken, taken_from};
 use instance_json::INSTANCE_MAX;
 use planning_files::{LockedJournal, set_aside};
 use planning_refusals::{Cause, Refusal};
 use planning_words::{PlanWords, document_beside, is_same_file, journal_beside};
 use refusal_texts::Role;
+use shift_instance::Instance;
 use std::alloc::{AllocError, Global};
 use std::fs::{self, File};
 use std::io::{self, Read};
+use std::sync::Wait;
+use std::thread::Threads;
 
 /// The journal that the words name, or else the one beside the instance.
 pub(crate) fn journal_of(alloc: Global, words: &PlanWords) -> Result<String, AllocError> {
@@ -65,6 +71,8 @@ pub struct Journals {
     /// The journal of the run.
     pub(crate) now: LockedJournal<HostRuntime>,
     old: Option<LockedJournal<HostRuntime>>,
+    /// The best plan of the old one, where the search begins with that.
+    pub before: Option<Before>,
 }
 
 /// Locks the journal of a path for this run.
@@ -148,27 +156,88 @@ fn begun_again(rt: HostRuntime, path: &str) -> Result<LockedJournal<HostRuntime>
     }
 }
 
-/// The journal of a path, locked for this run. Where the words ask to begin again, the old one gets another name first.
-fn locked_at(rt: HostRuntime, words: &PlanWords, path: &str) -> Result<Journals, Refusal> {
-    if let Some(why) = unfit(rt, words, path) {
-        return Err(why);
+/// Says what a search takes from the old journal, and answers its plan where it takes one.
+fn told(rt: HostRuntime, taken: Taken) -> Option<Before> {
+    match taken {
+        Taken::Plan(before) => {
+            let _ = eprintln!(rt;
+                "shift_plan: begins with the best plan of the old journal, of cost {}; its bound begins anew",
+                before.cost
+            );
+            Some(before)
+        }
+        Taken::Nothing(why) => {
+            let _ = eprintln!(rt; "shift_plan: takes nothing from the old journal: {why}");
+            None
+        }
     }
-    let now = locked(rt, path)?;
-    if !words.anew || now.len().unwrap_or(0) == 0 {
-        return Ok(Journals { now, old: None });
-    }
-    let fresh = begun_again(rt, path)?;
+}
+
+/// The journal of a path in the place of an old one, which gets another name. Where the words name no older plan, the old one's best plan is read
+/// before.
+fn renewed<R: Threads + Wait + Sync>(
+    host: HostRuntime,
+    rt: &R,
+    words: &PlanWords,
+    instance: &Instance,
+    path: &str,
+    old: LockedJournal<HostRuntime>,
+) -> Result<Journals, Refusal>
+    requires some { 0 < words.now.workers }
+{
+    let taken = match words.like {
+        None => Some(taken_from(host, rt, words, instance, &old)?),
+        Some(_) => None,
+    };
+    let now = begun_again(host, path)?;
+    let before = match taken {
+        Some(taken) => told(host, taken),
+        None => None,
+    };
     Ok(Journals {
-        now: fresh,
-        old: Some(now),
+        now,
+        old: Some(old),
+        before,
     })
 }
 
-/// The journal that the words name, locked for this run. Where they ask to begin again, the old one gets another name first.
-pub fn locked_journal(rt: HostRuntime, words: &PlanWords) -> Result<Journals, Refusal> {
-    if has_namesake(rt, words)? {
-        return Err(of_namesake(rt.alloc(), words));
+/// The journal of a path, locked for this run. Where the words ask to begin again, the old one gets another name first.
+fn locked_at<R: Threads + Wait + Sync>(
+    host: HostRuntime,
+    rt: &R,
+    words: &PlanWords,
+    instance: &Instance,
+    path: &str,
+) -> Result<Journals, Refusal>
+    requires some { 0 < words.now.workers }
+{
+    if let Some(why) = unfit(host, words, path) {
+        return Err(why);
     }
-    let path = journal_of(rt.alloc(), words)?;
-    locked_at(rt, words, path.as_str())
+    let now = locked(host, path)?;
+    if words.anew && now.len().unwrap_or(0) != 0 {
+        return renewed(host, rt, words, instance, path, now);
+    }
+    Ok(Journals {
+        now,
+        old: None,
+        before: None,
+    })
+}
+
+/// The journal that the words name, locked for this run. Where they ask to begin again, the old one gets another name first, and a search of the
+/// instance begins with the best plan that it holds, unless the words name an older plan.
+pub fn locked_journal<R: Threads + Wait + Sync>(
+    host: HostRuntime,
+    rt: &R,
+    words: &PlanWords,
+    instance: &Instance,
+) -> Result<Journals, Refusal>
+    requires some { 0 < words.now.workers }
+{
+    if has_namesake(host, words)? {
+        return Err(of_namesake(host.alloc(), words));
+    }
+    let path = journal_of(host.alloc(), words)?;
+    locked_at(host, rt, words, instance, path.as_str())
 }

@@ -3,6 +3,7 @@
 #![tactic(auto)]
 
 mod advising;
+mod before;
 mod journals;
 mod keeping;
 mod listening;
@@ -11,6 +12,7 @@ mod refused;
 mod searching;
 mod telling;
 
+pub use before::Before;
 pub use journals::{Journals, locked_journal};
 pub use keeping::{Older, older_plan, rows_in};
 pub use reading::{Read, judged, plan_for, plan_in, read_instance};

@@ -40,6 +40,12 @@ fn canonical_of(alloc: Global, instance: &Instance) -> Result<Vec<u8>, Refusal> 
     Ok(instance_json::canonical(alloc, instance)?)
 }
 
+/// The same instance once more.
+pub(crate) fn copy_of(alloc: Global, instance: &Instance) -> Result<Instance, Refusal> {
+    let canonical = canonical_of(alloc, instance)?;
+    instance_in(alloc, canonical.as_slice())
+}
+
 /// The plan that a report shows for the instance of a document.
 pub fn judged(alloc: Global, document: &[u8], report: Vec<u8>) -> Result<Plan, Refusal> {
     match judged_plan(alloc, document, report) {

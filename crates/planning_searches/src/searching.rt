@@ -9,6 +9,7 @@ use crate::listening::{listen, stop_of};
 use crate::refused::unplanned;
 use crate::telling::{Beginning, shown_on, tell_end};
 use advice::Adviser;
+use gated_journal::JOURNAL_MAX;
 use plan_base::FileDisk;
 use planning_files::LockedJournal;
 use planning_progress::{Limits, Progress};
@@ -21,6 +22,7 @@ use std::alloc::AllocError;
 use std::sync::{Arc, Wait};
 use std::thread::Threads;
 use std::time::Instant;
+use thorough_search::Budget;
 
 /// The milliseconds of a second.
 const SECOND: u64 = 1_000;
@@ -56,12 +58,23 @@ fn steps_of(seconds: u32) -> u64
     if seconds == 0 { 0 } else { STEPS_MOST }
 }
 
+/// What the steps of each worker of a search as the words say may take: together eight tenths of the bytes for which the journal has room, and its
+/// time. With more they would fill the journal where their work is a tenth ahead of the time.
+fn budget_of(words: &PlanWords, journal: &LockedJournal<HostRuntime>) -> Budget {
+    let room = u64::from(JOURNAL_MAX).saturating_sub(journal.len().unwrap_or(0));
+    let workers = u64::from(words.workers.max(1));
+    Budget {
+        bytes: (room / 10).saturating_mul(8) / workers,
+        seconds: words.seconds,
+    }
+}
+
 /// The plan of a search that has ended.
 fn ended(team: &Team, planned: Planned<FileDisk<HostRuntime>>) -> Result<Plan, Refusal> {
     let Planned { searched, plan } = planned;
     match plan {
         Some(plan) => {
-            tell_end(team.host, team.progress, &searched.end);
+            tell_end(team.host, team.words, team.progress, &searched.end);
             Ok(plan)
         }
         None => Err(unplanned(team.host, team.words, &searched.end)),
@@ -146,6 +159,8 @@ pub fn search_as_asked<R: Threads + Wait + Sync>(
         words,
         progress: &progress,
         older,
+        before: journals.before.as_ref(),
+        budget: budget_of(words, &journals.now),
         shown: shown_on(host, enter_ends(host, rt, words, &progress)),
     };
     let found = search_by(rt, &team, instance, &journals.now)?;

@@ -7,6 +7,7 @@ use journal_texts::full_sentence;
 use plan_tables::Hours;
 use planning_progress::{Progress, Shown};
 use planning_refusals::Refusal;
+use planning_words::PlanWords;
 use rule_sentences::rules_text;
 use shift_instance::{Instance, Shift};
 use solve_runs::SearchEnd;
@@ -182,6 +183,17 @@ fn tell_full(rt: HostRuntime, end: u64, limit: u32) {
     }
 }
 
+/// Says how a search whose journal is full may go on.
+fn tell_anew(rt: HostRuntime, words: &PlanWords) {
+    let how = match words.like {
+        None =>
+            "the same line with --anew goes on from it in a new journal, whose bound begins anew",
+        Some(_) =>
+            "with --anew, and without --like and --of, the line goes on from the best plan of this journal in a new one, whose bound begins anew",
+    };
+    let _ = eprintln!(rt; "shift_plan: the plan is written; {how}");
+}
+
 /// Says why a search was asked to stop, if not by its time.
 fn tell_stopped(rt: HostRuntime, progress: &Progress) {
     if progress.is_end_asked() {
@@ -203,13 +215,16 @@ fn tell_cut_off(rt: HostRuntime, end: &SearchEnd) {
 }
 
 /// Says why a search with a plan ended before its time, if it did.
-pub(crate) fn tell_end(rt: HostRuntime, progress: &Progress, end: &SearchEnd) {
+pub(crate) fn tell_end(rt: HostRuntime, words: &PlanWords, progress: &Progress, end: &SearchEnd) {
     if shown_on(rt, false) != Shown::Below {
         // the line of the search stands there without its line feed
         let _ = eprintln!(rt);
     }
     match end {
-        SearchEnd::Full { end, limit } => tell_full(rt, *end, *limit),
+        SearchEnd::Full { end, limit } => {
+            tell_full(rt, *end, *limit);
+            tell_anew(rt, words);
+        }
         SearchEnd::Stopped => tell_stopped(rt, progress),
         end => tell_cut_off(rt, end),
     }

@@ -4,7 +4,7 @@ ghost use Rattle.std.specs.Prelude.{◌<◌};
 
 use planning_refusals::Refusal;
 use planning_searches::{
-    Read, locked_journal, older_plan, read_instance, say_rules, search_as_asked, tell_notes,
+    Before, Read, locked_journal, older_plan, read_instance, say_rules, search_as_asked, tell_notes,
 };
 use planning_sheets::{Beside, finish_folder, ready_folder, show_plan};
 use planning_words::{PlanWords, folder_beside};
@@ -25,6 +25,21 @@ pub(crate) fn folder_of(
     }
 }
 
+/// Adds what is to be known of a search that began with the best plan of an old journal.
+fn add_before(
+    notes: &mut Vec<String>,
+    alloc: Global,
+    before: Option<&Before>,
+) -> Result<(), AllocError> {
+    if let Some(before) = before {
+        let cost = before.cost;
+        notes.push(format!(in alloc;
+            "this search began with the best plan of an old journal, of cost {cost}; its bound is that of the new journal alone"
+        )?)?;
+    }
+    Ok(())
+}
+
 /// Searches for a plan of an instance as the words say, and writes it to a folder.
 fn plan_to<R: Threads + Wait + Sync>(
     host: HostRuntime,
@@ -32,15 +47,23 @@ fn plan_to<R: Threads + Wait + Sync>(
     words: &PlanWords,
     instance: Instance,
     folder: &str,
-    beside: &Beside,
+    document: &[u8],
+    notes: &mut Vec<String>,
 ) -> Result<(), Refusal>
     requires some { 0 < words.now.workers }
 {
     let older = older_plan(host, words.like, &instance)?;
-    let journals = locked_journal(host, words)?;
+    let journals = locked_journal(host, rt, words, &instance)?;
     ready_folder(host, folder)?;
     let plan = search_as_asked(host, rt, words, instance, &older, &journals)?;
-    show_plan(host, beside, folder, &plan)
+    add_before(notes, host.alloc(), journals.before.as_ref())?;
+    let beside = Beside {
+        instance: words.instance,
+        document,
+        first: words.first,
+        notes: notes.as_slice(),
+    };
+    show_plan(host, &beside, folder, &plan)
 }
 
 /// Searches for a plan of the instance of a document as the words say, and writes it to a folder.
@@ -54,16 +77,18 @@ fn plan_for<R: Threads + Wait + Sync>(
     requires some { 0 < words.now.workers }
 {
     say_rules(host, &read.instance)?;
-    let notes = tell_notes(host, &read)?;
+    let mut notes = tell_notes(host, &read)?;
     finish_folder(host, folder)?;
     let Read { document, instance } = read;
-    let beside = Beside {
-        instance: words.instance,
-        document: document.as_slice(),
-        first: words.first,
-        notes: notes.as_slice(),
-    };
-    plan_to(host, rt, words, instance, folder, &beside)
+    plan_to(
+        host,
+        rt,
+        words,
+        instance,
+        folder,
+        document.as_slice(),
+        &mut notes,
+    )
 }
 
 /// Searches for a plan as the words say, and writes it.

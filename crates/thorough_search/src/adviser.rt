@@ -4,6 +4,7 @@ ghost use Rattle.shift_instance.specs.Rota.{are_legal_rows, cost, rota_of};
 ghost use Rattle.thorough_search.specs.HeadSplits.{IsHeadSplit};
 
 use crate::kept::Kept;
+use crate::pacing::Budget;
 use crate::splits::HeadSplit;
 use advice::{Advice, Adviser, Ask, Splitting, Stop, Told};
 use break_rules::{Breaks, NoMemory};
@@ -23,6 +24,8 @@ pub struct Thorough<S: Stop + Clone> {
     alloc: Global,
     seed: u64,
     stop: S,
+    /// What its steps may take, where that is limited.
+    budget: Option<Budget>,
     kept: Option<Kept<S>>,
     told: u64,
     last: Option<Told>,
@@ -98,6 +101,7 @@ impl<S: Stop + Clone> Thorough<S> {
             alloc,
             seed,
             stop,
+            budget: None,
             kept: None,
             told: 0,
             last: None,
@@ -113,10 +117,32 @@ impl<S: Stop + Clone> Thorough<S> {
     ) -> Result<Thorough<S>, NoMemory>
         ensures { IfOk result (λ t. t ≡ record { told = 0; last = None }) }
     {
+        Thorough::new(alloc, seed, stop).made_of(instance)
+    }
+
+    /// The adviser of an instance for a search within a budget: the more of the bytes it has taken beyond their part of the time, by counted
+    /// work, the more work it gives to each step. A budget changes nothing else.
+    pub fn within(
+        alloc: Global,
+        instance: &Instance,
+        seed: u64,
+        stop: S,
+        budget: Budget,
+    ) -> Result<Thorough<S>, NoMemory>
+        ensures { IfOk result (λ t. t ≡ record { told = 0; last = None }) }
+    {
         let mut thorough = Thorough::new(alloc, seed, stop);
-        let kept = thorough.take_kept(instance)?;
-        thorough.kept = Some(kept);
-        Ok(thorough)
+        thorough.budget = Some(budget);
+        thorough.made_of(instance)
+    }
+
+    /// The same adviser, which has all that it keeps of an instance.
+    fn made_of(mut self, instance: &Instance) -> Result<Thorough<S>, NoMemory>
+        ensures { IfOk result (λ t. t ≡ self) }
+    {
+        let kept = self.take_kept(instance)?;
+        self.kept = Some(kept);
+        Ok(self)
     }
 
     /// What is kept, taken out, or made of this instance now.
@@ -127,7 +153,7 @@ impl<S: Stop + Clone> Thorough<S> {
             Some(kept) => Ok(kept),
             None => {
                 let stop = self.stop.clone()?;
-                Kept::new(self.alloc, instance, self.seed, stop)
+                Kept::new(self.alloc, instance, self.seed, stop, self.budget)
             }
         }
     }

@@ -1,8 +1,9 @@
 //! What the adviser keeps of its instance.
 ghost use Rattle.std.specs.Prelude.{◌≡◌, IfOk, IfSome};
 
+use crate::pacing::{Budget, Pacing};
 use crate::prices::{SCALE, begin_prices, cut_prices, slot_prices};
-use crate::sharing::Sharing;
+use crate::sharing::{Sharing, plan_work};
 use crate::splits::{HeadSplit, NodeView, best_split};
 use advice::{Ask, Stop};
 use break_rules::NoMemory;
@@ -38,6 +39,8 @@ pub(crate) struct Kept<S: Stop + Drop> {
     greedy: Option<Rows>,
     /// How climbs and the plan search share the time.
     sharing: Sharing,
+    /// How much more work steps get than usual ones.
+    pacing: Pacing,
 }
 
 /// The shifts whose averaged part isn't 0, the most used first.
@@ -57,31 +60,32 @@ fn used_shifts(alloc: Global, parts: &[f64]) -> Result<Vec<u16>, NoMemory> {
     Ok(shifts)
 }
 
-/// When a climb to a value ends: at the node without cuts much later than below.
-fn limits_of(ask: &Ask, goal: f64) -> Limits {
+/// When a climb to a value ends: at the node without cuts much later than below, and later with more effort.
+fn limits_of(ask: &Ask, goal: f64, effort: u32) -> Limits {
     if ask.cuts.is_empty() {
         return Limits {
-            rounds: 2000,
+            rounds: effort.saturating_mul(2000),
             goal,
-            stalls: 1000,
+            stalls: effort.saturating_mul(1000),
             step: 0.1,
         };
     }
     Limits {
-        rounds: 120,
+        rounds: effort.saturating_mul(120),
         goal,
-        stalls: 4,
+        stalls: effort.saturating_mul(4),
         step: 0.05,
     }
 }
 
 impl<S: Stop + Drop> Kept<S> {
-    /// What is known at first of an instance.
+    /// What is known at first of an instance, for a search within a budget, where there is one.
     pub(crate) fn new(
         alloc: Global,
         instance: &Instance,
         seed: u64,
         stop: S,
+        budget: Option<Budget>,
     ) -> Result<Kept<S>, NoMemory> {
         let tables = Tables::new(alloc, instance)?;
         let plans = PlanSearch::new(alloc, &tables, seed, stop)?;
@@ -95,6 +99,7 @@ impl<S: Stop + Drop> Kept<S> {
             is_greedy_made: false,
             greedy: None,
             sharing: Sharing::new(),
+            pacing: Pacing::new(budget),
         })
     }
 
@@ -151,9 +156,11 @@ impl<S: Stop + Drop> Kept<S> {
     }
 
     /// Searches for plans as long as it is due.
-    fn search_plans(&mut self) -> Result<(), NoMemory> {
+    fn search_plans(&mut self, effort: u32) -> Result<(), NoMemory> {
         let before = self.plans.best_cost();
-        let due = self.sharing.due(self.climb.work(), self.plans.work());
+        let due = self
+            .sharing
+            .due(self.climb.work(), self.plans.work(), effort);
         self.plans.run(&self.tables, due)?;
         self.note_gain(before);
         Ok(())
@@ -194,8 +201,8 @@ impl<S: Stop + Drop> Kept<S> {
     }
 
     /// Climbs from the hint's prices, and gives the value reached.
-    fn climb_from(&mut self, ask: &Ask, ranges: &Ranges) -> Result<f64, NoMemory> {
-        let limits = limits_of(ask, self.closing_value(ask.best));
+    fn climb_from(&mut self, ask: &Ask, ranges: &Ranges, effort: u32) -> Result<f64, NoMemory> {
+        let limits = limits_of(ask, self.closing_value(ask.best), effort);
         let start = begin_prices(self.alloc, &self.tables, ranges, ask)?;
         self.climb
             .climb(&self.tables, ranges, &start, limits, self.plans.stop())
@@ -225,6 +232,13 @@ impl<S: Stop + Drop> Kept<S> {
         Ok(best_split(&self.tables, &view, room))
     }
 
+    /// The effort of the next step.
+    fn effort(&self) -> u32 {
+        let climbed = plan_work(self.climb.work());
+        self.pacing
+            .effort(climbed.saturating_add(self.plans.work()))
+    }
+
     /// Climbs for a node and searches for plans, with the greedy plan at first: the prices, and a split where the climb doesn't
     /// clearly close the node.
     pub(crate) fn look(
@@ -232,13 +246,16 @@ impl<S: Stop + Drop> Kept<S> {
         instance: &Instance,
         ask: &Ask,
     ) -> Result<(Prices, Option<HeadSplit>), NoMemory> {
+        let effort = self.effort();
         self.take_hint(instance, ask)?;
         let ranges = Ranges::new(self.alloc, &self.tables, ask.cuts.as_slice())?;
-        let value = self.climb_from(ask, &ranges)?;
+        let value = self.climb_from(ask, &ranges, effort)?;
         self.guide_plans(ask)?;
-        self.search_plans()?;
+        self.search_plans(effort)?;
         self.make_greedy(instance, ask)?;
         let prices = self.prices(&ranges, ask.cuts.len())?;
+        self.pacing
+            .count(self.tables.slots.saturating_add(ask.cuts.len()));
         let room = self.closing_value(ask.best) - value;
         if room <= -CLEAR {
             return Ok((prices, None));

@@ -4,9 +4,11 @@
 
 mod adviser;
 mod kept;
+mod pacing;
 mod prices;
 mod sharing;
 mod splits;
 mod tightening;
 
 pub use adviser::Thorough;
+pub use pacing::Budget;

@@ -9,6 +9,11 @@ const PATIENCE: u64 = 80_000_000;
 /// The most work on plans at one advice whose climb takes less time than that.
 const SLICE: u64 = 4_000_000;
 
+/// The work on plans that takes about as long as so much work of a climb.
+pub(crate) fn plan_work(climbed: u64) -> u64 {
+    climbed / PLAN_UNIT
+}
+
 /// What was allowed and done so far, and when a cheaper plan came last.
 #[derive(Clone, Copy)]
 pub(crate) struct Sharing {
@@ -42,9 +47,10 @@ impl Sharing {
 
     /// Allows work on plans for the climbs since the last time, and gives how much of all that was allowed is due, after so much work of
     /// climbs and on plans. Plans may have three times as long as climbs while they get cheaper, and as long as climbs later; at one
-    /// time they get at most as long as the climbs since the last time took, or a slice.
-    pub(crate) fn due(&mut self, climbed: u64, planned: u64) -> u64 {
-        let climb = climbed.saturating_sub(self.climbed) / PLAN_UNIT;
+    /// time they get at most as long as the climbs since the last time took, or a slice. A greater effort than 1 gets as many slices,
+    /// and a slice less at least.
+    pub(crate) fn due(&mut self, climbed: u64, planned: u64, effort: u32) -> u64 {
+        let climb = plan_work(climbed.saturating_sub(self.climbed));
         self.climbed = climbed;
         let share = if self.is_gaining(planned) {
             climb.saturating_mul(3)
@@ -52,6 +58,8 @@ impl Sharing {
             climb
         };
         self.allowed = self.allowed.saturating_add(share);
-        self.allowed.saturating_sub(planned).min(SLICE.max(climb))
+        let slices = SLICE.saturating_mul(u64::from(effort));
+        let due = self.allowed.saturating_sub(planned).min(slices.max(climb));
+        due.max(slices.saturating_sub(SLICE))
     }
 }

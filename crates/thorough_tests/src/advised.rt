@@ -9,7 +9,7 @@ use rota_cost::cost_rows;
 use shift_instance::{Instance, Rows};
 use std::alloc::Global;
 use std::test::Fail;
-use thorough_search::Thorough;
+use thorough_search::{Budget, Thorough};
 
 /// Hour slots of one day, of which those from 8 to 12 o'clock need one employee. The one shift has these hours, at most one duty
 /// on a day and no breaks. Excess costs 1, shortage 2 and the shift 3.
@@ -124,6 +124,23 @@ fn an_adviser_of_another_day_advises_nothing_unlawful(rt: HostRuntime) -> Result
     let alloc = rt.alloc();
     let found = seen_on(alloc, MANY_BREAKS, 52, adviser_of(alloc, MORNING)?)?;
     assert_eq!(rt; (found.0, found.1), (None, Some(3)));
+    Ok(())
+}
+
+// The first step is a usual one and takes a hundredth of the bytes, and so the second gets twice its work. Both close the day.
+#[test]
+fn an_adviser_within_a_budget_closes_its_day(rt: HostRuntime) -> Result<(), Fail> {
+    let alloc = rt.alloc();
+    let instance = read(alloc, MORNING.as_bytes())?;
+    let budget = Budget {
+        bytes: 18_400,
+        seconds: 1_000,
+    };
+    let mut adviser = Thorough::within(alloc, &instance, 1, Never, budget)?;
+    for _ in 0..2 {
+        let advice = adviser.advise(&instance, &asked(alloc, 8))?;
+        assert_eq!(rt; seen(alloc, &instance, advice), (Some(3), Some(3), None));
+    }
     Ok(())
 }
 

@@ -1,0 +1,5 @@
+pub mod Shorter
+pub mod Counted
+pub mod Carried
+pub mod Migrated
+pub mod Ending
