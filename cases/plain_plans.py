@@ -278,7 +278,7 @@ def journal_of_the_first_version(folder):
     path, content = folder.path / "week.journal", b"SHIFTJ1\n" + bytes(5)
     path.write_bytes(content)
     run = folder.plan("--seconds", "1")
-    told = "the journal is one of the first version", "or begin this one anew"
+    told = "the journal is one of the first version", "type ./run shift_migrate OLD NEW, where OLD is this file and NEW a new one"
     return ends(run, 9, *told) + ([] if path.read_bytes() == content else ["the journal was changed"])
 
 
