@@ -6,7 +6,7 @@ import os
 
 HERE = os.path.dirname(os.path.abspath(__file__))
 TEXTS = os.path.join(HERE, "texts")
-PROGRAMS = ("shift_solve", "shift_check", "shift_plan", "shift_migrate")
+PROGRAMS = ("shift_solve", "shift_check", "shift_plan", "shift_migrate", "graft_run")
 # the scripts of the repository that cases try, each copied into the case's folder with what it needs
 SCRIPTS = ("audit", "run", "tools/floors.py", "tools/proved.py")
 

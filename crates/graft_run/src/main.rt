@@ -1,0 +1,111 @@
+//! `graft_run below INSTANCE REPORT NODE STEPS` searches below one node of a report, apart from the search that made it, and writes the
+//! report with what it found; `graft_run breaks INSTANCE REPORT STEPS` plans the breaks of a report's rows anew; `graft_run nodes
+//! INSTANCE REPORT N` lists the open nodes below which can be searched.
+#![tactic(auto)]
+
+ghost use Rattle.std.specs.Prelude.{true};
+
+use advice::Stop;
+use graft_runs::{Budget, Command, Files, GraftStatus, Request, graft_top_by, request_of};
+use plan_base::{FileSource, StdSink};
+use std::alloc::AllocError;
+use std::process::ExitCode;
+use std::time::Instant;
+use std::{env, io};
+use thorough_search::Thorough;
+
+/// The seed of the thorough adviser.
+const SEED: u64 = 1;
+
+/// Files without a name.
+const NO_FILES: Files<'static> = Files {
+    instance: "",
+    report: "",
+};
+
+/// Asks a search to stop once its seconds are over, where it has a time, or the clock gives none.
+#[derive(Clone, Drop)]
+struct Deadline {
+    rt: HostRuntime,
+    began: Option<Instant>,
+    seconds: Option<u64>,
+}
+
+impl Stop for Deadline {
+    ghost can_ask = { λ deadline. true };
+
+    /// Whether the time is over, or the clock gives none.
+    fn is_asked(&self) -> bool {
+        let Some(seconds) = self.seconds else {
+            return false;
+        };
+        let Some(began) = self.began else {
+            return true;
+        };
+        match began.elapsed(&self.rt) {
+            Ok(passed) => seconds <= passed.as_secs(),
+            Err(_) => true,
+        }
+    }
+}
+
+/// The words of the command line, without the program's name. Words that aren't UTF-8 are no command.
+fn command_words(rt: &HostRuntime) -> Result<Vec<String>, GraftStatus> {
+    let args = match env::args(rt) {
+        Ok(args) => args,
+        Err(fault) if fault.kind() == io::ErrorKind::OutOfMemory => {
+            return Err(GraftStatus::NoMemory);
+        }
+        Err(_) => return Err(GraftStatus::Usage),
+    };
+    args.skip(1)
+        .collect(rt.alloc())
+        .map_err(|_| GraftStatus::NoMemory)
+}
+
+/// How many seconds what is asked for has, if its time is limited.
+fn seconds_of(request: Option<Request<'_>>) -> Option<u64> {
+    match request?.command {
+        Command::Thorough {
+            node: _,
+            budget: Budget::Seconds(seconds),
+        } => Some(seconds),
+        _ => None,
+    }
+}
+
+/// The run of these words over the files that they name, or over files without a name, which aren't touched.
+fn run(rt: HostRuntime, words: &[String]) -> Result<GraftStatus, AllocError> {
+    let alloc = rt.alloc();
+    let request = request_of(words);
+    let files = match request {
+        Some(request) => request.files,
+        None => NO_FILES,
+    };
+    let stop = Deadline {
+        rt,
+        began: Instant::now(&rt).ok(),
+        seconds: seconds_of(request),
+    };
+    let mut thorough = Thorough::new(alloc, SEED, stop.clone()?);
+    let mut document = FileSource::new(rt, String::from_str(alloc, files.instance)?);
+    let mut bundle = FileSource::new(rt, String::from_str(alloc, files.report)?);
+    let mut out = StdSink::new(rt);
+    Ok(graft_top_by(
+        alloc,
+        words,
+        &mut document,
+        &mut bundle,
+        &mut out,
+        &mut thorough,
+        &stop,
+    ))
+}
+
+fn main(rt: HostRuntime) -> ExitCode {
+    let status = match command_words(&rt) {
+        Ok(words) => run(rt, words.as_slice()).unwrap_or(GraftStatus::NoMemory),
+        Err(status) => status,
+    };
+    ExitCode::from(status.number())
+}

@@ -1,0 +1,114 @@
+-- How many lines a report has, how many cuts a node of it, and how many pins its rows.
+use Rattle.std.proofs.Common.{◌≡◌, inl, inr, ℕ, zero, suc, ◌+◌, ◌*◌, ◌^◌, ◌<◌, ◌≤◌, ◌&&◌, List, [], ◌∷◌, ◌++◌, length, map, refl, sym, ap, ◌∙◌, subst, arith, Option, Some, None}
+use Rattle.std.specs.Prelude.{slice_get, codes, IsFalse, IsSomeAnd}
+use Rattle.std.specs.List.{flat_map, range_with_len}
+use Rattle.std.proofs.lemmas.Bool.{cond_both}
+use Rattle.std.proofs.lemmas.List.{length-append, length-map, length_push}
+use Rattle.break_rules.specs.Lists.{Has}
+use Rattle.shift_instance.specs.declared.Duty.{Duty}
+use Rattle.shift_instance.specs.Problem.{Problem, shift_list, below}
+use Rattle.shift_instance.specs.Valid.{IsValid}
+use Rattle.shift_instance.specs.Rota.{heads_on, lists_of}
+use Rattle.head_splits.specs.declared.Cut.{Cut}
+use Rattle.head_splits.specs.Bound.{is_nil}
+use Rattle.head_splits.specs.Nodes.{Node, new_node}
+use Rattle.head_splits.proofs.Nodes.{Has-slice_get}
+use Rattle.certificate.specs.declared.Cert.{Cert}
+use Rattle.certificate.specs.declared.proof_lines.Line.{Line}
+use Rattle.certificate.specs.Accepted.{nodes_after}
+use Rattle.certificate.specs.Departing.{Spells}
+use Rattle.certificate.specs.LineText.{Line as TextLine, line_text, lines_text, proof_line}
+use Rattle.certificate.specs.Text.{cert_lines, plan_lines, proof_lines}
+use Rattle.report_grafts.specs.Faults.{HasOpenEnd}
+use Rattle.report_grafts.specs.Grafted.{nodes_made}
+use Rattle.report_grafts.specs.Pins.{pins_of, pins_of_shift, pins_on}
+use Rattle.report_grafts.proofs.Lines.{first_good}
+use Rattle.report_grafts.proofs.Plans.{made_is, tree_of}
+use Rattle.report_nodes.proofs.Grown.{CutsWithin, within_line}
+
+-- ---- lines
+
+-- a text has no fewer bytes than lines
+lines_in : (lines : List TextLine) → length lines ≤ length (lines_text lines)
+lines_in [] = omega arith
+lines_in (line ∷ lines) =
+    let rest : length lines ≤ length (lines_text lines) = lines_in lines in
+    let all : length (line_text line ++ lines_text lines) ≡ length (line_text line) + length (lines_text lines) = length-append (line_text line) (lines_text lines) in
+    let one : length (line_text line) ≡ length line + 1 = length_push line 10 in
+    omega (arith, rest, all, one)
+
+-- a certificate has more lines of text than proof lines
+lines_of_cert : (c : Cert) → length c.lines ≤ length (cert_lines c)
+lines_of_cert c =
+    let tail = proof_lines c.lines ++ codes "end" ∷ [] in
+    let a : length (plan_lines c.plan c.bound ++ tail) ≡ length (plan_lines c.plan c.bound) + length tail = length-append (plan_lines c.plan c.bound) tail in
+    let b : length tail ≡ length (proof_lines c.lines) + 1 = length_push (proof_lines c.lines) (codes "end") in
+    let d : length (map proof_line c.lines) ≡ length c.lines = length-map c.lines proof_line in
+    omega (arith, a, b, d)
+
+-- a certificate has no more proof lines than its text has bytes
+pub few_lines : (bytes : List ℕ) (c : Cert) → Spells bytes c → length c.lines ≤ length bytes
+few_lines bytes c s =
+    let text : length s.lines ≤ length (lines_text s.lines) = lines_in s.lines in
+    let same : length bytes ≡ length (lines_text s.lines) = ap (λ (bs : List ℕ). length bs) s.is in
+    let whole : length s.lines ≡ length (cert_lines c) + length s.is_text.notes = ap (λ (ls : List TextLine). length ls) s.is_text.is ∙ length-append (cert_lines c) s.is_text.notes in
+    let inner = lines_of_cert c in
+    omega (arith, text, same, whole, inner)
+
+-- ---- cuts
+
+within_lines : (i : Problem) (most : ℕ) (nodes last : List Node) (lines : List Line) → nodes_after i nodes lines ≡ Some last → CutsWithin most nodes → CutsWithin (most + length lines) last
+within_lines i most nodes last [] e w = let same : nodes ≡ last = cc in λ n there. let old : length n.cuts ≤ most = w n (subst (λ (ns : List Node). Has ns n) (sym same) there) in omega (arith, old)
+within_lines i most nodes last (line ∷ lines) e w =
+    let r = first_good i nodes last line lines e in
+    let rest = within_lines i (most + 1) r.0 last lines r.2 (within_line i most nodes r.0 r.1.node line r.1.at r.1.made w) in
+    λ n there. let old : length n.cuts ≤ most + 1 + length lines = rest n there in omega (arith, old)
+
+root_within : CutsWithin 0 (new_node [] ∷ [])
+root_within n there = elim there [ inl e ↦ subst (λ (z : Node). length z.cuts ≤ 0) e (omega arith) | inr gone ↦ absurd gone ]
+
+end_place : (o : Option Node) (cuts : List Cut) → IsSomeAnd o (λ n. IsFalse n.split × (n.cuts ≡ cuts)) → (n : Node) × (o ≡ Some n) × (n.cuts ≡ cuts)
+end_place None cuts h = absurd h
+end_place (Some n) cuts h = (n, refl, h.1)
+
+-- an unsplit node of a certificate has no more cuts than the certificate has lines
+pub few_cuts : (i : Problem) (whole : Cert) (node : ℕ) (cuts : List Cut) → HasOpenEnd i whole node cuts → length cuts ≤ length whole.lines
+few_cuts i whole node cuts h =
+    let t = tree_of i whole h.0 in
+    let there = end_place (slice_get (nodes_made i whole.lines) node) cuts h.1 in
+    let at : slice_get t.0 node ≡ Some there.0 = ap (λ (ns : List Node). slice_get ns node) (sym (made_is i whole.lines t.0 t.1)) ∙ there.1 in
+    let w : length there.0.cuts ≤ 0 + length whole.lines = within_lines i 0 (new_node [] ∷ []) t.0 whole.lines t.1 root_within there.0 (Has-slice_get t.0 node there.0 at) in
+    let same : length there.0.cuts ≡ length cuts = ap (λ (cs : List Cut). length cs) there.2 in
+    omega (arith, w, same)
+
+-- ---- pins
+
+flat_length : {A B : Type 0} (f : A → List B) (most : ℕ) (xs : List A) → ((x : A) → length (f x) ≤ most) → length (flat_map f xs) ≤ most * length xs
+flat_length f most [] h = omega arith
+flat_length f most (x ∷ xs) h =
+    let a : length (f x ++ flat_map f xs) ≡ length (f x) + length (flat_map f xs) = length-append (f x) (flat_map f xs) in
+    let here : length (f x) ≤ most = h x in
+    let rest : length (flat_map f xs) ≤ most * length xs = flat_length f most xs h in
+    omega (arith, a, here, rest)
+
+count_below : (from n : ℕ) → length (range_with_len from n) ≡ n
+count_below from zero = refl
+count_below from (suc n) = let rest = count_below (from + 1) n in omega (arith, rest)
+
+pins_of_one : (i : Problem) (rota : List Duty) (s : ℕ) → i.days ≤ 7 → length (pins_of_shift i rota s) ≤ 14
+pins_of_one i rota s few =
+    cond_both (is_nil (lists_of i s)) [] (flat_map (λ day. pins_on s day (heads_on rota s day)) (below i.days)) (λ (cs : List Cut). length cs ≤ 14)
+    (λ e. omega arith)
+    (λ e.
+    let all : length (flat_map (λ day. pins_on s day (heads_on rota s day)) (below i.days)) ≤ 2 * length (below i.days) = flat_length (λ day. pins_on s day (heads_on rota s day)) 2 (below i.days) (λ day. omega arith) in
+    let days : length (below i.days) ≡ i.days = count_below 0 i.days in
+    omega (arith, all, days, few))
+
+-- rows have few pins
+pub few_pins : (i : Problem) (rota : List Duty) → IsValid i → length (pins_of i rota) ≤ 2 ^ 28
+few_pins i rota valid =
+    let days : i.days ≤ 7 = valid.days in
+    let shifts : length (shift_list i) ≤ 1024 = valid.shifts in
+    let all : length (pins_of i rota) ≤ 14 * length (below (length (shift_list i))) = flat_length (pins_of_shift i rota) 14 (below (length (shift_list i))) (λ s. pins_of_one i rota s days) in
+    let count : length (below (length (shift_list i))) ≡ length (shift_list i) = count_below 0 (length (shift_list i)) in
+    omega (arith, all, count, shifts)

@@ -1,0 +1,177 @@
+//! The words of the command line.
+ghost use Rattle.std.specs.Prelude.{◌≡◌, ◌≤◌, ◌-◌, ◌^◌, IfSome, map, string_bytes};
+ghost use Rattle.std.specs.Option.{option_map};
+ghost use Rattle.graft_runs.specs.Words.{asked, below_of, breaks_of, is_file, nodes_of, number_within, request_of, steps_of, thorough_of, timed_of};
+
+use crate::numbers::number_within;
+
+/// The most steps of a run.
+const STEPS_MOST: u64 = 1_000_000_000;
+
+/// The most nodes of a list.
+const NODES_MOST: u64 = 1_000_000_000;
+
+/// The most seconds of a run.
+const SECONDS_MOST: u64 = 1_000_000_000;
+
+/// How long a thorough search goes on that leaves some node open.
+#[derive(Clone, Copy, Drop)]
+pub enum Budget {
+    /// For so many steps.
+    Steps(u64),
+    /// For so many seconds, which whoever runs it measures.
+    Seconds(u64),
+}
+
+/// What is done with a report.
+#[derive(Clone, Copy, Drop)]
+pub enum Command {
+    /// What lies below a node is searched for so many steps, and what comes of it is grafted into the report.
+    Below { node: u32, steps: u64 },
+    /// The same by the thorough adviser, for so long.
+    Thorough { node: u32, budget: Budget },
+    /// The breaks of its rows are planned anew, in so many steps.
+    Breaks { steps: u64 },
+    /// Its open nodes are listed, no more than so many.
+    Nodes { most: u64 },
+}
+
+/// The files that a command names.
+#[derive(Clone, Copy, Drop)]
+pub struct Files<'a> {
+    /// The path of the instance document.
+    pub instance: &'a str,
+    /// The path of the report.
+    pub report: &'a str,
+}
+
+/// What the words of a command line ask for.
+#[derive(Clone, Copy, Drop)]
+pub struct Request<'a> {
+    /// The command.
+    pub command: Command,
+    /// Its files.
+    pub files: Files<'a>,
+}
+
+/// Whether a word may name a file: it isn't empty and doesn't begin with `-`.
+fn may_be_file(word: &str) -> bool
+    ensures { result ≡ is_file word.now }
+{
+    match word.as_bytes() {
+        [] => false,
+        [first, ..] => *first != b'-',
+    }
+}
+
+/// A command with its files, where both words may name files.
+fn request_with<'a>(instance: &'a str, report: &'a str, command: Command) -> Option<Request<'a>>
+    ensures { option_map (λ r. record { command = r.command; files = record { instance = r.files.instance.now; report = r.files.report.now } }) result ≡ asked instance.now report.now command }
+{
+    if may_be_file(instance) && may_be_file(report) {
+        let files = Files { instance, report };
+        Some(Request { command, files })
+    } else {
+        None
+    }
+}
+
+/// The number of a node.
+fn node_of(word: &str) -> Option<u32>
+    ensures { result ≡ number_within (2 ^ 32 - 1) word.now }
+{
+    let node = number_within(u64::from(u32::MAX), word)?;
+    Some(node as u32)
+}
+
+/// The command `below` of a node and a number of steps.
+fn below(node: &str, steps: &str) -> Option<Command>
+    ensures command { result ≡ below_of node.now steps.now }
+    ensures few { IfSome result (λ c. steps_of c ≤ 10 ^ 9) }
+{
+    let node = node_of(node)?;
+    let steps = number_within(STEPS_MOST, steps)?;
+    Some(Command::Below { node, steps })
+}
+
+/// The thorough search below a node for a number of steps.
+fn thorough(node: &str, steps: &str) -> Option<Command>
+    ensures command { result ≡ thorough_of node.now steps.now }
+    ensures few { IfSome result (λ c. steps_of c ≤ 10 ^ 9) }
+{
+    let node = node_of(node)?;
+    let steps = number_within(STEPS_MOST, steps)?;
+    let budget = Budget::Steps(steps);
+    Some(Command::Thorough { node, budget })
+}
+
+/// The thorough search below a node for a number of seconds.
+fn timed(node: &str, seconds: &str) -> Option<Command>
+    ensures command { result ≡ timed_of node.now seconds.now }
+    ensures few { IfSome result (λ c. steps_of c ≤ 10 ^ 9) }
+{
+    let node = node_of(node)?;
+    let seconds = number_within(SECONDS_MOST, seconds)?;
+    let budget = Budget::Seconds(seconds);
+    Some(Command::Thorough { node, budget })
+}
+
+/// The command `breaks` of a number of steps.
+fn breaks(steps: &str) -> Option<Command>
+    ensures command { result ≡ breaks_of steps.now }
+    ensures few { IfSome result (λ c. steps_of c ≤ 10 ^ 9) }
+{
+    let steps = number_within(STEPS_MOST, steps)?;
+    Some(Command::Breaks { steps })
+}
+
+/// The command `nodes` of a number of nodes.
+fn nodes(most: &str) -> Option<Command>
+    ensures command { result ≡ nodes_of most.now }
+    ensures few { IfSome result (λ c. steps_of c ≤ 10 ^ 9) }
+{
+    let most = number_within(NODES_MOST, most)?;
+    Some(Command::Nodes { most })
+}
+
+/// What `below INSTANCE REPORT NODE STEPS`, `below INSTANCE REPORT NODE STEPS --thorough`, `below INSTANCE REPORT NODE --seconds T --thorough`,
+/// `breaks INSTANCE REPORT STEPS` and `nodes INSTANCE REPORT N` ask for, and `None` of any other words.
+pub fn request_of(words: &[String]) -> Option<Request<'_>>
+    ensures asked { option_map (λ r. record { command = r.command; files = record { instance = r.files.instance.now; report = r.files.report.now } }) result ≡ request_of (map string_bytes words.now) }
+    ensures few { IfSome result (λ r. steps_of r.command ≤ 10 ^ 9) }
+{
+    match words {
+        [name, instance, report, node, steps] if name.as_str() == "below" => request_with(
+            instance.as_str(),
+            report.as_str(),
+            below(node.as_str(), steps.as_str())?,
+        ),
+        [name, instance, report, node, steps, last]
+            if name.as_str() == "below" && last.as_str() == "--thorough" => {
+            request_with(
+                instance.as_str(),
+                report.as_str(),
+                thorough(node.as_str(), steps.as_str())?,
+            )
+        }
+        [name, instance, report, node, flag, seconds, last]
+            if name.as_str() == "below"
+                && flag.as_str() == "--seconds"
+                && last.as_str() == "--thorough" => {
+            request_with(
+                instance.as_str(),
+                report.as_str(),
+                timed(node.as_str(), seconds.as_str())?,
+            )
+        }
+        [name, instance, report, steps] if name.as_str() == "breaks" => request_with(
+            instance.as_str(),
+            report.as_str(),
+            breaks(steps.as_str())?,
+        ),
+        [name, instance, report, most] if name.as_str() == "nodes" => {
+            request_with(instance.as_str(), report.as_str(), nodes(most.as_str())?)
+        }
+        _ => None,
+    }
+}
