@@ -1,12 +1,16 @@
 //! `graft_run below INSTANCE REPORT NODE STEPS` searches below one node of a report, apart from the search that made it, and writes the
 //! report with what it found; `graft_run breaks INSTANCE REPORT STEPS` plans the breaks of a report's rows anew; `graft_run nodes
-//! INSTANCE REPORT N` lists the open nodes below which can be searched.
+//! INSTANCE REPORT N` lists the open nodes below which can be searched; `graft_run join INSTANCE REPORT PART..` joins what searches below
+//! several nodes of a report found.
 #![tactic(auto)]
 
 ghost use Rattle.std.specs.Prelude.{true};
 
 use advice::Stop;
-use graft_runs::{Budget, Command, Files, GraftStatus, Request, graft_top_by, request_of};
+use graft_runs::{
+    Budget, Command, Files, GraftStatus, JoinRequest, JoinStatus, Request, graft_top_by, join_of,
+    join_top, request_of,
+};
 use plan_base::{FileSource, StdSink};
 use std::alloc::AllocError;
 use std::process::ExitCode;
@@ -102,10 +106,42 @@ fn run(rt: HostRuntime, words: &[String]) -> Result<GraftStatus, AllocError> {
     ))
 }
 
+/// Sources of the files of these paths.
+fn sources(rt: HostRuntime, paths: &[String]) -> Result<Vec<FileSource<HostRuntime>>, AllocError> {
+    let mut list = Vec::new(rt.alloc());
+    for path in paths {
+        list.push(FileSource::new(rt, path.clone()?))?;
+    }
+    Ok(list)
+}
+
+/// The run of words that join parts into a report.
+fn run_join(
+    rt: HostRuntime,
+    words: &[String],
+    asked: JoinRequest<'_>,
+) -> Result<JoinStatus, AllocError> {
+    let alloc = rt.alloc();
+    let mut document = FileSource::new(rt, String::from_str(alloc, asked.files.instance)?);
+    let mut bundle = FileSource::new(rt, String::from_str(alloc, asked.files.report)?);
+    let parts = sources(rt, asked.parts)?;
+    let mut out = StdSink::new(rt);
+    Ok(join_top(alloc, words, &mut document, &mut bundle, parts, &mut out))
+}
+
+/// The number with which a run of these words ends.
+fn number_of(rt: HostRuntime, words: &[String]) -> u8 {
+    match join_of(words) {
+        Some(asked) => run_join(rt, words, asked)
+            .unwrap_or(JoinStatus::NoMemory)
+            .number(),
+        None => run(rt, words).unwrap_or(GraftStatus::NoMemory).number(),
+    }
+}
+
 fn main(rt: HostRuntime) -> ExitCode {
-    let status = match command_words(&rt) {
-        Ok(words) => run(rt, words.as_slice()).unwrap_or(GraftStatus::NoMemory),
-        Err(status) => status,
-    };
-    ExitCode::from(status.number())
+    ExitCode::from(match command_words(&rt) {
+        Ok(words) => number_of(rt, words.as_slice()),
+        Err(status) => status.number(),
+    })
 }

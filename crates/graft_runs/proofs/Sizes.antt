@@ -24,7 +24,7 @@ use Rattle.report_grafts.specs.Grafted.{nodes_made}
 use Rattle.report_grafts.specs.Pins.{pins_of, pins_of_shift, pins_on}
 use Rattle.report_grafts.proofs.Lines.{first_good}
 use Rattle.report_grafts.proofs.Plans.{made_is, tree_of}
-use Rattle.report_nodes.proofs.Grown.{CutsWithin, within_line}
+use Rattle.report_nodes.proofs.Growing.{CutsWithin, within_line}
 
 -- ---- lines
 
@@ -65,7 +65,7 @@ within_lines i most nodes last (line ∷ lines) e w =
     λ n there. let old : length n.cuts ≤ most + 1 + length lines = rest n there in omega (arith, old)
 
 root_within : CutsWithin 0 (new_node [] ∷ [])
-root_within n there = elim there [ inl e ↦ subst (λ (z : Node). length z.cuts ≤ 0) e (omega arith) | inr gone ↦ absurd gone ]
+root_within n there = elim there [ inl e ↦ subst (λ (z : Node). length z.cuts ≤ 0) e (omega arith) | inr no ↦ absurd no ]
 
 end_place : (o : Option Node) (cuts : List Cut) → IsSomeAnd o (λ n. IsFalse n.split × (n.cuts ≡ cuts)) → (n : Node) × (o ≡ Some n) × (n.cuts ≡ cuts)
 end_place None cuts h = absurd h

@@ -14,10 +14,10 @@ use std::alloc::Global;
 use std::fmt::Write;
 
 /// Adds the line of an open node.
-fn add_node(text: &mut String, found: &OpenNode) -> Result<(), NoMemory>
-    ensures { OnOk result (string_bytes text.new ≡ string_bytes text.old ++ line_text (open_line found.now)) }
+fn add_node(text: &mut String, open: &OpenNode) -> Result<(), NoMemory>
+    ensures { OnOk result (string_bytes text.new ≡ string_bytes text.old ++ line_text (open_line open.now)) }
 {
-    let (node, floor, cuts) = (found.node, found.floor, found.cuts);
+    let (node, floor, cuts) = (open.node, open.floor, open.cuts);
     write!(text, "node {node} floor {floor} cuts {cuts}\n")
 }
 
@@ -25,8 +25,8 @@ fn add_node(text: &mut String, found: &OpenNode) -> Result<(), NoMemory>
 fn add_nodes(text: &mut String, list: &[OpenNode]) -> Result<(), NoMemory>
     ensures { OnOk result (string_bytes text.new ≡ string_bytes text.old ++ lines_text (map open_line list.now)) }
 {
-    for found in list {
-        add_node(text, found)?;
+    for open in list {
+        add_node(text, open)?;
     }
     Ok(())
 }

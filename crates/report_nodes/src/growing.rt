@@ -191,7 +191,7 @@ fn settle_at(
 }
 
 /// The nodes after a proof line, where it is good for them.
-fn grown(
+pub(crate) fn grown(
     alloc: Global,
     instance: &Instance,
     buffers: &mut Buffers,

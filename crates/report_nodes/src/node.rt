@@ -48,6 +48,17 @@ impl TreeNode {
         })
     }
 
+    /// The node once more.
+    pub(crate) fn copy(&self) -> Result<TreeNode, NoMemory>
+        ensures { IfOk result (λ copy. copy ≡ self.now) }
+    {
+        Ok(TreeNode {
+            cuts: self.copy_of_cuts()?,
+            floor: self.floor,
+            split: self.split,
+        })
+    }
+
     /// How many cuts the node has.
     pub(crate) fn cut_count(&self) -> usize
         ensures { result ≡ length self.now.cuts }
