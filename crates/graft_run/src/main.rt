@@ -7,10 +7,8 @@
 ghost use Rattle.std.specs.Prelude.{true};
 
 use advice::Stop;
-use graft_runs::{
-    Budget, Command, Files, GraftStatus, JoinRequest, JoinStatus, Request, graft_top_by, join_of,
-    join_top, request_of,
-};
+use graft_runs::{Budget, Command, Files, GraftStatus, Request, graft_top_by, request_of};
+use join_runs::{JoinRequest, JoinStatus, join_of, join_top};
 use plan_base::{FileSource, StdSink};
 use std::alloc::AllocError;
 use std::process::ExitCode;

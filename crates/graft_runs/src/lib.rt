@@ -4,7 +4,6 @@
 
 mod below;
 mod breaks;
-mod joining;
 mod nodes;
 mod numbers;
 mod reading;
@@ -13,7 +12,6 @@ mod running;
 mod status;
 mod words;
 
-pub use joining::join_top;
 pub use running::{graft_top, graft_top_by};
-pub use status::{GraftStatus, JoinStatus, PartCause};
-pub use words::{Budget, Command, Files, JoinRequest, Request, join_of, request_of};
+pub use status::GraftStatus;
+pub use words::{Budget, Command, Files, Request, request_of};

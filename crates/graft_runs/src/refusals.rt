@@ -3,11 +3,9 @@ ghost use Rattle.std.specs.Prelude.{◌≡◌, ◌++◌, IfOk, OnOk, string_byte
 ghost use Rattle.certificate.specs.LineText.{line_text};
 ghost use Rattle.graft_runs.specs.Texts.{fault_text, refused_numbers, IsNamed};
 
-use crate::status::PartCause;
 use break_rules::NoMemory;
 use cert_check::Refused;
 use report_grafts::GraftFault;
-use report_joins::PartFault;
 use std::alloc::{AllocError, Global};
 use std::fmt::Write;
 
@@ -52,47 +50,6 @@ pub(crate) fn refusal_line(alloc: Global, fault: GraftFault) -> Result<String, N
     ensures named { IfOk result (λ _. IsNamed fault) }
 {
     let mut line = fault_text(alloc, fault)?;
-    line.push_str("\n")?;
-    Ok(line)
-}
-
-/// Adds the numbers of the cause why a report isn't a part.
-fn add_part_cause(line: &mut String, cause: PartCause) -> Result<(), NoMemory> {
-    let fault = match cause {
-        PartCause::NoReport { line: at } => return write!(line, "1 {at}"),
-        PartCause::Fault(fault) => fault,
-    };
-    match fault {
-        PartFault::Refused(why) => {
-            line.push_str("2 ")?;
-            add_cause(line, why)
-        }
-        PartFault::OtherLines { at } => {
-            let at = at.saturating_add(1);
-            write!(line, "3 {at}")
-        }
-        PartFault::NothingFurther => line.push_str("4"),
-        PartFault::NoEnd { node } => write!(line, "5 {node}"),
-        PartFault::OtherNode { at } => {
-            let at = at.saturating_add(1);
-            write!(line, "6 {at}")
-        }
-        PartFault::OtherPlan => line.push_str("7"),
-        PartFault::SameNode { node } => write!(line, "8 {node}"),
-        PartFault::TooMany => line.push_str("9"),
-        PartFault::NotGood { at } => {
-            let at = at.saturating_add(1);
-            write!(line, "10 {at}")
-        }
-        PartFault::NoMemory => Err(AllocError),
-    }
-}
-
-/// The line of a report that isn't a part, by its number among the parts: `join refused`, that number, and the cause's. There is none where
-/// it was out of memory.
-pub(crate) fn part_line(alloc: Global, part: u64, cause: PartCause) -> Result<String, NoMemory> {
-    let mut line = format!(in alloc; "join refused {part} ")?;
-    add_part_cause(&mut line, cause)?;
     line.push_str("\n")?;
     Ok(line)
 }

@@ -175,32 +175,3 @@ pub fn request_of(words: &[String]) -> Option<Request<'_>>
         _ => None,
     }
 }
-
-/// What `join INSTANCE REPORT PART..` asks for.
-#[derive(Clone, Copy, Drop)]
-pub struct JoinRequest<'a> {
-    /// The document and the report.
-    pub files: Files<'a>,
-    /// The paths of the parts, at least one.
-    pub parts: &'a [String],
-}
-
-/// Whether each word may name a file.
-fn may_be_files(words: &[String]) -> bool {
-    words.iter().all(|word| may_be_file(word.as_str()))
-}
-
-/// What `join INSTANCE REPORT PART..` asks for, and `None` of any other words.
-pub fn join_of(words: &[String]) -> Option<JoinRequest<'_>> {
-    match words {
-        [name, instance, report, parts @ ..]
-            if name.as_str() == "join" && !parts.is_empty() && may_be_files(&words[1..]) => {
-            let files = Files {
-                instance: instance.as_str(),
-                report: report.as_str(),
-            };
-            Some(JoinRequest { files, parts })
-        }
-        _ => None,
-    }
-}

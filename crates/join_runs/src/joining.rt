@@ -1,12 +1,11 @@
 //! The run of `graft_run join`.
-use crate::reading::read_report;
-use crate::refusals::{part_line, refusal_line};
-use crate::status::{GraftStatus, JoinStatus, PartCause};
+use crate::reading::{Unreported, read_report};
+use crate::refusals::{part_line, refused_line};
+use crate::status::{JoinStatus, PartCause};
 use crate::words::join_of;
 use check_runs::BundleFault;
 use instance_input::{Unread, read_instance};
 use plan_base::{Failed, Sink, Source, write_all};
-use report_grafts::GraftFault;
 use report_joins::{Joining, PartFault};
 use rota_writer::report;
 use shift_instance::Instance;
@@ -26,12 +25,12 @@ fn join_parts<P: Source + Drop>(
         let mut source = source;
         let cert = match read_report(alloc, &mut source) {
             Ok(cert) => cert,
-            Err(GraftStatus::ReadFault) => return Err(JoinStatus::ReadFault),
-            Err(GraftStatus::Bundle(BundleFault::TooLong)) => {
+            Err(Unreported::ReadFault) => return Err(JoinStatus::ReadFault),
+            Err(Unreported::Bundle(BundleFault::TooLong)) => {
                 let cause = PartCause::NoReport { line: 0 };
                 return Err(JoinStatus::NoPart { part, cause });
             }
-            Err(GraftStatus::Bundle(BundleFault::Text { line })) => {
+            Err(Unreported::Bundle(BundleFault::Text { line })) => {
                 let cause = PartCause::NoReport { line };
                 return Err(JoinStatus::NoPart { part, cause });
             }
@@ -58,8 +57,8 @@ fn joined_text<T: Source, P: Source + Drop>(
 ) -> Result<Vec<u8>, JoinStatus> {
     let whole = match read_report(alloc, bundle) {
         Ok(whole) => whole,
-        Err(GraftStatus::ReadFault) => return Err(JoinStatus::ReadFault),
-        Err(GraftStatus::Bundle(why)) => return Err(JoinStatus::Bundle(why)),
+        Err(Unreported::ReadFault) => return Err(JoinStatus::ReadFault),
+        Err(Unreported::Bundle(why)) => return Err(JoinStatus::Bundle(why)),
         Err(_) => return Err(JoinStatus::NoMemory),
     };
     let joining = match Joining::of(alloc, instance, whole) {
@@ -88,7 +87,7 @@ fn tell<K: Sink>(out: &mut K, bytes: &[u8], written: JoinStatus) -> JoinStatus {
 /// Writes the line of a refusal, where there is one.
 fn tell_refusal<K: Sink>(alloc: Global, out: &mut K, status: JoinStatus) -> JoinStatus {
     let line = match &status {
-        JoinStatus::Refused(why) => refusal_line(alloc, GraftFault::Refused(*why)),
+        JoinStatus::Refused(why) => refused_line(alloc, *why),
         JoinStatus::NoPart { part, cause } => part_line(alloc, *part, *cause),
         _ => return status,
     };
