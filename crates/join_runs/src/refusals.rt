@@ -43,10 +43,6 @@ fn add_part_cause(line: &mut String, cause: PartCause) -> Result<(), NoMemory> {
         PartFault::OtherPlan => line.push_str("7"),
         PartFault::SameNode { node } => write!(line, "8 {node}"),
         PartFault::TooMany => line.push_str("9"),
-        PartFault::NotGood { at } => {
-            let at = at.saturating_add(1);
-            write!(line, "10 {at}")
-        }
         PartFault::NoMemory => Err(AllocError),
     }
 }
