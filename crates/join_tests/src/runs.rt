@@ -70,7 +70,7 @@ pub(crate) fn run(
         words.as_slice(),
         &mut instance,
         &mut bundle,
-        sources,
+        sources.as_mut_slice(),
         &mut sink,
     );
     Ok((status, String::from_utf8_lossy(alloc, sink.bytes())?))
