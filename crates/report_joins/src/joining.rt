@@ -129,11 +129,10 @@ fn floor_with(
     node: usize,
     below: &NodeTree,
 ) -> Result<u64, NoMemory>
-    requires there { node < length ends.now }
-    requires some { 0 < length below.now }
+    requires { node < length ends.now }
     ensures { IfOk result (λ floor. floor ≡ least_floor (with_below ends.now node below.now)) }
 {
-    let all = ends.copy(alloc)?.with_below(node, below.copy(alloc)?)?;
+    let all = ends.copy(alloc)?.with_below(node, below)?;
     Ok(all.least_floor(TOP))
 }
 
@@ -267,7 +266,7 @@ impl Joining {
             plan,
         } = self;
         let lines = grafted(alloc, lines, tree.len(), node, &run.lines)?;
-        let tree = tree.with_below(node as usize, below)?;
+        let tree = tree.with_below(node as usize, &below)?;
         let nodes = with_number(nodes, node)?;
         let plan = cheaper_plan(plan, &part.plan)?;
         Ok(Joining {

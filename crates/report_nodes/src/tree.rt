@@ -28,23 +28,23 @@ fn least_floor(nodes: &[TreeNode], cost: u64) -> u64
     floor
 }
 
+/// Nodes with copies of others behind them.
+fn with_copies(nodes: Vec<TreeNode>, more: &[TreeNode]) -> Result<Vec<TreeNode>, NoMemory>
+    ensures { IfOk result (λ all. all.items ≡ nodes.items ++ more.now) }
+{
+    let mut nodes = nodes;
+    for node in more {
+        nodes.push(node.copy()?)?;
+    }
+    Ok(nodes)
+}
+
 /// A node once more, alone.
 fn alone(alloc: Global, node: &TreeNode) -> Result<Vec<TreeNode>, NoMemory>
     ensures { IfOk result (λ nodes. nodes.items ≡ node.now ∷ []) }
 {
     let copy = node.copy()?;
     let nodes = vec![in alloc; copy]?;
-    Ok(nodes)
-}
-
-/// Nodes with others behind them.
-fn with_more(nodes: Vec<TreeNode>, more: Vec<TreeNode>) -> Result<Vec<TreeNode>, NoMemory>
-    ensures { IfOk result (λ all. all.items ≡ nodes.items ++ more.items) }
-{
-    let mut nodes = nodes;
-    for node in more {
-        nodes.push(node)?;
-    }
     Ok(nodes)
 }
 
@@ -112,10 +112,7 @@ impl NodeTree {
     pub fn copy(&self, alloc: Global) -> Result<NodeTree, NoMemory>
         ensures { IfOk result (λ copy. copy ≡ self.now) }
     {
-        let mut nodes = Vec::new(alloc);
-        for node in &self.nodes {
-            nodes.push(node.copy()?)?;
-        }
+        let nodes = with_copies(Vec::new(alloc), &self.nodes)?;
         Ok(NodeTree { nodes })
     }
 
@@ -130,15 +127,18 @@ impl NodeTree {
     }
 
     /// The nodes with those that were made of one of them alone.
-    pub fn with_below(self, node: usize, below: NodeTree) -> Result<NodeTree, NoMemory>
-        requires there { node < length self }
-        requires some { 0 < length below }
-        ensures { IfOk result (λ tree. tree ≡ with_below self node below) }
+    pub fn with_below(self, node: usize, below: &NodeTree) -> Result<NodeTree, NoMemory>
+        requires { node < length self }
+        ensures { IfOk result (λ tree. tree ≡ with_below self node below.now) }
     {
-        let mut rest = below.nodes;
-        let first = rest.remove(0);
-        let nodes = with_more(with_node(self.nodes, node, first), rest)?;
-        Ok(NodeTree { nodes })
+        match below.nodes.as_slice() {
+            [] => Ok(self),
+            [first, rest @ ..] => {
+                let nodes = with_node(self.nodes, node, first.copy()?);
+                let nodes = with_copies(nodes, rest)?;
+                Ok(NodeTree { nodes })
+            }
+        }
     }
 
     /// How many nodes there are.
