@@ -2,6 +2,7 @@
 ghost use Rattle.std.specs.Prelude.{◌≡◌, ◌∷◌, ◌++◌, ◌+◌, ◌*◌, ◌≤◌, ◌<◌, ◌^◌, [], All, IfErr, IfOk, IsFalse, IsTrue, MatchBool, MatchOption, Some, map, length};
 ghost use Rattle.break_rules.specs.Lists.{Has};
 ghost use Rattle.certificate.specs.Accepted.{is_accepted, least_floor, node_of, nodes_of};
+ghost use Rattle.certificate.specs.Text.{AgreesWith};
 ghost use Rattle.report_grafts.specs.Grafted.{grafted_line, grafted_lines, status_of};
 ghost use Rattle.report_grafts.specs.Run.{divisions};
 ghost use Rattle.report_joins.specs.Faults.{IsPartFault, IsReadFault, IsRefusal};
@@ -283,7 +284,9 @@ impl Joining {
     /// The report with all parts that were joined into it: the checker accepts it, its bound is at least the report's, and its plan is the
     /// cheapest of all.
     pub fn into_cert(self, alloc: Global) -> Result<Cert, NoMemory>
-        ensures { IfOk result (IsJoinedCert self) }
+        ensures joined { IfOk result (IsJoinedCert self) }
+        ensures agrees { IfOk result (λ cert. AgreesWith cert.status cert.plan cert.bound) }
+        ensures few { IfOk result (λ cert. length cert.lines ≤ 2 ^ 30) }
     {
         let bound = self.tree.least_floor(TOP);
         let lines = Lines::from_slice(alloc, &self.lines)?;
