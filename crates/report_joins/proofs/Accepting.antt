@@ -65,8 +65,8 @@ bad_plan i c e = and_right (is_bound i c.lines c.bound) (is_plan i c.plan) e
 pub plan_of : (i : Problem) (c : Cert) → is_accepted i c ≡ true → is_plan i c.plan ≡ true
 plan_of i c h = (and_parts (is_bound i c.lines c.bound) (is_plan i c.plan) h).1
 
-pub bound_of : (i : Problem) (c : Cert) (nodes : List Node) → is_accepted i c ≡ true → nodes_of i c.lines ≡ Some nodes → c.bound ≤ least_floor nodes
-bound_of i c nodes h e = leb-true c.bound (least_floor nodes) (sym (bound_is i c nodes e) ∙ (and_parts (is_bound i c.lines c.bound) (is_plan i c.plan) h).0)
+pub accepted_bound : (i : Problem) (c : Cert) (nodes : List Node) → is_accepted i c ≡ true → nodes_of i c.lines ≡ Some nodes → c.bound ≤ least_floor nodes
+accepted_bound i c nodes h e = leb-true c.bound (least_floor nodes) (sym (bound_is i c nodes e) ∙ (and_parts (is_bound i c.lines c.bound) (is_plan i c.plan) h).0)
 
 -- a certificate without lines that claims nothing is accepted by its plan alone
 pub bare_plan : (i : Problem) (c : Cert) → c.lines ≡ [] → c.bound ≡ 0 → is_accepted i c ≡ is_plan i c.plan

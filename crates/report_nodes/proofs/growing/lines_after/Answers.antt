@@ -1,4 +1,4 @@
-use Rattle.std.proofs.Common.{◌≡◌, ◌∷◌, [], ◌∙◌, ap, subst, sym, List, Option, Some, Vec, Global}
+use Rattle.std.proofs.Common.{◌≡◌, ◌∷◌, [], ◌∙◌, ap, subst, sym, List, Some}
 use Rattle.std.specs.Option.{option_map}
 use Rattle.certificate.specs.declared.proof_lines.Line.{Line}
 use Rattle.certificate.specs.KeptLines.{Reads}
