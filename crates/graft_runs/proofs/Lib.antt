@@ -1,3 +1,5 @@
+pub mod Endings
 pub mod Sizes
 pub mod Texts
-pub mod Endings
+pub mod Planned
+pub mod Completed

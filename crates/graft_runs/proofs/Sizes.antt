@@ -24,7 +24,7 @@ use Rattle.report_grafts.specs.Grafted.{nodes_made}
 use Rattle.report_grafts.specs.Pins.{pins_of, pins_of_shift, pins_on}
 use Rattle.report_grafts.proofs.Lines.{first_good}
 use Rattle.report_grafts.proofs.Plans.{made_is, tree_of}
-use Rattle.report_nodes.proofs.Growing.{CutsWithin, within_line}
+use Rattle.report_nodes.proofs.Grown.{CutsWithin, within_line}
 
 -- ---- lines
 
