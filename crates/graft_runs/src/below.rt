@@ -39,7 +39,8 @@ fn grown(
     ensures fault { IfErr result (IsExportFault instance.now whole.now node) }
 {
     let _valid = instance.slots();
-    graft(alloc, instance, whole, node, run)
+    let cert = graft(alloc, instance, whole, node, run)?;
+    Ok(cert)
 }
 
 /// The text of that report.
