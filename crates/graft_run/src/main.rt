@@ -122,9 +122,16 @@ fn run_join(
     let alloc = rt.alloc();
     let mut document = FileSource::new(rt, String::from_str(alloc, asked.files.instance)?);
     let mut bundle = FileSource::new(rt, String::from_str(alloc, asked.files.report)?);
-    let parts = sources(rt, asked.parts)?;
+    let mut parts = sources(rt, asked.parts)?;
     let mut out = StdSink::new(rt);
-    Ok(join_top(alloc, words, &mut document, &mut bundle, parts, &mut out))
+    Ok(join_top(
+        alloc,
+        words,
+        &mut document,
+        &mut bundle,
+        parts.as_mut_slice(),
+        &mut out,
+    ))
 }
 
 /// The number with which a run of these words ends.

@@ -2,6 +2,7 @@
 #![tactic(auto)]
 
 mod joining;
+mod parts;
 mod reading;
 mod refusals;
 mod status;

@@ -1,14 +1,17 @@
 //! How a run of `graft_run join` ends.
+ghost use Rattle.std.specs.Prelude.{◌≡◌};
+ghost use Rattle.join_runs.specs.Status.{status_number};
+
 use cert_check::Refused;
 use check_runs::BundleFault;
 use instance_json::ReadRefusal;
 use report_joins::PartFault;
 
-/// Why a report isn't joined as a part.
+/// Why a file isn't joined as a part.
 #[derive(Clone, Copy, Drop)]
 pub enum PartCause {
-    /// It isn't a report: its text departs at this line, which is 0 where it is too long.
-    NoReport { line: u64 },
+    /// It has more than `BUNDLE_MAX` bytes, or it isn't a report.
+    NoReport(BundleFault),
     /// It isn't a part of the report. Never holds `NoMemory`.
     Fault(PartFault),
 }
@@ -20,7 +23,7 @@ pub enum JoinStatus {
     Written,
     /// The checker refuses the report, and the line that says why was written. Never holds `NoMemory`.
     Refused(Refused),
-    /// A report isn't such a part, by its number among the parts from 1 on, and the line that says why was written.
+    /// A file isn't such a part, by its number among the parts from 1 on, and the line that says why was written.
     NoPart { part: u64, cause: PartCause },
     /// The words aren't `join INSTANCE REPORT PART..`, with at least one part, and files that aren't empty and don't begin with `-`.
     Usage,
@@ -38,7 +41,9 @@ pub enum JoinStatus {
 
 impl JoinStatus {
     /// The number with which the program ends.
-    pub fn number(&self) -> u8 {
+    pub fn number(&self) -> u8
+        ensures { result ≡ status_number self.now }
+    {
         match self {
             JoinStatus::Written => 0,
             JoinStatus::Refused(_) => 1,

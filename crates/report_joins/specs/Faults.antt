@@ -1,18 +1,19 @@
 -- Why a part isn't joined into a certificate. Source: this project's profile.
-use Rattle.std.specs.Prelude.{◌≡◌, ◌≢◌, ◌+◌, ◌<◌, ◌^◌, ⊤, ℕ, List, [], ◌++◌, Some, None, take, length, slice_get}
+use Rattle.std.specs.Prelude.{◌≡◌, ◌≢◌, ◌+◌, ◌<◌, ◌^◌, ⊤, ℕ, IsTrue, IsFalse, List, ◌∷◌, ◌++◌, Some, take, length, slice_get, IsSomeAnd}
 use Rattle.break_rules.specs.Lists.{Has}
 use Rattle.shift_instance.specs.Problem.{Problem}
 use Rattle.certificate.specs.declared.Cert.{Cert}
 use Rattle.certificate.specs.declared.proof_lines.Line.{Line}
-use Rattle.certificate.specs.Accepted.{node_of, nodes_of}
+use Rattle.certificate.specs.Accepted.{is_accepted, node_of}
 use Rattle.cert_check.specs.Judged.{cause_of}
 use Rattle.head_splits.specs.declared.Cut.{Cut}
+use Rattle.head_splits.specs.Nodes.{Node}
 use Rattle.report_grafts.specs.Faults.{HasOpenEnd}
-use Rattle.report_grafts.specs.Grafted.{grafted_number}
+use Rattle.report_grafts.specs.Grafted.{grafted_lines, grafted_number}
 use Rattle.report_grafts.specs.Run.{divisions}
-use Rattle.report_joins.specs.Joined.{Joined, IsPlanBelow}
+use Rattle.report_joins.specs.Joined.{Joined, GoesOn, IsPart, IsPlanBelow}
 use Rattle.report_joins.specs.declared.fault.PartFault.{PartFault}
-use Rattle.report_joins.specs.declared.fault.PartFault.TheVariants.{Refused, OtherLines, NothingFurther, NoEnd, OtherNode, OtherPlan, SameNode, TooMany, NotGood, NoMemory}
+use Rattle.report_joins.specs.declared.fault.PartFault.TheVariants.{Refused, OtherLines, NothingFurther, NoEnd, OtherNode, OtherPlan, SameNode, TooMany, NoMemory}
 
 -- the checker refuses a certificate, and says why; or memory ran out
 abbrev pub IsRefusal : Problem → Cert → PartFault → Type 0
@@ -25,60 +26,73 @@ IsRefusal i c (OtherNode at) = ⊥
 IsRefusal i c OtherPlan = ⊥
 IsRefusal i c (SameNode node) = ⊥
 IsRefusal i c TooMany = ⊥
-IsRefusal i c (NotGood at) = ⊥
 
--- lines don't begin with others: they differ from them first at that place; or memory ran out
-abbrev pub IsLineFault : List Line → List Line → PartFault → Type 0
-IsLineFault known lines (OtherLines at) = (take at known ≡ take at lines) × (slice_get known at ≢ slice_get lines at)
-IsLineFault known lines NoMemory = ⊤
-IsLineFault known lines (Refused why) = ⊥
-IsLineFault known lines NothingFurther = ⊥
-IsLineFault known lines (NoEnd node) = ⊥
-IsLineFault known lines (OtherNode at) = ⊥
-IsLineFault known lines OtherPlan = ⊥
-IsLineFault known lines (SameNode node) = ⊥
-IsLineFault known lines TooMany = ⊥
-IsLineFault known lines (NotGood at) = ⊥
+-- lines don't begin with others: this is the first place of those at which they differ
+abbrev pub Departs : List Line → List Line → ℕ → Type 0
+Departs known lines at = (at < length known) × (take at lines ≡ take at known) × (slice_get lines at ≢ slice_get known at)
 
--- the line at a place, of those from another place on, is of a node that no run has that is grafted there; or memory ran out
-abbrev pub IsNumberFault : ℕ → ℕ → ℕ → List Line → PartFault → Type 0
-IsNumberFault node splits first further (OtherNode at) =
-    (k : ℕ) × (line : Line) × (at ≡ first + k) × (slice_get further k ≡ Some line) × ((j : ℕ) → node_of line ≡ grafted_number node splits j → ⊥)
-IsNumberFault node splits first further NoMemory = ⊤
-IsNumberFault node splits first further (Refused why) = ⊥
-IsNumberFault node splits first further (OtherLines at) = ⊥
-IsNumberFault node splits first further NothingFurther = ⊥
-IsNumberFault node splits first further (NoEnd k) = ⊥
-IsNumberFault node splits first further OtherPlan = ⊥
-IsNumberFault node splits first further (SameNode k) = ⊥
-IsNumberFault node splits first further TooMany = ⊥
-IsNumberFault node splits first further (NotGood at) = ⊥
+-- lines begin with others, and the next one is of that node
+pub record GoesOnAt (known lines : List Line) (node : ℕ) : Type 0 where
+  pub line : Line
+  pub rest : List Line
+  pub lines : lines ≡ known ++ line ∷ rest
+  pub node : node ≡ node_of line
 
--- there are no lines, or the first of them is of a node that is no unsplit one of the certificate
-abbrev pub IsPlaceFault : Joined → List Line → PartFault → Type 0
-IsPlaceFault j further NothingFurther = further ≡ []
-IsPlaceFault j further (NoEnd node) =
-    (line : Line) × (slice_get further 0 ≡ Some line) × (node ≡ node_of line) × ((cuts : List Cut) → HasOpenEnd j.instance j.whole node cuts → ⊥)
-IsPlaceFault j further (Refused why) = ⊥
-IsPlaceFault j further (OtherLines at) = ⊥
-IsPlaceFault j further (OtherNode at) = ⊥
-IsPlaceFault j further OtherPlan = ⊥
-IsPlaceFault j further (SameNode node) = ⊥
-IsPlaceFault j further TooMany = ⊥
-IsPlaceFault j further (NotGood at) = ⊥
-IsPlaceFault j further NoMemory = ⊥
+-- a line isn't of a node below that one: no node of a run that is grafted there after so many splits has its number
+abbrev pub IsElsewhere : ℕ → ℕ → Line → Type 0
+IsElsewhere node splits line = (k : ℕ) → node_of line ≡ grafted_number node splits k → ⊥
 
--- why a part isn't joined
+-- lines begin with others and with those of a run at a node, and the next one, at that place, is of a node that isn't below
+pub record LeavesNode (known lines : List Line) (node at : ℕ) : Type 0 where
+  pub run : List Line
+  pub line : Line
+  pub rest : List Line
+  pub some : 0 < length run
+  pub lines : lines ≡ grafted_lines known node run ++ line ∷ rest
+  pub at : at ≡ length known + length run
+  pub elsewhere : IsElsewhere node (divisions known) line
+
+-- some nodes have an unsplit one of that number
+abbrev pub IsEnd : List Node → ℕ → Type 0
+IsEnd nodes node = IsSomeAnd (slice_get nodes node) (λ n. IsFalse n.split)
+
+-- lines aren't those of a run behind others that make these nodes; or memory ran out
+abbrev pub IsLineFault : List Node → List Line → List Line → PartFault → Type 0
+IsLineFault ends known lines (OtherLines at) = Departs known lines at
+IsLineFault ends known lines NothingFurther = lines ≡ known
+IsLineFault ends known lines (NoEnd node) = GoesOnAt known lines node × (IsEnd ends node → ⊥)
+IsLineFault ends known lines (OtherNode at) = (node : ℕ) × IsEnd ends node × LeavesNode known lines node at
+IsLineFault ends known lines NoMemory = ⊤
+IsLineFault ends known lines (Refused why) = ⊥
+IsLineFault ends known lines OtherPlan = ⊥
+IsLineFault ends known lines (SameNode node) = ⊥
+IsLineFault ends known lines TooMany = ⊥
+
+-- why no run is read from a part: it isn't accepted, or its lines aren't the certificate's and those of a run at one of its unsplit nodes
+abbrev pub IsReadFault : Problem → Cert → Cert → PartFault → Type 0
+IsReadFault i whole part (Refused why) = cause_of i part ≡ Some why
+IsReadFault i whole part (OtherLines at) = IsTrue (is_accepted i part) × Departs whole.lines part.lines at
+IsReadFault i whole part NothingFurther = IsTrue (is_accepted i part) × (part.lines ≡ whole.lines)
+IsReadFault i whole part (NoEnd node) =
+    IsTrue (is_accepted i part) × GoesOnAt whole.lines part.lines node × ((cuts : List Cut) → HasOpenEnd i whole node cuts → ⊥)
+IsReadFault i whole part (OtherNode at) =
+    IsTrue (is_accepted i part) × ((node : ℕ) × (cuts : List Cut) × HasOpenEnd i whole node cuts × LeavesNode whole.lines part.lines node at)
+IsReadFault i whole part NoMemory = ⊤
+IsReadFault i whole part OtherPlan = ⊥
+IsReadFault i whole part (SameNode node) = ⊥
+IsReadFault i whole part TooMany = ⊥
+
+-- why a part isn't joined, the first cause: no run is read from it; its plan isn't one of its node; an earlier part is of that node; or there would be
+-- too many lines
 abbrev pub IsPartFault : Joined → Cert → PartFault → Type 0
-IsPartFault j part (Refused why) = IsRefusal j.instance part (Refused why)
-IsPartFault j part (OtherLines at) = IsLineFault j.whole.lines part.lines (OtherLines at)
-IsPartFault j part NothingFurther = part.lines ≡ j.whole.lines
-IsPartFault j part (NoEnd node) = (further : List Line) × (part.lines ≡ j.whole.lines ++ further) × IsPlaceFault j further (NoEnd node)
-IsPartFault j part (OtherNode at) =
-    (further : List Line) × (node : ℕ) × (part.lines ≡ j.whole.lines ++ further)
-    × IsNumberFault node (divisions j.whole.lines) (length j.whole.lines) further (OtherNode at)
-IsPartFault j part OtherPlan = (node : ℕ) × (cuts : List Cut) × HasOpenEnd j.instance j.whole node cuts × (IsPlanBelow cuts j.whole.plan part.plan → ⊥)
-IsPartFault j part (SameNode node) = Has j.nodes node
-IsPartFault j part TooMany = 2 ^ 30 < length j.lines + length part.lines
-IsPartFault j part (NotGood at) = (lines : List Line) × (at + 1 ≡ length lines) × (nodes_of j.instance lines ≡ None)
+IsPartFault j part (Refused why) = IsReadFault j.instance j.whole part (Refused why)
+IsPartFault j part (OtherLines at) = IsReadFault j.instance j.whole part (OtherLines at)
+IsPartFault j part NothingFurther = IsReadFault j.instance j.whole part NothingFurther
+IsPartFault j part (NoEnd node) = IsReadFault j.instance j.whole part (NoEnd node)
+IsPartFault j part (OtherNode at) = IsReadFault j.instance j.whole part (OtherNode at)
+IsPartFault j part OtherPlan =
+    (node : ℕ) × (cuts : List Cut) × (run : List Line) × GoesOn j.instance j.whole part node cuts run × (IsPlanBelow cuts j.whole.plan part.plan → ⊥)
+IsPartFault j part (SameNode node) = (run : List Line) × IsPart j.instance j.whole part node run × Has j.nodes node
+IsPartFault j part TooMany =
+    (node : ℕ) × (run : List Line) × IsPart j.instance j.whole part node run × (Has j.nodes node → ⊥) × (2 ^ 30 < length j.lines + length run)
 IsPartFault j part NoMemory = ⊤

@@ -1,6 +1,6 @@
 -- Parts of a certificate that were searched apart from one another, and the certificate into which they are joined.
 -- Source: branch and bound, after Land and Doig 1960: what lies below each of several nodes of the tree is searched without the rest of it.
-use Rattle.std.specs.Prelude.{◌≡◌, ◌⊎◌, ⊤, ℕ, ◌<◌, ◌≤◌, ◌^◌, IsTrue, List, [], ◌∷◌, ◌++◌, Option, Some, None, length, nat_lt, if◌then◌else◌}
+use Rattle.std.specs.Prelude.{◌≡◌, ◌⊎◌, ⊤, ℕ, ◌+◌, ◌<◌, ◌≤◌, ◌^◌, IsTrue, List, [], ◌∷◌, ◌++◌, Option, Some, None, length, slice_get, nat_lt, if◌then◌else◌}
 use Rattle.break_rules.specs.Lists.{Has}
 use Rattle.shift_instance.specs.declared.Row.{Row}
 use Rattle.shift_instance.specs.Problem.{Problem}
@@ -13,7 +13,6 @@ use Rattle.certificate.specs.declared.proof_lines.Line.{Line}
 use Rattle.certificate.specs.Accepted.{is_accepted, is_plan, least_floor, nodes_of}
 use Rattle.report_grafts.specs.Faults.{HasOpenEnd}
 use Rattle.report_grafts.specs.Grafted.{found_by, grafted_lines, status_of}
-use Rattle.report_grafts.specs.Run.{divisions}
 
 -- a plan of a part: that of the certificate, or a cheaper one that meets the cuts of the part's node; none where the certificate has none
 abbrev pub IsPlanBelow : List Cut → Option (ℕ × List Row) → Option (ℕ × List Row) → Type 0
@@ -28,14 +27,18 @@ cheaper_plan None own = None
 cheaper_plan (Some p) None = Some p
 cheaper_plan (Some p) (Some own) = if nat_lt own.0 p.0 then Some own else Some p
 
--- A part of a certificate: it is accepted, its proof lines are those of a run that is grafted at an unsplit node of the certificate, and its plan
--- is the certificate's or a cheaper one below that node.
-pub record IsPart (i : Problem) (whole part : Cert) (node : ℕ) (run : List Line) : Type 0 where
-  pub cuts : List Cut
-  pub end : HasOpenEnd i whole node cuts
+-- A certificate that goes on from another: it is accepted, and its proof lines are those of the other and of a run that is grafted at an unsplit node
+-- of it, which has these cuts.
+pub record GoesOn (i : Problem) (whole part : Cert) (node : ℕ) (cuts : List Cut) (run : List Line) : Type 0 where
   pub accepted : IsTrue (is_accepted i part)
+  pub end : HasOpenEnd i whole node cuts
   pub some : 0 < length run
   pub lines : part.lines ≡ grafted_lines whole.lines node run
+
+-- a part of a certificate: it goes on from it below a node, and its plan is the certificate's or a cheaper one below that node
+pub record IsPart (i : Problem) (whole part : Cert) (node : ℕ) (run : List Line) : Type 0 where
+  pub cuts : List Cut
+  pub below : GoesOn i whole part node cuts run
   pub plan : IsPlanBelow cuts whole.plan part.plan
 
 -- a certificate of an instance and what it is with the parts that were joined into it so far: the nodes of the parts, the proof lines, and the
@@ -47,14 +50,16 @@ pub record Joined : Type 0 where
   pub lines : List Line
   pub plan : Option (ℕ × List Row)
 
--- What holds of it: the certificate is accepted, and so is the plan; its lines make some nodes, and the joined lines others, which are sound and of
--- which no unsplit one has a floor below the certificate's bound.
+-- What holds of it: the certificate is accepted, and so is the plan; its lines make some nodes, and all lines others, of which no unsplit one has a
+-- floor below the certificate's bound. Its nodes of which no part is stand there as they were.
 pub record IsJoining (ends tree : List Node) (j : Joined) : Type 0 where
   pub accepted : IsTrue (is_accepted j.instance j.whole)
   pub few : length j.whole.lines ≤ 2 ^ 28
   pub ends : nodes_of j.instance j.whole.lines ≡ Some ends
+  pub begins : (more : List Line) × (j.lines ≡ j.whole.lines ++ more)
   pub tree : nodes_of j.instance j.lines ≡ Some tree
   pub low : j.whole.bound ≤ least_floor tree
+  pub kept : (k : ℕ) → k < length ends → (Has j.nodes k → ⊥) → slice_get tree k ≡ slice_get ends k
   pub plan : IsTrue (is_plan j.instance j.plan)
   pub short : length j.lines ≤ 2 ^ 30
 
@@ -62,13 +67,18 @@ pub record IsJoining (ends tree : List Node) (j : Joined) : Type 0 where
 abbrev pub alone : Problem → Cert → Joined
 alone i whole = record { instance = i; whole = whole; nodes = []; lines = whole.lines; plan = whole.plan }
 
+-- a certificate after a further run at a node, and with a further plan
+abbrev pub with_part : Joined → ℕ → List Line → Option (ℕ × List Row) → Joined
+with_part j node run own = record j { nodes = j.nodes ++ node ∷ []; lines = grafted_lines j.lines node run; plan = cheaper_plan j.plan own }
+
 -- a further part was joined: its run is grafted at its node, which no earlier part has
 pub record JoinsPart (part : Cert) (old new : Joined) : Type 0 where
   pub node : ℕ
   pub run : List Line
   pub part : IsPart old.instance old.whole part node run
   pub other : Has old.nodes node → ⊥
-  pub new : new ≡ record old { nodes = old.nodes ++ node ∷ []; lines = grafted_lines old.lines node run; plan = cheaper_plan old.plan part.plan }
+  pub short : length old.lines + length run ≤ 2 ^ 30
+  pub new : new ≡ with_part old node run part.plan
 
 -- parts that were joined one after another
 pub data AreJoined (i : Problem) (whole : Cert) : List Cert → Joined → Type 0 where
@@ -83,9 +93,3 @@ pub record IsJoinedCert (j : Joined) (c : Cert) : Type 0 where
   pub plan : c.plan ≡ j.plan
   pub bound : c.bound ≡ found_by j.instance c.lines
   pub status : c.status ≡ status_of c.plan c.bound
-
--- where a run was grafted of which these are the lines: at the node of the first, which is an unsplit node of the certificate, with so many splits
-pub record IsPlace (j : Joined) (further : List Line) (node splits : ℕ) : Type 0 where
-  pub some : 0 < length further
-  pub end : (cuts : List Cut) × HasOpenEnd j.instance j.whole node cuts
-  pub splits : splits ≡ divisions j.whole.lines

@@ -1,3 +1,4 @@
 pub mod Numbers
 pub mod Joined
 pub mod Faults
+pub mod Runs

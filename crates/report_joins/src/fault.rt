@@ -31,12 +31,9 @@ pub enum PartFault {
     /// An earlier part is of the same node.
     #[error("node {node} is searched in an earlier part too")]
     SameNode { node: u32 },
-    /// The joined report would have too many proof lines.
+    /// The joined report would have more than 2^30 proof lines.
     #[error("too many proof lines")]
     TooMany,
-    /// The line that would stand at this place of the joined report isn't good there.
-    #[error("line {at} of the joined report isn't good")]
-    NotGood { at: u64 },
     /// No memory was left.
     #[error("out of memory")]
     NoMemory,

@@ -1,22 +1,21 @@
 //! A report into which parts are joined, one after another.
-ghost use Rattle.std.specs.Prelude.{◌≡◌, ◌∷◌, ◌++◌, ◌≤◌, ◌<◌, ◌^◌, [], IfErr, IfOk, IsTrue, OnOk, Some, map, length};
-ghost use Rattle.std.specs.Option.{option_map};
-ghost use Rattle.head_splits.specs.Nodes.{new_node};
-ghost use Rattle.certificate.specs.Accepted.{is_accepted, nodes_after, nodes_of};
+ghost use Rattle.std.specs.Prelude.{◌≡◌, ◌∷◌, ◌++◌, ◌+◌, ◌*◌, ◌≤◌, ◌<◌, ◌^◌, [], All, IfErr, IfOk, IsFalse, IsTrue, MatchBool, MatchOption, Some, map, length};
+ghost use Rattle.break_rules.specs.Lists.{Has};
+ghost use Rattle.certificate.specs.Accepted.{is_accepted, least_floor, node_of, nodes_of};
 ghost use Rattle.report_grafts.specs.Grafted.{grafted_line, grafted_lines, status_of};
-ghost use Rattle.report_joins.specs.Faults.{IsNumberFault, IsPartFault, IsPlaceFault, IsRefusal};
-ghost use Rattle.report_joins.specs.Joined.{alone, cheaper_plan, IsJoinedCert, IsPlace, JoinsPart};
-ghost use Rattle.report_joins.specs.Numbers.{with_node};
+ghost use Rattle.report_grafts.specs.Run.{divisions};
+ghost use Rattle.report_joins.specs.Faults.{IsPartFault, IsReadFault, IsRefusal};
+ghost use Rattle.report_joins.specs.Joined.{alone, IsJoinedCert, JoinsPart};
+ghost use Rattle.report_joins.specs.Runs.{IsReadPart, IsRunOf};
+ghost use Rattle.report_nodes.specs.Made.{with_below};
 
 use crate::fault::PartFault;
-use crate::numbers::{Place, node_of, with_node};
-use crate::parts::{further_lines, lines_of};
-use crate::plans::{cheaper_plan, is_plan_below};
+use crate::judging::{accepted_nodes, fault_or_refusal, is_plan, refusal_of};
+use crate::numbers::Place;
+use crate::parts::{PartRun, run_of};
+use crate::plans::{cheaper_plan, copy_of_plan, is_plan_below};
 use break_rules::NoMemory;
-use cert_check::{Refused, check};
 use certificate::{Cert, CertStatus, Line, Lines};
-use dual_bound::Buffers;
-use head_splits::Cuts;
 use report_nodes::NodeTree;
 use shift_instance::{Instance, Rows, TOP};
 use std::alloc::Global;
@@ -66,58 +65,33 @@ impl Model for Joining {
     }) };
 }
 
-/// The nodes that proof lines make of the root, where each is good.
-fn tree_of(alloc: Global, instance: &Instance, lines: &Lines) -> Result<Option<NodeTree>, NoMemory>
-    requires { length lines.now ≤ 2 ^ 28 }
-    ensures { IfOk result (λ tree. tree ≡ nodes_of instance.now lines.now) }
+/// Proof lines as a list.
+fn lines_of(alloc: Global, lines: &Lines) -> Result<Vec<Line>, NoMemory>
+    ensures { IfOk result (λ list. list.items ≡ lines.now) }
 {
-    let mut buffers = Buffers::new(alloc, instance);
-    let mut tree = NodeTree::below(alloc, Cuts::new(Vec::new(alloc)))?;
     let mut reader = lines.reader();
+    let mut list = Vec::new(alloc);
     while let Some(line) = reader.next_line(alloc)? {
-        let Some(next) = tree.after(alloc, instance, &mut buffers, line)? else {
-            return Ok(None);
-        };
-        tree = next;
+        list.push(line)?;
     }
-    Ok(Some(tree))
+    Ok(list)
 }
 
-/// Whether the checker accepts a part, and else why it doesn't.
-fn judged(alloc: Global, instance: &Instance, part: &Cert) -> Result<(), PartFault>
-    ensures accepted { OnOk result (IsTrue (is_accepted instance.now part.now)) }
-    ensures fault { IfErr result (IsRefusal instance.now part.now) }
-{
-    match check(alloc, instance, part) {
-        Ok(_) => Ok(()),
-        Err(Refused::NoMemory) => Err(PartFault::NoMemory),
-        Err(why) => Err(PartFault::Refused(why)),
-    }
-}
-
-/// A proof line once more, for another node.
-fn copy_at(line: &Line, node: u32) -> Result<Line, NoMemory>
-    ensures { IfOk result (λ copy. copy ≡ with_node node line.now) }
-{
-    match line {
-        Line::Split { node: _, class, m } => {
-            let class = class.clone()?;
-            Ok(Line::Split { node, class, m: *m })
-        }
-        Line::Priced { node: _, prices } => {
-            let prices = prices.clone()?;
-            Ok(Line::Priced { node, prices })
-        }
-        Line::Settled { node: _ } => Ok(Line::Settled { node }),
-    }
-}
-
-/// Lines with one more.
-fn with_line(lines: Vec<Line>, line: Line) -> Result<Vec<Line>, NoMemory>
-    ensures { IfOk result (λ more. more.items ≡ lines.items ++ line ∷ []) }
+/// Lines with those of a run that is grafted at a place.
+fn with_run(
+    alloc: Global,
+    lines: Vec<Line>,
+    run: &Lines,
+    place: Place,
+) -> Result<Vec<Line>, NoMemory>
+    requires { All (λ line. node_of line + 2 * place.splits < 2 ^ 32) run.now }
+    ensures { IfOk result (λ more. more.items ≡ lines.items ++ map (grafted_line place.node place.splits) run.now) }
 {
     let mut lines = lines;
-    lines.push(line)?;
+    let mut reader = run.reader();
+    while let Some(line) = reader.next_line(alloc)? {
+        lines.push(place.line(line))?;
+    }
     Ok(lines)
 }
 
@@ -130,29 +104,11 @@ fn with_number(nodes: Vec<u32>, node: u32) -> Result<Vec<u32>, NoMemory>
     Ok(nodes)
 }
 
-/// The lines of the run by which a part grew, with the numbers that nodes have in it. The first line stands at a place of the part.
-fn run_lines(
-    alloc: Global,
-    place: Place,
-    further: &[Line],
-    first: usize,
-) -> Result<Vec<Line>, PartFault>
-    requires splits { 2 * place.splits < 2 ^ 32 }
-    requires first { first + length further.now < 2 ^ 64 }
-    ensures run { IfOk result (λ run. further.now ≡ map (grafted_line place.node place.splits) run.items) }
-    ensures fault { IfErr result (IsNumberFault place.node place.splits first further.now) }
+/// Whether a node is among some.
+fn has_node(nodes: &[u32], node: u32) -> bool
+    ensures { MatchBool result (Has nodes.now node) (Has nodes.now node → ⊥) }
 {
-    let mut run = Vec::new(alloc);
-    for (k, line) in further.iter().enumerate() {
-        match place.run_number(node_of(line)) {
-            Some(node) => run = with_line(run, copy_at(line, node)?)?,
-            None => {
-                let at = (first + k) as u64;
-                return Err(PartFault::OtherNode { at });
-            }
-        }
-    }
-    Ok(run)
+    nodes.iter().any(|known| *known == node)
 }
 
 /// What is said of a plan and a bound.
@@ -166,14 +122,91 @@ fn status_of(plan: &Option<(u64, Rows)>, bound: u64) -> CertStatus
     }
 }
 
-/// A plan once more.
-fn copy_of_plan(plan: &Option<(u64, Rows)>) -> Result<Option<(u64, Rows)>, NoMemory>
-    ensures { IfOk result (λ copy. copy ≡ plan.now) }
+/// The least floor of nodes with those that were made of one of them alone.
+fn floor_with(
+    alloc: Global,
+    ends: &NodeTree,
+    node: usize,
+    below: &NodeTree,
+) -> Result<u64, NoMemory>
+    requires { node < length ends.now }
+    ensures { IfOk result (λ floor. floor ≡ least_floor (with_below ends.now node below.now)) }
 {
-    match plan {
-        None => Ok(None),
-        Some((cost, rows)) => Ok(Some((*cost, rows.clone()?))),
+    let all = ends.copy(alloc)?.with_below(node, below)?;
+    Ok(all.least_floor(TOP))
+}
+
+/// What the run of a part makes of its node alone, where the checker accepts the part. No line of the report is judged again.
+fn accepted_below(
+    alloc: Global,
+    instance: &Instance,
+    whole: &Cert,
+    ends: &NodeTree,
+    part: &Cert,
+    run: &PartRun,
+) -> Result<Option<NodeTree>, NoMemory>
+    requires made { nodes_of instance.now whole.now.lines ≡ Some ends.now }
+    requires known { length whole.now.lines ≤ 2 ^ 28 }
+    requires few { length part.now.lines ≤ 2 ^ 28 }
+    requires run { IsRunOf ends.now whole.now.lines part.now.lines run.now.node run.now.lines }
+    ensures { IfOk result (λ below. MatchOption below (IsFalse (is_accepted instance.now part.now)) (λ below. IsReadPart instance.now ends.now whole.now part.now run.now.node run.now.lines below)) }
+{
+    let node = run.node as usize;
+    let alone = ends.at(alloc, node)?;
+    let Some(below) = alone.after(alloc, instance, &run.lines)? else {
+        return Ok(None);
+    };
+    if floor_with(alloc, ends, node, &below)? < part.bound {
+        return Ok(None);
     }
+    if is_plan(alloc, instance, &part.plan)? {
+        Ok(Some(below))
+    } else {
+        Ok(None)
+    }
+}
+
+/// The run of an accepted part and what it makes of its node alone, or why there is none. `known` are the report's proof lines.
+fn read_part(
+    alloc: Global,
+    instance: &Instance,
+    whole: &Cert,
+    ends: &NodeTree,
+    known: &[Line],
+    part: &Cert,
+) -> Result<(PartRun, NodeTree), PartFault>
+    requires accepted { IsTrue (is_accepted instance.now whole.now) }
+    requires made { nodes_of instance.now whole.now.lines ≡ Some ends.now }
+    requires short { length whole.now.lines ≤ 2 ^ 28 }
+    requires known { known.now ≡ whole.now.lines }
+    requires few { length part.now.lines ≤ 2 ^ 28 }
+    ensures read { IfOk result (λ read. IsReadPart instance.now ends.now whole.now part.now read.0.node read.0.lines read.1) }
+    ensures fault { IfErr result (IsReadFault instance.now whole.now part.now) }
+{
+    let run = match run_of(alloc, ends, known, &part.lines) {
+        Ok(run) => run,
+        Err(fault) => return Err(fault_or_refusal(alloc, instance, part, fault)),
+    };
+    match accepted_below(alloc, instance, whole, ends, part, &run)? {
+        Some(below) => Ok((run, below)),
+        None => Err(refusal_of(alloc, instance, part)),
+    }
+}
+
+/// Lines with those of a run at a node of the tree that they make, which has so many nodes.
+fn grafted(
+    alloc: Global,
+    lines: Vec<Line>,
+    nodes: usize,
+    node: u32,
+    run: &Lines,
+) -> Result<Vec<Line>, NoMemory>
+    requires counted { nodes ≡ 2 * divisions lines.items + 1 }
+    requires fit { All (λ line. node_of line + nodes ≤ 2 ^ 32) run.now }
+    ensures { IfOk result (λ more. more.items ≡ grafted_lines lines.items node run.now) }
+{
+    let splits = ((nodes - 1) / 2) as u32;
+    with_run(alloc, lines, run, Place { node, splits })
 }
 
 impl Joining {
@@ -183,12 +216,10 @@ impl Joining {
     pub fn of(alloc: Global, instance: &Instance, whole: Cert) -> Result<Joining, PartFault>
         requires { length whole.lines ≤ 2 ^ 28 }
         ensures alone { IfOk result (λ j. j ≡ alone instance.now whole) }
+        ensures accepted { IfOk result (λ _. IsTrue (is_accepted instance.now whole)) }
         ensures fault { IfErr result (IsRefusal instance.now whole) }
     {
-        judged(alloc, instance, &whole)?;
-        let Some(tree) = tree_of(alloc, instance, &whole.lines)? else {
-            unreachable!()
-        };
+        let tree = accepted_nodes(alloc, instance, &whole)?;
         let ends = tree.copy(alloc)?;
         let lines = lines_of(alloc, &whole.lines)?;
         let plan = copy_of_plan(&whole.plan)?;
@@ -203,87 +234,41 @@ impl Joining {
         })
     }
 
-    /// Where the run of a part was grafted that has these further lines.
-    fn place_of(&self, further: &[Line]) -> Result<Place, PartFault>
-        ensures place { IfOk result (λ place. IsPlace self.now further.now place.node place.splits) }
-        ensures fault { IfErr result (IsPlaceFault self.now further.now) }
-    {
-        let Some(first) = further.first() else {
-            return Err(PartFault::NothingFurther);
-        };
-        let node = node_of(first);
-        if node as usize >= self.ends.len() || self.ends.is_split(node as usize) {
-            return Err(PartFault::NoEnd { node });
-        }
-        let splits = ((self.ends.len() - 1) / 2) as u32;
-        Ok(Place { node, splits })
-    }
-
     /// The report with a further part: the further lines of the part are grafted into it, and its plan is kept where it is cheaper.
     ///
-    /// [`PartFault`] says why the part isn't joined, each cause in its order.
+    /// [`PartFault`] says why the part isn't joined, each cause in its order. `NoMemory` comes only where it was out of memory.
     pub fn add(self, alloc: Global, instance: &Instance, part: &Cert) -> Result<Joining, PartFault>
         requires same { self.instance ≡ instance.now }
         requires few { length part.now.lines ≤ 2 ^ 28 }
         ensures joined { IfOk result (JoinsPart part.now self) }
         ensures fault { IfErr result (IsPartFault self part.now) }
     {
-        judged(alloc, instance, part)?;
-        let further = further_lines(alloc, &self.whole.lines, &part.lines)?;
-        let place = self.place_of(&further)?;
-        let run = run_lines(alloc, place, &further, self.whole.lines.len())?;
-        let node = place.node;
+        let known = &self.lines[..self.whole.lines.len()];
+        let (run, below) = read_part(alloc, instance, &self.whole, &self.ends, known, part)?;
+        let node = run.node;
         let cuts = self.ends.cuts_of(node as usize)?;
         if !is_plan_below(instance, &cuts, &self.whole.plan, &part.plan) {
             return Err(PartFault::OtherPlan);
         }
-        if self.nodes.contains(&node) {
+        if has_node(&self.nodes, node) {
             return Err(PartFault::SameNode { node });
         }
-        self.grafted(alloc, instance, node, run, &part.plan)
-    }
-
-    /// The report with a run at one of its nodes, and with a plan where that is cheaper.
-    fn grafted(
-        self,
-        alloc: Global,
-        instance: &Instance,
-        node: u32,
-        run: Vec<Line>,
-        own: &Option<(u64, Rows)>,
-    ) -> Result<Joining, PartFault>
-        requires same { self.instance ≡ instance.now }
-        ensures grafted { IfOk result (λ j. j ≡ record self { nodes = self.nodes ++ node ∷ []; lines = grafted_lines self.lines node run.items; plan = cheaper_plan self.plan own.now }) }
-    {
+        if LINES_MOST < self.lines.len() + run.lines.len() {
+            return Err(PartFault::TooMany);
+        }
         let Joining {
             instance: known,
             whole,
             ends,
             nodes,
-            mut lines,
-            mut tree,
+            lines,
+            tree,
             plan,
         } = self;
-        if lines.len() + run.len() > LINES_MOST {
-            return Err(PartFault::TooMany);
-        }
-        let splits = ((tree.len() - 1) / 2) as u32;
-        let place = Place { node, splits };
-        let mut buffers = Buffers::new(alloc, instance);
-        for line in run {
-            let number = place.number(node_of(&line));
-            let line = with_node(line, number);
-            let copy = copy_at(&line, number)?;
-            let Some(next) = tree.after(alloc, instance, &mut buffers, copy)? else {
-                return Err(PartFault::NotGood {
-                    at: lines.len() as u64,
-                });
-            };
-            tree = next;
-            lines = with_line(lines, line)?;
-        }
+        let lines = grafted(alloc, lines, tree.len(), node, &run.lines)?;
+        let tree = tree.with_below(node as usize, &below)?;
         let nodes = with_number(nodes, node)?;
-        let plan = cheaper_plan(plan, own)?;
+        let plan = cheaper_plan(plan, &part.plan)?;
         Ok(Joining {
             instance: known,
             whole,

@@ -3,9 +3,11 @@
 
 mod fault;
 mod joining;
+mod judging;
 mod numbers;
 mod parts;
 mod plans;
+mod same_lines;
 
 pub use fault::PartFault;
 pub use joining::Joining;

@@ -1,7 +1,7 @@
 //! The numbers of the nodes of a part, of the run that it grew by, and of the report into which the run is grafted.
 ghost use Rattle.std.specs.Prelude.{◌≡◌, ◌+◌, ◌*◌, ◌<◌, ◌≤◌, ◌^◌, ℕ, MatchOption};
 ghost use Rattle.certificate.specs.Accepted.{node_of};
-ghost use Rattle.report_grafts.specs.Grafted.{grafted_number};
+ghost use Rattle.report_grafts.specs.Grafted.{grafted_line, grafted_number};
 ghost use Rattle.report_joins.specs.Numbers.{with_node};
 
 use certificate::Line;
@@ -15,7 +15,7 @@ pub(crate) struct Place {
 
 impl Place {
     /// The number that a run's node has in the tree.
-    pub(crate) fn number(self, node: u32) -> u32
+    fn number(self, node: u32) -> u32
         requires { node + 2 * self.splits < 2 ^ 32 }
         ensures { result ≡ grafted_number self.node self.splits node }
     {
@@ -26,10 +26,19 @@ impl Place {
         }
     }
 
+    /// A run's line as one of the tree.
+    pub(crate) fn line(self, line: Line) -> Line
+        requires { node_of line + 2 * self.splits < 2 ^ 32 }
+        ensures { result ≡ grafted_line self.node self.splits line }
+    {
+        let number = self.number(node_of(&line));
+        with_node(line, number)
+    }
+
     /// The number in a run of the tree's node of that number, where it is one of the run.
     pub(crate) fn run_number(self, node: u32) -> Option<u32>
         requires { 2 * self.splits < 2 ^ 32 }
-        ensures { MatchOption result ((k : ℕ) → node ≡ grafted_number self.node self.splits k → ⊥) (λ k. (node ≡ grafted_number self.node self.splits k) × (k ≤ node)) }
+        ensures { MatchOption result ((k : ℕ) → node ≡ grafted_number self.node self.splits k → ⊥) (λ k. node ≡ grafted_number self.node self.splits k) }
     {
         if node == self.node {
             Some(0)

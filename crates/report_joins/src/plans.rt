@@ -56,6 +56,18 @@ pub(crate) fn is_plan_below(
     }
 }
 
+/// A plan once more.
+pub(crate) fn copy_of_plan(
+    plan: &Option<(u64, Rows)>,
+) -> Result<Option<(u64, Rows)>, NoMemory>
+    ensures { IfOk result (λ copy. copy ≡ plan.now) }
+{
+    match plan {
+        None => Ok(None),
+        Some((cost, rows)) => Ok(Some((*cost, rows.clone()?))),
+    }
+}
+
 /// The cheaper of two plans, and the first where both cost the same; none where the first is none.
 pub(crate) fn cheaper_plan(
     plan: Option<(u64, Rows)>,

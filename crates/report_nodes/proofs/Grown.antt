@@ -1,5 +1,5 @@
 -- Nodes that grow line by line.
-use Rattle.std.proofs.Common.{◌≡◌, inl, inr, ℕ, suc, ◌+◌, ◌*◌, ◌<◌, ◌≤◌, ◌^◌, max, Bool, true, false, cond, ◌&&◌, not, List, [], ◌∷◌, ◌++◌, length, get_or, drop, set, refl, sym, ap, ◌∙◌, subst, append_assoc, arith, Option, Some, None}
+use Rattle.std.proofs.Common.{◌≡◌, inl, inr, ℕ, zero, suc, ◌+◌, ◌*◌, ◌<◌, ◌≤◌, ◌^◌, max, Bool, true, false, cond, ◌&&◌, not, List, [], ◌∷◌, ◌++◌, length, get_or, drop, set, refl, sym, ap, ◌∙◌, subst, append_assoc, arith, Option, Some, None}
 use Rattle.std.specs.Prelude.{slice_get, IsSomeAnd}
 use Rattle.std.specs.Option.{option_and_then, option_map, option_map_or}
 use Rattle.std.proofs.lemmas.Bool.{cases_Bool}
@@ -17,7 +17,7 @@ use Rattle.head_splits.specs.declared.Side.TheVariants.{AtMost, AtLeast}
 use Rattle.head_splits.specs.Bound.{are_prices, bound_of}
 use Rattle.head_splits.specs.Settled.{is_settled}
 use Rattle.head_splits.specs.Nodes.{Node, new_node, child, with_floor, with_split, settled_floor}
-use Rattle.head_splits.proofs.Nodes.{Has-slice_get, Has-get_or, from_set}
+use Rattle.head_splits.proofs.Nodes.{Has-slice_get, Has-get_or, Has-place, from_set}
 use Rattle.certificate.specs.declared.Cert.{Cert}
 use Rattle.certificate.specs.declared.proof_lines.Line.{Line}
 use Rattle.certificate.specs.declared.proof_lines.Line.TheVariants.{Split, Priced, Settled}
@@ -35,7 +35,7 @@ use Rattle.report_grafts.proofs.Places.{same_some}
 use Rattle.report_grafts.proofs.Plans.{made_is, tree_of}
 use Rattle.report_nodes.specs.declared.listing.OpenNode.{OpenNode}
 use Rattle.report_nodes.specs.Listed.{is_open, listed, open_from, top_of}
-use Rattle.report_nodes.specs.Made.{HasFewCuts}
+use Rattle.report_nodes.specs.Made.{HasFewCuts, HasRoom}
 
 -- prices with a fault that isn't running out of memory aren't a price set
 pub no_prices : (i : Problem) (cuts : List Cut) (prices : Prices) (e : PriceFault) → (e ≡ NoMemory → ⊥) → Answers e (first_cause (price_causes i cuts prices)) → are_prices i cuts prices ≡ false
@@ -178,31 +178,52 @@ within_line i most nodes next n (Settled k) at e w =
     let l = settled_lifts i nodes next k n e in
     subst (CutsWithin (most + 1)) (sym l.is) (within_floor most l.floor nodes k n at w)
 
+-- good lines add no more than one cut each
+pub within_lines : (i : Problem) (most : ℕ) (nodes last : List Node) (lines : List Line) → nodes_after i nodes lines ≡ Some last → CutsWithin most nodes → CutsWithin (most + length lines) last
+within_lines i most nodes last [] e w =
+    let same : nodes ≡ last = cc in
+    λ n there. let few : length n.cuts ≤ most = w n (subst (λ (ns : List Node). Has ns n) (sym same) there) in omega (arith, few)
+within_lines i most nodes last (line ∷ lines) e w =
+    let r = first_good i nodes last line lines e in
+    let one = within_line i most nodes r.0 r.1.node line r.1.at r.1.made w in
+    let all = within_lines i (most + 1) r.0 last lines r.2 one in
+    λ n there. let few : length n.cuts ≤ most + 1 + length lines = all n there in omega (arith, few)
+
 -- ---- one line after another
 
--- What holds while lines are read: the nodes and the lines that are left make what all lines make, and no node has more cuts than the base
--- and one for each line that was read.
-pub record Grows (i : Problem) (base : List Cut) (lines left : List Line) (nodes : List Node) : Type 0 where
-  pub rest : nodes_after i nodes left ≡ nodes_after i (new_node base ∷ []) lines
+-- What holds while lines are read: the nodes and the lines that are left make what all lines make of the nodes at the start, and no node has more
+-- cuts than there was room for and one for each line that was read.
+pub record Grows (i : Problem) (start : List Node) (lines left : List Line) (nodes : List Node) : Type 0 where
+  pub rest : nodes_after i nodes left ≡ nodes_after i start lines
   pub read : ℕ
   pub counted : read + length left ≡ length lines
-  pub deep : CutsWithin (length base + read) nodes
+  pub deep : CutsWithin (2 ^ 32 + read) nodes
 
-pub grows_first : (i : Problem) (base : List Cut) (lines : List Line) → Grows i base lines lines (new_node base ∷ [])
-grows_first i base lines = record {
-  rest = refl;
-  read = 0;
-  counted = omega arith;
-  deep = λ n there. elim there [ inl same ↦ subst (λ (z : Node). length z.cuts ≤ length base + 0) same (omega arith) | inr gone ↦ absurd gone ];
-}
+room_within : (nodes : List Node) → HasRoom nodes → CutsWithin (2 ^ 32 + 0) nodes
+room_within nodes room n there =
+    let p = Has-place nodes n there in
+    let few : length (get_or nodes p.0 n).cuts ≤ 2 ^ 32 = room p.0 n p.1 in
+    let same : length (get_or nodes p.0 n).cuts ≡ length n.cuts = ap (λ (x : Node). length x.cuts) p.2 in
+    omega (arith, few, same)
+
+pub grows_first : (i : Problem) (start : List Node) (lines : List Line) → HasRoom start → Grows i start lines lines start
+grows_first i start lines room = record { rest = refl; read = 0; counted = omega arith; deep = room_within start room }
 
 -- no node has more cuts than can be priced
-pub grows_few : (i : Problem) (base : List Cut) (lines left : List Line) (nodes : List Node) → Grows i base lines left nodes → length base ≤ 2 ^ 32 → length lines ≤ 2 ^ 32 → HasFewCuts nodes
-grows_few i base lines left nodes g few short =
+pub grows_few : (i : Problem) (start : List Node) (lines left : List Line) (nodes : List Node) → Grows i start lines left nodes → length lines ≤ 2 ^ 32 → HasFewCuts nodes
+grows_few i start lines left nodes g short =
     λ k d less.
-    let deep : length (get_or nodes k d).cuts ≤ length base + g.read = g.deep (get_or nodes k d) (Has-get_or nodes k d less) in
+    let deep : length (get_or nodes k d).cuts ≤ 2 ^ 32 + g.read = g.deep (get_or nodes k d) (Has-get_or nodes k d less) in
     let counted = g.counted in
-    omega (arith, deep, counted, few, short)
+    omega (arith, deep, counted, short)
+
+-- a node with few cuts
+pub root_room : (base : List Cut) (nodes : List Node) → nodes ≡ new_node base ∷ [] → length base ≤ 2 ^ 32 → HasRoom nodes
+root_room base nodes same few = subst HasRoom (sym same) (λ k d less. of_place k d less)
+  where
+    of_place : (k : ℕ) (d : Node) → k < length (new_node base ∷ []) → length (get_or (new_node base ∷ []) k d).cuts ≤ 2 ^ 32
+    of_place zero d less = few
+    of_place (suc k) d less = absurd (omega (arith, less))
 
 -- one line makes the next nodes
 grows_by : (i : Problem) (nodes next : List Node) (line : Line) → nodes_after i nodes (line ∷ []) ≡ Some next → Good i nodes next line
@@ -211,18 +232,18 @@ grows_by i nodes next line e =
     let same : r.0 ≡ next = same_some r.0 next r.2 in
     subst (λ (ns : List Node). Good i nodes ns line) same r.1
 
-pub grows_more : (i : Problem) (base : List Cut) (lines left rest : List Line) (nodes next : List Node) (line : Line) → Grows i base lines left nodes → left ≡ line ∷ rest → nodes_after i nodes (line ∷ []) ≡ Some next → Grows i base lines rest next
-grows_more i base lines left rest nodes next line g e made =
+pub grows_more : (i : Problem) (start : List Node) (lines left rest : List Line) (nodes next : List Node) (line : Line) → Grows i start lines left nodes → left ≡ line ∷ rest → nodes_after i nodes (line ∷ []) ≡ Some next → Grows i start lines rest next
+grows_more i start lines left rest nodes next line g e made =
     let good = grows_by i nodes next line made in
     let one : nodes_after i nodes (line ∷ rest) ≡ nodes_after i next rest = one_good i nodes next line rest good in
     let counted : g.read + length left ≡ length lines = g.counted in
     let long : length left ≡ suc (length rest) = ap (λ (ls : List Line). length ls) e in
-    let wide : CutsWithin (length base + g.read + 1) next = within_line i (length base + g.read) nodes next good.node line good.at good.made g.deep in
+    let wide : CutsWithin (2 ^ 32 + g.read + 1) next = within_line i (2 ^ 32 + g.read) nodes next good.node line good.at good.made g.deep in
     record {
       rest = sym one ∙ ap (nodes_after i nodes) (sym e) ∙ g.rest;
       read = g.read + 1;
       counted = omega (arith, counted, long);
-      deep = λ n there. let w : length n.cuts ≤ length base + g.read + 1 = wide n there in omega (arith, w);
+      deep = λ n there. let w : length n.cuts ≤ 2 ^ 32 + g.read + 1 = wide n there in omega (arith, w);
     }
 
 -- a line that isn't good leaves nothing
@@ -233,12 +254,12 @@ none_after i nodes line lines e = of_made (option_and_then (λ n. node_line i no
     of_made None h = refl
     of_made (Some next) h = absurd (cc)
 
-pub grows_none : (i : Problem) (base : List Cut) (lines left rest : List Line) (nodes : List Node) (line : Line) → Grows i base lines left nodes → left ≡ line ∷ rest → nodes_after i nodes (line ∷ []) ≡ None → nodes_after i (new_node base ∷ []) lines ≡ None
-grows_none i base lines left rest nodes line g e bad = sym g.rest ∙ ap (nodes_after i nodes) e ∙ none_after i nodes line rest bad
+pub grows_none : (i : Problem) (start : List Node) (lines left rest : List Line) (nodes : List Node) (line : Line) → Grows i start lines left nodes → left ≡ line ∷ rest → nodes_after i nodes (line ∷ []) ≡ None → nodes_after i start lines ≡ None
+grows_none i start lines left rest nodes line g e bad = sym g.rest ∙ ap (nodes_after i nodes) e ∙ none_after i nodes line rest bad
 
 -- at the end the nodes are those that all lines make
-pub grows_last : (i : Problem) (base : List Cut) (lines left : List Line) (nodes : List Node) → Grows i base lines left nodes → left ≡ [] → nodes_after i (new_node base ∷ []) lines ≡ Some nodes
-grows_last i base lines left nodes g e = sym g.rest ∙ ap (nodes_after i nodes) e
+pub grows_last : (i : Problem) (start : List Node) (lines left : List Line) (nodes : List Node) → Grows i start lines left nodes → left ≡ [] → nodes_after i start lines ≡ Some nodes
+grows_last i start lines left nodes g e = sym g.rest ∙ ap (nodes_after i nodes) e
 
 -- what an accepted certificate's lines make
 pub accepted_nodes : (i : Problem) (c : Cert) → is_accepted i c ≡ true → nodes_after i (new_node [] ∷ []) c.lines ≡ None → ⊥

@@ -6,7 +6,7 @@ ghost use Rattle.head_splits.specs.Nodes.{child, new_node, settled_floor, with_f
 ghost use Rattle.head_splits.specs.Settled.{is_settled};
 ghost use Rattle.certificate.specs.declared.proof_lines.Line.TheVariants.{Priced, Settled, Split};
 ghost use Rattle.certificate.specs.Accepted.{is_split, nodes_after};
-ghost use Rattle.report_nodes.specs.Made.{HasFewCuts};
+ghost use Rattle.report_nodes.specs.Made.{HasFewCuts, HasRoom};
 
 use crate::node::TreeNode;
 use break_rules::NoMemory;
@@ -191,7 +191,7 @@ fn settle_at(
 }
 
 /// The nodes after a proof line, where it is good for them.
-pub(crate) fn grown(
+fn grown(
     alloc: Global,
     instance: &Instance,
     buffers: &mut Buffers,
@@ -210,6 +210,29 @@ pub(crate) fn grown(
     }
 }
 
+/// The nodes after proof lines, where each is good for those before it.
+pub(crate) fn lines_after(
+    alloc: Global,
+    instance: &Instance,
+    nodes: Vec<TreeNode>,
+    lines: &Lines,
+) -> Result<Option<Vec<TreeNode>>, NoMemory>
+    requires room { HasRoom nodes.items }
+    requires lines { length lines.now ≤ 2 ^ 32 }
+    ensures { IfOk result (λ last. option_map (λ v. v.items) last ≡ nodes_after instance.now nodes.items lines.now) }
+{
+    let mut buffers = Buffers::new(alloc, instance);
+    let mut nodes = nodes;
+    let mut reader = lines.reader();
+    while let Some(line) = reader.next_line(alloc)? {
+        let Some(next) = grown(alloc, instance, &mut buffers, nodes, line)? else {
+            return Ok(None);
+        };
+        nodes = next;
+    }
+    Ok(Some(nodes))
+}
+
 /// The nodes that proof lines make of one with these cuts, where each is good.
 pub(crate) fn nodes_below(
     alloc: Global,
@@ -221,14 +244,7 @@ pub(crate) fn nodes_below(
     requires lines { length lines.now ≤ 2 ^ 32 }
     ensures { IfOk result (λ last. option_map (λ v. v.items) last ≡ nodes_after instance.now (new_node base ∷ []) lines.now) }
 {
-    let mut buffers = Buffers::new(alloc, instance);
-    let mut nodes = vec![in alloc; TreeNode::new(base)]?;
-    let mut reader = lines.reader();
-    while let Some(line) = reader.next_line(alloc)? {
-        let Some(next) = grown(alloc, instance, &mut buffers, nodes, line)? else {
-            return Ok(None);
-        };
-        nodes = next;
-    }
-    Ok(Some(nodes))
+    let nodes = vec![in alloc; TreeNode::new(base)]?;
+    let last = lines_after(alloc, instance, nodes, lines)?;
+    Ok(last)
 }

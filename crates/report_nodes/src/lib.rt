@@ -1,5 +1,5 @@
-//! The open nodes of a report, each with its floor: what a search elsewhere can go on with. And the nodes that proof lines make, one line
-//! after another.
+//! The open nodes of a report, each with its floor: what a search elsewhere can go on with. And the nodes that proof lines make, and what
+//! further lines make of one of them alone.
 #![tactic(auto)]
 
 mod growing;

@@ -3,10 +3,10 @@ use Rattle.std.specs.Option.{option_map}
 use Rattle.certificate.specs.KeptLines.{Reads}
 use Rattle.certificate.specs.Accepted.{nodes_after}
 use Rattle.report_nodes.proofs.Grown.{grows_few, grows_more}
-use Rattle.report_nodes.proofs.growing.nodes_below.Goals as goal
+use Rattle.report_nodes.proofs.growing.lines_after.Goals as goal
 
 pub grown-requires-clause-few : goal.grown-requires-clause-few
-grown-requires-clause-few c = grows_few c.args.instance.now c.args.base c.args.lines.now c.loop-buffers.reader c.loop-buffers.nodes.items c.loop-buffers.invariant.grows c.requires.base c.requires.lines
+grown-requires-clause-few c = grows_few c.args.instance.now c.args.nodes.items c.args.lines.now c.loop-buffers.reader c.loop-buffers.nodes.items c.loop-buffers.invariant.grows c.requires.lines
 
 pub loop-buffers-preserved : goal.loop-buffers-preserved
 loop-buffers-preserved c =
@@ -16,6 +16,6 @@ loop-buffers-preserved c =
     let made : nodes_after c.args.instance.now c.loop-buffers.nodes.items (line ∷ []) ≡ Some c.in-Some-2.next.items =
     sym c.in_ok-next.ensures.made ∙ ap (option_map (λ v. v.items)) c.in-Some-2.is in
     record {
-      grows = grows_more c.args.instance.now c.args.base c.args.lines.now c.loop-buffers.reader rest c.loop-buffers.nodes.items c.in-Some-2.next.items line c.loop-buffers.invariant.grows read made;
+      grows = grows_more c.args.instance.now c.args.nodes.items c.args.lines.now c.loop-buffers.reader rest c.loop-buffers.nodes.items c.in-Some-2.next.items line c.loop-buffers.invariant.grows read made;
       buffers = c.in_ok-next.ensures.buffers ∙ c.loop-buffers.invariant.buffers;
     }
