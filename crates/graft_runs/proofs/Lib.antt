@@ -1,3 +1,8 @@
+pub mod Endings
 pub mod Sizes
 pub mod Texts
-pub mod Endings
+pub mod Planned
+pub mod Completed
+pub mod Digits
+pub mod Within
+pub mod Grown

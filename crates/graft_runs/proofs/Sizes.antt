@@ -24,7 +24,7 @@ use Rattle.report_grafts.specs.Grafted.{nodes_made}
 use Rattle.report_grafts.specs.Pins.{pins_of, pins_of_shift, pins_on}
 use Rattle.report_grafts.proofs.Lines.{first_good}
 use Rattle.report_grafts.proofs.Plans.{made_is, tree_of}
-use Rattle.report_nodes.proofs.Growing.{CutsWithin, within_line}
+use Rattle.report_nodes.proofs.Grown.{CutsWithin, within_lines}
 
 -- ---- lines
 
@@ -56,13 +56,6 @@ few_lines bytes c s =
     omega (arith, text, same, whole, inner)
 
 -- ---- cuts
-
-within_lines : (i : Problem) (most : ℕ) (nodes last : List Node) (lines : List Line) → nodes_after i nodes lines ≡ Some last → CutsWithin most nodes → CutsWithin (most + length lines) last
-within_lines i most nodes last [] e w = let same : nodes ≡ last = cc in λ n there. let old : length n.cuts ≤ most = w n (subst (λ (ns : List Node). Has ns n) (sym same) there) in omega (arith, old)
-within_lines i most nodes last (line ∷ lines) e w =
-    let r = first_good i nodes last line lines e in
-    let rest = within_lines i (most + 1) r.0 last lines r.2 (within_line i most nodes r.0 r.1.node line r.1.at r.1.made w) in
-    λ n there. let old : length n.cuts ≤ most + 1 + length lines = rest n there in omega (arith, old)
 
 root_within : CutsWithin 0 (new_node [] ∷ [])
 root_within n there = elim there [ inl e ↦ subst (λ (z : Node). length z.cuts ≤ 0) e (omega arith) | inr no ↦ absurd no ]

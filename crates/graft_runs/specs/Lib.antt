@@ -4,3 +4,4 @@ pub mod Texts
 pub mod Runs
 pub mod Reading
 pub mod Running
+pub mod Complete

@@ -5,9 +5,10 @@ use Rattle.std.specs.Io.KnownBytes.{Appends}
 use Rattle.plan_base.specs.Causes.{Rose}
 use Rattle.plan_base.specs.Streams.{AppendsPart}
 use Rattle.shift_instance.specs.declared.TheConstants.{TOP}
+use Rattle.shift_instance.specs.declared.Duty.{Duty}
 use Rattle.shift_instance.specs.declared.Row.{Row}
 use Rattle.shift_instance.specs.Problem.{Problem}
-use Rattle.shift_instance.specs.Rota.{rota_of}
+use Rattle.shift_instance.specs.Rota.{are_legal_rows, cost, is_legal_rota, rota_of}
 use Rattle.head_splits.specs.declared.Cut.{Cut}
 use Rattle.instance_input.specs.declared.Unread.TheVariants.{Refused as DocumentRefused}
 use Rattle.instance_input.specs.Unread.{IsReadAs, WhyUnread}
@@ -21,25 +22,26 @@ use Rattle.report_grafts.specs.declared.fault.GraftFault.{GraftFault}
 use Rattle.report_grafts.specs.declared.fault.GraftFault.TheVariants.{Refused as CertRefused, NoNode, IsSplit, OtherCuts, NoRows, NoMemory as NoMemoryForGraft}
 use Rattle.report_grafts.specs.Faults.{HasOpenEnd, IsExportFault}
 use Rattle.report_grafts.specs.Grafted.{found_by, grafted_lines, grafted_plan, status_of}
-use Rattle.report_grafts.specs.Pins.{pins_of}
-use Rattle.report_grafts.specs.Run.{Run, is_finished}
+use Rattle.report_grafts.specs.Pins.{pins_of, HaveSameHeads}
+use Rattle.report_grafts.specs.Run.{Run, is_finished, IsSound}
 use Rattle.report_nodes.specs.declared.listing.OpenNode.{OpenNode}
 use Rattle.report_nodes.specs.Listed.{AreFirst, IsRefusal}
-use Rattle.subtree_search.specs.Stepping.{IsSearched}
+use Rattle.subtree_search.specs.Stepping.{IsGreedyRun, IsSearched}
 use Rattle.graft_runs.specs.declared.status.GraftStatus.{GraftStatus}
 use Rattle.graft_runs.specs.declared.status.GraftStatus.TheVariants.{Written, Refused, Usage, Input, Bundle, ReadFault, WriteFault, NoMemory}
 use Rattle.graft_runs.specs.declared.words.Command.{Command}
 use Rattle.graft_runs.specs.declared.words.Command.TheVariants.{Below, Thorough, Breaks, Nodes}
-use Rattle.graft_runs.specs.Texts.{breaks_lines, fault_text, open_line, IsNamed}
+use Rattle.graft_runs.specs.Texts.{breaks_lines, fault_text, open_line, rows_after, IsNamed}
 use Rattle.graft_runs.specs.Words.{most_steps, request_of}
 
 -- what the plan of a certificate costs, and TOP where it has none
 abbrev pub limit_of : Cert → ℕ
 limit_of c = option_map_or (λ p. p.0) c.plan TOP
 
--- a search below some cuts, of so many steps: it left no node open, took them all, or may have been asked to stop
+-- a sound run of a search below some cuts, of so many steps: it left no node open, took them all, or may have been asked to stop
 pub record IsSearch (i : Problem) (base : List Cut) (limit steps : ℕ) (asks : Bool) (r : Run) : Type 0 where
   pub searched : IsSearched i base limit steps r
+  pub sound : IsSound r
   pub ends : IsTrue (is_finished r) ⊎ ((r.taken ≡ steps) ⊎ (asks ≡ true))
 
 -- a certificate with a run grafted at one of its nodes
@@ -63,13 +65,33 @@ pub record GrowsBelow (i : Problem) (whole : Cert) (node steps : ℕ) (asks : Bo
   pub search : IsSearch i base (limit_of whole) steps asks run
   pub grown : IsGrownText i whole node run text
 
--- the lines of the rows of a certificate after a search of so many steps below the cuts that fix their heads
+-- the same of a search by the greedy adviser, which nothing asks to stop
+pub record GrowsGreedily (i : Problem) (whole : Cert) (node steps : ℕ) (text : List ℕ) : Type 0 where
+  pub grows : GrowsBelow i whole node steps false text
+  pub greedy : IsGreedyRun i grows.base (limit_of whole) grows.run
+
+-- legal rows at their cost, with as many duties of each shift on each day as other rows
+pub record IsPlannedAnew (i : Problem) (rows : List Row) (p : ℕ × List Row) : Type 0 where
+  pub legal : IsTrue (are_legal_rows i p.1)
+  pub exact : cost i (rota_of p.1) ≡ p.0
+  pub heads : HaveSameHeads i (rota_of p.1) (rota_of rows)
+
+-- each legal rota with as many duties of each shift on each day as some rows costs at least so much
+abbrev pub CostsAtLeast : Problem → List Row → ℕ → Type 0
+CostsAtLeast i rows bound = (rota : List Duty) → IsTrue (is_legal_rota i rota) → HaveSameHeads i rota (rota_of rows) → bound ≤ cost i rota
+
+-- The lines of the rows of a certificate after a search of so many steps by the greedy adviser, below the cuts that fix their heads. What the rows
+-- with these heads cost at least is the run's floor, and where the run left no node open, it is what the rows of the lines cost.
 pub record ArePlannedAnew (i : Problem) (whole : Cert) (steps : ℕ) (text : List ℕ) : Type 0 where
   pub accepted : IsTrue (is_accepted i whole)
   pub plan : ℕ × List Row
   pub rows : whole.plan ≡ Some plan
   pub run : Run
   pub search : IsSearch i (pins_of i (rota_of plan.1)) plan.0 steps false run
+  pub greedy : IsGreedyRun i (pins_of i (rota_of plan.1)) plan.0 run
+  pub planned : IsPlannedAnew i plan.1 (rows_after run plan)
+  pub bound : CostsAtLeast i plan.1 run.floor
+  pub best : IsTrue (is_finished run) → run.floor ≡ (rows_after run plan).0
   pub lines : text ≡ lines_text (breaks_lines run plan)
 
 -- the lines of the first so many open nodes of a certificate
@@ -78,7 +100,7 @@ AreListed i whole most text = (list : List OpenNode) × AreFirst i whole most li
 
 -- what a command writes of a certificate; a thorough search may be asked to stop
 abbrev pub Writes : Bool → Command → Problem → Cert → List ℕ → Type 0
-Writes asks (Below node steps) i whole text = GrowsBelow i whole node steps false text
+Writes asks (Below node steps) i whole text = GrowsGreedily i whole node steps text
 Writes asks (Thorough node budget) i whole text = GrowsBelow i whole node (most_steps budget) asks text
 Writes asks (Breaks steps) i whole text = ArePlannedAnew i whole steps text
 Writes asks (Nodes most) i whole text = AreListed i whole most text

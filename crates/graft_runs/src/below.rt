@@ -1,9 +1,9 @@
 //! A report that is grown below one of its nodes.
-ghost use Rattle.std.specs.Prelude.{ℕ, ◌≤◌, ◌≡◌, ◌^◌, false, IfErr, IfOk, length};
+ghost use Rattle.std.specs.Prelude.{ℕ, ◌≤◌, ◌≡◌, ◌^◌, IfErr, IfOk, length};
 ghost use Rattle.certificate.specs.Text.{Agrees};
 ghost use Rattle.report_grafts.specs.Faults.{HasOpenEnd, IsExportFault};
 ghost use Rattle.subtree_search.specs.Stepping.{IsSearched};
-ghost use Rattle.graft_runs.specs.Runs.{limit_of, GrowsBelow, IsGrown, IsGrownText};
+ghost use Rattle.graft_runs.specs.Runs.{limit_of, GrowsBelow, GrowsGreedily, IsGrown, IsGrownText};
 
 use advice::{Adviser, Stop};
 use certificate::Cert;
@@ -38,7 +38,9 @@ fn grown(
     ensures agrees { IfOk result Agrees }
     ensures fault { IfErr result (IsExportFault instance.now whole.now node) }
 {
-    graft(alloc, instance, whole, node, run)
+    let _valid = instance.slots();
+    let cert = graft(alloc, instance, whole, node, run)?;
+    Ok(cert)
 }
 
 /// The text of that report.
@@ -69,11 +71,13 @@ pub(crate) fn grown_text(
 ) -> Result<Vec<u8>, GraftFault>
     requires few { length whole.now.lines ≤ 2 ^ 28 }
     requires steps { steps ≤ 10 ^ 9 }
-    ensures text { IfOk result (λ text. GrowsBelow instance.now whole.now node steps false text.items) }
+    ensures text { IfOk result (λ text. GrowsGreedily instance.now whole.now node steps text.items) }
     ensures fault { IfErr result (IsExportFault instance.now whole.now node) }
 {
+    let _valid = instance.slots();
     let base = export(alloc, instance, whole, node)?;
     let run = solve_below(alloc, instance, base, limit_of(whole), steps)?;
+    let _sound = run.lines();
     text_with(alloc, instance, whole, node, &run)
 }
 
@@ -92,7 +96,9 @@ pub(crate) fn grown_text_by<A: Adviser, P: Stop>(
     ensures text { IfOk result (λ text. GrowsBelow instance.now whole.now node steps (P.can_ask stop.now) text.items) }
     ensures fault { IfErr result (IsExportFault instance.now whole.now node) }
 {
+    let _valid = instance.slots();
     let base = export(alloc, instance, whole, node)?;
     let run = solve_below_by(alloc, instance, base, limit_of(whole), steps, adviser, stop)?;
+    let _sound = run.lines();
     text_with(alloc, instance, whole, node, &run)
 }

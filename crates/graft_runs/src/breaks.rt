@@ -1,12 +1,14 @@
 //! Breaks of the rows of a report, planned anew.
-ghost use Rattle.std.specs.Prelude.{◌≡◌, ◌≤◌, ◌^◌, ◌++◌, ◌∷◌, IfErr, IfOk, IsTrue, OnOk, Some, map, string_bytes};
+ghost use Rattle.std.specs.Prelude.{◌≡◌, ◌≤◌, ◌^◌, ◌++◌, ◌∷◌, IfErr, IfOk, IsTrue, OnOk, Some, false, map, string_bytes};
 ghost use Rattle.std.specs.List.{flat_map};
 ghost use Rattle.shift_instance.specs.declared.TheConstants.{TOP};
-ghost use Rattle.shift_instance.specs.Rota.{are_legal_rows};
+ghost use Rattle.shift_instance.specs.Rota.{are_legal_rows, rota_of};
 ghost use Rattle.certificate.specs.Accepted.{is_accepted};
 ghost use Rattle.certificate.specs.LineText.{break_text, breaks_text, line_text, lines_text, row_line};
-ghost use Rattle.graft_runs.specs.Runs.{ArePlannedAnew, IsBreaksFault};
-ghost use Rattle.graft_runs.specs.Texts.{rows_lines};
+ghost use Rattle.report_grafts.specs.Pins.{pins_of};
+ghost use Rattle.subtree_search.specs.Stepping.{IsGreedyRun};
+ghost use Rattle.graft_runs.specs.Runs.{ArePlannedAnew, IsBreaksFault, IsSearch};
+ghost use Rattle.graft_runs.specs.Texts.{breaks_lines, rows_lines};
 
 use break_rules::{Break, NoMemory};
 use cert_check::{Refused, check};
@@ -87,6 +89,16 @@ fn rows_text(alloc: Global, run: &SubRun, cost: u64, rows: &Rows) -> Result<Vec<
     Ok(text.into_bytes())
 }
 
+/// The text of the cheaper of some rows with their cost and the best rota of a run.
+fn cheaper_text(alloc: Global, run: &SubRun, cost: u64, rows: &Rows) -> Result<Vec<u8>, NoMemory>
+    ensures { IfOk result (λ text. text.items ≡ lines_text (breaks_lines run.now (cost, rows.now))) }
+{
+    match run.best() {
+        Some(best) => rows_text(alloc, run, best.cost(), best.rows()),
+        None => rows_text(alloc, run, cost, rows),
+    }
+}
+
 /// The rows of a certificate that the checker accepts, with their cost.
 fn judged_rows<'a>(
     alloc: Global,
@@ -98,6 +110,7 @@ fn judged_rows<'a>(
     ensures legal { IfOk result (λ p. IsTrue (are_legal_rows instance.now p.1.now) × (p.0 ≤ TOP)) }
     ensures fault { IfErr result (IsBreaksFault instance.now whole.now) }
 {
+    let _valid = instance.slots();
     match check(alloc, instance, whole) {
         Ok(_) => {}
         Err(Refused::NoMemory) => return Err(GraftFault::NoMemory),
@@ -107,6 +120,27 @@ fn judged_rows<'a>(
         Some((cost, rows)) => Ok((*cost, rows)),
         None => Err(GraftFault::NoRows),
     }
+}
+
+/// The run of a search below the cuts by which each shift has on each day as many duties as in rows of that cost.
+fn searched(
+    alloc: Global,
+    instance: &Instance,
+    cost: u64,
+    rows: &Rows,
+    steps: u64,
+) -> Result<SubRun, NoMemory>
+    requires legal { IsTrue (are_legal_rows instance.now rows.now) }
+    requires cost { cost ≤ TOP }
+    requires steps { steps ≤ 10 ^ 9 }
+    ensures search { IfOk result (IsSearch instance.now (pins_of instance.now (rota_of rows.now)) cost steps false) }
+    ensures greedy { IfOk result (IsGreedyRun instance.now (pins_of instance.now (rota_of rows.now)) cost) }
+{
+    let _valid = instance.slots();
+    let base = pins(alloc, instance, rows)?;
+    let run = solve_below(alloc, instance, base, cost, steps)?;
+    let _sound = run.lines();
+    Ok(run)
 }
 
 /// The text of the rows of a report with breaks that are planned anew in so many steps, where these are cheaper.
@@ -120,11 +154,8 @@ pub(crate) fn breaks_text(
     ensures text { IfOk result (λ text. ArePlannedAnew instance.now whole.now steps text.items) }
     ensures fault { IfErr result (IsBreaksFault instance.now whole.now) }
 {
+    let _valid = instance.slots();
     let (cost, rows) = judged_rows(alloc, instance, whole)?;
-    let base = pins(alloc, instance, rows)?;
-    let run = solve_below(alloc, instance, base, cost, steps)?;
-    match run.best() {
-        Some(best) => Ok(rows_text(alloc, &run, best.cost(), best.rows())?),
-        None => Ok(rows_text(alloc, &run, cost, rows)?),
-    }
+    let run = searched(alloc, instance, cost, rows, steps)?;
+    Ok(cheaper_text(alloc, &run, cost, rows)?)
 }

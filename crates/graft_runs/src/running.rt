@@ -1,6 +1,7 @@
 //! The run of `graft_run`.
-ghost use Rattle.std.specs.Prelude.{false, ◌≡◌, ◌≤◌, ◌^◌, IfErr, IfOk, length, map, string_bytes};
+ghost use Rattle.std.specs.Prelude.{false, ◌≡◌, ◌⊎◌, ◌≤◌, ◌^◌, IfErr, IfOk, length, map, string_bytes};
 ghost use Rattle.check_runs.specs.Check.{IsReportOf};
+ghost use Rattle.graft_runs.specs.Complete.{CanWrite};
 ghost use Rattle.graft_runs.specs.Runs.{EndsOver, Explains, IsFaultOf, Writes};
 ghost use Rattle.graft_runs.specs.Running.{EndsWith, Told};
 ghost use Rattle.graft_runs.specs.Status.{EndsEarly, EndsUnwritten};
@@ -145,6 +146,15 @@ pub fn graft_top_by<S: Source, T: Source, K: Sink, A: Adviser, P: Stop>(
           sink = record { held = K.held out.old; held_after = K.held out.new; faults = (K.faults out.old, K.faults out.new) };
         })
         result }
+    // What can be written is.
+    ensures complete { CanWrite
+        (record {
+          words = map string_bytes words.now;
+          document = record { left = S.left instance.old; faults = (S.faults instance.old, S.faults instance.new) };
+          report = record { left = T.left bundle.old; faults = (T.faults bundle.old, T.faults bundle.new) };
+          sink = record { held = K.held out.old; held_after = K.held out.new; faults = (K.faults out.old, K.faults out.new) };
+        })
+        → (result ≡ GraftStatus.Written) ⊎ (result ≡ GraftStatus.NoMemory) }
     ensures unread { result ≡ GraftStatus.Usage → instance.new ≡ instance.old }
     ensures untouched { EndsEarly result → bundle.new ≡ bundle.old }
     ensures unwritten { EndsUnwritten result → out.new ≡ out.old }
@@ -178,6 +188,15 @@ pub fn graft_top<S: Source, T: Source, K: Sink>(
           sink = record { held = K.held out.old; held_after = K.held out.new; faults = (K.faults out.old, K.faults out.new) };
         })
         result }
+    // What can be written is.
+    ensures complete { CanWrite
+        (record {
+          words = map string_bytes words.now;
+          document = record { left = S.left instance.old; faults = (S.faults instance.old, S.faults instance.new) };
+          report = record { left = T.left bundle.old; faults = (T.faults bundle.old, T.faults bundle.new) };
+          sink = record { held = K.held out.old; held_after = K.held out.new; faults = (K.faults out.old, K.faults out.new) };
+        })
+        → (result ≡ GraftStatus.Written) ⊎ (result ≡ GraftStatus.NoMemory) }
     ensures unread { result ≡ GraftStatus.Usage → instance.new ≡ instance.old }
     ensures untouched { EndsEarly result → bundle.new ≡ bundle.old }
     ensures unwritten { EndsUnwritten result → out.new ≡ out.old }

@@ -1,5 +1,5 @@
 //! The words of the command line.
-ghost use Rattle.std.specs.Prelude.{◌≡◌, ◌≤◌, ◌-◌, ◌^◌, IfSome, map, string_bytes};
+ghost use Rattle.std.specs.Prelude.{◌≡◌, ◌≤◌, ◌-◌, ◌^◌, ◌∷◌, [], IfSome, map, string_bytes};
 ghost use Rattle.std.specs.Option.{option_map};
 ghost use Rattle.graft_runs.specs.Words.{asked, below_of, breaks_of, is_file, nodes_of, number_within, request_of, steps_of, thorough_of, timed_of};
 
@@ -134,44 +134,120 @@ fn nodes(most: &str) -> Option<Command>
     Some(Command::Nodes { most })
 }
 
+/// What `breaks INSTANCE REPORT STEPS` and `nodes INSTANCE REPORT N` ask for.
+fn of_four<'a>(
+    name: &str,
+    instance: &'a str,
+    report: &'a str,
+    number: &str,
+) -> Option<Request<'a>>
+    ensures asked { option_map (λ r. record { command = r.command; files = record { instance = r.files.instance.now; report = r.files.report.now } }) result ≡ request_of (name.now ∷ instance.now ∷ report.now ∷ number.now ∷ []) }
+    ensures few { IfSome result (λ r. steps_of r.command ≤ 10 ^ 9) }
+{
+    if name == "breaks" {
+        request_with(instance, report, breaks(number)?)
+    } else if name == "nodes" {
+        request_with(instance, report, nodes(number)?)
+    } else {
+        None
+    }
+}
+
+/// What `below INSTANCE REPORT NODE STEPS` asks for.
+fn of_five<'a>(
+    name: &str,
+    instance: &'a str,
+    report: &'a str,
+    node: &str,
+    steps: &str,
+) -> Option<Request<'a>>
+    ensures asked { option_map (λ r. record { command = r.command; files = record { instance = r.files.instance.now; report = r.files.report.now } }) result ≡ request_of (name.now ∷ instance.now ∷ report.now ∷ node.now ∷ steps.now ∷ []) }
+    ensures few { IfSome result (λ r. steps_of r.command ≤ 10 ^ 9) }
+{
+    if name == "below" {
+        request_with(instance, report, below(node, steps)?)
+    } else {
+        None
+    }
+}
+
+/// What `below INSTANCE REPORT NODE STEPS --thorough` asks for.
+fn of_six<'a>(
+    name: &str,
+    instance: &'a str,
+    report: &'a str,
+    node: &str,
+    steps: &str,
+    last: &str,
+) -> Option<Request<'a>>
+    ensures asked { option_map (λ r. record { command = r.command; files = record { instance = r.files.instance.now; report = r.files.report.now } }) result ≡ request_of (name.now ∷ instance.now ∷ report.now ∷ node.now ∷ steps.now ∷ last.now ∷ []) }
+    ensures few { IfSome result (λ r. steps_of r.command ≤ 10 ^ 9) }
+{
+    if name == "below" && last == "--thorough" {
+        request_with(instance, report, thorough(node, steps)?)
+    } else {
+        None
+    }
+}
+
+/// What `below INSTANCE REPORT NODE --seconds T --thorough` asks for.
+fn of_seven<'a>(
+    name: &str,
+    instance: &'a str,
+    report: &'a str,
+    node: &str,
+    flag: &str,
+    seconds: &str,
+    last: &str,
+) -> Option<Request<'a>>
+    ensures asked { option_map (λ r. record { command = r.command; files = record { instance = r.files.instance.now; report = r.files.report.now } }) result ≡ request_of (name.now ∷ instance.now ∷ report.now ∷ node.now ∷ flag.now ∷ seconds.now ∷ last.now ∷ []) }
+    ensures few { IfSome result (λ r. steps_of r.command ≤ 10 ^ 9) }
+{
+    if name == "below" && flag == "--seconds" && last == "--thorough" {
+        request_with(instance, report, timed(node, seconds)?)
+    } else {
+        None
+    }
+}
+
 /// What `below INSTANCE REPORT NODE STEPS`, `below INSTANCE REPORT NODE STEPS --thorough`, `below INSTANCE REPORT NODE --seconds T --thorough`,
 /// `breaks INSTANCE REPORT STEPS` and `nodes INSTANCE REPORT N` ask for, and `None` of any other words.
+#[tactic(auto, using(crate::proofs::Within::other_words))]
 pub fn request_of(words: &[String]) -> Option<Request<'_>>
     ensures asked { option_map (λ r. record { command = r.command; files = record { instance = r.files.instance.now; report = r.files.report.now } }) result ≡ request_of (map string_bytes words.now) }
     ensures few { IfSome result (λ r. steps_of r.command ≤ 10 ^ 9) }
 {
     match words {
-        [name, instance, report, node, steps] if name.as_str() == "below" => request_with(
+        [name, instance, report, number] => of_four(
+            name.as_str(),
             instance.as_str(),
             report.as_str(),
-            below(node.as_str(), steps.as_str())?,
+            number.as_str(),
         ),
-        [name, instance, report, node, steps, last]
-            if name.as_str() == "below" && last.as_str() == "--thorough" => {
-            request_with(
-                instance.as_str(),
-                report.as_str(),
-                thorough(node.as_str(), steps.as_str())?,
-            )
-        }
-        [name, instance, report, node, flag, seconds, last]
-            if name.as_str() == "below"
-                && flag.as_str() == "--seconds"
-                && last.as_str() == "--thorough" => {
-            request_with(
-                instance.as_str(),
-                report.as_str(),
-                timed(node.as_str(), seconds.as_str())?,
-            )
-        }
-        [name, instance, report, steps] if name.as_str() == "breaks" => request_with(
+        [name, instance, report, node, steps] => of_five(
+            name.as_str(),
             instance.as_str(),
             report.as_str(),
-            breaks(steps.as_str())?,
+            node.as_str(),
+            steps.as_str(),
         ),
-        [name, instance, report, most] if name.as_str() == "nodes" => {
-            request_with(instance.as_str(), report.as_str(), nodes(most.as_str())?)
-        }
+        [name, instance, report, node, steps, last] => of_six(
+            name.as_str(),
+            instance.as_str(),
+            report.as_str(),
+            node.as_str(),
+            steps.as_str(),
+            last.as_str(),
+        ),
+        [name, instance, report, node, flag, seconds, last] => of_seven(
+            name.as_str(),
+            instance.as_str(),
+            report.as_str(),
+            node.as_str(),
+            flag.as_str(),
+            seconds.as_str(),
+            last.as_str(),
+        ),
         _ => None,
     }
 }

@@ -1,0 +1,39 @@
+-- What a search below a node of a certificate makes of it.
+use Rattle.std.proofs.Common.{◌≡◌, ◌⊎◌, inl, inr, ℕ, ◌^◌, ◌≤◌, Bool, true, false, List, length, refl, sym, subst}
+use Rattle.std.specs.Prelude.{IsTrue}
+use Rattle.shift_instance.specs.Problem.{Problem}
+use Rattle.shift_instance.specs.Valid.{IsValid}
+use Rattle.head_splits.specs.declared.Cut.{Cut}
+use Rattle.certificate.specs.declared.Cert.{Cert}
+use Rattle.report_grafts.specs.Faults.{HasOpenEnd}
+use Rattle.report_grafts.specs.Run.{Run, is_finished, IsSound}
+use Rattle.subtree_search.specs.Stepping.{IsGreedyRun, IsSearched}
+use Rattle.graft_runs.specs.Runs.{limit_of, GrowsBelow, GrowsGreedily, IsGrownText, IsSearch}
+use Rattle.graft_runs.proofs.Planned.{run_base}
+
+-- a run of a search below some cuts is one below its own
+pub searched_own : (i : Problem) (base : List Cut) (limit steps : ℕ) (r : Run) → IsValid i → IsSearched i base limit steps r → IsSearched i r.base limit steps r
+searched_own i base limit steps r valid s = subst (λ (cuts : List Cut). IsSearched i cuts limit steps r) (sym (run_base i base limit steps r valid s)) s
+
+pub end_own : (i : Problem) (whole : Cert) (node : ℕ) (base : List Cut) (limit steps : ℕ) (r : Run) → IsValid i → IsSearched i base limit steps r → HasOpenEnd i whole node base → HasOpenEnd i whole node r.base
+end_own i whole node base limit steps r valid s end = subst (λ (cuts : List Cut). HasOpenEnd i whole node cuts) (sym (run_base i base limit steps r valid s)) end
+
+-- a run that isn't asked to stop
+pub never_asked : (i : Problem) (base : List Cut) (limit steps : ℕ) (r : Run) → IsSearched i base limit steps r → IsSound r → (is_finished r ≡ true) ⊎ (r.taken ≡ steps) → IsSearch i base limit steps false r
+never_asked i base limit steps r s sound (inl done) = record { searched = s; sound = sound; ends = inl done }
+never_asked i base limit steps r s sound (inr all) = record { searched = s; sound = sound; ends = inr (inl all) }
+
+pub grows_greedily : (i : Problem) (whole : Cert) (node steps : ℕ) (base : List Cut) (r : Run) (text : List ℕ) → HasOpenEnd i whole node base
+    → IsSearched i base (limit_of whole) steps r → IsSound r → (is_finished r ≡ true) ⊎ (r.taken ≡ steps) → IsGreedyRun i base (limit_of whole) r → IsGrownText i whole node r text → GrowsGreedily i whole node steps text
+grows_greedily i whole node steps base r text end s sound ends greedy grown = record {
+  grows = record { base = base; end = end; run = r; search = never_asked i base (limit_of whole) steps r s sound ends; grown = grown };
+  greedy = greedy;
+}
+
+pub grows_below : (i : Problem) (whole : Cert) (node steps : ℕ) (asks : Bool) (base : List Cut) (r : Run) (text : List ℕ) → HasOpenEnd i whole node base
+    → IsSearched i base (limit_of whole) steps r → IsSound r → (is_finished r ≡ true) ⊎ ((r.taken ≡ steps) ⊎ (asks ≡ true)) → IsGrownText i whole node r text → GrowsBelow i whole node steps asks text
+grows_below i whole node steps asks base r text end s sound ends grown = record {
+  base = base; end = end; run = r;
+  search = record { searched = s; sound = sound; ends = ends };
+  grown = grown;
+}

@@ -1,0 +1,7 @@
+use Rattle.std.proofs.Common.{◌≡◌, ◌++◌, take, string_bytes, map}
+use Rattle.certificate.specs.LineText.{lines_text}
+use Rattle.graft_runs.specs.Texts.{open_line}
+use Rattle.graft_runs.proofs.nodes.add_nodes.Given as goal
+
+abbrev pub invariant-loop-open : goal.invariant-loop-open
+invariant-loop-open l = string_bytes l.text ≡ string_bytes l.fn.text ++ lines_text (map open_line (take l.open-index l.list))
