@@ -1,8 +1,8 @@
 #!/usr/bin/env python3
-"""Measures `shift_migrate` of a journal of some 57 MB: searches the usual week for 20,000 steps, spells the journal as the first version did, with eight bytes a
-price, and has it carried over three times. Elapsed seconds, processor seconds and peak memory of the whole process; each new journal must have the bytes of the
-search's own. Words: the folder for the journals (that for temporary files where none is given), and the programs `shift_solve` and `shift_migrate` where they
-aren't those of `bin/`; with `--make FILE` it only writes the old journal."""
+"""Measures `shift_migrate` of old journals of nearly 60 MB: one of 20,000 steps of the usual week, which is searched and then spelled as the first version did, with
+eight bytes a price, and one of 277,777 small records, each with 24 prices. Each is carried over three times. Elapsed seconds, processor seconds and peak memory of
+the whole process; the new journal must have the bytes of the search's own, or of the made one. Words: the folder for the journals (that for temporary files where
+none is given), and the programs `shift_solve` and `shift_migrate` where they aren't those of `bin/`."""
 import os
 import struct
 import subprocess
@@ -10,11 +10,14 @@ import sys
 import tempfile
 import time
 
+import crash_migrate
+
 TOP = os.path.dirname(os.path.dirname(os.path.abspath(__file__)))
 BIN = os.path.join(TOP, "bin")
 EXAMPLE = os.path.join(TOP, "examples", "usual_week.json")
 STEPS = 20_000
 SPENT = 10  # the status of a search whose steps are spent
+SMALL_RECORDS = 277_777
 RUNS = 3
 MARK, OLD_MARK = b"SHIFTJ2\n", b"SHIFTJ1\n"
 PLAN, PRICED, SPLIT, SETTLED = 1, 2, 3, 4
@@ -110,27 +113,32 @@ def timed(words):
     return said, time.perf_counter() - begin, usage.ru_utime + usage.ru_stime, usage.ru_maxrss / 1024
 
 
+def carried_over(migrate, what, folder, wanted):
+    """Carries the journal `old` of the folder over, so often, and compares the new one with what is wanted."""
+    old, new = os.path.join(folder, "old"), os.path.join(folder, "new")
+    for _ in range(RUNS):
+        if os.path.exists(new):
+            os.remove(new)
+        said, elapsed, processors, memory = timed([migrate, old, new])
+        print("%s, %d bytes: %s; %.3f s elapsed, %.3f s of processors, %.1f MB"
+              % (what, os.path.getsize(old), said.decode().strip(), elapsed, processors, memory), flush=True)
+        with open(new, "rb") as file:
+            assert file.read() == wanted, "the new journal differs"
+    os.remove(new)
+
+
 def main():
     words = sys.argv[1:]
-    if words[:1] == ["--make"]:
-        with tempfile.TemporaryDirectory() as folder, open(words[1], "wb") as out:
-            out.write(old_journal(searched(os.path.join(BIN, "shift_solve"), folder)))
-        return
     solve = words[1] if len(words) > 1 else os.path.join(BIN, "shift_solve")
     migrate = words[2] if len(words) > 2 else os.path.join(BIN, "shift_migrate")
     with tempfile.TemporaryDirectory(dir=words[0] if words else None) as folder:
         journal = searched(solve, folder)
-        old, new = os.path.join(folder, "old.journal"), os.path.join(folder, "new.journal")
-        with open(old, "wb") as out:
+        with open(os.path.join(folder, "old"), "wb") as out:
             out.write(old_journal(journal))
-        del journal
-        for _ in range(RUNS):
-            if os.path.exists(new):
-                os.remove(new)
-            said, elapsed, processors, memory = timed([migrate, old, new])
-            print("%d bytes: %s; %.3f s elapsed, %.3f s of processors, %.1f MB" % (os.path.getsize(old), said.decode().strip(), elapsed, processors, memory), flush=True)
-            with open(new, "rb") as after, open(os.path.join(folder, "search.journal"), "rb") as before:
-                assert after.read() == before.read(), "the new journal differs"
+        carried_over(migrate, "usual week", folder, journal)
+        with open(os.path.join(folder, "old"), "wb") as out:
+            out.write(crash_migrate.journal(OLD_MARK, 8, SMALL_RECORDS))
+        carried_over(migrate, "small records", folder, crash_migrate.journal(MARK, 5, SMALL_RECORDS))
 
 
 if __name__ == "__main__":
