@@ -1,7 +1,8 @@
 #!/usr/bin/env python3
 """Measures the takes from a book of a million open nodes: writes a journal of 999,999 splits behind the head that the book makes of an empty
 file, has a program open it, and tells the time of each of its sixteen takes, one for each worker. The program stands in a crate of its own
-beside a copy of the crates that it uses, in a folder that is removed, and `rt run` proves and builds it."""
+beside a copy of the crates that it uses, in a folder that is removed, and `rt run` proves and builds it; a word names it where it is built already. Each
+journal is opened three times."""
 import os
 import shutil
 import struct
@@ -17,6 +18,7 @@ from rooms import below, crates
 USED = ["search_book", "search_core", "instance_json", "shift_instance", "plan_base", "break_rules"]
 SPLITS = 999999
 MOST = 65535
+RUNS = 3
 
 DOCUMENT = ('{"slot_minutes":60,"days":1,"need":[' + ",".join("1" * 24) + '],"max_heads":9,"weights":{"excess":1,"shortage":2,"shift":3},'
             '"types":[{"name":"T","start_min":0,"start_max":19,"len_min":4,"len_max":4,"breaks":null}]}')
@@ -156,16 +158,17 @@ def run(binary, journal):
 
 def main():
     with tempfile.TemporaryDirectory() as folder:
-        binary = build(folder)
+        binary = sys.argv[1] if len(sys.argv) > 1 else build(folder)
         for splits in [0, SPLITS]:
             journal = os.path.join(folder, "journal-%d" % splits)
             open(journal, "wb").close()
             run(binary, journal)
             if splits:
                 add_splits(journal)
-            seconds, takes = run(binary, journal)
-            print("%7d open nodes: opened in %.1f s; %d takes, the longest %.1f us, the median %.1f us"
-                  % (splits + 1, seconds, len(takes), max(takes) / 1000, sorted(takes)[len(takes) // 2] / 1000))
+            for _ in range(RUNS):
+                seconds, takes = run(binary, journal)
+                print("%7d open nodes: opened in %.2f s; %d takes, the longest %.1f us, the median %.1f us"
+                      % (splits + 1, seconds, len(takes), max(takes) / 1000, sorted(takes)[len(takes) // 2] / 1000))
 
 
 if __name__ == "__main__":

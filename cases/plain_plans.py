@@ -657,7 +657,7 @@ def journal_without_room(folder):
     record = bytes.fromhex("01 73270000 0100 02 0000 00000000 0100 e0070000") + bytes(5 * 2016 + 4)
     (folder.path / "week.journal").write_bytes(b"SHIFTJ2\n" + len(canonical).to_bytes(4, "little") + canonical.encode() + record * 6641 + b"\0")
     run = folder.begun("--seconds", "60", "--workers", "1")
-    faults = ended(folder, run, 0, "goes on from 6641 steps: cost 8, bound 0", "the journal is full", "the same line with --anew goes on from it in a new journal")
+    faults = ended(folder, run, 0, "goes on from 6641 steps: cost 8, bound 0", "the journal is full", "a new one can begin with its best plan", "the same line with --anew goes on from it in a new journal")
     return faults + ends(folder.plan("--seconds", "1", "--anew"), 0, "takes nothing from the old journal: its best plan has no duty")
 
 

@@ -116,6 +116,6 @@ pub fn full_sentence(alloc: Global, end: u64, limit: u32) -> Result<String, Allo
     ensures { IfOk result (λ sentence. string_bytes sentence ≡ full_text end limit) }
 {
     format!(in alloc;
-        "the journal is full: the next step would make it {end} bytes long, and at most {limit} are allowed. It keeps all that was found; another journal begins the search anew"
+        "the journal is full: the next step would make it {end} bytes long, and at most {limit} are allowed. It keeps all that was found; a new one can begin with its best plan"
     )
 }

@@ -17,8 +17,8 @@ use shift_instance::Instance;
 use std::alloc::{AllocError, Global};
 use std::thread::Threads;
 
-/// By how many workers at most the old records are judged.
-const WORKERS: u32 = 16;
+/// By how many workers at most the old records are judged. Each more takes memory for what it reads.
+const WORKERS: u32 = 4;
 
 /// The head and the records of the journal that is made, and the number of its posts.
 #[derive(Drop)]

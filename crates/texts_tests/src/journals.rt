@@ -11,6 +11,7 @@ fn tells_what_to_do(rt: HostRuntime) -> Result<(), Fail> {
     assert!(rt;
         sentence.starts_with("the journal is full: the next step would make it 70 bytes long")
     );
+    assert!(rt; sentence.ends_with("a new one can begin with its best plan"));
     Ok(())
 }
 
