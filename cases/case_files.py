@@ -8,7 +8,7 @@ HERE = os.path.dirname(os.path.abspath(__file__))
 TEXTS = os.path.join(HERE, "texts")
 PROGRAMS = ("shift_solve", "shift_check", "shift_plan", "shift_migrate", "graft_run")
 # the scripts of the repository that cases try, each copied into the case's folder with what it needs
-SCRIPTS = ("audit", "run", "tools/floors.py", "tools/proved.py")
+SCRIPTS = ("audit", "run", "tools/floors.py", "tools/proved.py", "cluster/rounds")
 
 # the fields of a run, those of a case beside them, and those of a variant beside the ones of a run
 RUN = {
