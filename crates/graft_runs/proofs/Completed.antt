@@ -87,20 +87,20 @@ not_none None some none = absurd some
 not_none (Some x) some none = absurd (cc)
 
 faultless : (command : Command) (i : Problem) (whole : Cert) (why : GraftFault) → HasUseOf command i whole → IsFaultOf command i whole why → IsNamed why → ⊥
-faultless (Below node steps) i whole why use fault named = end_faultless i whole node use.0 why use.1 fault named
-faultless (Thorough node budget) i whole why use fault named = end_faultless i whole node use.0 why use.1 fault named
-faultless (Breaks steps) i whole (CertRefused why) use fault named = uncaused i whole why use.0 fault
-faultless (Breaks steps) i whole (NoNode k) use fault named = absurd fault
-faultless (Breaks steps) i whole (IsSplit k) use fault named = absurd fault
-faultless (Breaks steps) i whole (OtherCuts at) use fault named = absurd fault
-faultless (Breaks steps) i whole NoRows use fault named = not_none whole.plan use.1 fault.1
-faultless (Breaks steps) i whole NoMemoryForGraft use fault named = absurd named
-faultless (Nodes most) i whole (CertRefused why) use fault named = uncaused i whole why use fault
-faultless (Nodes most) i whole (NoNode k) use fault named = absurd fault
-faultless (Nodes most) i whole (IsSplit k) use fault named = absurd fault
-faultless (Nodes most) i whole (OtherCuts at) use fault named = absurd fault
-faultless (Nodes most) i whole NoRows use fault named = absurd fault
-faultless (Nodes most) i whole NoMemoryForGraft use fault named = absurd named
+faultless (Below node steps) i whole why useful fault named = end_faultless i whole node useful.0 why useful.1 fault named
+faultless (Thorough node budget) i whole why useful fault named = end_faultless i whole node useful.0 why useful.1 fault named
+faultless (Breaks steps) i whole (CertRefused why) useful fault named = uncaused i whole why useful.0 fault
+faultless (Breaks steps) i whole (NoNode k) useful fault named = absurd fault
+faultless (Breaks steps) i whole (IsSplit k) useful fault named = absurd fault
+faultless (Breaks steps) i whole (OtherCuts at) useful fault named = absurd fault
+faultless (Breaks steps) i whole NoRows useful fault named = not_none whole.plan useful.1 fault.1
+faultless (Breaks steps) i whole NoMemoryForGraft useful fault named = absurd named
+faultless (Nodes most) i whole (CertRefused why) useful fault named = uncaused i whole why useful fault
+faultless (Nodes most) i whole (NoNode k) useful fault named = absurd fault
+faultless (Nodes most) i whole (IsSplit k) useful fault named = absurd fault
+faultless (Nodes most) i whole (OtherCuts at) useful fault named = absurd fault
+faultless (Nodes most) i whole NoRows useful fault named = absurd fault
+faultless (Nodes most) i whole NoMemoryForGraft useful fault named = absurd named
 
 -- ---- what was told is what was met
 

@@ -18,6 +18,7 @@ use Rattle.graft_runs.specs.declared.status.GraftStatus.{GraftStatus}
 use Rattle.graft_runs.specs.declared.status.GraftStatus.TheVariants.{Written, Refused, Usage, Input, Bundle, ReadFault, WriteFault, NoMemory}
 use Rattle.graft_runs.specs.Reading.{ReportUnread}
 use Rattle.graft_runs.specs.Running.{EndsWith, Told}
+use Rattle.graft_runs.specs.Status.{EndsUnwritten}
 use Rattle.graft_runs.specs.Runs.{EndsOver, Explains, IsFaultOf, ReadsInstance, Writes}
 use Rattle.graft_runs.specs.Texts.{fault_text, IsNamed}
 use Rattle.graft_runs.specs.Words.{Asked, request_of}
@@ -66,6 +67,12 @@ pub told_fault : (asks : Bool) (command : Command) (i : Problem) (whole : Cert) 
 told_fault asks command i whole sink why line status f named is (inl t) =
     subst (EndsWith asks command i whole sink) (sym t.0) (f, named, subst (λ (bs : List ℕ). Appends sink.held sink.held_after bs) is t.1)
 told_fault asks command i whole sink why line status f named is (inr t) = subst (EndsWith asks command i whole sink) (sym t.0) (line, inr (why, f, named, is), t.1, t.2)
+
+-- what was told was written, in whole or in part
+pub told_ends : (bytes : List ℕ) (written : GraftStatus) (held : Option (List ℕ) × Option (List ℕ)) (faults : ℕ × ℕ) (status : GraftStatus)
+    → (EndsUnwritten written → ⊥) → Told bytes written held faults status → EndsUnwritten status → ⊥
+told_ends bytes written held faults status some (inl t) unwritten = some (subst EndsUnwritten t.0 unwritten)
+told_ends bytes written held faults status some (inr t) unwritten = subst EndsUnwritten t.0 unwritten
 
 -- how a run ends over the instance of its document explains its status
 pub explained : (asks : Bool) (met : Met) (command : Command) (i : Problem) (status : GraftStatus) → ReadsInstance met command i → EndsOver asks command i met.report met.sink status → Explains asks met status

@@ -58,7 +58,7 @@ few_lines bytes c s =
 -- ---- cuts
 
 root_within : CutsWithin 0 (new_node [] ∷ [])
-root_within n there = elim there [ inl e ↦ subst (λ (z : Node). length z.cuts ≤ 0) e (omega arith) | inr no ↦ absurd no ]
+root_within n there = elim there [ inl e ↦ subst (λ (z : Node). length z.cuts ≤ 0) e (omega arith) | inr gone ↦ absurd gone ]
 
 end_place : (o : Option Node) (cuts : List Cut) → IsSomeAnd o (λ n. IsFalse n.split × (n.cuts ≡ cuts)) → (n : Node) × (o ≡ Some n) × (n.cuts ≡ cuts)
 end_place None cuts h = absurd h
