@@ -5,7 +5,7 @@ use Rattle.std.specs.Option.{option_map, option_map_or}
 use Rattle.std.proofs.lemmas.Bool.{and_from, and_parts, cases_Bool, le-leb, leb-true, lt-leb}
 use Rattle.shift_instance.specs.Problem.{Problem}
 use Rattle.shift_instance.specs.declared.Row.{Row}
-use Rattle.head_splits.specs.Nodes.{Node}
+use Rattle.head_splits.specs.Nodes.{Node, new_node}
 use Rattle.certificate.specs.declared.Cert.{Cert}
 use Rattle.certificate.specs.Accepted.{is_accepted, is_bound, is_plan, least_floor, nodes_of}
 use Rattle.cert_check.specs.declared.judged.Refused.{Refused}
@@ -65,5 +65,15 @@ bad_plan i c e = and_right (is_bound i c.lines c.bound) (is_plan i c.plan) e
 pub plan_of : (i : Problem) (c : Cert) → is_accepted i c ≡ true → is_plan i c.plan ≡ true
 plan_of i c h = (and_parts (is_bound i c.lines c.bound) (is_plan i c.plan) h).1
 
-pub bound_of : (i : Problem) (c : Cert) (nodes : List Node) → is_accepted i c ≡ true → nodes_of i c.lines ≡ Some nodes → c.bound ≤ least_floor nodes
-bound_of i c nodes h e = leb-true c.bound (least_floor nodes) (sym (bound_is i c nodes e) ∙ (and_parts (is_bound i c.lines c.bound) (is_plan i c.plan) h).0)
+pub accepted_bound : (i : Problem) (c : Cert) (nodes : List Node) → is_accepted i c ≡ true → nodes_of i c.lines ≡ Some nodes → c.bound ≤ least_floor nodes
+accepted_bound i c nodes h e = leb-true c.bound (least_floor nodes) (sym (bound_is i c nodes e) ∙ (and_parts (is_bound i c.lines c.bound) (is_plan i c.plan) h).0)
+
+-- a certificate without lines that claims nothing is accepted by its plan alone
+pub bare_plan : (i : Problem) (c : Cert) → c.lines ≡ [] → c.bound ≡ 0 → is_accepted i c ≡ is_plan i c.plan
+bare_plan i c none zero =
+    let low : c.bound ≤ least_floor (new_node [] ∷ []) = omega (arith, zero) in
+    let good : is_bound i c.lines c.bound ≡ true = bound_is i c (new_node [] ∷ []) (ap (nodes_of i) none) ∙ le-leb c.bound (least_floor (new_node [] ∷ [])) low in
+    ap (λ b. b && is_plan i c.plan) good
+
+pub judged_plan : (i : Problem) (c : Cert) (plan : Option (ℕ × List Row)) (b : Bool) → c.lines ≡ [] → c.bound ≡ 0 → c.plan ≡ plan → is_accepted i c ≡ b → b ≡ is_plan i plan
+judged_plan i c plan b none zero same judged = sym judged ∙ bare_plan i c none zero ∙ ap (is_plan i) same

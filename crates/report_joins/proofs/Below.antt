@@ -52,6 +52,16 @@ set_over (z ∷ xs) (suc k) x e = ap (λ zs. z ∷ zs) (set_over xs k x e)
 number_more : (node splits k : ℕ) → grafted_number node splits (suc k) ≡ suc k + 2 * splits
 number_more node splits k = ap (λ b. cond b node (suc k + 2 * splits)) (ne_eqb (suc k) 0 (λ e. omega (arith, e)))
 
+-- a number past those of the tree is that of a node of the run
+pub number_of : (node splits n k : ℕ) → 0 < k → n ≡ k + 2 * splits → n ≡ grafted_number node splits k
+number_of node splits n zero some e = absurd (omega (arith, some))
+number_of node splits n (suc k) some e = e ∙ sym (number_more node splits k)
+
+-- another number isn't
+pub elsewhere : (node splits n : ℕ) → (n ≡ node → ⊥) → n ≤ 2 * splits → (k : ℕ) → n ≡ grafted_number node splits k → ⊥
+elsewhere node splits n other few zero e = other e
+elsewhere node splits n other few (suc k) e = let f : n ≡ suc k + 2 * splits = e ∙ number_more node splits k in omega (arith, f, few)
+
 pub line_number : (node splits : ℕ) (line : Line) → node_of (grafted_line node splits line) ≡ grafted_number node splits (node_of line)
 line_number node splits (Split k class m) = refl
 line_number node splits (Priced k prices) = refl

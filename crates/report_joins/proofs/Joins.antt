@@ -1,12 +1,13 @@
 -- What holds of a certificate with a further part.
-use Rattle.std.proofs.Common.{◌≡◌, ◌⊎◌, inl, inr, ℕ, zero, suc, ◌+◌, ◌*◌, ◌<◌, ◌≤◌, ◌^◌, Bool, true, false, cond, nat_lt, List, [], ◌∷◌, ◌++◌, length, map, set, refl, sym, ap, ◌∙◌, subst, append_assoc, arith, Option, Some, None}
+use Rattle.std.proofs.Common.{◌≡◌, ◌⊎◌, inl, inr, ℕ, zero, suc, ◌+◌, ◌*◌, ◌<◌, ◌≤◌, ◌^◌, Bool, true, false, cond, nat_lt, ◌==◌, List, [], ◌∷◌, ◌++◌, length, map, set, refl, sym, ap, ◌∙◌, subst, append_assoc, arith, Option, Some, None}
 use Rattle.std.specs.Prelude.{slice_get, IsSomeAnd}
 use Rattle.std.specs.Option.{option_map, unwrap_or}
-use Rattle.std.proofs.lemmas.Bool.{cond_both}
+use Rattle.std.specs.List.{list_any}
+use Rattle.std.proofs.lemmas.Bool.{cond_both, eq-eqb, eqb-true, false≢true}
 use Rattle.std.proofs.lemmas.List.{append-nil, length-append, length-map, length-set}
 use Rattle.std.proofs.lemmas.Option.{slice_get_within}
 use Rattle.break_rules.specs.Lists.{Has}
-use Rattle.break_rules.proofs.Lists.{Has-append_left, Has-append_right}
+use Rattle.break_rules.proofs.Lists.{Has-append_left, Has-append_right, any_none, any_some}
 use Rattle.shift_instance.specs.declared.Row.{Row}
 use Rattle.shift_instance.specs.declared.TheConstants.{TOP}
 use Rattle.shift_instance.specs.Problem.{Problem}
@@ -18,15 +19,17 @@ use Rattle.certificate.specs.declared.proof_lines.Line.{Line}
 use Rattle.certificate.specs.Accepted.{is_accepted, is_bound, is_plan, least_floor, nodes_after, nodes_of}
 use Rattle.report_grafts.specs.Run.{divisions}
 use Rattle.report_grafts.specs.Faults.{HasEnd, HasOpenEnd}
-use Rattle.report_grafts.specs.Grafted.{grafted_line, grafted_lines, nodes_made}
+use Rattle.report_grafts.specs.Grafted.{grafted_line, grafted_lines, nodes_made, status_of}
 use Rattle.report_grafts.proofs.Lines.{FloorsFrom, after_append, counted_lines, floors_of, least_from, least_top, lines_from, lines_sound}
 use Rattle.report_grafts.proofs.Places.{front_get, same_some, set_other}
-use Rattle.report_grafts.proofs.Plans.{made_is}
+use Rattle.report_grafts.proofs.Plans.{found_is, made_is}
 use Rattle.report_nodes.specs.Made.{with_below}
-use Rattle.report_joins.specs.Joined.{Joined, GoesOn, IsJoining, IsPart, IsPlanBelow, JoinsPart, cheaper_plan, with_part}
-use Rattle.report_joins.specs.Faults.{IsEnd}
+use Rattle.report_joins.specs.Joined.{Joined, GoesOn, IsJoinedCert, IsJoining, IsPart, IsPlanBelow, JoinsPart, alone, cheaper_plan, with_part}
+use Rattle.report_joins.specs.Faults.{IsEnd, IsLineFault, IsPartFault, IsReadFault, IsRefusal}
+use Rattle.report_joins.specs.declared.fault.PartFault.{PartFault}
+use Rattle.report_joins.specs.declared.fault.PartFault.TheVariants.{Refused, OtherLines, NothingFurther, NoEnd, OtherNode, OtherPlan, SameNode, TooMany, NoMemory}
 use Rattle.report_joins.specs.Runs.{IsReadPart, IsRunOf, MakesBelow}
-use Rattle.report_joins.proofs.Accepting.{bound_of, plan_of}
+use Rattle.report_joins.proofs.Accepting.{accepted_bound, accepted_by, plan_of}
 use Rattle.report_joins.proofs.Below.{grafted_after, grafted_nodes}
 
 -- ---- plans
@@ -140,3 +143,122 @@ pub an_end : (i : Problem) (whole : Cert) (ends : List Node) (node : ℕ) → is
 an_end i whole ends node accepted made end =
     let n = some_end (slice_get ends node) end in
     (n.0.cuts, end_of i whole ends node n.0 accepted made end n.1)
+
+-- ---- why a part isn't joined
+
+pub cuts_are : (o : Option Node) (cuts : List Cut) (top : Node) → o ≡ Some top → IsSomeAnd o (λ (n : Node). cuts ≡ n.cuts) → cuts ≡ top.cuts
+cuts_are None cuts top e h = absurd h
+cuts_are (Some n) cuts top e h = let same : n ≡ top = cc in h ∙ ap (λ (x : Node). x.cuts) same
+
+-- a part that was read, with a plan of its node
+pub part_is : (ends tree : List Node) (j : Joined) (part : Cert) (node : ℕ) (run : List Line) (below : List Node) (cuts : List Cut) → IsJoining ends tree j → IsReadPart j.instance ends j.whole part node run below
+    → IsSomeAnd (slice_get ends node) (λ (n : Node). cuts ≡ n.cuts) → IsPlanBelow cuts j.whole.plan part.plan → IsPart j.instance j.whole part node run
+part_is ends tree j part node run below cuts h r at plan =
+    let same : cuts ≡ r.below.top.cuts = cuts_are (slice_get ends node) cuts r.below.top r.below.at at in
+    record {
+      cuts = r.below.top.cuts;
+      below = goes_on j.instance ends j.whole part node run below h.accepted h.ends r;
+      plan = subst (λ (cs : List Cut). IsPlanBelow cs j.whole.plan part.plan) same plan;
+    }
+
+-- and with another plan
+pub other_plan : (ends tree : List Node) (j : Joined) (part : Cert) (node : ℕ) (run : List Line) (below : List Node) (cuts : List Cut) → IsJoining ends tree j → IsReadPart j.instance ends j.whole part node run below
+    → IsSomeAnd (slice_get ends node) (λ (n : Node). cuts ≡ n.cuts) → (IsPlanBelow cuts j.whole.plan part.plan → ⊥) → IsPartFault j part OtherPlan
+other_plan ends tree j part node run below cuts h r at none =
+    let same : cuts ≡ r.below.top.cuts = cuts_are (slice_get ends node) cuts r.below.top r.below.at at in
+    (node, r.below.top.cuts, run, goes_on j.instance ends j.whole part node run below h.accepted h.ends r, λ plan. none (subst (λ (cs : List Cut). IsPlanBelow cs j.whole.plan part.plan) (sym same) plan))
+
+-- a node among those of earlier parts
+pub has_of : (nodes : List ℕ) (node : ℕ) → list_any (λ k. k == node) nodes ≡ true → Has nodes node
+has_of nodes node e =
+    let p = any_some (λ k. k == node) nodes e in
+    subst (Has nodes) (eqb-true p.0 node p.2) p.1
+
+pub not_has : (nodes : List ℕ) (node : ℕ) → list_any (λ k. k == node) nodes ≡ false → Has nodes node → ⊥
+not_has nodes node e has =
+    let none : (node == node) ≡ false = any_none (λ k. k == node) nodes node e has in
+    let same : (node == node) ≡ true = eq-eqb node node refl in
+    false≢true (sym none ∙ same)
+
+-- why no run is read is why the part isn't joined
+pub read_fault : (j : Joined) (part : Cert) (why : PartFault) → IsReadFault j.instance j.whole part why → IsPartFault j part why
+read_fault j part (Refused why) h = h
+read_fault j part (OtherLines at) h = h
+read_fault j part NothingFurther h = h
+read_fault j part (NoEnd node) h = h
+read_fault j part (OtherNode at) h = h
+read_fault j part OtherPlan h = absurd h
+read_fault j part (SameNode node) h = absurd h
+read_fault j part TooMany h = absurd h
+read_fault j part NoMemory h = tt
+
+-- a refusal is one
+pub refusal_is : (i : Problem) (whole part : Cert) (why : PartFault) → IsRefusal i part why → IsReadFault i whole part why
+refusal_is i whole part (Refused why) h = h
+refusal_is i whole part NoMemory h = tt
+refusal_is i whole part (OtherLines at) h = absurd h
+refusal_is i whole part NothingFurther h = absurd h
+refusal_is i whole part (NoEnd node) h = absurd h
+refusal_is i whole part (OtherNode at) h = absurd h
+refusal_is i whole part OtherPlan h = absurd h
+refusal_is i whole part (SameNode node) h = absurd h
+refusal_is i whole part TooMany h = absurd h
+
+-- and so are lines of an accepted part that aren't those of a run
+pub line_fault_is : (i : Problem) (whole part : Cert) (ends : List Node) (why : PartFault) → is_accepted i whole ≡ true → nodes_of i whole.lines ≡ Some ends → is_accepted i part ≡ true → IsLineFault ends whole.lines part.lines why → IsReadFault i whole part why
+line_fault_is i whole part ends (OtherLines at) accepted made good h = (good, h)
+line_fault_is i whole part ends NothingFurther accepted made good h = (good, h)
+line_fault_is i whole part ends (NoEnd node) accepted made good h = (good, h.0, no_end i whole ends node made h.1)
+line_fault_is i whole part ends (OtherNode at) accepted made good h = let e = an_end i whole ends h.0 accepted made h.1 in (good, h.0, e.0, e.1, h.2)
+line_fault_is i whole part ends NoMemory accepted made good h = tt
+line_fault_is i whole part ends (Refused why) accepted made good h = absurd h
+line_fault_is i whole part ends OtherPlan accepted made good h = absurd h
+line_fault_is i whole part ends (SameNode node) accepted made good h = absurd h
+line_fault_is i whole part ends TooMany accepted made good h = absurd h
+
+pub fault_is : (i : Problem) (whole part : Cert) (ends : List Node) (fault why : PartFault) → is_accepted i whole ≡ true → nodes_of i whole.lines ≡ Some ends → IsLineFault ends whole.lines part.lines fault
+    → IsRefusal i part why ⊎ ((is_accepted i part ≡ true) × (why ≡ fault)) → IsReadFault i whole part why
+fault_is i whole part ends fault why accepted made h (inl refused) = refusal_is i whole part why refused
+fault_is i whole part ends fault why accepted made h (inr same) = subst (IsReadFault i whole part) (sym same.1) (line_fault_is i whole part ends fault accepted made same.0 h)
+
+-- ---- a part that was read
+
+-- the nodes of a part
+pub part_nodes : (i : Problem) (whole part : Cert) (ends : List Node) (node : ℕ) (top : Node) (run : List Line) → nodes_of i whole.lines ≡ Some ends → slice_get ends node ≡ Some top → part.lines ≡ grafted_lines whole.lines node run
+    → nodes_of i part.lines ≡ option_map (with_below ends node) (nodes_after i (top ∷ []) run)
+part_nodes i whole part ends node top run made at lines = ap (nodes_of i) lines ∙ grafted_nodes i whole.lines ends node top run made at
+
+-- the certificate with all parts
+pub joined_cert : (ends tree : List Node) (j : Joined) (c : Cert) → IsJoining ends tree j → c.lines ≡ j.lines → c.plan ≡ j.plan → c.bound ≡ least_floor tree → c.status ≡ status_of c.plan c.bound → IsJoinedCert j c
+joined_cert ends tree j c h lines plan bound status =
+    let made : nodes_of j.instance c.lines ≡ Some tree = ap (nodes_of j.instance) lines ∙ h.tree in
+    let low : j.whole.bound ≤ least_floor tree = h.low in
+    record {
+      accepted = accepted_by j.instance c tree made (omega (arith, bound)) (ap (is_plan j.instance) plan ∙ h.plan);
+      better = omega (arith, low, bound);
+      lines = lines;
+      plan = plan;
+      bound = bound ∙ sym (found_is j.instance c.lines tree made);
+      status = status;
+    }
+
+pub joined_short : (ends tree : List Node) (j : Joined) (lines : List Line) → IsJoining ends tree j → lines ≡ j.lines → length lines ≤ 2 ^ 30
+joined_short ends tree j lines h same =
+    let e : length lines ≡ length j.lines = ap (λ (ls : List Line). length ls) same in
+    let short : length j.lines ≤ 2 ^ 30 = h.short in
+    omega (arith, e, short)
+
+-- a certificate alone
+pub joining_alone : (i : Problem) (whole : Cert) (tree : List Node) (j : Joined) → is_accepted i whole ≡ true → nodes_of i whole.lines ≡ Some tree → length whole.lines ≤ 2 ^ 28 → j ≡ alone i whole → IsJoining tree tree j
+joining_alone i whole tree j accepted made few same =
+    subst (IsJoining tree tree) (sym same) (record {
+      accepted = accepted;
+      few = few;
+      ends = made;
+      begins = ([], sym (append-nil whole.lines));
+      tree = made;
+      low = accepted_bound i whole tree accepted made;
+      kept = λ k less free. refl;
+      plan = plan_of i whole accepted;
+      short = omega (arith, few);
+    })

@@ -1,7 +1,8 @@
 //! A report into which parts are joined, one after another.
-ghost use Rattle.std.specs.Prelude.{◌≡◌, ◌∷◌, ◌++◌, ◌+◌, ◌*◌, ◌≤◌, ◌<◌, ◌^◌, [], All, IfErr, IfOk, IsFalse, IsTrue, MatchBool, MatchOption, Some, map, length};
-ghost use Rattle.break_rules.specs.Lists.{Has};
+ghost use Rattle.std.specs.Prelude.{◌≡◌, ◌∷◌, ◌++◌, ◌+◌, ◌*◌, ◌≤◌, ◌<◌, ◌^◌, ◌==◌, [], All, IfErr, IfOk, IsFalse, IsTrue, MatchOption, Some, map, length};
+ghost use Rattle.std.specs.List.{list_any};
 ghost use Rattle.certificate.specs.Accepted.{is_accepted, least_floor, node_of, nodes_of};
+ghost use Rattle.certificate.specs.Text.{AgreesWith};
 ghost use Rattle.report_grafts.specs.Grafted.{grafted_line, grafted_lines, status_of};
 ghost use Rattle.report_grafts.specs.Run.{divisions};
 ghost use Rattle.report_joins.specs.Faults.{IsPartFault, IsReadFault, IsRefusal};
@@ -106,7 +107,7 @@ fn with_number(nodes: Vec<u32>, node: u32) -> Result<Vec<u32>, NoMemory>
 
 /// Whether a node is among some.
 fn has_node(nodes: &[u32], node: u32) -> bool
-    ensures { MatchBool result (Has nodes.now node) (Has nodes.now node → ⊥) }
+    ensures { result ≡ list_any (λ k. k == node) nodes.now }
 {
     nodes.iter().any(|known| *known == node)
 }
@@ -283,7 +284,9 @@ impl Joining {
     /// The report with all parts that were joined into it: the checker accepts it, its bound is at least the report's, and its plan is the
     /// cheapest of all.
     pub fn into_cert(self, alloc: Global) -> Result<Cert, NoMemory>
-        ensures { IfOk result (IsJoinedCert self) }
+        ensures joined { IfOk result (IsJoinedCert self) }
+        ensures agrees { IfOk result (λ cert. AgreesWith cert.status cert.plan cert.bound) }
+        ensures few { IfOk result (λ cert. length cert.lines ≤ 2 ^ 30) }
     {
         let bound = self.tree.least_floor(TOP);
         let lines = Lines::from_slice(alloc, &self.lines)?;

@@ -15,8 +15,7 @@ use Rattle.head_splits.specs.declared.Prices.{Prices}
 use Rattle.head_splits.specs.declared.Side.{Side}
 use Rattle.head_splits.specs.declared.Side.TheVariants.{AtMost, AtLeast}
 use Rattle.head_splits.specs.Bound.{are_prices, bound_of}
-use Rattle.head_splits.specs.Settled.{is_settled}
-use Rattle.head_splits.specs.Nodes.{Node, new_node, child, with_floor, with_split, settled_floor}
+use Rattle.head_splits.specs.Nodes.{Node, new_node, child, with_floor, with_split}
 use Rattle.head_splits.proofs.Nodes.{Has-slice_get, Has-get_or, Has-place, from_set}
 use Rattle.certificate.specs.declared.Cert.{Cert}
 use Rattle.certificate.specs.declared.proof_lines.Line.{Line}

@@ -233,6 +233,16 @@ pub(crate) fn lines_after(
     Ok(Some(nodes))
 }
 
+/// The node with these cuts alone.
+fn root_of(alloc: Global, base: Cuts) -> Result<Vec<TreeNode>, NoMemory>
+    requires { length base ≤ 2 ^ 32 }
+    ensures root { IfOk result (λ nodes. nodes.items ≡ new_node base ∷ []) }
+    ensures room { IfOk result (λ nodes. HasRoom nodes.items) }
+{
+    let nodes = vec![in alloc; TreeNode::new(base)]?;
+    Ok(nodes)
+}
+
 /// The nodes that proof lines make of one with these cuts, where each is good.
 pub(crate) fn nodes_below(
     alloc: Global,
@@ -244,7 +254,7 @@ pub(crate) fn nodes_below(
     requires lines { length lines.now ≤ 2 ^ 32 }
     ensures { IfOk result (λ last. option_map (λ v. v.items) last ≡ nodes_after instance.now (new_node base ∷ []) lines.now) }
 {
-    let nodes = vec![in alloc; TreeNode::new(base)]?;
+    let nodes = root_of(alloc, base)?;
     let last = lines_after(alloc, instance, nodes, lines)?;
     Ok(last)
 }

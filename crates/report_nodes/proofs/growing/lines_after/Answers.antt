@@ -1,9 +1,16 @@
-use Rattle.std.proofs.Common.{◌≡◌, ◌∷◌, [], ◌∙◌, ap, subst, sym, Option, Some, Vec, Global}
+use Rattle.std.proofs.Common.{◌≡◌, ◌∷◌, [], ◌∙◌, ap, subst, sym, List, Some}
 use Rattle.std.specs.Option.{option_map}
+use Rattle.certificate.specs.declared.proof_lines.Line.{Line}
 use Rattle.certificate.specs.KeptLines.{Reads}
 use Rattle.certificate.specs.Accepted.{nodes_after}
-use Rattle.report_nodes.proofs.Grown.{grows_few, grows_more}
+use Rattle.report_nodes.proofs.Grown.{Grows, grows_few, grows_first, grows_more}
 use Rattle.report_nodes.proofs.growing.lines_after.Goals as goal
+
+pub loop-buffers-init : goal.loop-buffers-init
+loop-buffers-init c = record {
+  grows = subst (λ (left : List Line). Grows c.args.instance.now c.args.nodes.items c.args.lines.now left c.args.nodes.items) (sym c.reader-reader.ensures) (grows_first c.args.instance.now c.args.nodes.items c.args.lines.now c.requires.room);
+  buffers = c.new-buffers.ensures.instance;
+}
 
 pub grown-requires-clause-few : goal.grown-requires-clause-few
 grown-requires-clause-few c = grows_few c.args.instance.now c.args.nodes.items c.args.lines.now c.loop-buffers.reader c.loop-buffers.nodes.items c.loop-buffers.invariant.grows c.requires.lines

@@ -1,0 +1,104 @@
+-- Lines that are read one after another: those of a certificate, and those of a run behind them.
+use Rattle.std.proofs.Common.{◌≡◌, ◌≢◌, ◌⊎◌, inl, inr, ℕ, zero, suc, ◌+◌, ◌*◌, ◌<◌, ◌≤◌, List, [], ◌∷◌, ◌++◌, length, map, take, get_or, refl, sym, ap, ◌∙◌, subst, append_assoc, arith, Option, Some, None}
+use Rattle.std.specs.Prelude.{slice_get}
+use Rattle.std.proofs.lemmas.List.{append-nil, length-append, length-map, map-append}
+use Rattle.std.proofs.lemmas.Option.{slice_get_within}
+use Rattle.certificate.specs.declared.proof_lines.Line.{Line}
+use Rattle.certificate.specs.declared.proof_lines.Line.TheVariants.{Split, Priced, Settled}
+use Rattle.certificate.specs.Accepted.{node_of}
+use Rattle.report_grafts.specs.Grafted.{grafted_line, grafted_lines, grafted_number}
+use Rattle.report_grafts.specs.Run.{divisions}
+use Rattle.report_joins.specs.Faults.{Departs, IsElsewhere}
+use Rattle.report_joins.specs.Numbers.{with_node}
+use Rattle.report_joins.specs.Runs.{LeavesRun}
+
+-- ---- the lines of a certificate
+
+take_more : {X : Type 0} (xs : List X) (k : ℕ) (x : X) → k < length xs → x ≡ get_or xs k x → take (suc k) xs ≡ take k xs ++ x ∷ []
+take_more [] k x h e = absurd (omega arith)
+take_more (z ∷ xs) zero x h e = ap (λ y. y ∷ []) (sym e)
+take_more (z ∷ xs) (suc k) x h e = ap (λ zs. z ∷ zs) (take_more xs k x (omega arith) e)
+
+take_front : {X : Type 0} (xs ys : List X) (k : ℕ) → k ≤ length xs → take k (take k xs ++ ys) ≡ take k xs
+take_front xs ys zero h = refl
+take_front [] ys (suc k) h = absurd (omega arith)
+take_front (x ∷ xs) ys (suc k) h = ap (λ zs. x ∷ zs) (take_front xs ys k (omega arith))
+
+get_behind : {X : Type 0} (xs ys : List X) (k : ℕ) → k ≤ length xs → slice_get (take k xs ++ ys) k ≡ slice_get ys 0
+get_behind xs ys zero h = refl
+get_behind [] ys (suc k) h = absurd (omega arith)
+get_behind (x ∷ xs) ys (suc k) h = get_behind xs ys k (omega arith)
+
+get_there : {X : Type 0} (xs : List X) (k : ℕ) (x : X) → k < length xs → x ≡ get_or xs k x → slice_get xs k ≡ Some x
+get_there [] k x h e = absurd (omega arith)
+get_there (z ∷ xs) zero x h e = ap Some (sym e)
+get_there (z ∷ xs) (suc k) x h e = get_there xs k x (omega arith) e
+
+take_whole : {X : Type 0} (xs : List X) (k : ℕ) → length xs ≤ k → take k xs ≡ xs
+take_whole [] zero h = refl
+take_whole [] (suc k) h = refl
+take_whole (x ∷ xs) zero h = absurd (omega arith)
+take_whole (x ∷ xs) (suc k) h = ap (λ zs. x ∷ zs) (take_whole xs k (omega arith))
+
+pub behind_more : (known lines reader rest : List Line) (at : ℕ) (x : Line) → at < length known → x ≡ get_or known at x → lines ≡ take at known ++ reader → reader ≡ x ∷ rest → lines ≡ take (at + 1) known ++ rest
+behind_more known lines reader rest at x less is so read =
+    so ∙ ap (λ (ls : List Line). take at known ++ ls) read ∙ sym (append_assoc (take at known) (x ∷ []) rest)
+    ∙ ap (λ (ls : List Line). ls ++ rest) (sym (take_more known at x less is))
+    ∙ ap (λ n. take n known ++ rest) (let next : suc at ≡ at + 1 = omega arith in next)
+
+pub behind_departs : (known lines reader : List Line) (at : ℕ) (x : Line) → at < length known → x ≡ get_or known at x → lines ≡ take at known ++ reader → slice_get reader 0 ≢ Some x → Departs known lines at
+behind_departs known lines reader at x less is so other =
+    let place : slice_get lines at ≡ slice_get reader 0 = ap (λ (ls : List Line). slice_get ls at) so ∙ get_behind known reader at (omega (arith, less)) in
+    (less,
+    ap (take at) so ∙ take_front known reader at (omega (arith, less)),
+    λ e. other (sym place ∙ e ∙ get_there known at x less is))
+
+pub behind_all : (known lines reader : List Line) (at : ℕ) → length known ≤ at → lines ≡ take at known ++ reader → lines ≡ known ++ reader
+behind_all known lines reader at all so = so ∙ ap (λ (ls : List Line). ls ++ reader) (take_whole known at all)
+
+-- ---- the lines of a run
+
+-- a line of a node that has a number in a run, as that line of the run
+pub numbered : (node splits k : ℕ) (line : Line) → node_of line ≡ grafted_number node splits k → line ≡ grafted_line node splits (with_node k line)
+numbered node splits k (Split j class m) e = ap (λ n. Split n class m) e
+numbered node splits k (Priced j prices) e = ap (λ n. Priced n prices) e
+numbered node splits k (Settled j) e = ap (λ n. Settled n) e
+
+-- with a further number
+pub line_is : (node splits k : ℕ) (line : Line) → node_of line ≡ k → with_node (grafted_number node splits k) line ≡ grafted_line node splits line
+line_is node splits k (Split j class m) e = ap (λ n. Split (grafted_number node splits n) class m) (sym e)
+line_is node splits k (Priced j prices) e = ap (λ n. Priced (grafted_number node splits n) prices) (sym e)
+line_is node splits k (Settled j) e = ap (λ n. Settled (grafted_number node splits n)) (sym e)
+
+pub run_first : (node splits : ℕ) (first : Line) (rest run : List Line) → node_of first ≡ node → run ≡ [] ++ with_node 0 first ∷ [] → first ∷ rest ≡ map (grafted_line node splits) run ++ rest
+run_first node splits first rest run same is =
+    ap (λ l. l ∷ rest) (numbered node splits 0 first same) ∙ ap (λ (ls : List Line). map (grafted_line node splits) ls ++ rest) (sym is)
+
+pub run_more : (node splits k : ℕ) (all run more reader rest : List Line) (line : Line) → all ≡ map (grafted_line node splits) run ++ reader → reader ≡ line ∷ rest → node_of line ≡ grafted_number node splits k
+    → more ≡ run ++ with_node k line ∷ [] → all ≡ map (grafted_line node splits) more ++ rest
+run_more node splits k all run more reader rest line so read number is =
+    let g = grafted_line node splits in
+    so ∙ ap (λ (ls : List Line). map g run ++ ls) read
+    ∙ ap (λ (l : Line). map g run ++ l ∷ rest) (numbered node splits k line number)
+    ∙ sym (append_assoc (map g run) (g (with_node k line) ∷ []) rest)
+    ∙ ap (λ (ls : List Line). ls ++ rest) (sym (map-append g run (with_node k line ∷ [])))
+    ∙ ap (λ (ls : List Line). map g ls ++ rest) (sym is)
+
+pub run_leaves : (node splits first at : ℕ) (all run reader rest : List Line) (line : Line) → all ≡ map (grafted_line node splits) run ++ reader → reader ≡ line ∷ rest → 0 < length run → at ≡ first + length run
+    → IsElsewhere node splits line → LeavesRun node splits first all at
+run_leaves node splits first at all run reader rest line so read some is other = record {
+  run = run;
+  line = line;
+  rest = rest;
+  some = some;
+  lines = so ∙ ap (λ (ls : List Line). map (grafted_line node splits) run ++ ls) read;
+  at = is;
+  elsewhere = other;
+}
+
+pub run_long : (node splits : ℕ) (all run reader : List Line) → all ≡ map (grafted_line node splits) run ++ reader → length run + length reader ≡ length all
+run_long node splits all run reader so =
+    let a : length all ≡ length (map (grafted_line node splits) run ++ reader) = ap (λ (ls : List Line). length ls) so in
+    let b : length (map (grafted_line node splits) run ++ reader) ≡ length (map (grafted_line node splits) run) + length reader = length-append (map (grafted_line node splits) run) reader in
+    let c : length (map (grafted_line node splits) run) ≡ length run = length-map run (grafted_line node splits) in
+    omega (arith, a, b, c)
