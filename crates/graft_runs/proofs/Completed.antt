@@ -57,7 +57,7 @@ uncaused i c why accepted e =
     let lines : line_cause i (new_node [] ∷ []) 1 c.lines ≡ None = no_line_cause i (new_node [] ∷ []) t.0 1 c.lines t.1 in
     let bound : bound_cause i c.lines c.bound ≡ None = no_bound_cause i c t.0 t.1 t.2 in
     let front : cause_of i c ≡ plan_cause i c.plan =
-      ap (λ (o : Option Refusal). option_or o (option_or (bound_cause i c.lines c.bound) (plan_cause i c.plan))) lines ∙ ap (λ (o : Option Refusal). option_or o (plan_cause i c.plan)) bound
+    ap (λ (o : Option Refusal). option_or o (option_or (bound_cause i c.lines c.bound) (plan_cause i c.plan))) lines ∙ ap (λ (o : Option Refusal). option_or o (plan_cause i c.plan)) bound
     in
     false≢true (sym (plan_bad i c.plan why (sym front ∙ e)) ∙ (and_parts (is_bound i c.lines c.bound) (is_plan i c.plan) accepted).1)
 

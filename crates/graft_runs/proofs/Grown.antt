@@ -37,7 +37,9 @@ grows_greedily i whole node steps limit base r text end e s sound ends greedy gr
 pub grows_below : (i : Problem) (whole : Cert) (node steps limit : ℕ) (asks : Bool) (base : List Cut) (r : Run) (text : List ℕ) → HasOpenEnd i whole node base → limit ≡ limit_of whole
     → IsSearched i base limit steps r → IsSound r → (is_finished r ≡ true) ⊎ ((r.taken ≡ steps) ⊎ (asks ≡ true)) → IsGrownText i whole node r text → GrowsBelow i whole node steps asks text
 grows_below i whole node steps limit asks base r text end e s sound ends grown = record {
-  base = base; end = end; run = r;
+  base = base;
+  end = end;
+  run = r;
   search = record { searched = with_limit i whole steps limit base r e s; sound = sound; ends = ends };
   grown = grown;
 }
