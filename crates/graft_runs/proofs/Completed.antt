@@ -1,14 +1,13 @@
 -- What can be written is.
-use Rattle.std.proofs.Common.{◌≡◌, ◌⊎◌, inl, inr, ℕ, ◌+◌, ◌*◌, ◌<◌, ◌≤◌, Bool, true, false, cond, ◌&&◌, nat_le, List, [], ◌∷◌, length, refl, sym, ap, ◌∙◌, subst, arith, Option, Some, None}
+use Rattle.std.proofs.Common.{◌≡◌, ◌⊎◌, inl, inr, ℕ, ◌+◌, ◌<◌, ◌≤◌, Bool, true, cond, nat_le, List, [], ◌∷◌, length, refl, sym, ap, ◌∙◌, subst, arith, Option, Some, None}
 use Rattle.std.specs.Prelude.{slice_get, IfSome, IsFalse, IsSome, IsSomeAnd, IsTrue, Ok, Err}
 use Rattle.std.specs.Option.{option_map, option_and_then, option_or}
 use Rattle.std.proofs.lemmas.Bool.{and_parts, false≢true}
 use Rattle.std.proofs.lemmas.Option.{slice_get_within}
-use Rattle.plan_base.specs.Causes.{Rose}
 use Rattle.shift_instance.specs.Problem.{Problem}
 use Rattle.head_splits.specs.declared.Cut.{Cut}
 use Rattle.head_splits.specs.Nodes.{Node, new_node}
-use Rattle.instance_input.specs.Unread.{IsAllOf, IsReadAs}
+use Rattle.instance_input.specs.Unread.{IsReadAs}
 use Rattle.instance_json.specs.Reading.{reading_of}
 use Rattle.certificate.specs.declared.TheConstants.{BUNDLE_MAX}
 use Rattle.certificate.specs.declared.Cert.{Cert}
@@ -83,7 +82,7 @@ end_faultless i whole node base NoRows end fault named = absurd fault
 end_faultless i whole node base NoMemoryForGraft end fault named = absurd named
 
 not_none : {A : Type 0} (o : Option A) → IsSome o → o ≡ None → ⊥
-not_none None some none = absurd some
+not_none None some none = absurd (false≢true some)
 not_none (Some x) some none = absurd (cc)
 
 faultless : (command : Command) (i : Problem) (whole : Cert) (why : GraftFault) → HasUseOf command i whole → IsFaultOf command i whole why → IsNamed why → ⊥
@@ -105,7 +104,7 @@ faultless (Nodes most) i whole NoMemoryForGraft useful fault named = absurd name
 -- ---- what was told is what was met
 
 at_some : {A : Type 0} (P : A → Type 0) (o : Option A) (x : A) → o ≡ Some x → IfSome o P → P x
-at_some P o x e h = subst (λ (q : Option A). IfSome q P) e h
+at_some {A} P o x e h = subst (λ (q : Option A). IfSome q P) e h
 
 none_some : {A B : Type 0} (f : A → B) (o : Option A) (y : B) → option_map f o ≡ Some y → o ≡ None → ⊥
 none_some f None y e none = absurd (cc)

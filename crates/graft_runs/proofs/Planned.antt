@@ -1,6 +1,6 @@
 -- What a search below the pins of rows finds.
-use Rattle.std.proofs.Common.{◌≡◌, ℕ, ◌<◌, ◌≤◌, min, true, false, ◌&&◌, ◌==◌, List, refl, sym, ap, ◌∙◌, subst, arith, Option, Some, None}
-use Rattle.std.specs.Prelude.{IfSome, IsTrue}
+use Rattle.std.proofs.Common.{◌≡◌, ℕ, ◌<◌, ◌≤◌, min, true, false, ◌==◌, List, refl, sym, ap, ◌∙◌, subst, arith, Option, Some, None}
+use Rattle.std.specs.Prelude.{IfSome}
 use Rattle.std.specs.Option.{option_map_or}
 use Rattle.std.proofs.lemmas.Bool.{and_parts, eqb-true}
 use Rattle.shift_instance.specs.declared.Row.{Row}
@@ -15,14 +15,13 @@ use Rattle.certificate.specs.declared.Cert.{Cert}
 use Rattle.certificate.specs.Accepted.{is_accepted, is_bound, is_plan}
 use Rattle.certificate.specs.LineText.{lines_text}
 use Rattle.report_grafts.specs.Pins.{pins_of}
-use Rattle.report_grafts.specs.Run.{Run, is_finished, top, IsBest, IsSound}
+use Rattle.report_grafts.specs.Run.{Run, top, IsBest, IsSound}
 use Rattle.report_grafts.proofs.Pinned.{pins_fix}
 use Rattle.report_grafts.proofs.Runs.{floor_enough}
-use Rattle.subtree_search.specs.Searching.{Searching}
 use Rattle.subtree_search.specs.Stepping.{IsGreedyRun, IsSearched}
 use Rattle.subtree_search.proofs.Sound.{steps_hold}
 use Rattle.graft_runs.specs.Runs.{ArePlannedAnew, CostsAtLeast, IsPlannedAnew, IsSearch}
-use Rattle.graft_runs.specs.Texts.{breaks_lines, rows_after}
+use Rattle.graft_runs.specs.Texts.{breaks_lines}
 use Rattle.graft_runs.proofs.Texts.{limit_small}
 
 -- ---- a run of steps is of its instance, its cuts and its limit

@@ -1,4 +1,3 @@
-use Rattle.std.proofs.Common.{subst}
 use Rattle.std.proofs.lemmas.Result.{err_from_is_err_and}
 use Rattle.graft_runs.specs.Runs.{limit_of}
 use Rattle.graft_runs.proofs.Endings.{own_cuts}

@@ -1,8 +1,6 @@
-use Rattle.std.proofs.Common.{◌≡◌, ◌⊎◌, ◌≤◌, ◌^◌, true, length, sym, subst, arith, Vec, Global, ℕ}
+use Rattle.std.proofs.Common.{◌≤◌, ◌^◌, length, sym, subst, arith, Vec, Global, ℕ}
 use Rattle.shift_instance.specs.declared.TheConstants.{TOP}
 use Rattle.head_splits.proofs.Walked.{map_ok}
-use Rattle.report_grafts.specs.Run.{is_finished}
-use Rattle.subtree_search.specs.Stepping.{IsSearched}
 use Rattle.graft_runs.specs.Runs.{limit_of, GrowsGreedily, IsGrownText}
 use Rattle.graft_runs.proofs.Grown.{end_own, grows_greedily, searched_own, with_limit}
 use Rattle.graft_runs.proofs.Sizes.{few_cuts}

@@ -1,7 +1,6 @@
-use Rattle.std.proofs.Common.{◌≡◌, ◌≤◌, ◌^◌, false, List, length, sym, subst}
+use Rattle.std.proofs.Common.{◌≤◌, ◌^◌, false, List, length, sym, subst}
 use Rattle.shift_instance.specs.Rota.{rota_of}
 use Rattle.head_splits.specs.declared.Cut.{Cut}
-use Rattle.report_grafts.specs.Pins.{pins_of}
 use Rattle.subtree_search.specs.Stepping.{IsGreedyRun}
 use Rattle.graft_runs.specs.Runs.{IsSearch}
 use Rattle.graft_runs.proofs.Grown.{never_asked}
