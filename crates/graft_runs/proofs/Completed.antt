@@ -1,14 +1,13 @@
 -- What can be written is.
-use Rattle.std.proofs.Common.{◌≡◌, ◌⊎◌, inl, inr, ℕ, ◌+◌, ◌*◌, ◌<◌, ◌≤◌, Bool, true, false, cond, ◌&&◌, nat_le, List, [], ◌∷◌, length, refl, sym, ap, ◌∙◌, subst, arith, Option, Some, None}
+use Rattle.std.proofs.Common.{◌≡◌, ◌⊎◌, inl, inr, ℕ, ◌+◌, ◌<◌, ◌≤◌, Bool, true, cond, nat_le, List, [], ◌∷◌, length, refl, sym, ap, ◌∙◌, subst, arith, Option, Some, None}
 use Rattle.std.specs.Prelude.{slice_get, IfSome, IsFalse, IsSome, IsSomeAnd, IsTrue, Ok, Err}
 use Rattle.std.specs.Option.{option_map, option_and_then, option_or}
 use Rattle.std.proofs.lemmas.Bool.{and_parts, false≢true}
 use Rattle.std.proofs.lemmas.Option.{slice_get_within}
-use Rattle.plan_base.specs.Causes.{Rose}
 use Rattle.shift_instance.specs.Problem.{Problem}
 use Rattle.head_splits.specs.declared.Cut.{Cut}
 use Rattle.head_splits.specs.Nodes.{Node, new_node}
-use Rattle.instance_input.specs.Unread.{IsAllOf, IsReadAs}
+use Rattle.instance_input.specs.Unread.{IsReadAs}
 use Rattle.instance_json.specs.Reading.{reading_of}
 use Rattle.certificate.specs.declared.TheConstants.{BUNDLE_MAX}
 use Rattle.certificate.specs.declared.Cert.{Cert}
@@ -57,7 +56,7 @@ uncaused i c why accepted e =
     let lines : line_cause i (new_node [] ∷ []) 1 c.lines ≡ None = no_line_cause i (new_node [] ∷ []) t.0 1 c.lines t.1 in
     let bound : bound_cause i c.lines c.bound ≡ None = no_bound_cause i c t.0 t.1 t.2 in
     let front : cause_of i c ≡ plan_cause i c.plan =
-      ap (λ (o : Option Refusal). option_or o (option_or (bound_cause i c.lines c.bound) (plan_cause i c.plan))) lines ∙ ap (λ (o : Option Refusal). option_or o (plan_cause i c.plan)) bound
+    ap (λ (o : Option Refusal). option_or o (option_or (bound_cause i c.lines c.bound) (plan_cause i c.plan))) lines ∙ ap (λ (o : Option Refusal). option_or o (plan_cause i c.plan)) bound
     in
     false≢true (sym (plan_bad i c.plan why (sym front ∙ e)) ∙ (and_parts (is_bound i c.lines c.bound) (is_plan i c.plan) accepted).1)
 
@@ -83,29 +82,29 @@ end_faultless i whole node base NoRows end fault named = absurd fault
 end_faultless i whole node base NoMemoryForGraft end fault named = absurd named
 
 not_none : {A : Type 0} (o : Option A) → IsSome o → o ≡ None → ⊥
-not_none None some none = absurd some
+not_none None some none = absurd (false≢true some)
 not_none (Some x) some none = absurd (cc)
 
 faultless : (command : Command) (i : Problem) (whole : Cert) (why : GraftFault) → HasUseOf command i whole → IsFaultOf command i whole why → IsNamed why → ⊥
-faultless (Below node steps) i whole why use fault named = end_faultless i whole node use.0 why use.1 fault named
-faultless (Thorough node budget) i whole why use fault named = end_faultless i whole node use.0 why use.1 fault named
-faultless (Breaks steps) i whole (CertRefused why) use fault named = uncaused i whole why use.0 fault
-faultless (Breaks steps) i whole (NoNode k) use fault named = absurd fault
-faultless (Breaks steps) i whole (IsSplit k) use fault named = absurd fault
-faultless (Breaks steps) i whole (OtherCuts at) use fault named = absurd fault
-faultless (Breaks steps) i whole NoRows use fault named = not_none whole.plan use.1 fault.1
-faultless (Breaks steps) i whole NoMemoryForGraft use fault named = absurd named
-faultless (Nodes most) i whole (CertRefused why) use fault named = uncaused i whole why use fault
-faultless (Nodes most) i whole (NoNode k) use fault named = absurd fault
-faultless (Nodes most) i whole (IsSplit k) use fault named = absurd fault
-faultless (Nodes most) i whole (OtherCuts at) use fault named = absurd fault
-faultless (Nodes most) i whole NoRows use fault named = absurd fault
-faultless (Nodes most) i whole NoMemoryForGraft use fault named = absurd named
+faultless (Below node steps) i whole why useful fault named = end_faultless i whole node useful.0 why useful.1 fault named
+faultless (Thorough node budget) i whole why useful fault named = end_faultless i whole node useful.0 why useful.1 fault named
+faultless (Breaks steps) i whole (CertRefused why) useful fault named = uncaused i whole why useful.0 fault
+faultless (Breaks steps) i whole (NoNode k) useful fault named = absurd fault
+faultless (Breaks steps) i whole (IsSplit k) useful fault named = absurd fault
+faultless (Breaks steps) i whole (OtherCuts at) useful fault named = absurd fault
+faultless (Breaks steps) i whole NoRows useful fault named = not_none whole.plan useful.1 fault.1
+faultless (Breaks steps) i whole NoMemoryForGraft useful fault named = absurd named
+faultless (Nodes most) i whole (CertRefused why) useful fault named = uncaused i whole why useful fault
+faultless (Nodes most) i whole (NoNode k) useful fault named = absurd fault
+faultless (Nodes most) i whole (IsSplit k) useful fault named = absurd fault
+faultless (Nodes most) i whole (OtherCuts at) useful fault named = absurd fault
+faultless (Nodes most) i whole NoRows useful fault named = absurd fault
+faultless (Nodes most) i whole NoMemoryForGraft useful fault named = absurd named
 
 -- ---- what was told is what was met
 
 at_some : {A : Type 0} (P : A → Type 0) (o : Option A) (x : A) → o ≡ Some x → IfSome o P → P x
-at_some P o x e h = subst (λ (q : Option A). IfSome q P) e h
+at_some {A} P o x e h = subst (λ (q : Option A). IfSome q P) e h
 
 none_some : {A B : Type 0} (f : A → B) (o : Option A) (y : B) → option_map f o ≡ Some y → o ≡ None → ⊥
 none_some f None y e none = absurd (cc)

@@ -1,6 +1,6 @@
 -- From how a run ends over an instance to what its status says.
 use Rattle.std.proofs.Common.{◌≡◌, inl, inr, ℕ, refl, sym, subst, ap, ◌∙◌, Bool, List, arith, Option, Some, None}
-use Rattle.std.specs.Prelude.{slice_get, take, IsFalse, IsSome, IsSomeAnd}
+use Rattle.std.specs.Prelude.{slice_get, IsFalse, IsSome, IsSomeAnd}
 use Rattle.std.specs.Option.{option_map}
 use Rattle.std.specs.Io.KnownBytes.{Appends}
 use Rattle.shift_instance.specs.Problem.{Problem}
@@ -11,13 +11,14 @@ use Rattle.certificate.specs.LineText.{line_text}
 use Rattle.check_runs.specs.Check.{IsReportOf, Met, SinkMet, SourceMet}
 use Rattle.report_grafts.specs.declared.fault.GraftFault.{GraftFault}
 use Rattle.report_grafts.specs.declared.fault.GraftFault.TheVariants.{Refused as CertRefused, NoNode, IsSplit, OtherCuts, NoRows, NoMemory as NoMemoryForGraft}
-use Rattle.report_grafts.specs.Faults.{DifferAt, HasEnd, HasOpenEnd, IsExportFault, IsGraftFault}
+use Rattle.report_grafts.specs.Faults.{HasOpenEnd, IsExportFault, IsGraftFault}
 use Rattle.report_grafts.specs.Grafted.{nodes_made}
 use Rattle.graft_runs.specs.declared.words.Command.{Command}
 use Rattle.graft_runs.specs.declared.status.GraftStatus.{GraftStatus}
 use Rattle.graft_runs.specs.declared.status.GraftStatus.TheVariants.{Written, Refused, Usage, Input, Bundle, ReadFault, WriteFault, NoMemory}
 use Rattle.graft_runs.specs.Reading.{ReportUnread}
 use Rattle.graft_runs.specs.Running.{EndsWith, Told}
+use Rattle.graft_runs.specs.Status.{EndsUnwritten}
 use Rattle.graft_runs.specs.Runs.{EndsOver, Explains, IsFaultOf, ReadsInstance, Writes}
 use Rattle.graft_runs.specs.Texts.{fault_text, IsNamed}
 use Rattle.graft_runs.specs.Words.{Asked, request_of}
@@ -66,6 +67,12 @@ pub told_fault : (asks : Bool) (command : Command) (i : Problem) (whole : Cert) 
 told_fault asks command i whole sink why line status f named is (inl t) =
     subst (EndsWith asks command i whole sink) (sym t.0) (f, named, subst (λ (bs : List ℕ). Appends sink.held sink.held_after bs) is t.1)
 told_fault asks command i whole sink why line status f named is (inr t) = subst (EndsWith asks command i whole sink) (sym t.0) (line, inr (why, f, named, is), t.1, t.2)
+
+-- what was told was written, in whole or in part
+pub told_ends : (bytes : List ℕ) (wanted : GraftStatus) (held : Option (List ℕ) × Option (List ℕ)) (faults : ℕ × ℕ) (status : GraftStatus)
+    → (EndsUnwritten wanted → ⊥) → Told bytes wanted held faults status → EndsUnwritten status → ⊥
+told_ends bytes wanted held faults status some (inl t) unwritten = some (subst EndsUnwritten t.0 unwritten)
+told_ends bytes wanted held faults status some (inr t) unwritten = subst EndsUnwritten t.0 unwritten
 
 -- how a run ends over the instance of its document explains its status
 pub explained : (asks : Bool) (met : Met) (command : Command) (i : Problem) (status : GraftStatus) → ReadsInstance met command i → EndsOver asks command i met.report met.sink status → Explains asks met status

@@ -1,6 +1,5 @@
 -- What a search below a node of a certificate makes of it.
-use Rattle.std.proofs.Common.{◌≡◌, ◌⊎◌, inl, inr, ℕ, ◌^◌, ◌≤◌, Bool, true, false, List, length, refl, sym, subst}
-use Rattle.std.specs.Prelude.{IsTrue}
+use Rattle.std.proofs.Common.{◌≡◌, ◌⊎◌, inl, inr, ℕ, Bool, true, false, List, sym, subst}
 use Rattle.shift_instance.specs.Problem.{Problem}
 use Rattle.shift_instance.specs.Valid.{IsValid}
 use Rattle.head_splits.specs.declared.Cut.{Cut}
@@ -23,17 +22,23 @@ pub never_asked : (i : Problem) (base : List Cut) (limit steps : ℕ) (r : Run) 
 never_asked i base limit steps r s sound (inl done) = record { searched = s; sound = sound; ends = inl done }
 never_asked i base limit steps r s sound (inr all) = record { searched = s; sound = sound; ends = inr (inl all) }
 
-pub grows_greedily : (i : Problem) (whole : Cert) (node steps : ℕ) (base : List Cut) (r : Run) (text : List ℕ) → HasOpenEnd i whole node base
-    → IsSearched i base (limit_of whole) steps r → IsSound r → (is_finished r ≡ true) ⊎ (r.taken ≡ steps) → IsGreedyRun i base (limit_of whole) r → IsGrownText i whole node r text → GrowsGreedily i whole node steps text
-grows_greedily i whole node steps base r text end s sound ends greedy grown = record {
-  grows = record { base = base; end = end; run = r; search = never_asked i base (limit_of whole) steps r s sound ends; grown = grown };
-  greedy = greedy;
+-- a run whose limit is what the certificate's plan costs
+pub with_limit : (i : Problem) (whole : Cert) (steps limit : ℕ) (base : List Cut) (r : Run) → limit ≡ limit_of whole → IsSearched i base limit steps r → IsSearched i base (limit_of whole) steps r
+with_limit i whole steps limit base r e s = subst (λ n. IsSearched i base n steps r) e s
+
+pub grows_greedily : (i : Problem) (whole : Cert) (node steps limit : ℕ) (base : List Cut) (r : Run) (text : List ℕ) → HasOpenEnd i whole node base → limit ≡ limit_of whole
+    → IsSearched i base limit steps r → IsSound r → (is_finished r ≡ true) ⊎ (r.taken ≡ steps) → IsGreedyRun i base limit r → IsGrownText i whole node r text → GrowsGreedily i whole node steps text
+grows_greedily i whole node steps limit base r text end e s sound ends greedy grown = record {
+  grows = record { base = base; end = end; run = r; search = never_asked i base (limit_of whole) steps r (with_limit i whole steps limit base r e s) sound ends; grown = grown };
+  greedy = subst (λ n. IsGreedyRun i base n r) e greedy;
 }
 
-pub grows_below : (i : Problem) (whole : Cert) (node steps : ℕ) (asks : Bool) (base : List Cut) (r : Run) (text : List ℕ) → HasOpenEnd i whole node base
-    → IsSearched i base (limit_of whole) steps r → IsSound r → (is_finished r ≡ true) ⊎ ((r.taken ≡ steps) ⊎ (asks ≡ true)) → IsGrownText i whole node r text → GrowsBelow i whole node steps asks text
-grows_below i whole node steps asks base r text end s sound ends grown = record {
-  base = base; end = end; run = r;
-  search = record { searched = s; sound = sound; ends = ends };
+pub grows_below : (i : Problem) (whole : Cert) (node steps limit : ℕ) (asks : Bool) (base : List Cut) (r : Run) (text : List ℕ) → HasOpenEnd i whole node base → limit ≡ limit_of whole
+    → IsSearched i base limit steps r → IsSound r → (is_finished r ≡ true) ⊎ ((r.taken ≡ steps) ⊎ (asks ≡ true)) → IsGrownText i whole node r text → GrowsBelow i whole node steps asks text
+grows_below i whole node steps limit asks base r text end e s sound ends grown = record {
+  base = base;
+  end = end;
+  run = r;
+  search = record { searched = with_limit i whole steps limit base r e s; sound = sound; ends = ends };
   grown = grown;
 }

@@ -1,9 +1,10 @@
 -- What a search below the pins of rows finds.
-use Rattle.std.proofs.Common.{◌≡◌, ℕ, ◌<◌, ◌≤◌, min, true, false, List, refl, sym, ap, ◌∙◌, subst, arith, Option, Some, None}
-use Rattle.std.specs.Prelude.{IfSome, IsTrue}
+use Rattle.std.proofs.Common.{◌≡◌, ℕ, ◌<◌, ◌≤◌, min, true, false, ◌==◌, List, refl, sym, ap, ◌∙◌, subst, arith, Option, Some, None}
+use Rattle.std.specs.Prelude.{IfSome}
 use Rattle.std.specs.Option.{option_map_or}
-use Rattle.std.proofs.lemmas.Bool.{eqb-true}
+use Rattle.std.proofs.lemmas.Bool.{and_parts, eqb-true}
 use Rattle.shift_instance.specs.declared.Row.{Row}
+use Rattle.shift_instance.specs.declared.TheConstants.{TOP}
 use Rattle.shift_instance.specs.Problem.{Problem}
 use Rattle.shift_instance.specs.Valid.{IsValid}
 use Rattle.shift_instance.specs.Rota.{are_legal_rows, cost, is_legal_rota, rota_of}
@@ -11,17 +12,17 @@ use Rattle.rota_cost.specs.Costed.{Costing}
 use Rattle.head_splits.specs.declared.Cut.{Cut}
 use Rattle.head_splits.specs.Cuts.{meets}
 use Rattle.certificate.specs.declared.Cert.{Cert}
-use Rattle.certificate.specs.Accepted.{is_accepted}
+use Rattle.certificate.specs.Accepted.{is_accepted, is_bound, is_plan}
 use Rattle.certificate.specs.LineText.{lines_text}
 use Rattle.report_grafts.specs.Pins.{pins_of}
-use Rattle.report_grafts.specs.Run.{Run, is_finished, top, IsBest, IsSound}
+use Rattle.report_grafts.specs.Run.{Run, top, IsBest, IsSound}
 use Rattle.report_grafts.proofs.Pinned.{pins_fix}
 use Rattle.report_grafts.proofs.Runs.{floor_enough}
-use Rattle.subtree_search.specs.Searching.{Searching}
 use Rattle.subtree_search.specs.Stepping.{IsGreedyRun, IsSearched}
 use Rattle.subtree_search.proofs.Sound.{steps_hold}
 use Rattle.graft_runs.specs.Runs.{ArePlannedAnew, CostsAtLeast, IsPlannedAnew, IsSearch}
-use Rattle.graft_runs.specs.Texts.{breaks_lines, rows_after}
+use Rattle.graft_runs.specs.Texts.{breaks_lines}
+use Rattle.graft_runs.proofs.Texts.{limit_small}
 
 -- ---- a run of steps is of its instance, its cuts and its limit
 
@@ -39,6 +40,22 @@ run_limit i base limit budget r valid s =
     let same : r.limit ≡ s.search.limit = ap (λ (x : Run). x.limit) s.run in
     let held : s.search.limit ≡ limit = (steps_hold i base limit s.search valid s.steps).limited in
     same ∙ held
+
+-- ---- the plan of an accepted certificate
+
+judged_plan : (i : Problem) (o : Option (ℕ × List Row)) (p : ℕ × List Row) → o ≡ Some p → is_plan i o ≡ true → (are_legal_rows i p.1 ≡ true) × (cost i (rota_of p.1) ≡ p.0)
+judged_plan i o p is h =
+    let told : is_plan i (Some p) ≡ true = subst (λ (q : Option (ℕ × List Row)). is_plan i q ≡ true) is h in
+    let both = and_parts (are_legal_rows i p.1) (cost i (rota_of p.1) == p.0) told in
+    (both.0, eqb-true _ _ both.1)
+
+pub true_plan : (i : Problem) (whole : Cert) (p : ℕ × List Row) → is_accepted i whole ≡ true → whole.plan ≡ Some p → (are_legal_rows i p.1 ≡ true) × (cost i (rota_of p.1) ≡ p.0)
+true_plan i whole p accepted is = judged_plan i whole.plan p is (and_parts (is_bound i whole.lines whole.bound) (is_plan i whole.plan) accepted).1
+
+pub plan_small : (i : Problem) (whole : Cert) (p : ℕ × List Row) → IsValid i → is_accepted i whole ≡ true → whole.plan ≡ Some p → p.0 ≤ TOP
+plan_small i whole p valid accepted is =
+    let costs : option_map_or (λ (q : ℕ × List Row). q.0) whole.plan TOP ≡ p.0 = ap (λ (o : Option (ℕ × List Row)). option_map_or (λ (q : ℕ × List Row). q.0) o TOP) is in
+    subst (λ n. n ≤ TOP) costs (limit_small i whole valid accepted)
 
 -- ---- the rows that are written
 

@@ -1,10 +1,9 @@
 -- How many lines a report has, how many cuts a node of it, and how many pins its rows.
-use Rattle.std.proofs.Common.{◌≡◌, inl, inr, ℕ, zero, suc, ◌+◌, ◌*◌, ◌^◌, ◌<◌, ◌≤◌, ◌&&◌, List, [], ◌∷◌, ◌++◌, length, map, refl, sym, ap, ◌∙◌, subst, arith, Option, Some, None}
+use Rattle.std.proofs.Common.{◌≡◌, inl, inr, ℕ, zero, suc, ◌+◌, ◌*◌, ◌^◌, ◌≤◌, List, [], ◌∷◌, ◌++◌, length, map, refl, sym, ap, ◌∙◌, subst, arith, Option, Some, None}
 use Rattle.std.specs.Prelude.{slice_get, codes, IsFalse, IsSomeAnd}
 use Rattle.std.specs.List.{flat_map, range_with_len}
 use Rattle.std.proofs.lemmas.Bool.{cond_both}
 use Rattle.std.proofs.lemmas.List.{length-append, length-map, length_push}
-use Rattle.break_rules.specs.Lists.{Has}
 use Rattle.shift_instance.specs.declared.Duty.{Duty}
 use Rattle.shift_instance.specs.Problem.{Problem, shift_list, below}
 use Rattle.shift_instance.specs.Valid.{IsValid}
@@ -14,15 +13,12 @@ use Rattle.head_splits.specs.Bound.{is_nil}
 use Rattle.head_splits.specs.Nodes.{Node, new_node}
 use Rattle.head_splits.proofs.Nodes.{Has-slice_get}
 use Rattle.certificate.specs.declared.Cert.{Cert}
-use Rattle.certificate.specs.declared.proof_lines.Line.{Line}
-use Rattle.certificate.specs.Accepted.{nodes_after}
 use Rattle.certificate.specs.Departing.{Spells}
 use Rattle.certificate.specs.LineText.{Line as TextLine, line_text, lines_text, proof_line}
 use Rattle.certificate.specs.Text.{cert_lines, plan_lines, proof_lines}
 use Rattle.report_grafts.specs.Faults.{HasOpenEnd}
 use Rattle.report_grafts.specs.Grafted.{nodes_made}
 use Rattle.report_grafts.specs.Pins.{pins_of, pins_of_shift, pins_on}
-use Rattle.report_grafts.proofs.Lines.{first_good}
 use Rattle.report_grafts.proofs.Plans.{made_is, tree_of}
 use Rattle.report_nodes.proofs.Grown.{CutsWithin, within_lines}
 
@@ -58,7 +54,7 @@ few_lines bytes c s =
 -- ---- cuts
 
 root_within : CutsWithin 0 (new_node [] ∷ [])
-root_within n there = elim there [ inl e ↦ subst (λ (z : Node). length z.cuts ≤ 0) e (omega arith) | inr no ↦ absurd no ]
+root_within n there = elim there [ inl e ↦ subst (λ (z : Node). length z.cuts ≤ 0) e (omega arith) | inr gone ↦ absurd gone ]
 
 end_place : (o : Option Node) (cuts : List Cut) → IsSomeAnd o (λ n. IsFalse n.split × (n.cuts ≡ cuts)) → (n : Node) × (o ≡ Some n) × (n.cuts ≡ cuts)
 end_place None cuts h = absurd h

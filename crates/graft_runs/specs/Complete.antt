@@ -1,5 +1,5 @@
 -- Which runs of `graft_run` write what they are asked for.
-use Rattle.std.specs.Prelude.{◌≡◌, ◌⊎◌, ℕ, ◌≤◌, IsTrue, IsSome, List, Option, Some, Ok, length}
+use Rattle.std.specs.Prelude.{◌≡◌, ◌⊎◌, ℕ, ◌≤◌, IsTrue, IsSome, List, Some, Ok, length}
 use Rattle.std.specs.Option.{option_map}
 use Rattle.plan_base.specs.Causes.{Rose}
 use Rattle.shift_instance.specs.Problem.{Problem}

@@ -1,9 +1,9 @@
 -- What a command writes. Source: this project's own format.
-use Rattle.std.specs.Prelude.{⊤, ℕ, Bool, List, [], ◌∷◌, ◌++◌, map, codes, if◌then◌else◌}
+use Rattle.std.specs.Prelude.{⊤, ℕ, List, [], ◌∷◌, ◌++◌, map, codes, if◌then◌else◌}
 use Rattle.std.specs.Option.{option_map_or}
 use Rattle.std.specs.Fmt.{decimal}
 use Rattle.shift_instance.specs.declared.Row.{Row}
-use Rattle.certificate.specs.LineText.{Line, line_text, lines_text, row_line}
+use Rattle.certificate.specs.LineText.{Line, row_line}
 use Rattle.cert_check.specs.declared.judged.Refused.{Refused as Refusal}
 use Rattle.cert_check.specs.declared.judged.Refused.TheVariants.{BadSplit, BadPrice, NotSettled, BoundTooHigh, BadPlan, WrongCost, NoMemory as NoMemoryLeft}
 use Rattle.report_grafts.specs.declared.fault.GraftFault.{GraftFault}

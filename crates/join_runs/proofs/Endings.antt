@@ -82,7 +82,7 @@ reports_more [] left (p ∷ parts) part rs r = absurd rs
 reports_more (l ∷ lefts) left [] part rs r = absurd rs
 reports_more (l ∷ lefts) left (p ∷ parts) part rs r = (rs.0, reports_more lefts left parts part rs.1 r)
 
-take_more : {X : Type 0} (xs : List X) (k : ℕ) (x : X) → slice_get xs k ≡ Some x → take (k + 1) xs ≡ take k xs ++ x ∷ []
+take_more : {X : Type 0} (xs : List X) (k : ℕ) (x : X) → slice_get xs k ≡ Some x → take (suc k) xs ≡ take k xs ++ x ∷ []
 take_more [] k x e = absurd (cc)
 take_more (z ∷ xs) zero x e = let same : z ≡ x = cc in ap (λ y. y ∷ []) same
 take_more (z ∷ xs) (suc k) x e = ap (λ zs. z ∷ zs) (take_more xs k x e)
@@ -95,8 +95,10 @@ joined_none i whole lefts j is = subst (AreAllJoined i whole (take 0 lefts)) (sy
 pub joined_more : (i : Problem) (whole : Cert) (lefts : List (Option (List ℕ))) (k : ℕ) (left : Option (List ℕ)) (old new : Joined) → slice_get lefts k ≡ Some left → AreAllJoined i whole (take k lefts) old → JoinsReport left old new
     → AreAllJoined i whole (take (k + 1) lefts) new
 joined_more i whole lefts k left old new at all one =
-    subst (λ (ls : List (Option (List ℕ))). AreAllJoined i whole ls new) (sym (take_more lefts k left at))
-    (all.0 ++ one.0 ∷ [], reports_more (take k lefts) left all.0 one.0 all.1 one.1, one_more all.0 one.0 old new all.2 one.2)
+    let next : suc k ≡ k + 1 = omega arith in
+    subst (λ n. AreAllJoined i whole (take n lefts) new) next
+    (subst (λ (ls : List (Option (List ℕ))). AreAllJoined i whole ls new) (sym (take_more lefts k left at))
+    (all.0 ++ one.0 ∷ [], reports_more (take k lefts) left all.0 one.0 all.1 one.1, one_more all.0 one.0 old new all.2 one.2))
 
 -- or isn't one
 pub joined_no_more : (i : Problem) (whole : Cert) (parts : PartsMet) (k number : ℕ) (part : SourceMet) (j : Joined) (status : JoinStatus) → number ≡ k + 1 → slice_get parts.left k ≡ Some part.left → slice_get parts.faults.0 k ≡ Some part.faults.0 → slice_get parts.faults.1 k ≡ Some part.faults.1

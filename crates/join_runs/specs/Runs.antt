@@ -52,14 +52,14 @@ pub record SomeRose (faults : List ℕ × List ℕ) : Type 0 where
   pub rose : Rose before now
 
 -- the text of a certificate into which the certificates of all parts are joined, one after another
-pub record IsJoinedText (i : Problem) (whole : Cert) (lefts : List (Option (List ℕ))) (text : List ℕ) : Type 0 where
+pub record IsJoinedText (i : Problem) (whole : Cert) (lefts : List (Option (List ℕ))) (bytes : List ℕ) : Type 0 where
   pub parts : List Cert
   pub reports : AreReportsOf lefts parts
   pub joined : Joined
   pub are_joined : AreJoined i whole parts joined
   pub cert : Cert
   pub is_cert : IsJoinedCert joined cert
-  pub text : text ≡ cert_text cert
+  pub text : bytes ≡ cert_text cert
 
 -- why a source gives up no part of a certificate with those that were joined into it: it gives up no report, or one that isn't a part
 abbrev pub IsCauseOf : Joined → Option (List ℕ) → PartCause → Type 0
@@ -67,16 +67,16 @@ IsCauseOf j left (NoReport why) = IfSome left (λ bytes. WhyUnjudged bytes why)
 IsCauseOf j left (Fault fault) = (part : Cert) × IsReportOf left part × IsPartFault j part fault
 
 -- the parts before that number, from 1 on, were joined, and the one of that number isn't a part
-pub record IsNoPart (i : Problem) (whole : Cert) (lefts : List (Option (List ℕ))) (number : ℕ) (cause : PartCause) : Type 0 where
+pub record IsNoPart (i : Problem) (whole : Cert) (lefts : List (Option (List ℕ))) (told : ℕ) (why : PartCause) : Type 0 where
   pub place : ℕ
-  pub number : number ≡ place + 1
+  pub number : told ≡ place + 1
   pub left : Option (List ℕ)
   pub at : slice_get lefts place ≡ Some left
   pub parts : List Cert
   pub reports : AreReportsOf (take place lefts) parts
   pub joined : Joined
   pub are_joined : AreJoined i whole parts joined
-  pub cause : IsCauseOf joined left cause
+  pub cause : IsCauseOf joined left why
 
 -- what a run writes that has read a certificate: that with all parts, or why there is none
 pub data Says (i : Problem) (whole : Cert) (lefts : List (Option (List ℕ))) (text : List ℕ) : Type 0 where

@@ -14,7 +14,7 @@ use Rattle.report_joins.specs.Runs.{LeavesRun}
 
 -- ---- the lines of a certificate
 
-take_more : {X : Type 0} (xs : List X) (k : ℕ) (x : X) → k < length xs → x ≡ get_or xs k x → take (k + 1) xs ≡ take k xs ++ x ∷ []
+take_more : {X : Type 0} (xs : List X) (k : ℕ) (x : X) → k < length xs → x ≡ get_or xs k x → take (suc k) xs ≡ take k xs ++ x ∷ []
 take_more [] k x h e = absurd (omega arith)
 take_more (z ∷ xs) zero x h e = ap (λ y. y ∷ []) (sym e)
 take_more (z ∷ xs) (suc k) x h e = ap (λ zs. z ∷ zs) (take_more xs k x (omega arith) e)
@@ -44,6 +44,7 @@ pub behind_more : (known lines reader rest : List Line) (at : ℕ) (x : Line) �
 behind_more known lines reader rest at x less is so read =
     so ∙ ap (λ (ls : List Line). take at known ++ ls) read ∙ sym (append_assoc (take at known) (x ∷ []) rest)
     ∙ ap (λ (ls : List Line). ls ++ rest) (sym (take_more known at x less is))
+    ∙ ap (λ n. take n known ++ rest) (let next : suc at ≡ at + 1 = omega arith in next)
 
 pub behind_departs : (known lines reader : List Line) (at : ℕ) (x : Line) → at < length known → x ≡ get_or known at x → lines ≡ take at known ++ reader → slice_get reader 0 ≢ Some x → Departs known lines at
 behind_departs known lines reader at x less is so other =

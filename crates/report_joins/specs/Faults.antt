@@ -32,24 +32,24 @@ abbrev pub Departs : List Line → List Line → ℕ → Type 0
 Departs known lines at = (at < length known) × (take at lines ≡ take at known) × (slice_get lines at ≢ slice_get known at)
 
 -- lines begin with others, and the next one is of that node
-pub record GoesOnAt (known lines : List Line) (node : ℕ) : Type 0 where
+pub record GoesOnAt (known all : List Line) (of : ℕ) : Type 0 where
   pub line : Line
   pub rest : List Line
-  pub lines : lines ≡ known ++ line ∷ rest
-  pub node : node ≡ node_of line
+  pub lines : all ≡ known ++ line ∷ rest
+  pub node : of ≡ node_of line
 
 -- a line isn't of a node below that one: no node of a run that is grafted there after so many splits has its number
 abbrev pub IsElsewhere : ℕ → ℕ → Line → Type 0
 IsElsewhere node splits line = (k : ℕ) → node_of line ≡ grafted_number node splits k → ⊥
 
 -- lines begin with others and with those of a run at a node, and the next one, at that place, is of a node that isn't below
-pub record LeavesNode (known lines : List Line) (node at : ℕ) : Type 0 where
+pub record LeavesNode (known all : List Line) (node place : ℕ) : Type 0 where
   pub run : List Line
   pub line : Line
   pub rest : List Line
   pub some : 0 < length run
-  pub lines : lines ≡ grafted_lines known node run ++ line ∷ rest
-  pub at : at ≡ length known + length run
+  pub lines : all ≡ grafted_lines known node run ++ line ∷ rest
+  pub at : place ≡ length known + length run
   pub elsewhere : IsElsewhere node (divisions known) line
 
 -- some nodes have an unsplit one of that number

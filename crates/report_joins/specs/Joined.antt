@@ -52,14 +52,14 @@ pub record Joined : Type 0 where
 
 -- What holds of it: the certificate is accepted, and so is the plan; its lines make some nodes, and all lines others, of which no unsplit one has a
 -- floor below the certificate's bound. Its nodes of which no part is stand there as they were.
-pub record IsJoining (ends tree : List Node) (j : Joined) : Type 0 where
+pub record IsJoining (of_whole of_all : List Node) (j : Joined) : Type 0 where
   pub accepted : IsTrue (is_accepted j.instance j.whole)
   pub few : length j.whole.lines ≤ 2 ^ 28
-  pub ends : nodes_of j.instance j.whole.lines ≡ Some ends
+  pub ends : nodes_of j.instance j.whole.lines ≡ Some of_whole
   pub begins : (more : List Line) × (j.lines ≡ j.whole.lines ++ more)
-  pub tree : nodes_of j.instance j.lines ≡ Some tree
-  pub low : j.whole.bound ≤ least_floor tree
-  pub kept : (k : ℕ) → k < length ends → (Has j.nodes k → ⊥) → slice_get tree k ≡ slice_get ends k
+  pub tree : nodes_of j.instance j.lines ≡ Some of_all
+  pub low : j.whole.bound ≤ least_floor of_all
+  pub kept : (k : ℕ) → k < length of_whole → (Has j.nodes k → ⊥) → slice_get of_all k ≡ slice_get of_whole k
   pub plan : IsTrue (is_plan j.instance j.plan)
   pub short : length j.lines ≤ 2 ^ 30
 
@@ -72,13 +72,13 @@ abbrev pub with_part : Joined → ℕ → List Line → Option (ℕ × List Row)
 with_part j node run own = record j { nodes = j.nodes ++ node ∷ []; lines = grafted_lines j.lines node run; plan = cheaper_plan j.plan own }
 
 -- a further part was joined: its run is grafted at its node, which no earlier part has
-pub record JoinsPart (part : Cert) (old new : Joined) : Type 0 where
+pub record JoinsPart (own : Cert) (old next : Joined) : Type 0 where
   pub node : ℕ
   pub run : List Line
-  pub part : IsPart old.instance old.whole part node run
+  pub part : IsPart old.instance old.whole own node run
   pub other : Has old.nodes node → ⊥
   pub short : length old.lines + length run ≤ 2 ^ 30
-  pub new : new ≡ with_part old node run part.plan
+  pub new : next ≡ with_part old node run own.plan
 
 -- parts that were joined one after another
 pub data AreJoined (i : Problem) (whole : Cert) : List Cert → Joined → Type 0 where

@@ -1,5 +1,5 @@
 -- The run by which a part goes on, as it is read from the part's lines.
-use Rattle.std.specs.Prelude.{◌≡◌, ◌×◌, ◌+◌, ◌<◌, ⊤, ℕ, IsTrue, List, [], ◌∷◌, ◌++◌, length, map, slice_get, Some}
+use Rattle.std.specs.Prelude.{◌≡◌, ◌+◌, ◌<◌, ⊤, ℕ, IsTrue, List, [], ◌∷◌, ◌++◌, length, map, slice_get, Some}
 use Rattle.certificate.specs.declared.Cert.{Cert}
 use Rattle.certificate.specs.declared.proof_lines.Line.{Line}
 use Rattle.certificate.specs.Accepted.{is_accepted, nodes_after}
@@ -11,10 +11,10 @@ use Rattle.report_joins.specs.declared.fault.PartFault.{PartFault}
 use Rattle.report_joins.specs.declared.fault.PartFault.TheVariants.{Refused, OtherLines, NothingFurther, NoEnd, OtherNode, OtherPlan, SameNode, TooMany, NoMemory}
 
 -- lines are others and those of a run at one of the unsplit nodes that the others make
-pub record IsRunOf (ends : List Node) (known lines : List Line) (node : ℕ) (run : List Line) : Type 0 where
+pub record IsRunOf (ends : List Node) (known all : List Line) (node : ℕ) (run : List Line) : Type 0 where
   pub end : IsEnd ends node
   pub some : 0 < length run
-  pub lines : lines ≡ grafted_lines known node run
+  pub lines : all ≡ grafted_lines known node run
 
 -- what a run makes of a node alone
 pub record MakesBelow (i : Problem) (ends : List Node) (node : ℕ) (run : List Line) (below : List Node) : Type 0 where
@@ -23,10 +23,10 @@ pub record MakesBelow (i : Problem) (ends : List Node) (node : ℕ) (run : List 
   pub made : nodes_after i (top ∷ []) run ≡ Some below
 
 -- a part that is accepted, its run, and what that makes of its node alone
-pub record IsReadPart (i : Problem) (ends : List Node) (whole part : Cert) (node : ℕ) (run : List Line) (below : List Node) : Type 0 where
+pub record IsReadPart (i : Problem) (ends : List Node) (whole part : Cert) (node : ℕ) (own : List Line) (made : List Node) : Type 0 where
   pub accepted : IsTrue (is_accepted i part)
-  pub run : IsRunOf ends whole.lines part.lines node run
-  pub below : MakesBelow i ends node run below
+  pub run : IsRunOf ends whole.lines part.lines node own
+  pub below : MakesBelow i ends node own made
 
 -- the first place of some lines at which others differ from them; or memory ran out
 abbrev pub IsDeparture : List Line → List Line → PartFault → Type 0
@@ -41,13 +41,13 @@ IsDeparture known lines (SameNode node) = ⊥
 IsDeparture known lines TooMany = ⊥
 
 -- lines are those of a run at a node after so many splits, and then one that is none of a node below it
-pub record LeavesRun (node splits first : ℕ) (lines : List Line) (at : ℕ) : Type 0 where
+pub record LeavesRun (node splits first : ℕ) (all : List Line) (place : ℕ) : Type 0 where
   pub run : List Line
   pub line : Line
   pub rest : List Line
   pub some : 0 < length run
-  pub lines : lines ≡ map (grafted_line node splits) run ++ line ∷ rest
-  pub at : at ≡ first + length run
+  pub lines : all ≡ map (grafted_line node splits) run ++ line ∷ rest
+  pub at : place ≡ first + length run
   pub elsewhere : IsElsewhere node splits line
 
 -- that is why lines aren't those of a run; or memory ran out

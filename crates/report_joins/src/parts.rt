@@ -86,8 +86,8 @@ fn run_lines(
     requires splits { 2 * place.splits < 2 ^ 32 }
     requires at { at + length rest < 2 ^ 63 }
     ensures some { IfOk result (λ run. 0 < length run.items) }
-    ensures run { IfOk result (λ run. first ∷ rest ≡ map (grafted_line place.node place.splits) run.items) }
-    ensures fault { IfErr result (IsLeft place.node place.splits at (first ∷ rest)) }
+    ensures run { IfOk result (λ run. first ∷ rest.entry ≡ map (grafted_line place.node place.splits) run.items) }
+    ensures fault { IfErr result (IsLeft place.node place.splits at (first ∷ rest.entry)) }
 {
     let mut reader = rest;
     let mut run = with_line(Vec::new(alloc), with_node(first, 0))?;

@@ -11,13 +11,25 @@ fn is_same_class(class: &Class, other: &Class) -> bool
     class.shift == other.shift && class.day == other.day && class.prefix.is_same(&other.prefix)
 }
 
+/// Whether both have the same prices of slots.
+fn has_same_slots(prices: &Prices, other: &Prices) -> bool
+    ensures { IsTrue result ↔ (prices.now.slots ≡ other.now.slots) }
+{
+    prices.slots.as_slice() == other.slots.as_slice()
+}
+
+/// Whether both have the same prices of cuts.
+fn has_same_cuts(prices: &Prices, other: &Prices) -> bool
+    ensures { IsTrue result ↔ (prices.now.cuts ≡ other.now.cuts) }
+{
+    prices.cuts.as_slice() == other.cuts.as_slice()
+}
+
 /// Whether both are the same price set.
 fn is_same_prices(prices: &Prices, other: &Prices) -> bool
     ensures { IsTrue result ↔ (prices.now ≡ other.now) }
 {
-    prices.q == other.q
-        && prices.slots.as_slice() == other.slots.as_slice()
-        && prices.cuts.as_slice() == other.cuts.as_slice()
+    prices.q == other.q && has_same_slots(prices, other) && has_same_cuts(prices, other)
 }
 
 /// Whether both are the same proof line.

@@ -3,5 +3,5 @@ use Rattle.certificate.specs.LineText.{lines_text}
 use Rattle.graft_runs.specs.Texts.{open_line}
 use Rattle.graft_runs.proofs.nodes.add_nodes.Given as goal
 
-abbrev pub invariant-loop-open : goal.invariant-loop-open
-invariant-loop-open l = string_bytes l.text ≡ string_bytes l.fn.text ++ lines_text (map open_line (take l.open-index l.list))
+abbrev pub invariant-loop-next : goal.invariant-loop-next
+invariant-loop-next l = string_bytes l.text ≡ string_bytes l.fn.text ++ lines_text (map open_line (take l.next-index l.list))

@@ -1,0 +1,14 @@
+use Rattle.std.proofs.Common.{◌≡◌, ◌<◌, ◌+◌, ◌*◌, ◌^◌, ◌++◌, length, map}
+use Rattle.std.specs.Prelude.{All}
+use Rattle.certificate.specs.Accepted.{node_of}
+use Rattle.report_grafts.specs.Grafted.{grafted_line}
+use Rattle.report_joins.proofs.joining.with_run.Given as goal
+
+abbrev pub invariant-loop-lines : goal.invariant-loop-lines
+invariant-loop-lines l = record {
+  added : l.lines.items ++ map (grafted_line l.place.node l.place.splits) l.reader ≡ l.fn.lines.items ++ map (grafted_line l.place.node l.place.splits) l.run;
+  fit : All (λ line. node_of line + 2 * l.place.splits < 2 ^ 32) l.reader;
+}
+
+abbrev pub decreases-loop-lines : goal.decreases-loop-lines
+decreases-loop-lines l = length l.reader

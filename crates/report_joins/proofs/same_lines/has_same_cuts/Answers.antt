@@ -1,0 +1,9 @@
+use Rattle.std.proofs.Common.{◌∙◌, sym}
+use Rattle.std.proofs.lemmas.Bool.Decides.{Decides-eqb}
+use Rattle.std.proofs.lemmas.Slice.Eq.{slice_eq-Decides}
+use Rattle.report_joins.proofs.same_lines.has_same_cuts.Goals as goal
+
+pub returns : goal.returns
+returns c =
+    let d = slice_eq-Decides Decides-eqb c.as_slice.result.now c.as_slice-2.result.now c.eq.result c.eq.ensures in
+    (λ h. sym c.as_slice.ensures ∙ d.0 h ∙ c.as_slice-2.ensures, λ e. d.1 (c.as_slice.ensures ∙ e ∙ sym c.as_slice-2.ensures))
