@@ -1,12 +1,13 @@
 #!/usr/bin/env python3
 """Reckons what rounds of searches on many machines gain, from short searches below single nodes that it measures on this one.
 
-    bench/rounds.py [--begin B] [--seconds S] [--tasks K] [--length T] [--rounds R] [--machines N..] [--programs FOLDER] [FILE..]
+    bench/rounds.py [--begin B] [--seconds S | --steps S] [--tasks K] [--length T] [--rounds R] [--machines N..] [--programs FOLDER] [--] [FILE..]
 
 Each instance (the call week and the control week where no file is named) is searched for B seconds by `shift_plan plan`. Below K of the open nodes that
-hold its bound down `graft_run below --thorough` then searches for S seconds, as many at once as there are processors. The floors that each search leaves
-below its node, and the bytes that it adds to the report, are the measured gains. From them R rounds of T seconds on N machines are played, and the bound
-after each is printed, the mean of some plays, with what is assumed. B is 30, S 10, K 12, T 300, R 10 and N 1, 10 and 100 where they aren't given.
+hold its bound down `graft_run below --thorough` then searches for S seconds or steps, as many at once as there are processors. The floors that each search
+leaves below its node, and the bytes that it adds to the report, are the measured gains. From them R rounds of T seconds or steps on N machines are played,
+and the bound after each is printed, the mean of some plays, with what is assumed. B is 30, S 10 seconds, K 12, T 300, R 10 and N 1, 10 and 100 where they
+aren't given.
 PROGRAMS is the folder of shift_plan and graft_run, `bin/` where none is given."""
 import argparse
 import concurrent.futures
@@ -22,9 +23,9 @@ import tempfile
 TOP = pathlib.Path(__file__).resolve().parent.parent
 REPORT_MOST = 268435456  # bytes that a report may have
 PLAYS = 5
-ASSUMED = """Assumed: a task of %d s does what tasks of %d s do one after another, each below the node of least floor that is left of it; what lies below
-a node of any depth gains what one of the measured tasks gained, drawn by chance; a machine gives a task one processor of this one's speed; no task is lost,
-no cheaper plan is found, and joining takes no time; what a report of %d bytes has no room for is dropped."""
+ASSUMED = """Assumed: a task of %d %s does what tasks of %d %s do one after another, each below the node of least floor that is left of it; what lies
+below a node of any depth gains what one of the measured tasks gained, drawn by chance; a machine gives a task one processor of this one's speed; no task
+is lost, no cheaper plan is found, and joining takes no time; what a report of %d bytes has no room for is dropped."""
 
 
 def run(*words):
@@ -64,7 +65,8 @@ def begun(asked, instance, folder):
 def gain_of(asked, instance, whole, node):
     """The gain of a task that searches below a node; None where it had no time for a step."""
     path = whole.path.with_name("part_%d" % node)
-    text = run(asked.programs / "graft_run", "below", instance, whole.path, node, "--seconds", asked.seconds, "--thorough")
+    most = [asked.steps] if asked.steps else ["--seconds", asked.seconds]
+    text = run(asked.programs / "graft_run", "below", instance, whole.path, node, *most, "--thorough")
     path.write_text(text)
     gain = Gain(whole, Report(asked.programs, instance, path), node)
     return gain if gain.bytes else None
@@ -111,9 +113,14 @@ def play(asked, whole, gains, machines, seed):
     draw, floors, size, bounds = random.Random(seed), list(whole.floors.values()), whole.size, []
     heapq.heapify(floors)
     for _ in range(asked.rounds):
-        size = play_round(floors, size, machines, whole.cost, max(1, asked.length // asked.seconds), gains, draw)
+        size = play_round(floors, size, machines, whole.cost, max(1, asked.length // (asked.steps or asked.seconds)), gains, draw)
         bounds.append(floors[0] if floors else whole.cost)
     return bounds, size
+
+
+def span(asked):
+    """How long a measured task is, and the unit."""
+    return (asked.steps, "steps") if asked.steps else (asked.seconds, "s")
 
 
 def measure(asked, instance):
@@ -123,11 +130,11 @@ def measure(asked, instance):
         gains = gains_of(asked, instance, whole)
     print("%s: cost %d, bound %d, %d open nodes, report of %.1f MB" % (instance.stem, whole.cost, whole.bound, len(whole.floors), whole.size / 1e6))
     if not gains:
-        print("  no task of %d s took a step" % asked.seconds)
+        print("  no task took a step")
         return
     least, left, size = ([mean(gain) for gain in gains] for mean in (lambda it: min(it.floors, default=whole.cost - whole.bound), lambda it: len(it.floors), lambda it: it.bytes))
-    print("  %d tasks of %d s: the least floor rises by %.1f (%d to %d), %.0f nodes are left, %.2f MB are added, means" %
-          (len(gains), asked.seconds, statistics.mean(least), min(least), max(least), statistics.mean(left), statistics.mean(size) / 1e6))
+    print("  %d tasks of %s: the least floor rises by %.1f (%d to %d), %.0f nodes are left, %.3f MB are added, means" %
+          (len(gains), "%d %s" % span(asked), statistics.mean(least), min(least), max(least), statistics.mean(left), statistics.mean(size) / 1e6))
     for machines in asked.machines:
         plays = [play(asked, whole, gains, machines, seed) for seed in range(PLAYS)]
         bounds = [statistics.mean(it) for it in zip(*(bounds for bounds, _ in plays))]
@@ -136,7 +143,7 @@ def measure(asked, instance):
 
 def main():
     parser = argparse.ArgumentParser(description="Reckons what rounds of searches on many machines gain.")
-    for name, number in (("begin", 30), ("seconds", 10), ("tasks", 12), ("length", 300), ("rounds", 10)):
+    for name, number in (("begin", 30), ("seconds", 10), ("tasks", 12), ("length", 300), ("rounds", 10), ("steps", None)):
         parser.add_argument("--" + name, type=int, default=number)
     parser.add_argument("--machines", type=int, nargs="+", default=[1, 10, 100])
     parser.add_argument("--programs", type=pathlib.Path, default=TOP / "bin")
@@ -144,7 +151,8 @@ def main():
     asked = parser.parse_args()
     for instance in asked.files:
         measure(asked, instance)
-    print(ASSUMED % (asked.length, asked.seconds, REPORT_MOST))
+    most, unit = span(asked)
+    print(ASSUMED % (asked.length, unit, most, unit, REPORT_MOST))
 
 
 if __name__ == "__main__":
