@@ -52,7 +52,8 @@ fn best_of(plan: &Plan) -> Result<Taken, NoMemory> {
 fn nothing_of(end: &SearchEnd) -> Result<Taken, NoMemory> {
     let why = match end {
         SearchEnd::Refused(OpenFault::OtherInstance { .. }) => "it belongs to another instance",
-        SearchEnd::Refused(OpenFault::OldVersion) => "it is one of the first version",
+        SearchEnd::Refused(OpenFault::OldVersion) =>
+            "it is one of the first version; to go on with its search, type ./run shift_migrate OLD NEW, where OLD is that file and NEW a new one, and name NEW as the journal",
         SearchEnd::Refused(OpenFault::NotAJournal) =>
             "it is no journal of a search, or only the torn beginning of one",
         SearchEnd::Refused(OpenFault::Damaged { .. } | OpenFault::Rejected { .. }) =>
