@@ -42,6 +42,7 @@ impl Anew {
 }
 
 /// The cuts that fix how many duties legal rows have of each shift on each day.
+#[tactic(auto, using(crate::proofs::Planned::few_pins))]
 fn few_pins(alloc: Global, instance: &Instance, rows: &Rows) -> Result<Cuts, NoMemory>
     requires { IsTrue (are_legal_rows instance.now rows.now) }
     ensures pins { IfOk result (λ cuts. cuts ≡ pins_of instance.now (rota_of rows.now)) }

@@ -1,12 +1,20 @@
 -- A plan with other breaks.
-use Rattle.std.specs.Prelude.{◌≡◌, ℕ, ◌≤◌, IsTrue, List, Some}
+use Rattle.std.specs.Prelude.{◌≡◌, ℕ, ◌≤◌, IsTrue, List, Option, None, Some}
 use Rattle.shift_instance.specs.declared.Duty.{Duty}
 use Rattle.shift_instance.specs.declared.Row.{Row}
+use Rattle.shift_instance.specs.Problem.{Problem}
 use Rattle.shift_instance.specs.Rota.{are_legal_rows, cost, is_legal_rota, rota_of}
+use Rattle.certificate.specs.declared.Cert.{Cert}
 use Rattle.certificate.specs.Accepted.{is_accepted}
 use Rattle.break_plans.specs.Anew.{HasHeadsOf}
+use Rattle.planning_runs.specs.Reports.{with_rows}
 use Rattle.planning_runs.specs.declared.plan.Plan.{Plan}
 use Rattle.planning_breaks.specs.declared.anew.Rebroken.{Rebroken}
+
+-- a certificate with cheaper rows as its plan, where there are some, and else as it is
+abbrev pub cert_after : Problem → Cert → Option (List Row) → Cert
+cert_after i c None = c
+cert_after i c (Some rows) = with_rows i c rows
 
 -- A plan whose breaks were planned anew, with the rows before and what they cost. Its report is accepted, with the proof and the bound of the
 -- report before; its rows are legal at the cost told, which is no more than before, and have as many duties of each shift on each day.

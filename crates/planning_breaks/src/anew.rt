@@ -2,7 +2,7 @@
 
 ghost use Rattle.std.specs.Prelude.{◌≡◌, ◌≤◌, ◌^◌, IfOk, IfSome, IsTrue, MatchOption, None, Some};
 ghost use Rattle.shift_instance.specs.Rota.{are_legal_rows};
-ghost use Rattle.planning_breaks.specs.Anew.{BoundsBreaks, IsRebroken};
+ghost use Rattle.planning_breaks.specs.Anew.{BoundsBreaks, IsRebroken, cert_after};
 
 use advice::{Adviser, Stop};
 use break_plans::{Anew, planned_anew};
@@ -38,6 +38,8 @@ fn rows_in(plan: &Plan) -> Result<Option<(u64, Rows)>, NoMemory>
 /// A plan with cheaper rows, where there are some, and else as it is.
 fn with_cheaper(alloc: Global, plan: Plan, cheaper: Option<Rows>) -> Result<Plan, NoMemory>
     requires legal { IfSome cheaper (λ rows. IsTrue (are_legal_rows plan.instance rows)) }
+    ensures instance { IfOk result (λ new. new.instance ≡ plan.instance) }
+    ensures cert { IfOk result (λ new. new.cert ≡ cert_after plan.instance plan.cert cheaper) }
 {
     match cheaper {
         Some(rows) => with_rows(alloc, plan, rows),

@@ -1,5 +1,7 @@
 //! The search for cheaper breaks as the words ask for it.
 
+ghost use Rattle.std.specs.Prelude.{◌≤◌, ◌^◌};
+
 use crate::anew::{Rebroken, with_breaks};
 use break_search::Rebreaking;
 use planning_ends::{begun, enter_ends, shown_on};
@@ -16,8 +18,21 @@ use thorough_search::Thorough;
 /// The milliseconds of a second.
 const SECOND: u64 = 1_000;
 
-/// The most steps of a search.
-const STEPS_MOST: u64 = 1_000_000_000;
+/// The most cuts that the nodes of a search have together, about. So many take a gibibyte at most.
+const CUTS_MOST: u64 = 1 << 24;
+
+/// The fewest steps that a search may take where its time is long enough.
+const STEPS_LEAST: u64 = 100;
+
+/// How many steps a search for breaks may take: each makes two nodes at most, which have as many cuts as the shifts have days, twice, and
+/// some more.
+fn steps_of(instance: &Instance) -> u64
+    ensures { result ≤ 10 ^ 9 }
+{
+    let shifts = instance.shifts().len() as u64;
+    let pins = shifts.saturating_mul(2 * u64::from(instance.days()));
+    (CUTS_MOST / pins.saturating_mul(2).max(1)).max(STEPS_LEAST)
+}
 
 /// What asks a search to stop.
 type Ends = Until<HostRuntime>;
@@ -99,7 +114,8 @@ pub fn breaks_as_asked<R: Threads>(
     let shown = shown_on(host, enter_ends(host, rt, words.stop_on, &progress));
     let seen = Arc::try_clone(&progress)?;
     let mut adviser = Watched::new(alloc, rebreaker, 0, seen, host, shown);
-    let found = with_breaks(alloc, plan, STEPS_MOST, &mut adviser, &until)?;
+    let steps = steps_of(&plan.instance);
+    let found = with_breaks(alloc, plan, steps, &mut adviser, &until)?;
     tell_end(host, shown, &progress);
     match found {
         Some(rebroken) => Ok(rebroken),
