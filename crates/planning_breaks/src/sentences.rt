@@ -11,12 +11,7 @@ fn other_on(before: &Rows, after: &Rows, day: u8) -> u128 {
 }
 
 /// The days on which duties have other breaks, each with how many of them.
-fn days_text(
-    alloc: Global,
-    before: &Rows,
-    after: &Rows,
-    days: u8,
-) -> Result<String, AllocError> {
+fn days_text(alloc: Global, before: &Rows, after: &Rows, days: u8) -> Result<String, AllocError> {
     let mut text = String::new(alloc);
     for day in 0..days {
         let other = other_on(before, after, day);

@@ -1,8 +1,9 @@
 //! The commands of the command line.
 
 use crate::words::{
-    ANEW, BREAK_SECONDS, CHANGE, FIRST_DAY, FOLDER, FROM, INSTANCE, JOURNAL, LIKE, OF, OTHER_INSTANCE,
-    OTHER_REPORT, OUT, REPORT, SECONDS, SEED, STOP_ON, UNTIL_QUIET, WORKERS, Word, with_words,
+    ANEW, BREAK_SECONDS, CHANGE, FIRST_DAY, FOLDER, FROM, INSTANCE, JOURNAL, LIKE, OF,
+    OTHER_INSTANCE, OTHER_REPORT, OUT, REPORT, SECONDS, SEED, STOP_ON, UNTIL_QUIET, WORKERS, Word,
+    with_words,
 };
 use clap::Command;
 use std::alloc::{AllocError, Global};
