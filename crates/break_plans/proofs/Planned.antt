@@ -1,9 +1,9 @@
 -- What a search below the pins of rows shows of breaks planned anew.
-use Rattle.std.proofs.Common.{◌≡◌, ◌⊎◌, inl, inr, ℕ, zero, suc, ◌+◌, ◌*◌, ◌^◌, ◌<◌, ◌≤◌, List, [], ◌∷◌, ◌++◌, length, refl, sym, ap, ◌∙◌, subst, arith, Option, Some, None}
-use Rattle.std.specs.Prelude.{IfSome, IsTrue, min}
+use Rattle.std.proofs.Common.{◌≡◌, ℕ, zero, suc, ◌+◌, ◌*◌, ◌^◌, ◌<◌, ◌≤◌, List, [], ◌∷◌, ◌++◌, length, refl, sym, ap, ◌∙◌, subst, arith, Option, Some, None, Result, Ok, Err}
+use Rattle.std.specs.Prelude.{IfOk, IfSome, IsTrue}
 use Rattle.std.specs.List.{flat_map, range_with_len}
-use Rattle.std.specs.Option.{option_map, option_map_or}
-use Rattle.std.proofs.lemmas.Bool.{cond_both, eqb-true}
+use Rattle.std.specs.Option.{option_map}
+use Rattle.std.proofs.lemmas.Bool.{cond_both}
 use Rattle.std.proofs.lemmas.List.{length-append}
 use Rattle.shift_instance.specs.declared.Duty.{Duty}
 use Rattle.shift_instance.specs.declared.Row.{Row}
@@ -15,11 +15,12 @@ use Rattle.head_splits.specs.declared.Cut.{Cut}
 use Rattle.head_splits.specs.Bound.{is_nil}
 use Rattle.head_splits.specs.Cuts.{meets}
 use Rattle.report_grafts.specs.Pins.{pins_of, pins_of_shift, pins_on}
-use Rattle.report_grafts.specs.Run.{Run, is_finished, top}
+use Rattle.report_grafts.specs.Run.{Run, top}
 use Rattle.report_grafts.proofs.Pinned.{pins_fix}
-use Rattle.subtree_search.specs.Searching.{Searching, top_of}
-use Rattle.subtree_search.specs.Stepping.{run_of, IsSearched}
+use Rattle.subtree_search.specs.Searching.{top_of}
+use Rattle.subtree_search.specs.Stepping.{IsSearched}
 use Rattle.subtree_search.proofs.Sound.{steps_hold, Holds, IsKept}
+use Rattle.break_plans.specs.declared.planning.Anew.{Anew}
 use Rattle.break_plans.specs.Anew.{HasHeadsOf, IsCheaper, rows_after}
 
 -- ---- pins
@@ -104,16 +105,22 @@ floor_known i rows limit budget floor r valid s h rota legal heads =
     subst (λ (p : Problem). floor ≤ cost p rota) own
     (h rota (subst (λ (p : Problem). IsTrue (is_legal_rota p rota)) (sym own) legal) (subst (λ (cs : List Cut). IsTrue (meets rota cs)) (sym base) met))
 
--- where the run left no node open, its floor is what was found
-finished_known : (r : Run) (floor paid : ℕ) → floor ≡ r.floor → paid ≡ top r → IsTrue (is_finished r) → floor ≡ paid
-finished_known r floor paid low topped f = low ∙ eqb-true r.floor (top r) f ∙ sym topped
+-- ---- the answer, where it isn't for want of memory
 
-pub ends_known : (r : Run) (floor paid steps budget : ℕ) (A : Type 0) → floor ≡ r.floor → paid ≡ top r → steps ≡ r.taken → IsTrue (is_finished r) ⊎ ((r.taken ≡ budget) ⊎ A)
-    → (floor ≡ paid) ⊎ ((steps ≡ budget) ⊎ A)
-ends_known r floor paid steps budget A low topped taken (inl f) = inl (finished_known r floor paid low topped f)
-ends_known r floor paid steps budget A low topped taken (inr (inl spent)) = inr (inl (taken ∙ spent))
-ends_known r floor paid steps budget A low topped taken (inr (inr asked)) = inr (inr asked)
+pub ok_cheaper : {E : Type 0} (i : Problem) (rows : List Row) (limit budget : ℕ) (base : List Cut) (r : Run) (result : Result Anew E) → IsValid i → limit ≡ cost i (rota_of rows)
+    → base ≡ pins_of i (rota_of rows) → IsSearched i base limit budget r → IfOk result (λ a. a.cheaper ≡ option_map (λ (b : Costing). b.rows) r.best) → IfOk result (λ a. IfSome a.cheaper (IsCheaper i rows))
+ok_cheaper i rows limit budget base r (Ok a) valid e is s h = cheaper_rows i rows limit budget r a.cheaper valid e (subst (λ (cs : List Cut). IsSearched i cs limit budget r) is s) h
+ok_cheaper i rows limit budget base r (Err x) valid e is s h = tt
 
-pub enough_known : (r : Run) (floor paid : ℕ) (A : Type 0) → floor ≡ r.floor → paid ≡ top r → IsTrue (is_finished r) ⊎ A → (floor ≡ paid) ⊎ A
-enough_known r floor paid A low topped (inl f) = inl (finished_known r floor paid low topped f)
-enough_known r floor paid A low topped (inr asked) = inr asked
+pub ok_cost : {E : Type 0} (i : Problem) (rows : List Row) (limit budget : ℕ) (base : List Cut) (r : Run) (result : Result Anew E) → IsValid i → limit ≡ cost i (rota_of rows)
+    → base ≡ pins_of i (rota_of rows) → IsSearched i base limit budget r → IfOk result (λ a. a.cheaper ≡ option_map (λ (b : Costing). b.rows) r.best) → IfOk result (λ a. a.cost ≡ top r)
+    → IfOk result (λ a. a.cost ≡ cost i (rota_of (rows_after rows a.cheaper)))
+ok_cost i rows limit budget base r (Ok a) valid e is s h t = cost_known i rows limit budget a.cost r a.cheaper valid e (subst (λ (cs : List Cut). IsSearched i cs limit budget r) is s) h t
+ok_cost i rows limit budget base r (Err x) valid e is s h t = tt
+
+pub ok_floor : {E : Type 0} (i : Problem) (rows : List Row) (limit budget : ℕ) (base : List Cut) (r : Run) (result : Result Anew E) → IsValid i
+    → base ≡ pins_of i (rota_of rows) → IsSearched i base limit budget r
+    → IfOk result (λ a. (rota : List Duty) → IsTrue (is_legal_rota r.instance rota) → IsTrue (meets rota r.base) → a.floor ≤ cost r.instance rota)
+    → IfOk result (λ a. (rota : List Duty) → IsTrue (is_legal_rota i rota) → HasHeadsOf i rows rota → a.floor ≤ cost i rota)
+ok_floor i rows limit budget base r (Ok a) valid is s h = floor_known i rows limit budget a.floor r valid (subst (λ (cs : List Cut). IsSearched i cs limit budget r) is s) h
+ok_floor i rows limit budget base r (Err x) valid is s h = tt

@@ -1,6 +1,6 @@
 -- Breaks planned anew below fixed duties. Source: break scheduling for given shifts, after Beer, Gärtner, Musliu, Schafhauser and Slany (2010);
 -- that the numbers of duties are those of an older plan is this project's profile.
-use Rattle.std.specs.Prelude.{ℕ, ◌<◌, IsTrue, List, Option}
+use Rattle.std.specs.Prelude.{◌<◌, IsTrue, List, Option}
 use Rattle.std.specs.Option.{unwrap_or}
 use Rattle.shift_instance.specs.declared.Duty.{Duty}
 use Rattle.shift_instance.specs.declared.Row.{Row}

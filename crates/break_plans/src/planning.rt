@@ -35,7 +35,7 @@ pub struct Anew {
 impl Anew {
     /// Whether it is known that no legal rota with as many duties of each shift on each day costs less.
     pub fn is_best(&self) -> bool
-        ensures { IsTrue result → self.floor ≡ self.cost }
+        ensures { IsTrue result → self.now.floor ≡ self.now.cost }
     {
         self.floor == self.cost
     }
@@ -47,6 +47,7 @@ fn few_pins(alloc: Global, instance: &Instance, rows: &Rows) -> Result<Cuts, NoM
     requires { IsTrue (are_legal_rows instance.now rows.now) }
     ensures pins { IfOk result (λ cuts. cuts ≡ pins_of instance.now (rota_of rows.now)) }
     ensures few { IfOk result (λ cuts. length cuts ≤ 2 ^ 28) }
+    ensures valid { IsValid instance.now }
 {
     // an instance is valid
     let _slots = instance.slots();
