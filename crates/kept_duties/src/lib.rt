@@ -12,4 +12,5 @@ mod trades;
 pub use adviser::Keeping;
 pub use choosing::least_changed;
 pub use keeping::with_more_kept;
+pub use placing::{placed_of, plan_of, rows_of};
 pub use sends::sent;

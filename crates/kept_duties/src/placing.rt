@@ -23,7 +23,7 @@ fn add_row(list: &mut Vec<Placed>, row: &Row) -> Result<bool, NoMemory> {
 }
 
 /// The duties of rows, in their order; none where one of them has too many breaks.
-pub(crate) fn placed_of(alloc: Global, rows: &Rows) -> Result<Option<Vec<Placed>>, NoMemory> {
+pub fn placed_of(alloc: Global, rows: &Rows) -> Result<Option<Vec<Placed>>, NoMemory> {
     let mut list = Vec::new(alloc);
     for row in rows.as_slice() {
         if !add_row(&mut list, row)? {
@@ -34,7 +34,7 @@ pub(crate) fn placed_of(alloc: Global, rows: &Rows) -> Result<Option<Vec<Placed>
 }
 
 /// The working plan of some duties.
-pub(crate) fn plan_of(alloc: Global, tables: &Tables, placed: &[Placed]) -> Result<Plan, NoMemory> {
+pub fn plan_of(alloc: Global, tables: &Tables, placed: &[Placed]) -> Result<Plan, NoMemory> {
     let mut plan = Plan::new(alloc, tables)?;
     for one in placed {
         plan.put(tables, one)?;
@@ -53,7 +53,7 @@ fn row_of(alloc: Global, placed: &Placed, count: u16) -> Result<Row, NoMemory> {
 }
 
 /// The rows of a working plan, in their order.
-pub(crate) fn rows_of(alloc: Global, tables: &Tables, plan: &Plan) -> Result<Rows, NoMemory> {
+pub fn rows_of(alloc: Global, tables: &Tables, plan: &Plan) -> Result<Rows, NoMemory> {
     let mut sorted = Vec::new(alloc);
     plan.list_into(tables, &mut sorted)?;
     sorted.sort_unstable();

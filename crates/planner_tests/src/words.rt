@@ -93,11 +93,30 @@ fn a_report_is_shown(rt: HostRuntime) -> Result<(), Fail> {
     }
 }
 
+#[test]
+fn breaks_are_planned_anew(rt: HostRuntime) -> Result<(), Fail> {
+    let line = "shift_plan breaks w.json r --seconds 5 --seed 9 --out o --stop-on line";
+    let words = words_of(rt.alloc(), line)?;
+    match wanted_by(rt.alloc(), words.as_slice()) {
+        Ok(Wanted::Breaks(breaks)) => {
+            assert_eq!(rt;
+                (breaks.instance, breaks.report, breaks.out),
+                ("w.json", "r", Some("o"))
+            );
+            assert_eq!(rt; (breaks.seconds, breaks.seed), (5, 9));
+            assert!(rt; breaks.stop_on == Some(StopOn::Line));
+            Ok(())
+        }
+        _ => Err(Fail::from("no breaks are planned")),
+    }
+}
+
 /// What the first day is that words ask for, if they say it.
 fn first_of(wanted: &Wanted) -> Option<NamedDay> {
     match wanted {
         Wanted::Plan(plan) => plan.first,
         Wanted::Show(show) => show.first,
+        Wanted::Breaks(breaks) => breaks.first,
         _ => None,
     }
 }

@@ -6,7 +6,6 @@ mod advising;
 mod before;
 mod journals;
 mod keeping;
-mod listening;
 mod reading;
 mod refused;
 mod searching;

@@ -5,23 +5,22 @@ ghost use Rattle.std.specs.Prelude.{◌<◌, ◌^◌};
 use crate::advising::Team;
 use crate::journals::Journals;
 use crate::keeping::{Older, kept};
-use crate::listening::{listen, stop_of};
 use crate::refused::unplanned;
-use crate::telling::{Beginning, shown_on, tell_end};
+use crate::telling::{Beginning, tell_end};
 use advice::Adviser;
 use gated_journal::JOURNAL_MAX;
 use plan_base::FileDisk;
+use planning_ends::{begun, enter_ends, shown_on};
 use planning_files::LockedJournal;
 use planning_progress::{Limits, Progress};
-use planning_refusals::{Cause, Refusal};
+use planning_refusals::Refusal;
 use planning_runs::{Plan, Planned, search_plan};
-use planning_words::{PlanWords, StopOn};
+use planning_words::PlanWords;
 use shift_instance::Instance;
 use solve_runs::Request;
 use std::alloc::AllocError;
 use std::sync::{Arc, Wait};
 use std::thread::Threads;
-use std::time::Instant;
 use thorough_search::Budget;
 
 /// The milliseconds of a second.
@@ -36,19 +35,6 @@ fn limits_of(words: &PlanWords) -> Limits {
         whole: u64::from(words.seconds) * SECOND,
         quiet: words.until_quiet.map(|quiet| u64::from(quiet) * SECOND),
     }
-}
-
-/// The progress of a run as the words say that begins now.
-fn progress_of(rt: HostRuntime, words: &PlanWords) -> Result<Arc<Progress>, Refusal> {
-    let alloc = rt.alloc();
-    let Ok(began) = Instant::now(&rt) else {
-        return Err(Refusal::said(
-            Cause::System,
-            String::from_str(alloc, "the system doesn't tell the time"),
-        ));
-    };
-    let progress = Progress::new(alloc, began, limits_of(words), words.workers)?;
-    Ok(Arc::new(alloc, progress)?)
 }
 
 /// How many steps a search of so many seconds may take. One without time takes none.
@@ -129,16 +115,15 @@ fn search_by<R: Threads + Wait + Sync>(
     ended(team, planned)
 }
 
-/// Whether somebody's line of standard input ends a search as the words say from now on, and so that the line of progress is to say it.
-fn enter_ends<R: Threads>(
+/// Whether somebody's line of standard input ends a search as the words say from now on, and so that the line of progress is to say it. A search
+/// without time doesn't read standard input.
+fn listens<R: Threads>(
     host: HostRuntime,
     rt: &R,
     words: &PlanWords,
     progress: &Arc<Progress>,
 ) -> bool {
-    let stop_on = stop_of(host, words.stop_on);
-    let listens = words.seconds != 0 && stop_on.is_some() && listen(host, rt, progress);
-    listens && stop_on == Some(StopOn::Enter)
+    words.seconds != 0 && enter_ends(host, rt, words.stop_on, progress)
 }
 
 /// The plan of a search over a journal as the words say, which a line or the end of standard input ends where the words ask for that, and
@@ -153,7 +138,7 @@ pub fn search_as_asked<R: Threads + Wait + Sync>(
 ) -> Result<Plan, Refusal>
     requires some { 0 < words.now.workers }
 {
-    let progress = progress_of(host, words)?;
+    let progress = begun(host, limits_of(words), words.workers)?;
     let team = Team {
         host,
         words,
@@ -161,7 +146,7 @@ pub fn search_as_asked<R: Threads + Wait + Sync>(
         older,
         before: journals.before.as_ref(),
         budget: budget_of(words, &journals.now),
-        shown: shown_on(host, enter_ends(host, rt, words, &progress)),
+        shown: shown_on(host, listens(host, rt, words, &progress)),
     };
     let found = search_by(rt, &team, instance, &journals.now)?;
     kept(host, found, older)

@@ -5,6 +5,7 @@ use document_faults::repeated_names;
 use instance_warnings::{Told, warnings};
 use journal_texts::full_sentence;
 use plan_tables::Hours;
+use planning_ends::shown_on;
 use planning_progress::{Progress, Shown};
 use planning_refusals::Refusal;
 use planning_words::PlanWords;
@@ -12,22 +13,12 @@ use rule_sentences::rules_text;
 use shift_instance::{Instance, Shift};
 use solve_runs::SearchEnd;
 use std::alloc::{AllocError, Global};
-use std::io::IsTerminal;
 use std::sync::Arc;
 use worker_gate::Gate;
 
 /// What is said where the plan will be empty.
 const NEVER_WORTH: &str =
     "no shift could end as much shortage as it costs, so a plan without duties is a best one: raise shortage, or lower shift";
-
-/// Where and how often the line of the search is said.
-pub(crate) fn shown_on(rt: HostRuntime, enter_ends: bool) -> Shown {
-    if rt.stderr().is_terminal() {
-        Shown::InPlace { enter_ends }
-    } else {
-        Shown::Below
-    }
-}
 
 /// How long so many employees in each slot work together.
 fn hours_together(instance: &Instance, employees: &[u32]) -> Hours {

@@ -1,7 +1,8 @@
-//! The words of the command line that ask for a plan, for a report to be shown or judged, for two plans to be compared, for the rules of
-//! an instance, or for tables to be read or written.
+//! The words of the command line that ask for a plan, for a report to be shown or judged, for its breaks to be planned anew, for two plans
+//! to be compared, for the rules of an instance, or for tables to be read or written.
 #![tactic(auto)]
 
+mod breaks;
 mod keeping;
 mod names;
 mod numbers;
@@ -10,6 +11,7 @@ mod verbs;
 mod wanted;
 mod words;
 
+pub use breaks::BreaksWords;
 pub use keeping::{CompareWords, LikeWords};
 pub use names::{document_beside, folder_beside, is_same_file, journal_beside};
 pub use tables::TableWords;

@@ -1,8 +1,9 @@
 //! The commands of the command line.
 
 use crate::words::{
-    ANEW, CHANGE, FIRST_DAY, FOLDER, FROM, INSTANCE, JOURNAL, LIKE, OF, OTHER_INSTANCE,
-    OTHER_REPORT, OUT, REPORT, SECONDS, SEED, STOP_ON, UNTIL_QUIET, WORKERS, Word, with_words,
+    ANEW, BREAK_SECONDS, CHANGE, FIRST_DAY, FOLDER, FROM, INSTANCE, JOURNAL, LIKE, OF,
+    OTHER_INSTANCE, OTHER_REPORT, OUT, REPORT, SECONDS, SEED, STOP_ON, UNTIL_QUIET, WORKERS, Word,
+    with_words,
 };
 use clap::Command;
 use std::alloc::{AllocError, Global};
@@ -31,6 +32,9 @@ Examples:
 
   shift_plan compare week.json week.plan/report changed.json changed.plan/report
       Says which duties the two plans have in common, and what each costs.
+
+  shift_plan breaks week.json week.plan/report
+      Plans the breaks of the plan in week.plan anew and puts the cheaper plan there; each shift keeps its duties on each day.
 
   shift_plan rules week.json
       Says the rules of the instance back, in clock time.
@@ -85,6 +89,20 @@ const VERBS: &[Verb] = &[
         name: "compare",
         about: "Says which duties two plans have in common, and what each costs",
         words: &[INSTANCE, REPORT, OTHER_INSTANCE, OTHER_REPORT],
+    },
+    Verb {
+        name: "breaks",
+        about: "Plans the breaks of a report's plan anew, each shift with as many duties on each day, and writes the plan",
+        words: &[
+            INSTANCE,
+            REPORT,
+            BREAK_SECONDS,
+            SEED,
+            OUT,
+            FIRST_DAY,
+            FROM,
+            STOP_ON,
+        ],
     },
     Verb {
         name: "rules",

@@ -3,6 +3,7 @@
 ghost use Rattle.std.specs.Prelude.{◌≤◌, IfOk, IfErr};
 ghost use Rattle.planning_words.specs.Wanted.{IsWithin, IsSaid};
 
+use crate::breaks::{BreaksWords, breaks_words};
 use crate::keeping::{CompareWords, LikeWords, compare_words, like_words};
 use crate::numbers::{ValueWord, first_of, quiet_of, seconds_of, seed_of, workers_of};
 use crate::tables::{TableWords, table_words};
@@ -88,6 +89,8 @@ pub enum Wanted<'a> {
     Check(CheckWords<'a>),
     /// Two plans, compared.
     Compare(CompareWords<'a>),
+    /// A report's breaks, planned anew.
+    Breaks(BreaksWords<'a>),
     /// The rules of an instance in words.
     Rules(RulesWords<'a>),
     /// The document of tables.
@@ -97,7 +100,7 @@ pub enum Wanted<'a> {
 }
 
 /// What ends a search, by its word.
-fn stop_on(word: &str) -> StopOn {
+pub(crate) fn stop_on(word: &str) -> StopOn {
     match word {
         "enter" => StopOn::Enter,
         _ => StopOn::Line,
@@ -186,6 +189,16 @@ fn wanted_show<'a>(alloc: Global, behind: &ArgMatches<'a>) -> Result<Wanted<'a>,
     }
 }
 
+/// What the words behind `breaks` ask for, or what is said of the first value that its word doesn't take.
+fn wanted_breaks<'a>(alloc: Global, behind: &ArgMatches<'a>) -> Result<Wanted<'a>, Error>
+    ensures { IfOk result IsWithin }
+{
+    match breaks_words(behind) {
+        Ok(words) => Ok(Wanted::Breaks(words)),
+        Err(word) => Err(no_value(alloc, behind, word)?),
+    }
+}
+
 /// What the words of a command line ask for, or what clap says of them.
 fn parsed<'a>(alloc: Global, words: &'a [String]) -> Result<Wanted<'a>, Error>
     ensures { IfOk result IsWithin }
@@ -195,6 +208,7 @@ fn parsed<'a>(alloc: Global, words: &'a [String]) -> Result<Wanted<'a>, Error>
         Some(("show", behind)) => wanted_show(alloc, behind),
         Some(("check", behind)) => Ok(Wanted::Check(check_words(behind))),
         Some(("compare", behind)) => Ok(Wanted::Compare(compare_words(behind))),
+        Some(("breaks", behind)) => wanted_breaks(alloc, behind),
         Some(("rules", behind)) => Ok(Wanted::Rules(rules_words(behind))),
         Some(("import", behind)) => Ok(Wanted::Import(table_words(behind))),
         Some(("export", behind)) => Ok(Wanted::Export(table_words(behind))),
@@ -230,7 +244,8 @@ impl Unasked {
 ///
 /// The words are `plan INSTANCE [--journal FILE] [--seconds T] [--until-quiet T] [--workers W] [--seed S] [--out FOLDER] [--first-day WEEKDAY|--from DATE]
 /// [--stop-on line|enter] [--like REPORT --of OLD_INSTANCE [--change C]] [--anew]`, `show INSTANCE REPORT [--out FOLDER] [--first-day WEEKDAY|--from DATE]`, `check INSTANCE REPORT`,
-/// `compare INSTANCE REPORT OTHER_INSTANCE OTHER_REPORT`, `rules INSTANCE`, `import FOLDER INSTANCE` or `export INSTANCE FOLDER`. The T of `--seconds` is at most 4,000,000 and 60 where it isn't given, that of `--until-quiet` from 1 to as much, W is
+/// `compare INSTANCE REPORT OTHER_INSTANCE OTHER_REPORT`, `breaks INSTANCE REPORT [--seconds T] [--seed S] [--out FOLDER] [--first-day WEEKDAY|--from DATE] [--stop-on line|enter]`,
+/// `rules INSTANCE`, `import FOLDER INSTANCE` or `export INSTANCE FOLDER`. The T of `--seconds` is at most 4,000,000 and 60 where it isn't given, that of `--until-quiet` from 1 to as much, W is
 /// from 1 to 16 and 4 where it isn't given, S is below 2^32 and 1 where it isn't given, and C is at most 1,000,000.
 pub fn wanted_by<'a>(alloc: Global, words: &'a [String]) -> Result<Wanted<'a>, Unasked>
     ensures within { IfOk result IsWithin }

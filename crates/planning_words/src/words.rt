@@ -116,6 +116,14 @@ pub(crate) const SECONDS: Word = Word {
     help: "How long to search, in seconds; 0 writes the plan that the journal holds [default: 60]",
 };
 
+/// The word for the time to search for breaks.
+pub(crate) const BREAK_SECONDS: Word = Word {
+    name: "seconds",
+    behind: Behind::Number("T"),
+    beside: Beside::Any,
+    help: "How long to search at most, in seconds [default: 60]",
+};
+
 /// The word for the number of workers.
 pub(crate) const WORKERS: Word = Word {
     name: "workers",

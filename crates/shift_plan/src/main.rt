@@ -1,11 +1,13 @@
 //! Shift plans for people: `shift_plan plan INSTANCE` searches for a cheapest plan within a time and writes it to a folder, and
 //! `shift_plan show INSTANCE REPORT` does so with the plan of a report that stands; `shift_plan check INSTANCE REPORT` judges one, and
-//! `shift_plan rules INSTANCE` says the rules of an instance back. `shift_plan import FOLDER INSTANCE` writes the document of a
+//! `shift_plan rules INSTANCE` says the rules of an instance back. `shift_plan breaks INSTANCE REPORT` plans the breaks of a report's plan
+//! anew, each shift with as many duties on each day. `shift_plan import FOLDER INSTANCE` writes the document of a
 //! spreadsheet's tables, and `shift_plan export INSTANCE FOLDER` the tables of a document.
 #![tactic(auto)]
 
 ghost use Rattle.planning_words.specs.Wanted.{IsWithin};
 
+mod breaking;
 mod checking;
 mod comparing;
 mod planning;
@@ -48,6 +50,7 @@ fn done<R: Threads + Wait + Sync>(host: HostRuntime, rt: &R, wanted: &Wanted) ->
         Wanted::Show(words) => showing::show(host, words),
         Wanted::Check(words) => checking::check(host, words),
         Wanted::Compare(words) => comparing::compare(host, words),
+        Wanted::Breaks(words) => breaking::breaks(host, rt, words),
         Wanted::Rules(words) => ruling::rules(host, words),
         Wanted::Import(words) => tables::import(host, words),
         Wanted::Export(words) => tables::export(host, words),

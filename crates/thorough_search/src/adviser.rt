@@ -26,6 +26,8 @@ pub struct Thorough<S: Stop + Clone> {
     stop: S,
     /// What its steps may take, where that is limited.
     budget: Option<Budget>,
+    /// Whether it searches for plans.
+    seeks_plans: bool,
     kept: Option<Kept<S>>,
     told: u64,
     last: Option<Told>,
@@ -102,10 +104,20 @@ impl<S: Stop + Clone> Thorough<S> {
             seed,
             stop,
             budget: None,
+            seeks_plans: true,
             kept: None,
             told: 0,
             last: None,
         }
+    }
+
+    /// An adviser that is made of no instance yet and advises prices and splits alone: it searches for no plans. It takes no memory.
+    pub fn for_prices(alloc: Global, stop: S) -> Thorough<S>
+        ensures { result ≡ record { told = 0; last = None } }
+    {
+        let mut thorough = Thorough::new(alloc, 0, stop);
+        thorough.seeks_plans = false;
+        thorough
     }
 
     /// The adviser of an instance.
@@ -153,7 +165,8 @@ impl<S: Stop + Clone> Thorough<S> {
             Some(kept) => Ok(kept),
             None => {
                 let stop = self.stop.clone()?;
-                Kept::new(self.alloc, instance, self.seed, stop, self.budget)
+                let kept = Kept::new(self.alloc, instance, self.seed, stop, self.budget)?;
+                Ok(kept.seeking(self.seeks_plans))
             }
         }
     }

@@ -31,6 +31,8 @@ pub(crate) struct Kept<S: Stop + Drop> {
     tables: Tables,
     plans: PlanSearch<S>,
     climb: Climb,
+    /// Whether it searches for plans.
+    seeks_plans: bool,
     /// What the cheapest plan of hints costs that was offered to the plan search.
     offered: u64,
     /// Whether the greedy plan was made, whole or as far as the stop let it.
@@ -95,12 +97,20 @@ impl<S: Stop + Drop> Kept<S> {
             tables,
             plans,
             climb,
+            seeks_plans: true,
             offered: u64::MAX,
             is_greedy_made: false,
             greedy: None,
             sharing: Sharing::new(),
             pacing: Pacing::new(budget),
         })
+    }
+
+    /// The same, which searches for plans or doesn't.
+    pub(crate) fn seeking(self, plans: bool) -> Kept<S> {
+        let mut kept = self;
+        kept.seeks_plans = plans;
+        kept
     }
 
     /// Whether the best plan so far is cheaper than a cost.
@@ -239,6 +249,16 @@ impl<S: Stop + Drop> Kept<S> {
             .effort(climbed.saturating_add(self.plans.work()))
     }
 
+    /// Searches for plans after a climb, with the greedy plan at first, where it searches for any.
+    fn seek_plans(&mut self, instance: &Instance, ask: &Ask, effort: u32) -> Result<(), NoMemory> {
+        if !self.seeks_plans {
+            return Ok(());
+        }
+        self.guide_plans(ask)?;
+        self.search_plans(effort)?;
+        self.make_greedy(instance, ask)
+    }
+
     /// Climbs for a node and searches for plans, with the greedy plan at first: the prices, and a split where the climb doesn't
     /// clearly close the node.
     pub(crate) fn look(
@@ -247,12 +267,12 @@ impl<S: Stop + Drop> Kept<S> {
         ask: &Ask,
     ) -> Result<(Prices, Option<HeadSplit>), NoMemory> {
         let effort = self.effort();
-        self.take_hint(instance, ask)?;
+        if self.seeks_plans {
+            self.take_hint(instance, ask)?;
+        }
         let ranges = Ranges::new(self.alloc, &self.tables, ask.cuts.as_slice())?;
         let value = self.climb_from(ask, &ranges, effort)?;
-        self.guide_plans(ask)?;
-        self.search_plans(effort)?;
-        self.make_greedy(instance, ask)?;
+        self.seek_plans(instance, ask, effort)?;
         let prices = self.prices(&ranges, ask.cuts.len())?;
         self.pacing
             .count(self.tables.slots.saturating_add(ask.cuts.len()));

@@ -36,7 +36,7 @@ fn await_line(rt: HostRuntime) {
 }
 
 /// At what else than its time a search is to end: what the words say, or else at Enter where standard input is a terminal.
-pub(crate) fn stop_of(rt: HostRuntime, said: Option<StopOn>) -> Option<StopOn> {
+fn stop_of(rt: HostRuntime, said: Option<StopOn>) -> Option<StopOn> {
     match said {
         None if rt.stdin().is_terminal() && is_in_foreground(rt) => Some(StopOn::Enter),
         said => said,
@@ -45,7 +45,7 @@ pub(crate) fn stop_of(rt: HostRuntime, said: Option<StopOn>) -> Option<StopOn> {
 
 /// Has a line of standard input end a search, in a thread that nobody waits for: it is cut off when the program ends. Answers whether a
 /// line ends the search now.
-pub(crate) fn listen<R: Threads>(rt: HostRuntime, threads: &R, progress: &Arc<Progress>) -> bool {
+fn listen<R: Threads>(rt: HostRuntime, threads: &R, progress: &Arc<Progress>) -> bool {
     let Ok(progress) = Arc::try_clone(progress) else {
         return false;
     };
@@ -54,4 +54,17 @@ pub(crate) fn listen<R: Threads>(rt: HostRuntime, threads: &R, progress: &Arc<Pr
         progress.ask_for_end();
     });
     listener.is_ok()
+}
+
+/// Whether somebody's line of standard input ends a search from now on, so that the line of progress is to say it. The words say at what else
+/// than its time the search is to end, or leave it to the terminal; `false` too where a line ends the search, and nobody is told so.
+pub fn enter_ends<R: Threads>(
+    host: HostRuntime,
+    rt: &R,
+    said: Option<StopOn>,
+    progress: &Arc<Progress>,
+) -> bool {
+    let stop_on = stop_of(host, said);
+    let listens = stop_on.is_some() && listen(host, rt, progress);
+    listens && stop_on == Some(StopOn::Enter)
 }

@@ -1,0 +1,75 @@
+-- A plan with cheaper rows, or as it was, is one whose breaks were planned anew.
+use Rattle.std.proofs.Common.{◌≡◌, ℕ, ◌<◌, ◌≤◌, ◌==◌, ◌&&◌, List, refl, sym, ap, ◌∙◌, subst, arith, max, Option, None, Some}
+use Rattle.std.specs.Prelude.{IfSome, IsTrue}
+use Rattle.std.proofs.lemmas.Bool.{and_parts, eqb-true}
+use Rattle.shift_instance.specs.declared.Duty.{Duty}
+use Rattle.shift_instance.specs.declared.Row.{Row}
+use Rattle.shift_instance.specs.Problem.{Problem}
+use Rattle.shift_instance.specs.Rota.{are_legal_rows, cost, is_legal_rota, rota_of}
+use Rattle.certificate.specs.declared.Cert.{Cert}
+use Rattle.certificate.specs.Accepted.{is_accepted, is_bound, is_plan}
+use Rattle.certificate.proofs.Acceptance.{bounds}
+use Rattle.break_plans.specs.Anew.{HasHeadsOf, IsCheaper, rows_after}
+use Rattle.planning_runs.specs.declared.plan.Plan.{Plan}
+use Rattle.planning_breaks.specs.declared.anew.Rebroken.{Rebroken}
+use Rattle.planning_breaks.specs.Anew.{BoundsBreaks, IsRebroken, cert_after}
+
+-- what an accepted certificate claims of its rows is so
+plan_parts : (i : Problem) (c : Cert) (paid : ℕ) (rows : List Row) → IsTrue (is_accepted i c) → c.plan ≡ Some (paid, rows) → IsTrue (are_legal_rows i rows) × (cost i (rota_of rows) ≡ paid)
+plan_parts i c paid rows accepted is =
+    let both = and_parts (is_bound i c.lines c.bound) (is_plan i c.plan) accepted in
+    let parts = and_parts (are_legal_rows i rows) (cost i (rota_of rows) == paid) (subst (λ (p : Option (ℕ × List Row)). IsTrue (is_plan i p)) is both.1) in
+    (parts.0, eqb-true (cost i (rota_of rows)) paid parts.1)
+
+-- the plan as it was
+as_before : (plan : Plan) (r : Rebroken) → plan.cert.plan ≡ Some (r.cost_before, r.before) → r.plan.instance ≡ plan.instance → r.plan.cert ≡ plan.cert
+    → IsTrue (is_accepted plan.instance plan.cert) → IsTrue (is_accepted r.plan.instance r.plan.cert) → IsRebroken plan r
+as_before plan r is same cert old accepted =
+    let parts = plan_parts plan.instance plan.cert r.cost_before r.before old is in
+    record {
+      before = is;
+      after = (r.cost_before, r.before);
+      now = ap (λ (c : Cert). c.plan) cert ∙ is;
+      instance = same;
+      lines = ap (λ (c : Cert). c.lines) cert;
+      bound = ap (λ (c : Cert). c.bound) cert;
+      accepted = accepted;
+      legal = parts.0;
+      heads = λ s day there some within. refl;
+      cost = sym parts.1;
+      cheap = omega arith;
+    }
+
+-- cheaper rows
+with_new : (plan : Plan) (r : Rebroken) (rows : List Row) → plan.cert.plan ≡ Some (r.cost_before, r.before) → r.plan.instance ≡ plan.instance → r.plan.cert ≡ cert_after plan.instance plan.cert (Some rows)
+    → IsTrue (is_accepted plan.instance plan.cert) → IsTrue (is_accepted r.plan.instance r.plan.cert) → IsCheaper plan.instance r.before rows → IsRebroken plan r
+with_new plan r rows is same cert old accepted cheaper =
+    let parts = plan_parts plan.instance plan.cert r.cost_before r.before old is in
+    let before : cost plan.instance (rota_of r.before) ≡ r.cost_before = parts.1 in
+    let less : cost plan.instance (rota_of rows) < cost plan.instance (rota_of r.before) = cheaper.less in
+    record {
+      before = is;
+      after = (cost plan.instance (rota_of rows), rows);
+      now = ap (λ (c : Cert). c.plan) cert;
+      instance = same;
+      lines = ap (λ (c : Cert). c.lines) cert;
+      bound = ap (λ (c : Cert). c.bound) cert;
+      accepted = accepted;
+      legal = cheaper.legal;
+      heads = cheaper.heads;
+      cost = refl;
+      cheap = omega (arith, before, less);
+    }
+
+pub rebroken : (plan : Plan) (r : Rebroken) (cheaper : Option (List Row)) → plan.cert.plan ≡ Some (r.cost_before, r.before) → r.plan.instance ≡ plan.instance → r.plan.cert ≡ cert_after plan.instance plan.cert cheaper
+    → IsTrue (is_accepted plan.instance plan.cert) → IsTrue (is_accepted r.plan.instance r.plan.cert) → IfSome cheaper (IsCheaper plan.instance r.before) → IsRebroken plan r
+rebroken plan r None is same cert old accepted cheaper = as_before plan r is same cert old accepted
+rebroken plan r (Some rows) is same cert old accepted cheaper = with_new plan r rows is same cert old accepted cheaper
+
+-- both bounds hold
+pub bounded : (plan : Plan) (r : Rebroken) (floor : ℕ) → IsTrue (is_accepted plan.instance plan.cert) → r.floor ≡ max floor plan.cert.bound
+    → ((rota : List Duty) → IsTrue (is_legal_rota plan.instance rota) → HasHeadsOf plan.instance r.before rota → floor ≤ cost plan.instance rota) → BoundsBreaks plan r
+bounded plan r floor old is low rota legal heads =
+    let one : floor ≤ cost plan.instance rota = low rota legal heads in
+    let other : plan.cert.bound ≤ cost plan.instance rota = bounds plan.instance plan.cert old rota legal in
+    omega (arith, is, one, other)

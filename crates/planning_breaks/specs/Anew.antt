@@ -1,0 +1,36 @@
+-- A plan with other breaks.
+use Rattle.std.specs.Prelude.{◌≡◌, ℕ, ◌≤◌, IsTrue, List, Option, None, Some}
+use Rattle.shift_instance.specs.declared.Duty.{Duty}
+use Rattle.shift_instance.specs.declared.Row.{Row}
+use Rattle.shift_instance.specs.Problem.{Problem}
+use Rattle.shift_instance.specs.Rota.{are_legal_rows, cost, is_legal_rota, rota_of}
+use Rattle.certificate.specs.declared.Cert.{Cert}
+use Rattle.certificate.specs.Accepted.{is_accepted}
+use Rattle.break_plans.specs.Anew.{HasHeadsOf}
+use Rattle.planning_runs.specs.Reports.{with_rows}
+use Rattle.planning_runs.specs.declared.plan.Plan.{Plan}
+use Rattle.planning_breaks.specs.declared.anew.Rebroken.{Rebroken}
+
+-- a certificate with cheaper rows as its plan, where there are some, and else as it is
+abbrev pub cert_after : Problem → Cert → Option (List Row) → Cert
+cert_after i c None = c
+cert_after i c (Some rows) = with_rows i c rows
+
+-- A plan whose breaks were planned anew, with the rows before and what they cost. Its report is accepted, with the proof and the bound of the
+-- report before; its rows are legal at the cost told, which is no more than before, and have as many duties of each shift on each day.
+pub record IsRebroken (plan : Plan) (r : Rebroken) : Type 0 where
+  pub before : plan.cert.plan ≡ Some (r.cost_before, r.before)
+  pub after : ℕ × List Row
+  pub now : r.plan.cert.plan ≡ Some after
+  pub instance : r.plan.instance ≡ plan.instance
+  pub lines : r.plan.cert.lines ≡ plan.cert.lines
+  pub bound : r.plan.cert.bound ≡ plan.cert.bound
+  pub accepted : IsTrue (is_accepted r.plan.instance r.plan.cert)
+  pub legal : IsTrue (are_legal_rows plan.instance after.1)
+  pub heads : HasHeadsOf plan.instance r.before (rota_of after.1)
+  pub cost : after.0 ≡ cost plan.instance (rota_of after.1)
+  pub cheap : after.0 ≤ r.cost_before
+
+-- no legal rota with as many duties of each shift on each day as the rows before costs less than the floor
+abbrev pub BoundsBreaks : Plan → Rebroken → Type 0
+BoundsBreaks plan r = (rota : List Duty) → IsTrue (is_legal_rota plan.instance rota) → HasHeadsOf plan.instance r.before rota → r.floor ≤ cost plan.instance rota

@@ -1,0 +1,76 @@
+//! A plan with other breaks.
+
+ghost use Rattle.std.specs.Prelude.{◌≡◌, ◌≤◌, ◌^◌, IfOk, IfSome, IsTrue, MatchOption, None, Some};
+ghost use Rattle.shift_instance.specs.Rota.{are_legal_rows};
+ghost use Rattle.planning_breaks.specs.Anew.{BoundsBreaks, IsRebroken, cert_after};
+
+use advice::{Adviser, Stop};
+use break_plans::{Anew, planned_anew};
+use break_rules::NoMemory;
+use planning_runs::{Plan, with_rows};
+use shift_instance::Rows;
+use std::alloc::Global;
+
+/// What came of planning the breaks of a plan anew.
+#[derive(Drop)]
+pub struct Rebroken {
+    /// The plan: with cheaper breaks where some were found, and else as it was.
+    pub plan: Plan,
+    /// The rows before.
+    pub before: Rows,
+    /// What they cost.
+    pub cost_before: u64,
+    /// What every legal rota with as many duties of each shift on each day costs at least.
+    pub floor: u64,
+}
+
+/// The rows of a plan with what they cost, once more; none where its report has none.
+fn rows_in(plan: &Plan) -> Result<Option<(u64, Rows)>, NoMemory>
+    ensures rows { IfOk result (λ found. found ≡ plan.now.cert.plan) }
+    ensures legal { IfOk result (λ found. IfSome found (λ p. IsTrue (are_legal_rows plan.now.instance p.1))) }
+{
+    match &plan.cert.plan {
+        Some((cost, rows)) => Ok(Some((*cost, rows.clone()?))),
+        None => Ok(None),
+    }
+}
+
+/// A plan with cheaper rows, where there are some, and else as it is.
+fn with_cheaper(alloc: Global, plan: Plan, cheaper: Option<Rows>) -> Result<Plan, NoMemory>
+    requires legal { IfSome cheaper (λ rows. IsTrue (are_legal_rows plan.instance rows)) }
+    ensures instance { IfOk result (λ new. new.instance ≡ plan.instance) }
+    ensures cert { IfOk result (λ new. new.cert ≡ cert_after plan.instance plan.cert cheaper) }
+{
+    match cheaper {
+        Some(rows) => with_rows(alloc, plan, rows),
+        None => Ok(plan),
+    }
+}
+
+/// A plan whose breaks are planned anew by an adviser, in at most so many steps, until none can be cheaper or the stop asks; `None` exactly where
+/// its report has no rows. `NoMemory` is the only refusal.
+pub fn with_breaks<A: Adviser, S: Stop>(
+    alloc: Global,
+    plan: Plan,
+    steps: u64,
+    adviser: &mut A,
+    stop: &S,
+) -> Result<Option<Rebroken>, NoMemory>
+    requires steps { steps ≤ 10 ^ 9 }
+    ensures rebroken { IfOk result (λ found. MatchOption found (plan.cert.plan ≡ None) (IsRebroken plan)) }
+    ensures floor { IfOk result (λ found. IfSome found (BoundsBreaks plan)) }
+{
+    let Some((cost_before, before)) = rows_in(&plan)? else {
+        return Ok(None);
+    };
+    let anew = planned_anew(alloc, &plan.instance, &before, steps, adviser, stop)?;
+    let Anew { cheaper, floor, .. } = anew;
+    let bound = plan.cert.bound;
+    let plan = with_cheaper(alloc, plan, cheaper)?;
+    Ok(Some(Rebroken {
+        plan,
+        before,
+        cost_before,
+        floor: floor.max(bound),
+    }))
+}

@@ -1,0 +1,29 @@
+//! The beginning of a search.
+
+use planning_progress::{Limits, Progress, Shown};
+use planning_refusals::{Cause, Refusal};
+use std::io::IsTerminal;
+use std::sync::Arc;
+use std::time::Instant;
+
+/// The progress of a run by so many workers that begins now and may last so long.
+pub fn begun(rt: HostRuntime, limits: Limits, workers: u16) -> Result<Arc<Progress>, Refusal> {
+    let alloc = rt.alloc();
+    let Ok(began) = Instant::now(&rt) else {
+        return Err(Refusal::said(
+            Cause::System,
+            String::from_str(alloc, "the system doesn't tell the time"),
+        ));
+    };
+    let progress = Progress::new(alloc, began, limits, workers)?;
+    Ok(Arc::new(alloc, progress)?)
+}
+
+/// Where and how often the line of the search is said.
+pub fn shown_on(rt: HostRuntime, enter_ends: bool) -> Shown {
+    if rt.stderr().is_terminal() {
+        Shown::InPlace { enter_ends }
+    } else {
+        Shown::Below
+    }
+}
