@@ -13,7 +13,7 @@ finish() {
     [ -z "${rounds:-}" ] || kill "$rounds" 2> /dev/null || true
     wait
     for one in slurmd slurmctld munged; do
-        [ ! -s "$work/$one.pid" ] || kill "$(cat "$work/$one.pid")" || true
+        [ ! -s "$work/$one.pid" ] || kill "$(cat "$work/$one.pid")" 2> /dev/null || true
     done
     # they write into the folder until they have ended
     for one in slurmd slurmctld munged; do
@@ -47,6 +47,8 @@ munged --key-file "$work/munge/key" --socket "$work/munge/socket" --pid-file "$w
 cat > "$SLURM_CONF" << END
 ClusterName=alone
 SlurmctldHost=$(hostname)
+SlurmctldPort=16817
+SlurmdPort=16818
 AuthType=auth/munge
 AuthInfo=socket=$work/munge/socket
 CredType=cred/munge
