@@ -4,52 +4,23 @@
 //! several nodes of a report found.
 #![tactic(auto)]
 
-ghost use Rattle.std.specs.Prelude.{true};
+mod deadline;
+mod paced;
 
-use advice::Stop;
+use crate::deadline::Deadline;
+use crate::paced::Paced;
 use graft_runs::{Budget, Command, Files, GraftStatus, Request, graft_top_by, request_of};
 use join_runs::{JoinRequest, JoinStatus, join_of, join_top};
 use plan_base::{FileSource, StdSink};
 use std::alloc::AllocError;
 use std::process::ExitCode;
-use std::time::Instant;
 use std::{env, io};
-use thorough_search::Thorough;
-
-/// The seed of the thorough adviser.
-const SEED: u64 = 1;
 
 /// Files without a name.
 const NO_FILES: Files<'static> = Files {
     instance: "",
     report: "",
 };
-
-/// Asks a search to stop once its seconds are over, where it has a time, or the clock gives none.
-#[derive(Clone, Drop)]
-struct Deadline {
-    rt: HostRuntime,
-    began: Option<Instant>,
-    seconds: Option<u64>,
-}
-
-impl Stop for Deadline {
-    ghost can_ask = { λ deadline. true };
-
-    /// Whether the time is over, or the clock gives none.
-    fn is_asked(&self) -> bool {
-        let Some(seconds) = self.seconds else {
-            return false;
-        };
-        let Some(began) = self.began else {
-            return true;
-        };
-        match began.elapsed(&self.rt) {
-            Ok(passed) => seconds <= passed.as_secs(),
-            Err(_) => true,
-        }
-    }
-}
 
 /// The words of the command line, without the program's name. Words that aren't UTF-8 are no command.
 fn command_words(rt: &HostRuntime) -> Result<Vec<String>, GraftStatus> {
@@ -84,12 +55,8 @@ fn run(rt: HostRuntime, words: &[String]) -> Result<GraftStatus, AllocError> {
         Some(request) => request.files,
         None => NO_FILES,
     };
-    let stop = Deadline {
-        rt,
-        began: Instant::now(&rt).ok(),
-        seconds: seconds_of(request),
-    };
-    let mut thorough = Thorough::new(alloc, SEED, stop.clone()?);
+    let stop = Deadline::new(rt, seconds_of(request));
+    let mut thorough = Paced::new(alloc, stop.clone()?);
     let mut document = FileSource::new(rt, String::from_str(alloc, files.instance)?);
     let mut bundle = FileSource::new(rt, String::from_str(alloc, files.report)?);
     let mut out = StdSink::new(rt);
