@@ -8,9 +8,12 @@ use Rattle.certificate.specs.declared.proof_lines.Line.TheVariants.{Split, Price
 use Rattle.certificate.specs.Accepted.{node_of}
 use Rattle.report_grafts.specs.Grafted.{grafted_line, grafted_lines, grafted_number}
 use Rattle.report_grafts.specs.Run.{divisions}
-use Rattle.report_joins.specs.Faults.{Departs, IsElsewhere}
+use Rattle.head_splits.specs.Nodes.{Node}
+use Rattle.report_joins.specs.declared.fault.PartFault.{PartFault}
+use Rattle.report_joins.specs.declared.fault.PartFault.TheVariants.{Refused, OtherLines, NothingFurther, NoEnd, OtherNode, OtherPlan, SameNode, TooMany, NoMemory}
+use Rattle.report_joins.specs.Faults.{Departs, GoesOnAt, IsElsewhere, IsEnd, IsLineFault, LeavesNode}
 use Rattle.report_joins.specs.Numbers.{with_node}
-use Rattle.report_joins.specs.Runs.{LeavesRun}
+use Rattle.report_joins.specs.Runs.{IsDeparture, IsLeft, LeavesRun}
 
 -- ---- the lines of a certificate
 
@@ -102,3 +105,61 @@ run_long node splits all run reader so =
     let b : length (map (grafted_line node splits) run ++ reader) ≡ length (map (grafted_line node splits) run) + length reader = length-append (map (grafted_line node splits) run) reader in
     let c : length (map (grafted_line node splits) run) ≡ length run = length-map run (grafted_line node splits) in
     omega (arith, a, b, c)
+
+-- ---- the lines of a part
+
+pub known_alone : (known lines reader : List Line) → lines ≡ known ++ reader → reader ≡ [] → lines ≡ known
+known_alone known lines reader so none = so ∙ ap (λ (ls : List Line). known ++ ls) none ∙ append-nil known
+
+pub goes_on_at : (known lines reader rest : List Line) (first : Line) (node : ℕ) → lines ≡ known ++ reader → reader ≡ first ∷ rest → node ≡ node_of first → GoesOnAt known lines node
+goes_on_at known lines reader rest first node so read is = record { line = first; rest = rest; lines = so ∙ ap (λ (ls : List Line). known ++ ls) read; node = is }
+
+pub splits_are : (known : List Line) (ends splits : ℕ) → ends ≡ 2 * divisions known + 1 → ends ≤ 2 * splits + 2 → 2 * splits < ends → splits ≡ divisions known
+splits_are known ends splits counted most least = omega (arith, counted, most, least)
+
+pub run_of_known : (known lines reader rest run seen : List Line) (first : Line) (node at splits : ℕ) → lines ≡ known ++ reader → reader ≡ first ∷ rest → first ∷ rest ≡ map (grafted_line at splits) seen → at ≡ node → splits ≡ divisions known → run ≡ seen
+    → lines ≡ grafted_lines known node run
+run_of_known known lines reader rest run seen first node at splits so read is place number same =
+    so ∙ ap (λ (ls : List Line). known ++ ls) (read ∙ is)
+    ∙ ap (λ n. known ++ map (grafted_line n splits) seen) place ∙ ap (λ n. known ++ map (grafted_line node n) seen) number
+    ∙ ap (λ (ls : List Line). known ++ map (grafted_line node (divisions known)) ls) (sym same)
+
+pub leaves_node : (known lines reader rest : List Line) (first : Line) (node splits place : ℕ) → lines ≡ known ++ reader → reader ≡ first ∷ rest → splits ≡ divisions known → LeavesRun node splits (length known) (first ∷ rest) place
+    → LeavesNode known lines node place
+leaves_node known lines reader rest first node splits place so read number l =
+    let g = grafted_line node splits in
+    record {
+      run = l.run;
+      line = l.line;
+      rest = l.rest;
+      some = l.some;
+      lines = so ∙ ap (λ (ls : List Line). known ++ ls) (read ∙ l.lines) ∙ sym (append_assoc known (map g l.run) (l.line ∷ l.rest))
+      ∙ ap (λ n. (known ++ map (grafted_line node n) l.run) ++ l.line ∷ l.rest) number;
+      at = l.at;
+      elsewhere = subst (λ n. IsElsewhere node n l.line) number l.elsewhere;
+    }
+
+-- why a run isn't read is why the lines aren't those of one
+pub departure_is : (ends : List Node) (known lines : List Line) (why : PartFault) → IsDeparture known lines why → IsLineFault ends known lines why
+departure_is ends known lines (OtherLines at) h = h
+departure_is ends known lines NoMemory h = tt
+departure_is ends known lines (Refused why) h = absurd h
+departure_is ends known lines NothingFurther h = absurd h
+departure_is ends known lines (NoEnd node) h = absurd h
+departure_is ends known lines (OtherNode at) h = absurd h
+departure_is ends known lines OtherPlan h = absurd h
+departure_is ends known lines (SameNode node) h = absurd h
+departure_is ends known lines TooMany h = absurd h
+
+pub left_is : (ends : List Node) (known lines reader rest : List Line) (first : Line) (node at splits : ℕ) (why : PartFault) → IsEnd ends node → lines ≡ known ++ reader → reader ≡ first ∷ rest → at ≡ node → splits ≡ divisions known
+    → IsLeft at splits (length known) (first ∷ rest) why → IsLineFault ends known lines why
+left_is ends known lines reader rest first node at splits (OtherNode place) end so read same number h =
+    (node, end, leaves_node known lines reader rest first node splits place so read number (subst (λ n. LeavesRun n splits (length known) (first ∷ rest) place) same h))
+left_is ends known lines reader rest first node at splits NoMemory end so read same number h = tt
+left_is ends known lines reader rest first node at splits (Refused why) end so read same number h = absurd h
+left_is ends known lines reader rest first node at splits (OtherLines place) end so read same number h = absurd h
+left_is ends known lines reader rest first node at splits NothingFurther end so read same number h = absurd h
+left_is ends known lines reader rest first node at splits (NoEnd k) end so read same number h = absurd h
+left_is ends known lines reader rest first node at splits OtherPlan end so read same number h = absurd h
+left_is ends known lines reader rest first node at splits (SameNode k) end so read same number h = absurd h
+left_is ends known lines reader rest first node at splits TooMany end so read same number h = absurd h
