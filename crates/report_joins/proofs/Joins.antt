@@ -209,7 +209,7 @@ pub line_fault_is : (i : Problem) (whole part : Cert) (ends : List Node) (why : 
 line_fault_is i whole part ends (OtherLines at) accepted made good h = (good, h)
 line_fault_is i whole part ends NothingFurther accepted made good h = (good, h)
 line_fault_is i whole part ends (NoEnd node) accepted made good h = (good, h.0, no_end i whole ends node made h.1)
-line_fault_is i whole part ends (OtherNode at) accepted made good h = let e = an_end i whole ends h.0 accepted made h.1 in (good, h.0, e.0, e.1, h.2)
+line_fault_is i whole part ends (OtherNode at) accepted made good h = let e = an_end i whole ends h.0 accepted made h.1 in (good, (h.0, e.0, e.1, h.2))
 line_fault_is i whole part ends NoMemory accepted made good h = tt
 line_fault_is i whole part ends (Refused why) accepted made good h = absurd h
 line_fault_is i whole part ends OtherPlan accepted made good h = absurd h

@@ -73,19 +73,31 @@ line_is node splits k (Split j class m) e = ap (λ n. Split (grafted_number node
 line_is node splits k (Priced j prices) e = ap (λ n. Priced (grafted_number node splits n) prices) (sym e)
 line_is node splits k (Settled j) e = ap (λ n. Settled (grafted_number node splits n)) (sym e)
 
-pub run_first : (node splits : ℕ) (first : Line) (rest run : List Line) → node_of first ≡ node → run ≡ [] ++ with_node 0 first ∷ [] → first ∷ rest ≡ map (grafted_line node splits) run ++ rest
+pub run_first : (node splits : ℕ) (first : Line) (rest run : List Line) → node_of first ≡ node → run ≡ with_node 0 first ∷ [] → first ∷ rest ≡ map (grafted_line node splits) run ++ rest
 run_first node splits first rest run same is =
     ap (λ l. l ∷ rest) (numbered node splits 0 first same) ∙ ap (λ (ls : List Line). map (grafted_line node splits) ls ++ rest) (sym is)
 
-pub run_more : (node splits k : ℕ) (all run more reader rest : List Line) (line : Line) → all ≡ map (grafted_line node splits) run ++ reader → reader ≡ line ∷ rest → node_of line ≡ grafted_number node splits k
-    → more ≡ run ++ with_node k line ∷ [] → all ≡ map (grafted_line node splits) more ++ rest
-run_more node splits k all run more reader rest line so read number is =
+pub run_more : (node splits : ℕ) (all run more reader rest : List Line) (line own : Line) → all ≡ map (grafted_line node splits) run ++ reader → reader ≡ line ∷ rest → line ≡ grafted_line node splits own
+    → more ≡ run ++ own ∷ [] → all ≡ map (grafted_line node splits) more ++ rest
+run_more node splits all run more reader rest line own so read same is =
     let g = grafted_line node splits in
     so ∙ ap (λ (ls : List Line). map g run ++ ls) read
-    ∙ ap (λ (l : Line). map g run ++ l ∷ rest) (numbered node splits k line number)
-    ∙ sym (append_assoc (map g run) (g (with_node k line) ∷ []) rest)
-    ∙ ap (λ (ls : List Line). ls ++ rest) (sym (map-append g run (with_node k line ∷ [])))
+    ∙ ap (λ (l : Line). map g run ++ l ∷ rest) same
+    ∙ sym (append_assoc (map g run) (g own ∷ []) rest)
+    ∙ ap (λ (ls : List Line). ls ++ rest) (sym (map-append g run (own ∷ [])))
     ∙ ap (λ (ls : List Line). map g ls ++ rest) (sym is)
+
+pub some_more : (run more : List Line) (own : Line) → more ≡ run ++ own ∷ [] → 0 < length more
+some_more run more own is =
+    let a : length more ≡ length (run ++ own ∷ []) = ap (λ (ls : List Line). length ls) is in
+    let b : length (run ++ own ∷ []) ≡ length run + length (own ∷ []) = length-append run (own ∷ []) in
+    omega (arith, a, b)
+
+pub is_elsewhere : (node splits seen : ℕ) (line : Line) → seen ≡ node_of line → ((k : ℕ) → seen ≡ grafted_number node splits k → ⊥) → IsElsewhere node splits line
+is_elsewhere node splits seen line is other k e = other k (is ∙ e)
+
+pub as_numbered : (node splits seen k : ℕ) (line own : Line) → seen ≡ node_of line → seen ≡ grafted_number node splits k → own ≡ with_node k line → line ≡ grafted_line node splits own
+as_numbered node splits seen k line own is number so = numbered node splits k line (sym is ∙ number) ∙ ap (grafted_line node splits) (sym so)
 
 pub run_leaves : (node splits first at : ℕ) (all run reader rest : List Line) (line : Line) → all ≡ map (grafted_line node splits) run ++ reader → reader ≡ line ∷ rest → 0 < length run → at ≡ first + length run
     → IsElsewhere node splits line → LeavesRun node splits first all at

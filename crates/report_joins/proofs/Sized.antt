@@ -47,7 +47,7 @@ alone_is ends node all h = of_node (slice_get ends node) refl h
     of_node (Some n) e h = record { top = n; at = e; alone = h }
 
 root_within : CutsWithin 0 (new_node [] ∷ [])
-root_within n there = elim there [ inl e ↦ subst (λ (z : Node). length z.cuts ≤ 0) e (omega arith) | inr no ↦ absurd no ]
+root_within n there = elim there [ inl e ↦ subst (λ (z : Node). length z.cuts ≤ 0) e (omega arith) | inr gone ↦ absurd gone ]
 
 -- it has room for further cuts
 pub alone_room : (i : Problem) (lines : List Line) (ends : List Node) (node : ℕ) (all : List Node) → nodes_of i lines ≡ Some ends → length lines ≤ 2 ^ 28 → IsAlone ends node all → HasRoom all
