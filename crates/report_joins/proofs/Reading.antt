@@ -1,5 +1,5 @@
 -- Lines that are read one after another: those of a certificate, and those of a run behind them.
-use Rattle.std.proofs.Common.{◌≡◌, ◌≢◌, ◌⊎◌, inl, inr, ℕ, zero, suc, ◌+◌, ◌*◌, ◌<◌, ◌≤◌, List, [], ◌∷◌, ◌++◌, length, map, take, get_or, refl, sym, ap, ◌∙◌, subst, append_assoc, arith, Option, Some, None}
+use Rattle.std.proofs.Common.{◌≡◌, ◌≢◌, ◌⊎◌, inl, inr, ℕ, zero, suc, ◌+◌, ◌*◌, ◌^◌, ◌<◌, ◌≤◌, List, [], ◌∷◌, ◌++◌, length, map, take, get_or, refl, sym, ap, ◌∙◌, subst, append_assoc, arith, Option, Some, None}
 use Rattle.std.specs.Prelude.{slice_get}
 use Rattle.std.proofs.lemmas.List.{append-nil, length-append, length-map, map-append}
 use Rattle.std.proofs.lemmas.Option.{slice_get_within}
@@ -7,7 +7,9 @@ use Rattle.certificate.specs.declared.proof_lines.Line.{Line}
 use Rattle.certificate.specs.declared.proof_lines.Line.TheVariants.{Split, Priced, Settled}
 use Rattle.certificate.specs.Accepted.{node_of}
 use Rattle.report_grafts.specs.Grafted.{grafted_line, grafted_lines, grafted_number}
+use Rattle.report_grafts.specs.Branches.{branches_of}
 use Rattle.report_grafts.specs.Run.{divisions}
+use Rattle.report_grafts.proofs.Grafts.{branches_few, branches_number}
 use Rattle.head_splits.specs.Nodes.{Node}
 use Rattle.report_joins.specs.declared.fault.PartFault.{PartFault}
 use Rattle.report_joins.specs.declared.fault.PartFault.TheVariants.{Refused, OtherLines, NothingFurther, NoEnd, OtherNode, OtherPlan, SameNode, TooMany, NoMemory}
@@ -175,3 +177,21 @@ left_is ends known lines reader rest first node at splits (NoEnd k) end so read 
 left_is ends known lines reader rest first node at splits OtherPlan end so read same number h = absurd h
 left_is ends known lines reader rest first node at splits (SameNode k) end so read same number h = absurd h
 left_is ends known lines reader rest first node at splits TooMany end so read same number h = absurd h
+
+-- ---- sizes
+
+few_divisions : (lines : List Line) → divisions lines ≤ length lines
+few_divisions lines =
+    let number : length (branches_of lines) ≡ divisions lines = branches_number lines (branches_of lines) refl in
+    let few : length (branches_of lines) ≤ length lines = branches_few lines (branches_of lines) refl in
+    omega (arith, number, few)
+
+pub ends_small : (known : List Line) (ends : ℕ) → ends ≡ 2 * divisions known + 1 → length known ≤ 2 ^ 28 → ends ≤ 2 ^ 31
+ends_small known ends counted few = let d = few_divisions known in omega (arith, counted, few, d)
+
+pub rest_small : (known lines reader rest : List Line) (first : Line) (n : ℕ) → lines ≡ known ++ reader → reader ≡ first ∷ rest → n ≡ length known → length lines ≤ 2 ^ 28 → n + length rest < 2 ^ 63
+rest_small known lines reader rest first n so read counted few =
+    let a : length lines ≡ length (known ++ reader) = ap (λ (ls : List Line). length ls) so in
+    let b : length (known ++ reader) ≡ length known + length reader = length-append known reader in
+    let c : length reader ≡ suc (length rest) = ap (λ (ls : List Line). length ls) read in
+    omega (arith, a, b, c, counted, few)

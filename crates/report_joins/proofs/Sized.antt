@@ -1,5 +1,5 @@
 -- A part, judged below its node alone.
-use Rattle.std.proofs.Common.{◌≡◌, inl, inr, ℕ, zero, suc, ◌+◌, ◌-◌, ◌*◌, ◌/◌, ◌<◌, ◌≤◌, ◌^◌, true, false, List, [], ◌∷◌, ◌++◌, length, map, get_or, refl, sym, ap, ◌∙◌, subst, arith, Option, Some, None}
+use Rattle.std.proofs.Common.{◌≡◌, ◌⊎◌, inl, inr, ℕ, zero, suc, ◌+◌, ◌-◌, ◌*◌, ◌/◌, ◌<◌, ◌≤◌, ◌^◌, true, false, List, [], ◌∷◌, ◌++◌, length, map, take, get_or, refl, sym, ap, ◌∙◌, subst, arith, Option, Some, None}
 use Rattle.std.specs.Prelude.{slice_get, All, IsSomeAnd}
 use Rattle.std.specs.List.{AllByRecursion}
 use Rattle.std.specs.Option.{option_map}
@@ -20,10 +20,12 @@ use Rattle.report_grafts.proofs.Grafts.{branches_few, branches_number}
 use Rattle.report_grafts.proofs.Lines.{counted_lines, named_lines}
 use Rattle.report_nodes.specs.Made.{HasRoom, with_below}
 use Rattle.report_nodes.proofs.Grown.{CutsWithin, within_lines}
-use Rattle.report_joins.specs.Faults.{IsEnd}
+use Rattle.report_joins.specs.declared.fault.PartFault.{PartFault}
+use Rattle.report_joins.specs.Joined.{IsJoining, Joined}
+use Rattle.report_joins.specs.Faults.{IsEnd, IsLineFault, IsReadFault, IsRefusal}
 use Rattle.report_joins.specs.Runs.{IsReadPart, IsRunOf, MakesBelow}
 use Rattle.report_joins.proofs.Accepting.{accepted_by, bad_bound, bad_lines, bad_plan}
-use Rattle.report_joins.proofs.Joins.{part_nodes}
+use Rattle.report_joins.proofs.Joins.{fault_is, part_nodes}
 
 -- a node is there
 pub end_within : (ends : List Node) (node : ℕ) → IsEnd ends node → node < length ends
@@ -146,3 +148,30 @@ place_fits lines run nodes splits counted is h = wider nodes splits run (omega (
 
 pub grafted_is : (lines run more : List Line) (node nodes splits : ℕ) → nodes ≡ 2 * divisions lines + 1 → splits ≡ (nodes - 1) / 2 → more ≡ lines ++ map (grafted_line node splits) run → more ≡ grafted_lines lines node run
 grafted_is lines run more node nodes splits counted is so = so ∙ ap (λ n. lines ++ map (grafted_line node n) run) (splits_are lines nodes splits counted is)
+
+-- ---- the report's own lines
+
+take_own : {X : Type 0} (xs ys : List X) → take (length xs) (xs ++ ys) ≡ xs
+take_own [] ys = refl
+take_own (x ∷ xs) ys = ap (λ zs. x ∷ zs) (take_own xs ys)
+
+pub whole_short : (ends tree : List Node) (j : Joined) (n : ℕ) → IsJoining ends tree j → n ≡ length j.whole.lines → n ≤ length j.lines
+whole_short ends tree j n h is =
+    let a : length j.lines ≡ length (j.whole.lines ++ h.begins.0) = ap (λ (ls : List Line). length ls) h.begins.1 in
+    let b : length (j.whole.lines ++ h.begins.0) ≡ length j.whole.lines + length h.begins.0 = length-append j.whole.lines h.begins.0 in
+    omega (arith, a, b, is)
+
+pub whole_first : (ends tree : List Node) (j : Joined) (n : ℕ) → IsJoining ends tree j → n ≡ length j.whole.lines → take n j.lines ≡ j.whole.lines
+whole_first ends tree j n h is = ap (λ k. take k j.lines) is ∙ ap (take (length j.whole.lines)) h.begins.1 ∙ take_own j.whole.lines h.begins.0
+
+pub known_counted : (i : Problem) (lines known : List Line) (ends : List Node) → nodes_of i lines ≡ Some ends → known ≡ lines → length ends ≡ 2 * divisions known + 1
+known_counted i lines known ends made same = subst (λ (ls : List Line). length ends ≡ 2 * divisions ls + 1) (sym same) (tree_counted i lines ends made)
+
+pub known_run : (ends : List Node) (lines known all : List Line) (node : ℕ) (run : List Line) → known ≡ lines → IsRunOf ends known all node run → IsRunOf ends lines all node run
+known_run ends lines known all node run same r = subst (λ (ls : List Line). IsRunOf ends ls all node run) same r
+
+-- a part that is none
+pub known_fault : (i : Problem) (whole part : Cert) (ends : List Node) (known : List Line) (fault why : PartFault) → is_accepted i whole ≡ true → nodes_of i whole.lines ≡ Some ends → known ≡ whole.lines → IsLineFault ends known part.lines fault
+    → IsRefusal i part why ⊎ ((is_accepted i part ≡ true) × (why ≡ fault)) → IsReadFault i whole part why
+known_fault i whole part ends known fault why accepted made same h told =
+    fault_is i whole part ends fault why accepted made (subst (λ (ls : List Line). IsLineFault ends ls part.lines fault) same h) told
