@@ -175,3 +175,6 @@ pub known_fault : (i : Problem) (whole part : Cert) (ends : List Node) (known : 
     → IsRefusal i part why ⊎ ((is_accepted i part ≡ true) × (why ≡ fault)) → IsReadFault i whole part why
 known_fault i whole part ends known fault why accepted made same h told =
     fault_is i whole part ends fault why accepted made (subst (λ (ls : List Line). IsLineFault ends ls part.lines fault) same h) told
+
+pub read_within : (i : Problem) (ends : List Node) (whole part : Cert) (node : ℕ) (run : List Line) (below : List Node) → IsReadPart i ends whole part node run below → node < length ends
+read_within i ends whole part node run below r = slice_get_within ends node r.below.top r.below.at

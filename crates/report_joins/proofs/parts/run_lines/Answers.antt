@@ -6,19 +6,19 @@ use Rattle.report_joins.proofs.parts.run_lines.Goals as goal
 
 pub loop-run-init : goal.loop-run-init
 loop-run-init c =
-    let is : c.in_ok-run.run.items ≡ with_node 0 c.args.first ∷ [] = search rules in
+    let is : c.in_ok-run.run'.items ≡ with_node 0 c.args.first ∷ [] = search rules in
     record {
-      so = run_first c.args.place.node c.args.place.splits c.args.first c.args.rest c.in_ok-run.run.items c.requires.node is;
-      some = some_more [] c.in_ok-run.run.items (with_node 0 c.args.first) is;
+      so = run_first c.args.place.node c.args.place.splits c.args.first c.args.rest c.in_ok-run.run'.items c.requires.node is;
+      some = some_more [] c.in_ok-run.run'.items (with_node 0 c.args.first) is;
     }
 
 pub loop-run-preserved : goal.loop-run-preserved
 loop-run-preserved c =
     let rest = c.next_line.new.self in
     let line = c.in-Some.line in
-    let own = c.in-Some-2.own in
+    let own = c.in-Some-run_line.own in
     let read : c.loop-run.reader ≡ line ∷ rest = subst (λ o. Reads o c.loop-run.reader rest) c.in-Some.is c.in_ok-line.ensures.read in
     record {
-      so = run_more c.args.place.node c.args.place.splits (c.args.first ∷ c.args.rest) c.loop-run.run.items c.in_ok-with_line.field-0.items c.loop-run.reader rest line own c.loop-run.invariant.so read c.in-Some-2.ensures c.in_ok-with_line.ensures;
-      some = some_more c.loop-run.run.items c.in_ok-with_line.field-0.items own c.in_ok-with_line.ensures;
+      so = run_more c.args.place.node c.args.place.splits (c.args.first ∷ c.args.rest) c.loop-run.run.items c.in_ok-run-in-Some-run_line.run'.items c.loop-run.reader rest line own c.loop-run.invariant.so read c.in-Some-run_line.ensures c.in_ok-run-in-Some-run_line.ensures;
+      some = some_more c.loop-run.run.items c.in_ok-run-in-Some-run_line.run'.items own c.in_ok-run-in-Some-run_line.ensures;
     }

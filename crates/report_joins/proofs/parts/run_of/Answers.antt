@@ -1,23 +1,20 @@
-use Rattle.std.proofs.Common.{◌≡◌, ◌∷◌, ◌∙◌, arith, length, subst, sym, rules}
+use Rattle.std.proofs.Common.{◌≡◌, ◌∷◌, length, subst, rules}
+use Rattle.std.proofs.lemmas.Result.{err_from_is_err_and}
 use Rattle.certificate.specs.KeptLines.{Reads}
-use Rattle.report_joins.proofs.Reading.{ends_small, rest_small, run_of_known, splits_are}
+use Rattle.report_joins.specs.Runs.{IsLeft}
+use Rattle.report_joins.proofs.Reading.{left_is, splits_are}
 use Rattle.report_joins.proofs.parts.run_of.Goals as goal
 
-pub place_at-requires : goal.place_at-requires
-place_at-requires c = ends_small c.args.known.now (length c.args.ends.now) c.requires.counted c.requires.known
-
-pub run_lines-requires-clause-node : goal.run_lines-requires-clause-node
-run_lines-requires-clause-node c = sym c.node_of-node.ensures ∙ sym c.in-Some-2.ensures.1.0
-
-pub run_lines-requires-clause-splits : goal.run_lines-requires-clause-splits
-run_lines-requires-clause-splits c =
-    let small = ends_small c.args.known.now (length c.args.ends.now) c.requires.counted c.requires.known in
-    let less = c.in-Some-2.ensures.1.1.1 in
-    omega (arith, small, less)
-
-pub run_lines-requires-clause-at : goal.run_lines-requires-clause-at
-run_lines-requires-clause-at c =
+pub returns-in_err-run-clause-fault : goal.returns-in_err-run-clause-fault
+returns-in_err-run-clause-fault c =
+    let p = err_from_is_err_and c.from_residual-in_err-run.result c.from_residual-in_err-run.ensures.1 in
     let rest = c.next_line.new.self in
-    let read : c.in_ok-reader.reader ≡ c.in-Some.first ∷ rest = subst (λ o. Reads o c.in_ok-reader.reader rest) c.in-Some.is c.in_ok-first.ensures.read in
-    let counted : c.len.result ≡ length c.args.known.now = search rules in
-    rest_small c.args.known.now c.args.lines.now c.in_ok-reader.reader rest c.in-Some.first c.len.result c.in_ok-reader.ensures.behind read counted c.requires.lines
+    let known = c.args.known.now in
+    let first = c.in-Some.first in
+    let place = c.in-Some-place_at.place in
+    let found = c.in-Some-place_at.ensures in
+    let read : c.in_ok-reader.reader ≡ first ∷ rest = subst (λ o. Reads o c.in_ok-reader.reader rest) c.in-Some.is c.in_ok-first.ensures.read in
+    let counted : c.len.result ≡ length known = search rules in
+    let left = subst (λ n. IsLeft place.node place.splits n (first ∷ rest) c.in_err-run.field-0.0) counted c.in_err-run.ensures.fault in
+    let number = splits_are known (length c.args.ends.now) place.splits c.requires.counted found.1.1.0 found.1.1.1 in
+    rw (p.1, p.2) (left_is c.args.ends.now known c.args.lines.now c.in_ok-reader.reader rest first c.node_of-node.result place.node place.splits c.in_err-run.field-0.0 found.0 c.in_ok-reader.ensures.behind read found.1.0 number left)
