@@ -1,9 +1,13 @@
-use Rattle.std.proofs.Common.{◌≡◌, ◌∙◌, ap, arith, subst, sym}
+use Rattle.std.proofs.Common.{◌≡◌, ◌==◌, ◌∙◌, true, ap, arith, subst, sym}
+use Rattle.std.specs.List.{list_any}
 use Rattle.std.proofs.lemmas.Result.{err_from_is_err_and}
 use Rattle.shift_instance.specs.Problem.{Problem}
 use Rattle.report_joins.specs.Faults.{IsPartFault, IsReadFault}
 use Rattle.report_joins.specs.Joined.{Joined}
-use Rattle.report_joins.proofs.Joins.{read_fault}
+use Rattle.report_joins.specs.Runs.{IsReadPart}
+use Rattle.report_joins.specs.declared.fault.PartFault.TheVariants.{OtherPlan, SameNode}
+use Rattle.report_joins.proofs.Accepting.{not_both}
+use Rattle.report_joins.proofs.Joins.{has_of, other_plan, part_is, read_fault}
 use Rattle.report_joins.proofs.Sized.{read_within}
 use Rattle.report_joins.proofs.joining.Joining.add.Goals as goal
 
@@ -22,3 +26,34 @@ returns-in_err-run-clause-fault c =
 pub cuts_of-requires : goal.cuts_of-requires
 cuts_of-requires c =
     read_within c.args.instance.now c.self.inside.ends c.self.inside.whole c.args.part.now c.in_ok-run.run'.node c.in_ok-run.run'.lines c.in_ok-run.below c.in_ok-run.ensures.read
+
+pub returns-then-not-is_plan_below-clause-fault : goal.returns-then-not-is_plan_below-clause-fault
+returns-then-not-is_plan_below-clause-fault c =
+    let own = c.self.inside in
+    let part = c.args.part.now in
+    let node = c.in_ok-run.run'.node in
+    let run = c.in_ok-run.run'.lines in
+    let below = c.in_ok-run.below in
+    let cuts = c.in_ok-cuts.cuts in
+    let j : Joined = record { instance = own.instance.value; whole = own.whole; nodes = own.nodes.items; lines = own.lines.items; plan = own.plan } in
+    let same : j ≡ c.args.self = grind (arith, c.self.view_is) in
+    let known : j.instance ≡ c.args.instance.now = ap (λ (x : Joined). x.instance) same ∙ c.requires.same in
+    let read = subst (λ (i : Problem). IsReadPart i own.ends own.whole part node run below) (sym known) c.in_ok-run.ensures.read in
+    let fault = other_plan own.ends own.tree j part node run below cuts c.self.invariant read c.in_ok-cuts.ensures (λ plan. not_both c.is_plan_below.result (c.is_plan_below.ensures.1 plan) c.if-not-is_plan_below.true) in
+    subst (λ (x : Joined). IsPartFault x part OtherPlan) same fault
+
+pub returns-then-has_node-clause-fault : goal.returns-then-has_node-clause-fault
+returns-then-has_node-clause-fault c =
+    let own = c.self.inside in
+    let part = c.args.part.now in
+    let node = c.in_ok-run.run'.node in
+    let run = c.in_ok-run.run'.lines in
+    let below = c.in_ok-run.below in
+    let cuts = c.in_ok-cuts.cuts in
+    let j : Joined = record { instance = own.instance.value; whole = own.whole; nodes = own.nodes.items; lines = own.lines.items; plan = own.plan } in
+    let same : j ≡ c.args.self = grind (arith, c.self.view_is) in
+    let known : j.instance ≡ c.args.instance.now = ap (λ (x : Joined). x.instance) same ∙ c.requires.same in
+    let read = subst (λ (i : Problem). IsReadPart i own.ends own.whole part node run below) (sym known) c.in_ok-run.ensures.read in
+    let is = part_is own.ends own.tree j part node run below cuts c.self.invariant read c.in_ok-cuts.ensures (c.is_plan_below.ensures.0 c.if-not-is_plan_below.false) in
+    let among : list_any (λ k. k == node) own.nodes.items ≡ true = ap (list_any (λ k. k == node)) (sym c.deref-2.ensures.value) ∙ sym c.has_node.ensures ∙ c.if-has_node.true in
+    subst (λ (x : Joined). IsPartFault x part (SameNode node)) same (run, is, has_of own.nodes.items node among)
