@@ -63,7 +63,7 @@ there (n ∷ nodes) (suc k) h = there nodes k (omega arith)
 -- ---- a further part
 
 -- the node of a part that no earlier one is of stands in the joined tree as it did
-part_top : (ends tree : List Node) (j : Joined) (node : ℕ) (top : Node) → IsJoining ends tree j → slice_get ends node ≡ Some top → (Has j.nodes node → ⊥) → slice_get tree node ≡ Some top
+pub part_top : (ends tree : List Node) (j : Joined) (node : ℕ) (top : Node) → IsJoining ends tree j → slice_get ends node ≡ Some top → (Has j.nodes node → ⊥) → slice_get tree node ≡ Some top
 part_top ends tree j node top h at other = h.kept node (slice_get_within ends node top at) other ∙ at
 
 pub tree_with : (ends tree : List Node) (j : Joined) (node : ℕ) (run : List Line) (below : List Node) → IsJoining ends tree j → MakesBelow j.instance ends node run below → (Has j.nodes node → ⊥)
