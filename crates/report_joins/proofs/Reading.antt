@@ -53,10 +53,11 @@ behind_more known lines reader rest at x less is so read =
 
 pub behind_departs : (known lines reader : List Line) (at : ℕ) (x : Line) → at < length known → x ≡ get_or known at x → lines ≡ take at known ++ reader → slice_get reader 0 ≢ Some x → Departs known lines at
 behind_departs known lines reader at x less is so other =
-    let place : slice_get lines at ≡ slice_get reader 0 = ap (λ (ls : List Line). slice_get ls at) so ∙ get_behind known reader at (omega (arith, less)) in
-    (less,
-    ap (take at) so ∙ take_front known reader at (omega (arith, less)),
-    λ e. other (sym place ∙ e ∙ get_there known at x less is))
+    let place : slice_get lines at ≡ slice_get reader 0 = ap (λ (ls : List Line). slice_get ls at) so ∙ get_behind known reader at (omega (arith, less)) in (
+      less,
+      ap (take at) so ∙ take_front known reader at (omega (arith, less)),
+      λ e. other (sym place ∙ e ∙ get_there known at x less is),
+    )
 
 pub behind_all : (known lines reader : List Line) (at : ℕ) → length known ≤ at → lines ≡ take at known ++ reader → lines ≡ known ++ reader
 behind_all known lines reader at all so = so ∙ ap (λ (ls : List Line). ls ++ reader) (take_whole known at all)
@@ -148,7 +149,7 @@ leaves_node known lines reader rest first node splits place so read number l =
       rest = l.rest;
       some = l.some;
       lines = so ∙ ap (λ (ls : List Line). known ++ ls) (read ∙ l.lines) ∙ sym (append_assoc known (map g l.run) (l.line ∷ l.rest))
-      ∙ ap (λ n. (known ++ map (grafted_line node n) l.run) ++ l.line ∷ l.rest) number;
+          ∙ ap (λ n. (known ++ map (grafted_line node n) l.run) ++ l.line ∷ l.rest) number;
       at = l.at;
       elsewhere = subst (λ n. IsElsewhere node n l.line) number l.elsewhere;
     }

@@ -34,11 +34,7 @@ fn reads(alloc: Global, reader: &mut LineReader<'_>, line: &Line) -> Result<bool
 }
 
 /// What is to be read of some lines behind others, or the first place at which they aren't the others.
-fn behind<'a>(
-    alloc: Global,
-    known: &[Line],
-    lines: &'a Lines,
-) -> Result<LineReader<'a>, PartFault>
+fn behind<'a>(alloc: Global, known: &[Line], lines: &'a Lines) -> Result<LineReader<'a>, PartFault>
     ensures behind { IfOk result (λ reader. lines.now ≡ known.now ++ reader) }
     ensures fault { IfErr result (IsDeparture known.now lines.now) }
 {
