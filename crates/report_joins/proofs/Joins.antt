@@ -63,7 +63,7 @@ there (n ∷ nodes) (suc k) h = there nodes k (omega arith)
 -- ---- a further part
 
 -- the node of a part that no earlier one is of stands in the joined tree as it did
-part_top : (ends tree : List Node) (j : Joined) (node : ℕ) (top : Node) → IsJoining ends tree j → slice_get ends node ≡ Some top → (Has j.nodes node → ⊥) → slice_get tree node ≡ Some top
+pub part_top : (ends tree : List Node) (j : Joined) (node : ℕ) (top : Node) → IsJoining ends tree j → slice_get ends node ≡ Some top → (Has j.nodes node → ⊥) → slice_get tree node ≡ Some top
 part_top ends tree j node top h at other = h.kept node (slice_get_within ends node top at) other ∙ at
 
 pub tree_with : (ends tree : List Node) (j : Joined) (node : ℕ) (run : List Line) (below : List Node) → IsJoining ends tree j → MakesBelow j.instance ends node run below → (Has j.nodes node → ⊥)
@@ -209,7 +209,7 @@ pub line_fault_is : (i : Problem) (whole part : Cert) (ends : List Node) (why : 
 line_fault_is i whole part ends (OtherLines at) accepted made good h = (good, h)
 line_fault_is i whole part ends NothingFurther accepted made good h = (good, h)
 line_fault_is i whole part ends (NoEnd node) accepted made good h = (good, h.0, no_end i whole ends node made h.1)
-line_fault_is i whole part ends (OtherNode at) accepted made good h = let e = an_end i whole ends h.0 accepted made h.1 in (good, h.0, e.0, e.1, h.2)
+line_fault_is i whole part ends (OtherNode at) accepted made good h = let e = an_end i whole ends h.0 accepted made h.1 in (good, (h.0, e.0, e.1, h.2))
 line_fault_is i whole part ends NoMemory accepted made good h = tt
 line_fault_is i whole part ends (Refused why) accepted made good h = absurd h
 line_fault_is i whole part ends OtherPlan accepted made good h = absurd h

@@ -2,3 +2,4 @@ pub mod Below
 pub mod Accepting
 pub mod Joins
 pub mod Reading
+pub mod Sized

@@ -203,6 +203,7 @@ fn grafted(
     run: &Lines,
 ) -> Result<Vec<Line>, NoMemory>
     requires counted { nodes ≡ 2 * divisions lines.items + 1 }
+    requires few { nodes ≤ 2 ^ 32 }
     requires fit { All (λ line. node_of line + nodes ≤ 2 ^ 32) run.now }
     ensures { IfOk result (λ more. more.items ≡ grafted_lines lines.items node run.now) }
 {

@@ -2,6 +2,7 @@
 ghost use Rattle.std.specs.Prelude.{◌≡◌, ◌+◌, ◌*◌, ◌<◌, ◌≤◌, ◌^◌, ℕ, MatchOption};
 ghost use Rattle.certificate.specs.Accepted.{node_of};
 ghost use Rattle.report_grafts.specs.Grafted.{grafted_line, grafted_number};
+ghost use Rattle.report_joins.specs.Faults.{IsElsewhere};
 ghost use Rattle.report_joins.specs.Numbers.{with_node};
 
 use certificate::Line;
@@ -36,7 +37,7 @@ impl Place {
     }
 
     /// The number in a run of the tree's node of that number, where it is one of the run.
-    pub(crate) fn run_number(self, node: u32) -> Option<u32>
+    fn run_number(self, node: u32) -> Option<u32>
         requires { 2 * self.splits < 2 ^ 32 }
         ensures { MatchOption result ((k : ℕ) → node ≡ grafted_number self.node self.splits k → ⊥) (λ k. node ≡ grafted_number self.node self.splits k) }
     {
@@ -46,6 +47,18 @@ impl Place {
             Some(node - 2 * self.splits)
         } else {
             None
+        }
+    }
+
+    /// A line of the tree as one of the run, where it is of a node of the run.
+    #[tactic(auto, using(crate::proofs::Reading::as_numbered, crate::proofs::Reading::is_elsewhere))]
+    pub(crate) fn run_line(self, line: Line) -> Option<Line>
+        requires { 2 * self.splits < 2 ^ 32 }
+        ensures { MatchOption result (IsElsewhere self.node self.splits line) (λ own. line ≡ grafted_line self.node self.splits own) }
+    {
+        match self.run_number(node_of(&line)) {
+            Some(node) => Some(with_node(line, node)),
+            None => None,
         }
     }
 }

@@ -34,11 +34,7 @@ fn reads(alloc: Global, reader: &mut LineReader<'_>, line: &Line) -> Result<bool
 }
 
 /// What is to be read of some lines behind others, or the first place at which they aren't the others.
-fn behind<'a>(
-    alloc: Global,
-    known: &[Line],
-    lines: &'a Lines,
-) -> Result<LineReader<'a>, PartFault>
+fn behind<'a>(alloc: Global, known: &[Line], lines: &'a Lines) -> Result<LineReader<'a>, PartFault>
     ensures behind { IfOk result (λ reader. lines.now ≡ known.now ++ reader) }
     ensures fault { IfErr result (IsDeparture known.now lines.now) }
 {
@@ -73,6 +69,14 @@ fn with_line(lines: Vec<Line>, line: Line) -> Result<Vec<Line>, NoMemory>
     Ok(lines)
 }
 
+/// A line alone.
+fn one_line(alloc: Global, line: Line) -> Result<Vec<Line>, NoMemory>
+    ensures { IfOk result (λ lines. lines.items ≡ line ∷ []) }
+{
+    let lines = vec![in alloc; line]?;
+    Ok(lines)
+}
+
 /// The run of which these are the lines where it is grafted at a place: this line of that node, and what is to be read behind it. The line
 /// stands at a place of a part.
 fn run_lines(
@@ -90,10 +94,10 @@ fn run_lines(
     ensures fault { IfErr result (IsLeft place.node place.splits at (first ∷ rest.entry)) }
 {
     let mut reader = rest;
-    let mut run = with_line(Vec::new(alloc), with_node(first, 0))?;
+    let mut run = one_line(alloc, with_node(first, 0))?;
     while let Some(line) = reader.next_line(alloc)? {
-        match place.run_number(node_of(&line)) {
-            Some(node) => run = with_line(run, with_node(line, node))?,
+        match place.run_line(line) {
+            Some(own) => run = with_line(run, own)?,
             None => {
                 let at = (at + run.len()) as u64;
                 return Err(PartFault::OtherNode { at });

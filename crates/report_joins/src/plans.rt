@@ -57,9 +57,7 @@ pub(crate) fn is_plan_below(
 }
 
 /// A plan once more.
-pub(crate) fn copy_of_plan(
-    plan: &Option<(u64, Rows)>,
-) -> Result<Option<(u64, Rows)>, NoMemory>
+pub(crate) fn copy_of_plan(plan: &Option<(u64, Rows)>) -> Result<Option<(u64, Rows)>, NoMemory>
     ensures { IfOk result (λ copy. copy ≡ plan.now) }
 {
     match plan {
