@@ -44,21 +44,6 @@ fn tell<K: Sink>(out: &mut K, bytes: &[u8], written: JoinStatus) -> JoinStatus
     }
 }
 
-/// Writes the line of a refusal where there is one, and says how the run ends.
-fn tell_refusal<K: Sink>(alloc: Global, out: &mut K, status: JoinStatus) -> JoinStatus {
-    match status {
-        JoinStatus::Refused(why) => match refused_line(alloc, why) {
-            Ok(line) => tell(out, line.as_bytes(), JoinStatus::Refused(why)),
-            Err(_) => JoinStatus::NoMemory,
-        },
-        JoinStatus::NoPart { part, cause } => match part_line(alloc, part, cause) {
-            Ok(line) => tell(out, line.as_bytes(), JoinStatus::NoPart { part, cause }),
-            Err(_) => JoinStatus::NoMemory,
-        },
-        _ => status,
-    }
-}
-
 /// Joins the parts that sources give up into a report, and writes what comes of it.
 fn run_over<P: Source, K: Sink>(
     alloc: Global,
@@ -76,7 +61,16 @@ fn run_over<P: Source, K: Sink>(
 {
     match joined_text(alloc, instance, whole, parts) {
         Ok(text) => tell(out, text.as_slice(), JoinStatus::Written),
-        Err(status) => tell_refusal(alloc, out, status),
+        Err(JoinStatus::Refused(why)) => match refused_line(alloc, why) {
+            Ok(line) => tell(out, line.as_bytes(), JoinStatus::Refused(why)),
+            Err(_) => JoinStatus::NoMemory,
+        },
+        Err(JoinStatus::NoPart { part, cause }) => match part_line(alloc, part, cause) {
+            Ok(line) => tell(out, line.as_bytes(), JoinStatus::NoPart { part, cause }),
+            Err(_) => JoinStatus::NoMemory,
+        },
+        Err(JoinStatus::ReadFault) => JoinStatus::ReadFault,
+        Err(_) => JoinStatus::NoMemory,
     }
 }
 

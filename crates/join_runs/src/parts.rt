@@ -20,7 +20,8 @@ fn with_part<P: Source>(
     number: u64,
     source: &mut P,
 ) -> Result<Joining, JoinStatus>
-    requires { joining.instance ≡ instance.now }
+    requires same { joining.instance ≡ instance.now }
+    requires few { length joining.whole.lines ≤ 2 ^ 28 }
     ensures joined { IfOk result (JoinsReport (P.left source.old) joining) }
     ensures status { IfErr result (IsPartEnd joining number (record { left = P.left source.old; faults = (P.faults source.old, P.faults source.new) })) }
 {
@@ -84,6 +85,7 @@ pub(crate) fn joined_cert<P: Source>(
     ensures agrees { IfOk result Agrees }
     ensures status { IfErr result (IsUnjoined instance.now whole (record { left = map P.left parts.old; faults = (map P.faults parts.old, map P.faults parts.new) })) }
 {
+    let _valid = instance.slots();
     let joining = with_parts(alloc, instance, whole, parts)?;
     match joining.into_cert(alloc) {
         Ok(cert) => Ok(cert),
