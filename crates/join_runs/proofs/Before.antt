@@ -1,5 +1,5 @@
 -- Parts that sources give up, joined one after another.
-use Rattle.std.proofs.Common.{◌≡◌, ℕ, suc, zero, ◌+◌, ◌^◌, ◌<◌, ◌≤◌, true, List, [], ◌∷◌, ◌++◌, length, map, refl, sym, ap, ◌∙◌, subst, arith, Option, Some}
+use Rattle.std.proofs.Common.{◌≡◌, ℕ, suc, zero, ◌+◌, ◌^◌, ◌<◌, ◌≤◌, true, List, [], ◌∷◌, ◌++◌, get_or, length, map, refl, sym, ap, ◌∙◌, subst, arith, Option, Some}
 use Rattle.std.specs.Prelude.{slice_get, take}
 use Rattle.std.proofs.Math.ListN.{set}
 use Rattle.std.proofs.lemmas.List.{length-append, length-map}
@@ -46,11 +46,12 @@ placed j part NothingFurther few short f = tt
 placed j part (NoEnd node) few short f = tt
 placed j part (OtherNode at) few short f =
     let known = j.whole.lines in
-    let l : LeavesNode known part.lines f.1 at = f.4 in
-    let front : length (known ++ map (grafted_line f.1 (divisions known)) l.run) ≡ length known + length (map (grafted_line f.1 (divisions known)) l.run) = length-append known (map (grafted_line f.1 (divisions known)) l.run) in
-    let same : length (map (grafted_line f.1 (divisions known)) l.run) ≡ length l.run = length-map l.run (grafted_line f.1 (divisions known)) in
-    let all : length part.lines ≡ length (grafted_lines known f.1 l.run) + length (l.line ∷ l.rest) =
-    ap (λ (ls : List Line). length ls) l.lines ∙ length-append (grafted_lines known f.1 l.run) (l.line ∷ l.rest)
+    let t = f.1 in
+    let l : LeavesNode known part.lines t.0 at = t.3 in
+    let front : length (known ++ map (grafted_line t.0 (divisions known)) l.run) ≡ length known + length (map (grafted_line t.0 (divisions known)) l.run) = length-append known (map (grafted_line t.0 (divisions known)) l.run) in
+    let same : length (map (grafted_line t.0 (divisions known)) l.run) ≡ length l.run = length-map l.run (grafted_line t.0 (divisions known)) in
+    let all : length part.lines ≡ length (grafted_lines known t.0 l.run) + length (l.line ∷ l.rest) =
+    ap (λ (ls : List Line). length ls) l.lines ∙ length-append (grafted_lines known t.0 l.run) (l.line ∷ l.rest)
     in
     let is : at ≡ length known + length l.run = l.at in
     omega (arith, front, same, all, is, short)
@@ -65,6 +66,11 @@ at_map : {X Y : Type 0} (f : X → Y) (xs : List X) (k : ℕ) (x : X) → slice_
 at_map f [] k x e = absurd (cc)
 at_map f (z ∷ xs) zero x e = let same : z ≡ x = cc in ap (λ y. Some (f y)) same
 at_map f (z ∷ xs) (suc k) x e = at_map f xs k x e
+
+pub get_at : {X : Type 0} (xs : List X) (k : ℕ) (x : X) → k < length xs → x ≡ get_or xs k x → slice_get xs k ≡ Some x
+get_at [] k x low is = absurd (omega (arith, low))
+get_at (z ∷ xs) zero x low is = ap (λ y. Some y) (sym is)
+get_at (z ∷ xs) (suc k) x low is = get_at xs k x (omega (arith, low)) is
 
 pub record AreJoinedBefore {X : Type 0} (left : X → Option (List ℕ)) (i : Problem) (whole : Cert) (olds news : List X) (k : ℕ) (j : Joined) : Type 0 where
   pub joined : AreAllJoined i whole (take k (map left olds)) j
