@@ -67,10 +67,10 @@ at_map f [] k x e = absurd (cc)
 at_map f (z ∷ xs) zero x e = let same : z ≡ x = cc in ap (λ y. Some (f y)) same
 at_map f (z ∷ xs) (suc k) x e = at_map f xs k x e
 
-pub get_at : {X : Type 0} (xs : List X) (k : ℕ) (x : X) → k < length xs → x ≡ get_or xs k x → slice_get xs k ≡ Some x
-get_at [] k x low is = absurd (omega (arith, low))
-get_at (z ∷ xs) zero x low is = ap (λ y. Some y) (sym is)
-get_at (z ∷ xs) (suc k) x low is = get_at xs k x (omega (arith, low)) is
+pub get_at : {X : Type 0} (xs : List X) (k : ℕ) (d : X) → k < length xs → slice_get xs k ≡ Some (get_or xs k d)
+get_at [] k d low = absurd (omega (arith, low))
+get_at (z ∷ xs) zero d low = refl
+get_at (z ∷ xs) (suc k) d low = get_at xs k d (omega (arith, low))
 
 pub record AreJoinedBefore {X : Type 0} (left : X → Option (List ℕ)) (i : Problem) (whole : Cert) (olds news : List X) (k : ℕ) (j : Joined) : Type 0 where
   pub joined : AreAllJoined i whole (take k (map left olds)) j

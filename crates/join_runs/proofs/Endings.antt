@@ -68,9 +68,9 @@ explained met i WriteFault asked read ends = (asked, (i, read, ends))
 explained met i NoMemory asked read ends = asked
 
 -- what tells of an end before the parts tells of that end itself
-pub told_early : (bytes : List ℕ) (written : JoinStatus) (held : Option (List ℕ) × Option (List ℕ)) (faults : ℕ × ℕ) (status : JoinStatus) → Told bytes written held faults status → EndsBeforeParts status → EndsBeforeParts written
-told_early bytes written held faults status (inl t) early = subst (λ (s : JoinStatus). EndsBeforeParts s) t.0 early
-told_early bytes written held faults status (inr t) early = let never : EndsBeforeParts WriteFault = subst (λ (s : JoinStatus). EndsBeforeParts s) t.0 early in absurd never
+pub told_early : (bytes : List ℕ) (end : JoinStatus) (held : Option (List ℕ) × Option (List ℕ)) (faults : ℕ × ℕ) (status : JoinStatus) → Told bytes end held faults status → EndsBeforeParts status → EndsBeforeParts end
+told_early bytes end held faults status (inl t) early = subst (λ (s : JoinStatus). EndsBeforeParts s) t.0 early
+told_early bytes end held faults status (inr t) early = let never : EndsBeforeParts WriteFault = subst (λ (s : JoinStatus). EndsBeforeParts s) t.0 early in absurd never
 
 -- an end by a part comes no earlier than the parts
 pub part_was_read : (j : Joined) (number : ℕ) (part : SourceMet) (status : JoinStatus) → IsPartEnd j number part status → EndsBeforeParts status → ⊥

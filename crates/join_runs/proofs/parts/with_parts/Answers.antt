@@ -1,4 +1,4 @@
-use Rattle.std.proofs.Common.{◌≡◌, ◌+◌, ◌<◌, ◌≤◌, ◌^◌, length, refl, subst, sym, arith, Some}
+use Rattle.std.proofs.Common.{◌≡◌, ◌+◌, ◌<◌, ◌≤◌, ◌^◌, get_or, length, refl, subst, sym, arith, Some}
 use Rattle.std.specs.Prelude.{slice_get}
 use Rattle.std.proofs.lemmas.Result.{err_from_is_err_and}
 use Rattle.certificate.specs.declared.Cert.{Cert}
@@ -24,23 +24,26 @@ pub returns-in_err-joining-clause-status : goal.returns-in_err-joining-clause-st
 returns-in_err-joining-clause-status g c =
     let p = err_from_is_err_and c.from_residual.result c.from_residual.ensures.1 in
     let low : c.loop-k.k < length c.loop-k.parts = omega (arith, c.loop-k-test.true, c.loop-k.auto.parts) in
-    let at = get_at c.loop-k.parts c.loop-k.k c.index-parts-k.result low c.index-parts-k.is in
+    let x = get_or c.loop-k.parts c.loop-k.k c.index-parts-k.result in
+    let at = get_at c.loop-k.parts c.loop-k.k c.index-parts-k.result low in
     rw (p.1, p.2)
-    (stops g.P.Source.left g.P.Source.faults c.args.instance.now c.args.whole c.args.parts.now c.loop-k.parts c.loop-k.k (c.loop-k.k + 1) c.loop-k.joining c.index-parts-k.result c.with_part.new.source c.in_err-joining.field-0.0 refl
+    (stops g.P.Source.left g.P.Source.faults c.args.instance.now c.args.whole c.args.parts.now c.loop-k.parts c.loop-k.k (c.loop-k.k + 1) c.loop-k.joining x c.with_part.new.source c.in_err-joining.field-0.0 refl
     c.loop-k.invariant at c.in_err-joining.ensures.status)
 
 pub returns-in_err-joining-clause-untouched : goal.returns-in_err-joining-clause-untouched
 returns-in_err-joining-clause-untouched g c =
     let P = g.P.Source in
     let p = err_from_is_err_and c.from_residual.result c.from_residual.ensures.1 in
-    let part : SourceMet = record { left = P.left c.index-parts-k.result; faults = (P.faults c.index-parts-k.result, P.faults c.with_part.new.source) } in
+    let x = get_or c.loop-k.parts c.loop-k.k c.index-parts-k.result in
+    let part : SourceMet = record { left = P.left x; faults = (P.faults x, P.faults c.with_part.new.source) } in
     rw (p.1, p.2) (λ early. absurd (part_was_read c.loop-k.joining (c.loop-k.k + 1) part c.in_err-joining.field-0.0 c.in_err-joining.ensures.status early))
 
 pub loop-k-preserved : goal.loop-k-preserved
 loop-k-preserved g c =
     let low : c.loop-k.k < length c.loop-k.parts = omega (arith, c.loop-k-test.true, c.loop-k.auto.parts) in
-    let at = get_at c.loop-k.parts c.loop-k.k c.index-parts-k.result low c.index-parts-k.is in
-    goes_on g.P.Source.left c.args.instance.now c.args.whole c.args.parts.now c.loop-k.parts c.loop-k.k c.loop-k.joining c.in_ok-joining.joining c.index-parts-k.result c.with_part.new.source c.loop-k.invariant at
+    let x = get_or c.loop-k.parts c.loop-k.k c.index-parts-k.result in
+    let at = get_at c.loop-k.parts c.loop-k.k c.index-parts-k.result low in
+    goes_on g.P.Source.left c.args.instance.now c.args.whole c.args.parts.now c.loop-k.parts c.loop-k.k c.loop-k.joining c.in_ok-joining.joining x c.with_part.new.source c.loop-k.invariant at
     c.in_ok-joining.ensures.joined
 
 pub returns-clause-joined : goal.returns-clause-joined
