@@ -19,6 +19,7 @@ use Rattle.join_runs.specs.declared.status.PartCause.{PartCause}
 use Rattle.join_runs.specs.Running.{AreAllJoined, IsPartEnd, IsUnjoined, JoinsReport, Told}
 use Rattle.join_runs.specs.Runs.Says.{joins, refuses, has_no_part}
 use Rattle.join_runs.specs.Runs.{AreReportsOf, Ends, EndsOver, EndsWith, Explains, HasCommand, IsJoinedText, IsNoPart, Met, PartsMet, Says, SomeRose}
+use Rattle.join_runs.specs.Status.{EndsBeforeParts}
 use Rattle.join_runs.specs.Texts.{part_text, refused_text, IsNamed, IsNamedRefusal}
 use Rattle.join_runs.specs.Words.{Asked, join_of}
 
@@ -56,15 +57,32 @@ over_report i whole report parts sink NoMemory read ends = tt
 
 -- how a run ends over the instance of its document explains its status
 pub explained : (met : Met) (i : Problem) (status : JoinStatus) → HasCommand met → IsReadAs met.document.left i → EndsOver i met.report met.parts met.sink status → Explains met status
-explained met i Written asked read ends = (asked, i, read, ends)
-explained met i (Refused why) asked read ends = (asked, i, read, ends)
-explained met i (NoPart number cause) asked read ends = (asked, i, read, ends)
+explained met i Written asked read ends = (asked, (i, read, ends))
+explained met i (Refused why) asked read ends = (asked, (i, read, ends))
+explained met i (NoPart number cause) asked read ends = (asked, (i, read, ends))
 explained met i Usage asked read ends = absurd ends
 explained met i (Input why) asked read ends = absurd ends
-explained met i (Bundle why) asked read ends = (asked, i, read, ends)
-explained met i ReadFault asked read ends = inr (asked, i, read, ends)
-explained met i WriteFault asked read ends = (asked, i, read, ends)
+explained met i (Bundle why) asked read ends = (asked, (i, read, ends))
+explained met i ReadFault asked read ends = inr (asked, (i, read, ends))
+explained met i WriteFault asked read ends = (asked, (i, read, ends))
 explained met i NoMemory asked read ends = asked
+
+-- what tells of an end before the parts tells of that end itself
+pub told_early : (bytes : List ℕ) (end : JoinStatus) (held : Option (List ℕ) × Option (List ℕ)) (faults : ℕ × ℕ) (status : JoinStatus) → Told bytes end held faults status → EndsBeforeParts status → EndsBeforeParts end
+told_early bytes end held faults status (inl t) early = subst (λ (s : JoinStatus). EndsBeforeParts s) t.0 early
+told_early bytes end held faults status (inr t) early = let never : EndsBeforeParts WriteFault = subst (λ (s : JoinStatus). EndsBeforeParts s) t.0 early in absurd never
+
+-- an end by a part comes no earlier than the parts
+pub part_was_read : (j : Joined) (number : ℕ) (part : SourceMet) (status : JoinStatus) → IsPartEnd j number part status → EndsBeforeParts status → ⊥
+part_was_read j number part (NoPart told cause) ends early = early
+part_was_read j number part ReadFault ends early = early
+part_was_read j number part NoMemory ends early = early
+part_was_read j number part Written ends early = ends
+part_was_read j number part (Refused why) ends early = ends
+part_was_read j number part Usage ends early = ends
+part_was_read j number part (Input why) ends early = ends
+part_was_read j number part (Bundle why) ends early = ends
+part_was_read j number part WriteFault ends early = ends
 
 -- words that were seen to be a command
 pub has_command : {R : Type 0} → (seen : R → Asked) (o : Option R) (words : List (List ℕ)) → option_map seen o ≡ join_of words → IsSome o → IsSome (join_of words)
@@ -72,7 +90,7 @@ has_command seen None words e some = grind (arith, some)
 has_command seen (Some r) words e some = subst (λ (x : Option Asked). IsSome x) e refl
 
 pub no_command : {R : Type 0} → (seen : R → Asked) (o : Option R) (words : List (List ℕ)) → option_map seen o ≡ join_of words → o ≡ None → join_of words ≡ None
-no_command seen o words e none = sym e ∙ ap (option_map seen) none
+no_command seen o words e gone = sym e ∙ ap (option_map seen) gone
 
 -- ---- parts, one after another
 

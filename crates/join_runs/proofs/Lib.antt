@@ -1,3 +1,4 @@
 pub mod Sizes
 pub mod Texts
 pub mod Endings
+pub mod Before

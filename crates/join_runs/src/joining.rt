@@ -26,6 +26,7 @@ fn joined_text<P: Source>(
     requires few { length whole.lines ≤ 2 ^ 28 }
     ensures text { IfOk result (λ text. IsJoinedText instance.now whole (map P.left parts.old) text.items) }
     ensures status { IfErr result (IsUnjoined instance.now whole (record { left = map P.left parts.old; faults = (map P.faults parts.old, map P.faults parts.new) })) }
+    ensures untouched { IfErr result (λ status. EndsBeforeParts status → parts.new ≡ parts.old) }
 {
     let cert = joined_cert(alloc, instance, whole, parts)?;
     match report(alloc, &cert) {
@@ -44,21 +45,6 @@ fn tell<K: Sink>(out: &mut K, bytes: &[u8], written: JoinStatus) -> JoinStatus
     }
 }
 
-/// Writes the line of a refusal where there is one, and says how the run ends.
-fn tell_refusal<K: Sink>(alloc: Global, out: &mut K, status: JoinStatus) -> JoinStatus {
-    match status {
-        JoinStatus::Refused(why) => match refused_line(alloc, why) {
-            Ok(line) => tell(out, line.as_bytes(), JoinStatus::Refused(why)),
-            Err(_) => JoinStatus::NoMemory,
-        },
-        JoinStatus::NoPart { part, cause } => match part_line(alloc, part, cause) {
-            Ok(line) => tell(out, line.as_bytes(), JoinStatus::NoPart { part, cause }),
-            Err(_) => JoinStatus::NoMemory,
-        },
-        _ => status,
-    }
-}
-
 /// Joins the parts that sources give up into a report, and writes what comes of it.
 fn run_over<P: Source, K: Sink>(
     alloc: Global,
@@ -72,11 +58,21 @@ fn run_over<P: Source, K: Sink>(
         (record { left = map P.left parts.old; faults = (map P.faults parts.old, map P.faults parts.new) })
         (record { held = K.held out.old; held_after = K.held out.new; faults = (K.faults out.old, K.faults out.new) })
         result }
+    ensures parts_untouched { EndsBeforeParts result → parts.new ≡ parts.old }
     ensures unwritten { EndsUnwritten result → out.new ≡ out.old }
 {
     match joined_text(alloc, instance, whole, parts) {
         Ok(text) => tell(out, text.as_slice(), JoinStatus::Written),
-        Err(status) => tell_refusal(alloc, out, status),
+        Err(JoinStatus::Refused(why)) => match refused_line(alloc, why) {
+            Ok(line) => tell(out, line.as_bytes(), JoinStatus::Refused(why)),
+            Err(_) => JoinStatus::NoMemory,
+        },
+        Err(JoinStatus::NoPart { part, cause }) => match part_line(alloc, part, cause) {
+            Ok(line) => tell(out, line.as_bytes(), JoinStatus::NoPart { part, cause }),
+            Err(_) => JoinStatus::NoMemory,
+        },
+        Err(JoinStatus::ReadFault) => JoinStatus::ReadFault,
+        Err(_) => JoinStatus::NoMemory,
     }
 }
 
@@ -93,6 +89,7 @@ fn run_report<T: Source, P: Source, K: Sink>(
         (record { left = map P.left parts.old; faults = (map P.faults parts.old, map P.faults parts.new) })
         (record { held = K.held out.old; held_after = K.held out.new; faults = (K.faults out.old, K.faults out.new) })
         result }
+    ensures parts_untouched { EndsBeforeParts result → parts.new ≡ parts.old }
     ensures unwritten { EndsUnwritten result → out.new ≡ out.old }
 {
     match read_report(alloc, bundle) {
@@ -114,6 +111,7 @@ fn run_report<T: Source, P: Source, K: Sink>(
 /// or `NoPart` where a file isn't a part, and the line `join refused PART K` with its numbers was written: PART is its number among the
 /// parts. The parts behind it aren't read. `Usage`, `Input`, `Bundle`, `ReadFault`, `WriteFault` and `NoMemory` come as in a run of
 /// `shift_check`, `ReadFault` also where a read of a part failed.
+#[tactic(auto, using(crate::proofs::Endings::explained, crate::proofs::Endings::has_command, crate::proofs::Endings::no_command))]
 pub fn join_top<S: Source, T: Source, P: Source, K: Sink>(
     alloc: Global,
     words: &[String],

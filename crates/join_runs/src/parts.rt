@@ -3,6 +3,7 @@ ghost use Rattle.std.specs.Prelude.{◌≡◌, ◌+◌, ◌<◌, ◌≤◌, ◌^
 ghost use Rattle.certificate.specs.Text.{Agrees};
 ghost use Rattle.report_joins.specs.Joined.{alone};
 ghost use Rattle.join_runs.specs.Running.{AreAllJoined, IsAllJoined, IsPartEnd, IsUnjoined, JoinsReport};
+ghost use Rattle.join_runs.specs.Status.{EndsBeforeParts};
 
 use crate::reading::{Unreported, read_report};
 use crate::status::{JoinStatus, PartCause};
@@ -20,7 +21,8 @@ fn with_part<P: Source>(
     number: u64,
     source: &mut P,
 ) -> Result<Joining, JoinStatus>
-    requires { joining.instance ≡ instance.now }
+    requires same { joining.instance ≡ instance.now }
+    requires few { length joining.whole.lines ≤ 2 ^ 28 }
     ensures joined { IfOk result (JoinsReport (P.left source.old) joining) }
     ensures status { IfErr result (IsPartEnd joining number (record { left = P.left source.old; faults = (P.faults source.old, P.faults source.new) })) }
 {
@@ -59,6 +61,7 @@ fn with_parts<P: Source>(
     requires few { length whole.lines ≤ 2 ^ 28 }
     ensures joined { IfOk result (AreAllJoined instance.now whole (map P.left parts.old)) }
     ensures status { IfErr result (IsUnjoined instance.now whole (record { left = map P.left parts.old; faults = (map P.faults parts.old, map P.faults parts.new) })) }
+    ensures untouched { IfErr result (λ status. EndsBeforeParts status → parts.new ≡ parts.old) }
 {
     let mut joining = match Joining::of(alloc, instance, whole) {
         Ok(joining) => joining,
@@ -83,7 +86,9 @@ pub(crate) fn joined_cert<P: Source>(
     ensures joined { IfOk result (IsAllJoined instance.now whole (map P.left parts.old)) }
     ensures agrees { IfOk result Agrees }
     ensures status { IfErr result (IsUnjoined instance.now whole (record { left = map P.left parts.old; faults = (map P.faults parts.old, map P.faults parts.new) })) }
+    ensures untouched { IfErr result (λ status. EndsBeforeParts status → parts.new ≡ parts.old) }
 {
+    let _valid = instance.slots();
     let joining = with_parts(alloc, instance, whole, parts)?;
     match joining.into_cert(alloc) {
         Ok(cert) => Ok(cert),
