@@ -1,5 +1,5 @@
 -- A plan with cheaper rows, or as it was, is one whose breaks were planned anew.
-use Rattle.std.proofs.Common.{◌≡◌, ℕ, ◌<◌, ◌≤◌, ◌==◌, ◌&&◌, List, refl, sym, ap, ◌∙◌, subst, arith, max, Option, None, Some}
+use Rattle.std.proofs.Common.{◌≡◌, ℕ, ◌<◌, ◌≤◌, ◌==◌, List, refl, sym, ap, ◌∙◌, subst, arith, max, Option, None, Some}
 use Rattle.std.specs.Prelude.{IfSome, IsTrue}
 use Rattle.std.proofs.lemmas.Bool.{and_parts, eqb-true}
 use Rattle.shift_instance.specs.declared.Duty.{Duty}
@@ -9,7 +9,7 @@ use Rattle.shift_instance.specs.Rota.{are_legal_rows, cost, is_legal_rota, rota_
 use Rattle.certificate.specs.declared.Cert.{Cert}
 use Rattle.certificate.specs.Accepted.{is_accepted, is_bound, is_plan}
 use Rattle.certificate.proofs.Acceptance.{bounds}
-use Rattle.break_plans.specs.Anew.{HasHeadsOf, IsCheaper, rows_after}
+use Rattle.break_plans.specs.Anew.{HasHeadsOf, IsCheaper}
 use Rattle.planning_runs.specs.declared.plan.Plan.{Plan}
 use Rattle.planning_breaks.specs.declared.anew.Rebroken.{Rebroken}
 use Rattle.planning_breaks.specs.Anew.{BoundsBreaks, IsRebroken, cert_after}

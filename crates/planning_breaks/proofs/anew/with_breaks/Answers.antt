@@ -1,7 +1,10 @@
-use Rattle.std.proofs.Common.{◌≡◌, Some, sym, ◌∙◌}
+use Rattle.std.proofs.Common.{sym, ◌∙◌}
 use Rattle.planning_breaks.specs.declared.anew.Rebroken.{Rebroken}
 use Rattle.planning_breaks.proofs.Breaks.{bounded, rebroken}
 use Rattle.planning_breaks.proofs.anew.with_breaks.Goals as goal
+
+pub planned_anew-requires-clause-legal : goal.planned_anew-requires-clause-legal
+planned_anew-requires-clause-legal g c = c.args.plan.legal c.in-Some.cost_before c.in-Some.before (sym c.in_ok-cost_before.ensures.rows ∙ c.in-Some.is)
 
 pub returns-clause-rebroken : goal.returns-clause-rebroken
 returns-clause-rebroken g c =
