@@ -1,5 +1,5 @@
 -- A plan with cheaper rows, or as it was, is one whose breaks were planned anew.
-use Rattle.std.proofs.Common.{◌≡◌, ℕ, ◌<◌, ◌≤◌, ◌==◌, ◌&&◌, List, refl, sym, ap, ◌∙◌, subst, arith, max, Option, None, Some}
+use Rattle.std.proofs.Common.{◌≡◌, ℕ, ◌<◌, ◌≤◌, ◌==◌, List, refl, sym, ap, ◌∙◌, subst, arith, max, Option, None, Some}
 use Rattle.std.specs.Prelude.{IfSome, IsTrue}
 use Rattle.std.proofs.lemmas.Bool.{and_parts, eqb-true}
 use Rattle.shift_instance.specs.declared.Duty.{Duty}
@@ -9,7 +9,7 @@ use Rattle.shift_instance.specs.Rota.{are_legal_rows, cost, is_legal_rota, rota_
 use Rattle.certificate.specs.declared.Cert.{Cert}
 use Rattle.certificate.specs.Accepted.{is_accepted, is_bound, is_plan}
 use Rattle.certificate.proofs.Acceptance.{bounds}
-use Rattle.break_plans.specs.Anew.{HasHeadsOf, IsCheaper, rows_after}
+use Rattle.break_plans.specs.Anew.{HasHeadsOf, IsCheaper}
 use Rattle.planning_runs.specs.declared.plan.Plan.{Plan}
 use Rattle.planning_breaks.specs.declared.anew.Rebroken.{Rebroken}
 use Rattle.planning_breaks.specs.Anew.{BoundsBreaks, IsRebroken, cert_after}
@@ -26,6 +26,7 @@ as_before : (plan : Plan) (r : Rebroken) → plan.cert.plan ≡ Some (r.cost_bef
     → IsTrue (is_accepted plan.instance plan.cert) → IsTrue (is_accepted r.plan.instance r.plan.cert) → IsRebroken plan r
 as_before plan r is same cert old accepted =
     let parts = plan_parts plan.instance plan.cert r.cost_before r.before old is in
+    let same_cost : r.cost_before ≤ r.cost_before = omega arith in
     record {
       before = is;
       after = (r.cost_before, r.before);
@@ -37,7 +38,7 @@ as_before plan r is same cert old accepted =
       legal = parts.0;
       heads = λ s day there some within. refl;
       cost = sym parts.1;
-      cheap = omega arith;
+      cheap = same_cost;
     }
 
 -- cheaper rows
@@ -47,6 +48,7 @@ with_new plan r rows is same cert old accepted cheaper =
     let parts = plan_parts plan.instance plan.cert r.cost_before r.before old is in
     let before : cost plan.instance (rota_of r.before) ≡ r.cost_before = parts.1 in
     let less : cost plan.instance (rota_of rows) < cost plan.instance (rota_of r.before) = cheaper.less in
+    let most : cost plan.instance (rota_of rows) ≤ r.cost_before = omega (arith, before, less) in
     record {
       before = is;
       after = (cost plan.instance (rota_of rows), rows);
@@ -58,7 +60,7 @@ with_new plan r rows is same cert old accepted cheaper =
       legal = cheaper.legal;
       heads = cheaper.heads;
       cost = refl;
-      cheap = omega (arith, before, less);
+      cheap = most;
     }
 
 pub rebroken : (plan : Plan) (r : Rebroken) (cheaper : Option (List Row)) → plan.cert.plan ≡ Some (r.cost_before, r.before) → r.plan.instance ≡ plan.instance → r.plan.cert ≡ cert_after plan.instance plan.cert cheaper

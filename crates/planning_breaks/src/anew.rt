@@ -27,7 +27,6 @@ pub struct Rebroken {
 /// The rows of a plan with what they cost, once more; none where its report has none.
 fn rows_in(plan: &Plan) -> Result<Option<(u64, Rows)>, NoMemory>
     ensures rows { IfOk result (λ found. found ≡ plan.now.cert.plan) }
-    ensures legal { IfOk result (λ found. IfSome found (λ p. IsTrue (are_legal_rows plan.now.instance p.1))) }
 {
     match &plan.cert.plan {
         Some((cost, rows)) => Ok(Some((*cost, rows.clone()?))),
