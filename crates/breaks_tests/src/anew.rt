@@ -28,13 +28,14 @@ fn one_duty(alloc: Global, start: u16) -> Result<Rows, AllocError> {
 }
 
 /// What comes of planning a duty's break anew that stands at an hour of its shift, by so many steps.
-fn planned(alloc: Global, instance: &Instance, start: u16, steps: u64) -> Result<Anew, Fail> {
+fn planned(alloc: Global, instance: &Instance, start: u16, steps: u16) -> Result<Anew, Fail> {
     let rows = one_duty(alloc, start)?;
     let Ok(plan) = cost_rows(instance, rows) else {
         return Err(Fail::from("rows that aren't legal"));
     };
     let prices = Thorough::for_prices(alloc, Never);
     let mut adviser = Rebreaking::new(alloc, instance, plan.rows(), 1, prices, Never)?;
+    let steps = u64::from(steps);
     Ok(planned_anew(alloc, instance, plan.rows(), steps, &mut adviser, &Never)?)
 }
 
@@ -46,7 +47,7 @@ fn hour_of(anew: &Anew) -> Option<u16> {
 }
 
 /// The hour of the break that is found, what it costs, the floor, and the number of steps, of a duty's break at an hour of its shift.
-fn numbers(alloc: Global, start: u16, steps: u64) -> Result<(Option<u16>, u64, u64, u64), Fail> {
+fn numbers(alloc: Global, start: u16, steps: u16) -> Result<(Option<u16>, u64, u64, u64), Fail> {
     let instance = read(alloc, NOON.as_bytes())?;
     let anew = planned(alloc, &instance, start, steps)?;
     Ok((hour_of(&anew), anew.cost, anew.floor, anew.steps))
