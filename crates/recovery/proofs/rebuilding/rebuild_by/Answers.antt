@@ -14,4 +14,4 @@ returns-in_err-from-clause-only g c = none_rejected c.args.width c.args.instance
 pub returns-clause-history : goal.returns-clause-history
 returns-clause-history g c =
     let done : length c.args.records.now ≤ c.parts.from = omega (arith, c.parts-test.false) in
-    all_made c.args.width c.args.instance.now c.args.records.now c.parts.from c.parts.front.state.history c.parts.front.state.book done c.parts.invariant.2.0
+    all_made c.args.width c.args.instance.now c.args.records.now c.parts.from c.parts.front.state.history c.parts.front.state.book done c.parts.invariant.2
