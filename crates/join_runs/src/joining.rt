@@ -1,5 +1,5 @@
 //! The run of `graft_run join`.
-ghost use Rattle.std.specs.Prelude.{◌≡◌, ◌<◌, ◌≤◌, ◌^◌, IfErr, IfOk, length, map, string_bytes};
+ghost use Rattle.std.specs.Prelude.{◌≡◌, ◌≤◌, ◌^◌, IfErr, IfOk, length, map, string_bytes};
 ghost use Rattle.join_runs.specs.Running.{IsUnjoined, Told};
 ghost use Rattle.join_runs.specs.Runs.{EndsOver, EndsWith, Explains, IsJoinedText};
 ghost use Rattle.join_runs.specs.Status.{EndsBeforeParts, EndsEarly, EndsUnwritten};

@@ -1,7 +1,6 @@
 //! Parts that sources give up, joined one after another.
-ghost use Rattle.std.specs.Prelude.{◌≡◌, ◌+◌, ◌<◌, ◌≤◌, ◌^◌, IfErr, IfOk, length, map};
+ghost use Rattle.std.specs.Prelude.{◌≡◌, ◌≤◌, ◌^◌, IfErr, IfOk, length, map};
 ghost use Rattle.certificate.specs.Text.{Agrees};
-ghost use Rattle.report_joins.specs.Joined.{alone};
 ghost use Rattle.join_runs.specs.Running.{AreAllJoined, IsAllJoined, IsPartEnd, IsUnjoined, JoinsReport};
 ghost use Rattle.join_runs.specs.Status.{EndsBeforeParts};
 
