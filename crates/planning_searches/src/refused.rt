@@ -2,9 +2,9 @@
 
 use crate::journals::{is_torn, journal_head, journal_of};
 use crate::reading::canonical_in;
-use journal_texts::difference;
 use planning_refusals::Refusal;
 use planning_words::PlanWords;
+use refusal_texts::difference;
 use search_book::OpenFault;
 use solve_runs::SearchEnd;
 use std::alloc::AllocError;

@@ -1,14 +1,13 @@
 //! What is said of a search on standard error.
 
 use crate::reading::Read;
-use document_faults::repeated_names;
 use instance_warnings::{Told, warnings};
-use journal_texts::full_sentence;
 use plan_tables::Hours;
 use planning_ends::shown_on;
 use planning_progress::{Progress, Shown};
 use planning_refusals::Refusal;
 use planning_words::PlanWords;
+use refusal_texts::{full_sentence, repeated_names};
 use rule_sentences::rules_text;
 use shift_instance::{Instance, Shift};
 use solve_runs::SearchEnd;

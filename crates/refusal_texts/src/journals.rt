@@ -1,13 +1,9 @@
 //! Sentences for people whose journal isn't opened or is full: what is wrong with it, and what to do.
-#![tactic(auto)]
 
 ghost use Rattle.std.specs.Prelude.{◌≡◌, ◌++◌, ℕ, List, codes, IfOk, string_bytes};
 ghost use Rattle.search_book.specs.OpenFaultText.{open_fault_text};
-ghost use Rattle.journal_texts.specs.Full.{full_text};
+ghost use Rattle.refusal_texts.specs.Full.{full_text};
 
-mod differences;
-
-pub use differences::difference;
 use recovery::Why;
 use search_book::OpenFault;
 use search_core::StepFault;

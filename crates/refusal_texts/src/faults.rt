@@ -1,4 +1,5 @@
-//! What is wrong with a document, by its refusal.
+//! What is wrong with a refused document, in words for whoever wrote it: what stands there, and what may stand there. The place
+//! isn't told here, and nothing is claimed of the words.
 
 use crate::encodings::why_no_json;
 use crate::found::value_of;
@@ -24,7 +25,7 @@ fn too_long(alloc: Global, document: &[u8]) -> Result<String, AllocError> {
 /// Says what is wrong with a document that is refused so, as a text that goes on behind the place of the refusal: what stands
 /// there, read from the document again, and what may stand there, with ranges and units. The only error is running out
 /// of memory.
-pub fn what_is_wrong(
+pub(crate) fn what_is_wrong(
     alloc: Global,
     document: &[u8],
     refusal: &ReadRefusal,
