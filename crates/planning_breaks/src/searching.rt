@@ -5,10 +5,9 @@ ghost use Rattle.std.specs.Prelude.{◌≤◌, ◌^◌};
 use crate::anew::{Rebroken, with_breaks};
 use break_search::Rebreaking;
 use planning_ends::{begun, enter_ends, shown_on};
-use planning_progress::{Limits, Progress, Shown, Until, Watched};
 use planning_refusals::{Cause, Refusal};
 use planning_runs::Plan;
-use planning_words::BreaksWords;
+use planning_words::{BreaksWords, Progress, Shown, TimeLimits, Until, Watched};
 use shift_instance::{Instance, Rows};
 use std::alloc::{AllocError, Global};
 use std::sync::Arc;
@@ -104,7 +103,7 @@ pub fn breaks_as_asked<R: Threads>(
     plan: Plan,
 ) -> Result<Rebroken, Refusal> {
     let alloc = host.alloc();
-    let limits = Limits {
+    let limits = TimeLimits {
         whole: u64::from(words.seconds) * SECOND,
         quiet: None,
     };

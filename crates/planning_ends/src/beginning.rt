@@ -1,13 +1,13 @@
 //! The beginning of a search.
 
-use planning_progress::{Limits, Progress, Shown};
 use planning_refusals::{Cause, Refusal};
+use planning_words::{Progress, Shown, TimeLimits};
 use std::io::IsTerminal;
 use std::sync::Arc;
 use std::time::Instant;
 
 /// The progress of a run by so many workers that begins now and may last so long.
-pub fn begun(rt: HostRuntime, limits: Limits, workers: u16) -> Result<Arc<Progress>, Refusal> {
+pub fn begun(rt: HostRuntime, limits: TimeLimits, workers: u16) -> Result<Arc<Progress>, Refusal> {
     let alloc = rt.alloc();
     let Ok(began) = Instant::now(&rt) else {
         return Err(Refusal::said(

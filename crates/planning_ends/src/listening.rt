@@ -1,7 +1,6 @@
 //! A search that ends at a line of standard input.
 
-use planning_progress::Progress;
-use planning_words::StopOn;
+use planning_words::{Progress, StopOn};
 use std::io::{IsTerminal, Read};
 use std::sync::Arc;
 use std::thread::Threads;

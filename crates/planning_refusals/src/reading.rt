@@ -3,7 +3,7 @@
 use crate::refusal::Refusal;
 use instance_json::{INSTANCE_MAX, ReadRefusal};
 use plan_base::{FileSource, ReadEnd, read_all};
-use planning_files::is_unfinished;
+use planning_words::is_unfinished;
 use refusal_texts::Role;
 use std::alloc::AllocError;
 use std::fs::{self, File};

@@ -4,9 +4,10 @@ ghost use Rattle.std.specs.Prelude.{◌<◌};
 
 use crate::before::{Before, Taken, taken_from};
 use instance_json::INSTANCE_MAX;
-use planning_files::{LockedJournal, set_aside};
 use planning_refusals::{Cause, Refusal};
-use planning_words::{PlanWords, document_beside, is_same_file, journal_beside};
+use planning_words::{
+    LockedJournal, PlanWords, document_beside, is_same_file, journal_beside, set_aside,
+};
 use refusal_texts::Role;
 use shift_instance::Instance;
 use std::alloc::{AllocError, Global};

@@ -11,11 +11,9 @@ use advice::Adviser;
 use gated_journal::JOURNAL_MAX;
 use plan_base::FileDisk;
 use planning_ends::{begun, enter_ends, shown_on};
-use planning_files::LockedJournal;
-use planning_progress::{Limits, Progress};
 use planning_refusals::Refusal;
 use planning_runs::{Plan, Planned, search_plan};
-use planning_words::PlanWords;
+use planning_words::{LockedJournal, PlanWords, Progress, TimeLimits};
 use shift_instance::Instance;
 use solve_runs::Request;
 use std::alloc::AllocError;
@@ -30,8 +28,8 @@ const SECOND: u64 = 1_000;
 const STEPS_MOST: u64 = 1 << 62;
 
 /// How long a search as the words say may last.
-fn limits_of(words: &PlanWords) -> Limits {
-    Limits {
+fn limits_of(words: &PlanWords) -> TimeLimits {
+    TimeLimits {
         whole: u64::from(words.seconds) * SECOND,
         quiet: words.until_quiet.map(|quiet| u64::from(quiet) * SECOND),
     }

@@ -1,7 +1,7 @@
 //! The folder that the files of a plan are put into.
 
-use planning_files::{PLAN_FILES, PlanFolder, is_unfinished, mend, put};
 use planning_refusals::Refusal;
+use planning_words::{PLAN_FILES, PlanFolder, is_unfinished, mend, put};
 use refusal_texts::Role;
 use std::io;
 

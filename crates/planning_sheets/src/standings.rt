@@ -1,7 +1,7 @@
 //! How a plan stands, in words.
 
 use certificate::{Cert, CertStatus};
-use planning_progress::gap_of;
+use planning_words::gap_of;
 use shift_instance::Instance;
 use std::alloc::{AllocError, Global};
 

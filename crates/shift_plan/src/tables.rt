@@ -1,11 +1,10 @@
 //! Tables that are read as a document, and the tables of a document.
 
 use instance_tables::{Table, TableTexts, Tables, exported, imported};
-use planning_files::{make_folder, write_kept};
 use planning_refusals::{Refusal, read_table};
 use planning_searches::{hours_wanted, read_instance};
 use planning_sheets::say;
-use planning_words::TableWords;
+use planning_words::{TableWords, make_folder, write_kept};
 use refusal_texts::Role;
 use shift_instance::Instance;
 use std::alloc::{AllocError, Global};

@@ -1,6 +1,6 @@
 //! The folder of a plan in the system's files.
 
-ghost use Rattle.planning_files.specs.Folder.{Held};
+ghost use Rattle.planning_words.specs.Folder.{Held};
 
 use crate::locked_journal::set_aside;
 use crate::plan_file::{PLAN_FILES, PlanFile};

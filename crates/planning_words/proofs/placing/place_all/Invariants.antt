@@ -1,6 +1,6 @@
 use Rattle.std.proofs.Common.{◌≡◌, ◌<◌, ℕ, None}
-use Rattle.planning_files.specs.Folder.{Held, Goes, OnTheWay}
-use Rattle.planning_files.proofs.placing.place_all.Given as goal
+use Rattle.planning_words.specs.Folder.{Held, Goes, OnTheWay}
+use Rattle.planning_words.proofs.placing.place_all.Given as goal
 
 abbrev pub invariant-loop-file : goal.invariant-loop-file
 invariant-loop-file g l = record {

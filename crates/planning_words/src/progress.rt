@@ -30,7 +30,7 @@ impl Mark {
 #[derive(Drop)]
 pub struct Progress {
     began: Instant,
-    limits: Limits,
+    limits: TimeLimits,
     asked: AtomicBool,
     steps: AtomicU64,
     marks: Vec<Mark>,
@@ -41,7 +41,7 @@ pub struct Progress {
 
 /// How long a search may last, in milliseconds.
 #[derive(Clone, Copy, PartialEq, Eq, Drop)]
-pub struct Limits {
+pub struct TimeLimits {
     /// Its whole time.
     pub whole: u64,
     /// Its time without a cheaper plan, if that is limited.
@@ -53,7 +53,7 @@ impl Progress {
     pub fn new(
         alloc: Global,
         began: Instant,
-        limits: Limits,
+        limits: TimeLimits,
         workers: u16,
     ) -> Result<Progress, AllocError> {
         let mut marks = Vec::with_capacity(alloc, usize::from(workers))?;

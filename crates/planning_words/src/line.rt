@@ -1,7 +1,7 @@
 //! The line that is said of a search while it runs.
 
 ghost use Rattle.std.specs.Prelude.{◌≡◌, ◌++◌, IfOk, OnOk, string_bytes};
-ghost use Rattle.planning_progress.specs.Progress.{cost_text, gap_of, gap_text, progress_text, steps_text};
+ghost use Rattle.planning_words.specs.Progress.{cost_text, gap_of, gap_text, progress_text, steps_text};
 
 use std::alloc::{AllocError, Global};
 use std::fmt::Write;

@@ -1,7 +1,7 @@
 //! All files of a plan, put in place together.
 
 ghost use Rattle.std.specs.Prelude.{◌≡◌, ◌<◌, ℕ, true, false, OnOk, None, Some, length, map};
-ghost use Rattle.planning_files.specs.Folder.{Held, Goes, IsNew, Puts, Mends, OnTheWay, IsBegun, GivesUp, plan_at};
+ghost use Rattle.planning_words.specs.Folder.{Held, Goes, IsNew, Puts, Mends, OnTheWay, IsBegun, GivesUp, plan_at};
 
 use crate::plan_folder::Folder;
 use std::io;

@@ -1,6 +1,6 @@
 use Rattle.std.proofs.Common.{◌∙◌}
-use Rattle.planning_files.proofs.Going.{placed_one}
-use Rattle.planning_files.proofs.placing.place_one.Goals as goal
+use Rattle.planning_words.proofs.Going.{placed_one}
+use Rattle.planning_words.proofs.placing.place_one.Goals as goal
 
 pub returns-in_err-place-clause-goes : goal.returns-in_err-place-clause-goes
 returns-in_err-place-clause-goes g c =

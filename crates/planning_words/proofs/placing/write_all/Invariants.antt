@@ -1,6 +1,6 @@
 use Rattle.std.proofs.Common.{◌≡◌, ◌<◌, ℕ, Some, map}
-use Rattle.planning_files.specs.Folder.{Held, Goes, IsBegun, plan_at}
-use Rattle.planning_files.proofs.placing.write_all.Given as goal
+use Rattle.planning_words.specs.Folder.{Held, Goes, IsBegun, plan_at}
+use Rattle.planning_words.proofs.placing.write_all.Given as goal
 
 abbrev pub invariant-loop-file : goal.invariant-loop-file
 invariant-loop-file g l = record {

@@ -1,7 +1,7 @@
 //! The folder of a plan as a program sees it: what a call changes in it, and what a run leaves that ends at any moment.
 
 ghost use Rattle.std.specs.Prelude.{◌≡◌, ◌⊎◌, true, false, is_some, None, Some, OnOk, IfOk};
-ghost use Rattle.planning_files.specs.Folder.{Held, Goes, ChangesFresh, ChangesWhole, ChangesMarker, Places, IsSame};
+ghost use Rattle.planning_words.specs.Folder.{Held, Goes, ChangesFresh, ChangesWhole, ChangesMarker, Places, IsSame};
 
 use std::io;
 

@@ -1,7 +1,7 @@
 -- Calls on a folder, one after another, and a file that they put in place.
 use Rattle.std.proofs.Common.{◌≡◌, ◌⊎◌, inl, inr, ⊎_elim, ℕ, true, List, sym, ◌∙◌, ap, subst, Option, Some, None, is_some}
 use Rattle.std.proofs.lemmas.Bool.{cases_eq, true≢false, false≢true}
-use Rattle.planning_files.specs.Folder.{Held, Goes, ChangesWhole, Places, IsSame, GoesItsWay, OnTheWay}
+use Rattle.planning_words.specs.Folder.{Held, Goes, ChangesWhole, Places, IsSame, GoesItsWay, OnTheWay}
 
 -- calls after others, of whose end more is known
 pub then_goes : (A B C pA pB pC : Held → Type 0) (R S T : Held → Held → Type 0) (E : Held → Type 0)
