@@ -3,7 +3,7 @@
 use advice::Adviser;
 use advisers::Greedy;
 use plan_base::MemDisk;
-use planning_runs::{Plan, Planned, search_plan};
+use planning_runs::{JudgedPlan, Planned, search_plan};
 use planning_words::{Progress, TimeLimits, Until};
 use solve_runs::{Request, SearchEnd};
 use std::sync::{Arc, Wait};
@@ -31,7 +31,7 @@ fn morning<R: Threads + Wait + Sync>(
     host: HostRuntime,
     rt: &R,
     progress: Arc<Progress>,
-) -> Result<(SearchEnd, Plan), Fail> {
+) -> Result<(SearchEnd, JudgedPlan), Fail> {
     let alloc = host.alloc();
     let Ok(instance) = instance_json::read(alloc, MORNING.as_bytes()) else {
         return Err(Fail::from("no instance"));

@@ -10,9 +10,7 @@ use crate::telling::{Beginning, tell_end};
 use advice::Adviser;
 use gated_journal::JOURNAL_MAX;
 use plan_base::FileDisk;
-use planning_ends::{begun, enter_ends, shown_on};
-use planning_refusals::Refusal;
-use planning_runs::{Plan, Planned, search_plan};
+use planning_runs::{JudgedPlan, PlanRefusal, Planned, begun, enter_ends, search_plan, shown_on};
 use planning_words::{LockedJournal, PlanWords, Progress, TimeLimits};
 use shift_instance::Instance;
 use solve_runs::Request;
@@ -54,7 +52,7 @@ fn budget_of(words: &PlanWords, journal: &LockedJournal<HostRuntime>) -> Budget 
 }
 
 /// The plan of a search that has ended.
-fn ended(team: &Team, planned: Planned<FileDisk<HostRuntime>>) -> Result<Plan, Refusal> {
+fn ended(team: &Team, planned: Planned<FileDisk<HostRuntime>>) -> Result<JudgedPlan, PlanRefusal> {
     let Planned { searched, plan } = planned;
     match plan {
         Some(plan) => {
@@ -100,7 +98,7 @@ fn search_by<R: Threads + Wait + Sync>(
     team: &Team,
     instance: Instance,
     journal: &LockedJournal<HostRuntime>,
-) -> Result<Plan, Refusal>
+) -> Result<JudgedPlan, PlanRefusal>
     requires some { 0 < team.now.words.now.workers }
 {
     let alloc = team.host.alloc();
@@ -133,7 +131,7 @@ pub fn search_as_asked<R: Threads + Wait + Sync>(
     instance: Instance,
     older: &Older,
     journals: &Journals,
-) -> Result<Plan, Refusal>
+) -> Result<JudgedPlan, PlanRefusal>
     requires some { 0 < words.now.workers }
 {
     let progress = begun(host, limits_of(words), words.workers)?;

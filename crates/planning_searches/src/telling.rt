@@ -3,8 +3,7 @@
 use crate::reading::Read;
 use instance_warnings::{Told, warnings};
 use plan_tables::Hours;
-use planning_ends::shown_on;
-use planning_refusals::Refusal;
+use planning_runs::{PlanRefusal, shown_on};
 use planning_words::{PlanWords, Progress, Shown};
 use refusal_texts::{full_sentence, repeated_names};
 use rule_sentences::rules_text;
@@ -198,7 +197,7 @@ fn tell_stopped(rt: HostRuntime, progress: &Progress) {
 
 /// Says why a search was cut off, if it was.
 fn tell_cut_off(rt: HostRuntime, end: &SearchEnd) {
-    if let Some(why) = Refusal::of_end(rt.alloc(), end) {
+    if let Some(why) = PlanRefusal::of_end(rt.alloc(), end) {
         let _ = eprintln!(rt; "shift_plan: the search ends early: {why}");
     }
 }

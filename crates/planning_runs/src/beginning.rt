@@ -1,16 +1,20 @@
 //! The beginning of a search.
 
-use planning_refusals::{Cause, Refusal};
+use crate::refusal::{Cause, PlanRefusal};
 use planning_words::{Progress, Shown, TimeLimits};
 use std::io::IsTerminal;
 use std::sync::Arc;
 use std::time::Instant;
 
 /// The progress of a run by so many workers that begins now and may last so long.
-pub fn begun(rt: HostRuntime, limits: TimeLimits, workers: u16) -> Result<Arc<Progress>, Refusal> {
+pub fn begun(
+    rt: HostRuntime,
+    limits: TimeLimits,
+    workers: u16,
+) -> Result<Arc<Progress>, PlanRefusal> {
     let alloc = rt.alloc();
     let Ok(began) = Instant::now(&rt) else {
-        return Err(Refusal::said(
+        return Err(PlanRefusal::said(
             Cause::System,
             String::from_str(alloc, "the system doesn't tell the time"),
         ));

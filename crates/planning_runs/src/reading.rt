@@ -1,6 +1,6 @@
 //! Files that are read whole.
 
-use crate::refusal::Refusal;
+use crate::refusal::PlanRefusal;
 use instance_json::{INSTANCE_MAX, ReadRefusal};
 use plan_base::{FileSource, ReadEnd, read_all};
 use planning_words::is_unfinished;
@@ -28,14 +28,19 @@ fn read_within(
     role: Role,
     path: &str,
     limit: usize,
-) -> Result<Option<Vec<u8>>, Refusal> {
+) -> Result<Option<Vec<u8>>, PlanRefusal> {
     let alloc = rt.alloc();
     let mut source = FileSource::new(rt, String::from_str(alloc, path)?);
     match read_all(alloc, &mut source, limit) {
         Ok(bytes) => Ok(Some(bytes)),
         Err(ReadEnd::TooLong) => Ok(None),
-        Err(ReadEnd::ReadFault) => Err(Refusal::unread(alloc, role, path, why_unread(rt, path))),
-        Err(ReadEnd::NoMemory) => Err(Refusal::from(AllocError)),
+        Err(ReadEnd::ReadFault) => Err(PlanRefusal::unread(
+            alloc,
+            role,
+            path,
+            why_unread(rt, path),
+        )),
+        Err(ReadEnd::NoMemory) => Err(PlanRefusal::from(AllocError)),
     }
 }
 
@@ -53,15 +58,15 @@ fn is_report(rt: HostRuntime, path: &str) -> bool {
 
 /// The bytes of the instance document in a file. It is refused where the file can't be read, begins as a report does or is longer than
 /// documents may be.
-pub fn read_document(rt: HostRuntime, path: &str) -> Result<Vec<u8>, Refusal> {
+pub fn read_document(rt: HostRuntime, path: &str) -> Result<Vec<u8>, PlanRefusal> {
     let alloc = rt.alloc();
     match read_within(rt, Role::Instance, path, INSTANCE_MAX)? {
         Some(document) if document.starts_with(REPORT) => {
-            Err(Refusal::report_for_instance(alloc, path))
+            Err(PlanRefusal::report_for_instance(alloc, path))
         }
         Some(document) => Ok(document),
-        None if is_report(rt, path) => Err(Refusal::report_for_instance(alloc, path)),
-        None => Err(Refusal::document(alloc, &[], &ReadRefusal::TooLong)),
+        None if is_report(rt, path) => Err(PlanRefusal::report_for_instance(alloc, path)),
+        None => Err(PlanRefusal::document(alloc, &[], &ReadRefusal::TooLong)),
     }
 }
 
@@ -75,7 +80,7 @@ fn folder_of(path: &str) -> &str {
 }
 
 /// Says where the folder of a report isn't whole.
-fn tell_unfinished(rt: HostRuntime, path: &str) -> Result<(), Refusal> {
+fn tell_unfinished(rt: HostRuntime, path: &str) -> Result<(), PlanRefusal> {
     let folder = folder_of(path);
     match is_unfinished(rt, folder) {
         Ok(true) => {
@@ -84,19 +89,19 @@ fn tell_unfinished(rt: HostRuntime, path: &str) -> Result<(), Refusal> {
             );
             Ok(())
         }
-        Err(why) if why.kind() == io::ErrorKind::OutOfMemory => Err(Refusal::from(AllocError)),
+        Err(why) if why.kind() == io::ErrorKind::OutOfMemory => Err(PlanRefusal::from(AllocError)),
         _ => Ok(()),
     }
 }
 
 /// The bytes of the report in a file. It is refused where the file can't be read or is longer than reports may be. Where its folder isn't whole
 /// that is said on standard error.
-pub fn read_report(rt: HostRuntime, path: &str) -> Result<Vec<u8>, Refusal> {
+pub fn read_report(rt: HostRuntime, path: &str) -> Result<Vec<u8>, PlanRefusal> {
     tell_unfinished(rt, path)?;
     let limit = usize::try_from(certificate::BUNDLE_MAX).unwrap_or(usize::MAX);
     match read_within(rt, Role::Report, path, limit)? {
         Some(report) => Ok(report),
-        None => Err(Refusal::long_report(rt.alloc())),
+        None => Err(PlanRefusal::long_report(rt.alloc())),
     }
 }
 
@@ -104,9 +109,9 @@ pub fn read_report(rt: HostRuntime, path: &str) -> Result<Vec<u8>, Refusal> {
 const TABLE_MAX: usize = 1_048_576;
 
 /// The bytes of the table in a file. It is refused where the file can't be read or is longer than tables may be.
-pub fn read_table(rt: HostRuntime, path: &str) -> Result<Vec<u8>, Refusal> {
+pub fn read_table(rt: HostRuntime, path: &str) -> Result<Vec<u8>, PlanRefusal> {
     match read_within(rt, Role::Table, path, TABLE_MAX)? {
         Some(table) => Ok(table),
-        None => Err(Refusal::long_table(rt.alloc(), path, TABLE_MAX)),
+        None => Err(PlanRefusal::long_table(rt.alloc(), path, TABLE_MAX)),
     }
 }

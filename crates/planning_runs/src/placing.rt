@@ -1,6 +1,6 @@
 //! The folder that the files of a plan are put into.
 
-use planning_refusals::Refusal;
+use crate::refusal::PlanRefusal;
 use planning_words::{PLAN_FILES, PlanFolder, is_unfinished, mend, put};
 use refusal_texts::Role;
 use std::io;
@@ -17,17 +17,17 @@ fn tell_kept(rt: HostRuntime, folder: &str, place: &mut PlanFolder) {
 }
 
 /// The refusal where a file of a folder can't be written.
-fn unwritten(rt: HostRuntime, folder: &str, place: &PlanFolder, why: io::ErrorKind) -> Refusal {
+fn unwritten(rt: HostRuntime, folder: &str, place: &PlanFolder, why: io::ErrorKind) -> PlanRefusal {
     let alloc = rt.alloc();
     let name = place.last();
     match format!(in alloc; "{folder}/{name}") {
-        Ok(path) => Refusal::unwritten(alloc, Role::Plan, path.as_str(), why),
-        Err(none) => Refusal::from(none),
+        Ok(path) => PlanRefusal::unwritten(alloc, Role::Plan, path.as_str(), why),
+        Err(none) => PlanRefusal::from(none),
     }
 }
 
 /// Puts a plan in place that a run left in a folder to be put in place, which is said, and clears away what a run left that ended before.
-fn mended(rt: HostRuntime, folder: &str, place: &mut PlanFolder) -> Result<(), Refusal> {
+fn mended(rt: HostRuntime, folder: &str, place: &mut PlanFolder) -> Result<(), PlanRefusal> {
     let done = mend(place, PLAN_FILES.len());
     tell_kept(rt, folder, place);
     match done {
@@ -43,14 +43,14 @@ fn mended(rt: HostRuntime, folder: &str, place: &mut PlanFolder) -> Result<(), R
 }
 
 /// Opens the folder of a plan to write there, and mends it.
-pub(crate) fn opened<'a>(rt: HostRuntime, folder: &'a str) -> Result<PlanFolder<'a>, Refusal> {
+pub(crate) fn opened<'a>(rt: HostRuntime, folder: &'a str) -> Result<PlanFolder<'a>, PlanRefusal> {
     match PlanFolder::open(rt, folder) {
         Ok(place) => {
             let mut place = place;
             mended(rt, folder, &mut place)?;
             Ok(place)
         }
-        Err(why) => Err(Refusal::unwritten(rt.alloc(), Role::Folder, folder, why.kind())),
+        Err(why) => Err(PlanRefusal::unwritten(rt.alloc(), Role::Folder, folder, why.kind())),
     }
 }
 
@@ -60,7 +60,7 @@ pub(crate) fn put_files(
     folder: &str,
     place: &mut PlanFolder,
     files: &[&[u8]],
-) -> Result<(), Refusal> {
+) -> Result<(), PlanRefusal> {
     let done = put(place, files);
     tell_kept(rt, folder, place);
     match done {
@@ -71,11 +71,11 @@ pub(crate) fn put_files(
 
 /// Puts a plan in place in a folder, where a run that ended has left one to be put in place. One that another run is putting there now is left
 /// to that run.
-pub fn finish_folder(rt: HostRuntime, folder: &str) -> Result<(), Refusal> {
+pub fn finish_folder(rt: HostRuntime, folder: &str) -> Result<(), PlanRefusal> {
     match is_unfinished(rt, folder) {
         Ok(true) => {}
         Err(why) if why.kind() == io::ErrorKind::OutOfMemory => {
-            return Err(Refusal::unwritten(rt.alloc(), Role::Folder, folder, why.kind()));
+            return Err(PlanRefusal::unwritten(rt.alloc(), Role::Folder, folder, why.kind()));
         }
         // what is no folder is told where it is to be written
         _ => return Ok(()),
@@ -86,6 +86,6 @@ pub fn finish_folder(rt: HostRuntime, folder: &str) -> Result<(), Refusal> {
             mended(rt, folder, &mut place)
         }
         Err(why) if why.kind() == io::ErrorKind::WouldBlock => Ok(()),
-        Err(why) => Err(Refusal::unwritten(rt.alloc(), Role::Folder, folder, why.kind())),
+        Err(why) => Err(PlanRefusal::unwritten(rt.alloc(), Role::Folder, folder, why.kind())),
     }
 }

@@ -1,4 +1,4 @@
-use Rattle.planning_sheets.proofs.sheets.show_plan.Goals as goal
+use Rattle.planning_runs.proofs.sheets.show_plan.Goals as goal
 
 pub new-requires : goal.new-requires
 new-requires c = c.args.plan.now.legal c.in-Some.cost c.in-Some.rows c.in-Some.is

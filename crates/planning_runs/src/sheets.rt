@@ -4,13 +4,14 @@ ghost use Rattle.std.specs.Prelude.{IsTrue};
 ghost use Rattle.shift_instance.specs.Rota.{are_legal_rows};
 
 use crate::beside::{Beside, page_texts};
+use crate::judging::judged_plan;
 use crate::placing::{opened, put_files};
+use crate::plan::JudgedPlan;
+use crate::refusal::{Cause, PlanRefusal};
 use crate::standings::{standing, why_empty};
 use certificate::{CertStatus, CertText};
 use plan_page::{PageTexts, plan_page};
 use plan_tables::{Attendance, Summary, cover_csv, duties_csv, duties_table, summary_text};
-use planning_refusals::{Cause, Refusal};
-use planning_runs::{Plan, judged_plan};
 use planning_words::{PLAN_FILES, PlanFile, make_folder};
 use refusal_texts::Role;
 use rota_table::rota_csv;
@@ -21,15 +22,15 @@ use std::fs;
 use std::io::{self, Write};
 
 /// Makes the folder of a plan, where it isn't there.
-pub fn ready_folder(rt: HostRuntime, folder: &str) -> Result<(), Refusal> {
+pub fn ready_folder(rt: HostRuntime, folder: &str) -> Result<(), PlanRefusal> {
     let alloc = rt.alloc();
     match make_folder(&rt, folder) {
         Ok(()) => Ok(()),
-        Err(why) if why.kind() == io::ErrorKind::AlreadyExists => Err(Refusal::said(
+        Err(why) if why.kind() == io::ErrorKind::AlreadyExists => Err(PlanRefusal::said(
             Cause::Unwritten,
             format!(in alloc; "the plan's folder `{folder}` is a file: name a folder with --out"),
         )),
-        Err(why) => Err(Refusal::unwritten(alloc, Role::Folder, folder, why.kind())),
+        Err(why) => Err(PlanRefusal::unwritten(alloc, Role::Folder, folder, why.kind())),
     }
 }
 
@@ -59,7 +60,7 @@ fn cheaper_cost(
     document: &[u8],
     folder: &str,
     cost: u64,
-) -> Result<Option<u64>, Refusal> {
+) -> Result<Option<u64>, PlanRefusal> {
     let alloc = rt.alloc();
     let Some(report) = report_in(rt, folder)? else {
         return Ok(None);
@@ -71,7 +72,7 @@ fn cheaper_cost(
     match judged_plan(alloc, document, report) {
         Ok(plan) => Ok(plan.cert.plan.as_ref().map(|(found, _rows)| *found)),
         Err(why) => {
-            let refusal = Refusal::unshown(alloc, document, &why);
+            let refusal = PlanRefusal::unshown(alloc, document, &why);
             if refusal.number() == Cause::NoMemory.number() {
                 return Err(refusal);
             }
@@ -162,7 +163,12 @@ pub fn say(rt: HostRuntime, text: &str) {
 }
 
 /// How a plan of a cost stands, in words, and why it is empty where it is.
-fn stands(alloc: Global, plan: &Plan, cost: u64, is_empty: bool) -> Result<String, AllocError> {
+fn stands(
+    alloc: Global,
+    plan: &JudgedPlan,
+    cost: u64,
+    is_empty: bool,
+) -> Result<String, AllocError> {
     let mut stands = standing(alloc, &plan.cert, cost)?;
     if is_empty {
         stands.push_str(" ")?;
@@ -179,7 +185,7 @@ fn placed(
     report: &[u8],
     cost: u64,
     sheets: &Sheets,
-) -> Result<String, Refusal> {
+) -> Result<String, PlanRefusal> {
     let alloc = rt.alloc();
     let mut place = opened(rt, folder)?;
     if let Some(cheaper) = cheaper_cost(rt, document, folder, cost)? {
@@ -200,8 +206,8 @@ pub fn show_plan(
     rt: HostRuntime,
     beside: &Beside,
     folder: &str,
-    plan: &Plan,
-) -> Result<(), Refusal> {
+    plan: &JudgedPlan,
+) -> Result<(), PlanRefusal> {
     let alloc = rt.alloc();
     let Some((cost, rows)) = &plan.cert.plan else {
         let bound = plan.cert.bound;

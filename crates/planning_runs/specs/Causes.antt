@@ -4,8 +4,8 @@ use Rattle.planning_runs.specs.declared.judging.Unshown.{Unshown}
 use Rattle.planning_runs.specs.declared.judging.Unshown.TheVariants as shown
 use Rattle.solve_runs.specs.declared.searched.SearchEnd.{SearchEnd}
 use Rattle.solve_runs.specs.declared.searched.SearchEnd.TheVariants as ended
-use Rattle.planning_refusals.specs.declared.refusal.Cause.{Cause}
-use Rattle.planning_refusals.specs.declared.refusal.Cause.TheVariants.{Refused, Words, Document, Report, Unread, Unwritten, System, NoMemory, Journal}
+use Rattle.planning_runs.specs.declared.refusal.Cause.{Cause}
+use Rattle.planning_runs.specs.declared.refusal.Cause.TheVariants.{Refused, Words, Document, Report, Unread, Unwritten, System, NoMemory, Journal}
 
 -- the number with which the program ends for a cause
 abbrev pub number_of : Cause → ℕ

@@ -1,8 +1,8 @@
 use Rattle.std.proofs.Common.{ap}
-use Rattle.planning_refusals.specs.declared.refusal.Cause.TheVariants.{Journal, System, Words}
-use Rattle.planning_refusals.specs.Causes.{end_cause}
-use Rattle.planning_refusals.proofs.Causes.{said_for}
-use Rattle.planning_refusals.proofs.refusal.Refusal.of_end.Goals as goal
+use Rattle.planning_runs.specs.declared.refusal.Cause.TheVariants.{Journal, System, Words}
+use Rattle.planning_runs.specs.Causes.{end_cause}
+use Rattle.planning_runs.proofs.Causes.{said_for}
+use Rattle.planning_runs.proofs.refusal.PlanRefusal.of_end.Goals as goal
 
 pub returns-in-Refused : goal.returns-in-Refused
 returns-in-Refused c = (Journal, ap end_cause c.in-Refused.is, said_for c.unopened_sentence.result Journal c.said.result c.said.ensures)
