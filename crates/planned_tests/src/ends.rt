@@ -3,8 +3,8 @@
 use advice::Adviser;
 use advisers::Greedy;
 use plan_base::MemDisk;
-use planning_progress::{Limits, Progress, Until};
-use planning_runs::{Plan, Planned, search_plan};
+use planning_runs::{JudgedPlan, Planned, search_plan};
+use planning_words::{Progress, TimeLimits, Until};
 use solve_runs::{Request, SearchEnd};
 use std::sync::{Arc, Wait};
 use std::test::Fail;
@@ -19,7 +19,7 @@ const MORNING: &str =
 /// The progress of a run by one worker that begins now and may last so many milliseconds.
 fn begun(rt: HostRuntime, whole: u64, quiet: Option<u64>) -> Result<Arc<Progress>, Fail> {
     let began = Instant::now(&rt)?;
-    let progress = Progress::new(rt.alloc(), began, Limits { whole, quiet }, 1)?;
+    let progress = Progress::new(rt.alloc(), began, TimeLimits { whole, quiet }, 1)?;
     match Arc::new(rt.alloc(), progress) {
         Ok(progress) => Ok(progress),
         Err(_) => Err(Fail::from("no memory")),
@@ -31,7 +31,7 @@ fn morning<R: Threads + Wait + Sync>(
     host: HostRuntime,
     rt: &R,
     progress: Arc<Progress>,
-) -> Result<(SearchEnd, Plan), Fail> {
+) -> Result<(SearchEnd, JudgedPlan), Fail> {
     let alloc = host.alloc();
     let Ok(instance) = instance_json::read(alloc, MORNING.as_bytes()) else {
         return Err(Fail::from("no instance"));

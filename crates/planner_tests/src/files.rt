@@ -1,6 +1,6 @@
 //! What the system does with a file: no clause says it.
 
-use planning_files::{
+use planning_words::{
     Folder, PLAN_FILES, PlanFolder, is_unfinished, mend, put, set_aside, write_kept,
 };
 use std::alloc::{AllocError, Global};

@@ -1,5 +1,5 @@
 //! What no clause says: that a sentence for a journal comes where there is memory.
-use journal_texts::{difference, full_sentence, journal_sentence};
+use refusal_texts::{difference, full_sentence, journal_sentence};
 use search_book::OpenFault;
 use std::test::Fail;
 

@@ -1,5 +1,5 @@
 //! Names that stand more than once in one object.
-use document_faults::repeated_names;
+use refusal_texts::repeated_names;
 use std::test::Fail;
 
 #[test]
