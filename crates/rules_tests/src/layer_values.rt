@@ -5,7 +5,7 @@ ghost use Rattle.break_rules.specs.Ranges.{IsRule};
 ghost use Rattle.price_sums.specs.Along.{AreSums};
 ghost use Rattle.price_sums.specs.Days.{sums_on};
 
-use crate::fixtures::{eighth, judge, short};
+use crate::small_rules::{eighth, judge, short};
 use break_layers::{LayerValues, most_by_lane};
 use break_rules::{
     Break, Breaks, Lunch, Lunches, NoMemory, Rule, Spot, Totals, after, ends, nexts, place, spot_at,

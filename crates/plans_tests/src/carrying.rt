@@ -1,9 +1,10 @@
 //! Rows that are carried to another instance, worked out by hand.
 
-use crate::fixtures::{
-    HALVED, LONGER, OLD, PAUSED, RENAMED, SHORTER, SWAPPED, Spelled, instance_of, plan_of, spelled,
+use crate::rows_of_days::{
+    HALVED, LONGER, OLD, PAUSED, RENAMED, SHORTER, SWAPPED, Spelled, plan_of, spelled,
 };
 use carried_rows::{Obstacle, carried_rows, obstacle_of};
+use fixtures::instance_of;
 use std::alloc::Global;
 use std::test::Fail;
 

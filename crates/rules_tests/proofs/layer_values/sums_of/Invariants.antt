@@ -1,7 +1,7 @@
 use Rattle.std.proofs.Common.{◌≡◌, ◌+◌, ◌*◌, ◌<◌, ◌≤◌, ℕ, length}
 use Rattle.std.specs.Int.RustNames.{unsigned_abs}
 use Rattle.price_sums.specs.Along.{sum_at, price_in}
-use Rattle.layers_tests.proofs.layer_values.sums_of.Given as goal
+use Rattle.rules_tests.proofs.layer_values.sums_of.Given as goal
 
 abbrev pub invariant-loop-offset : goal.invariant-loop-offset
 invariant-loop-offset l = record {

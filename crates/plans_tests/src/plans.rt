@@ -2,7 +2,7 @@
 
 use advice::Never;
 use break_rules::NoMemory;
-use instance_json::read;
+use fixtures::instance_of;
 use plan_search::PlanSearch;
 use rota_cost::Costed;
 use shift_instance::{Instance, Rows};
@@ -68,7 +68,7 @@ fn outcome_of(search: &PlanSearch<Never>, instance: &Instance) -> Result<Outcome
 
 /// What a search with a seed comes to on a day in some slices of work.
 fn reached(alloc: Global, day: &str, seed: u64, slices: u32) -> Result<Outcome, Fail> {
-    let instance = read(alloc, day.as_bytes())?;
+    let instance = instance_of(alloc, day)?;
     let tables = Tables::new(alloc, &instance)?;
     let search = searched(alloc, &tables, seed, slices)?;
     outcome_of(&search, &instance)
@@ -99,7 +99,7 @@ fn offered(
 
 /// What a search on a day comes to that is offered what another one found.
 fn outcome_offered(alloc: Global, day: &str) -> Result<Outcome, Fail> {
-    let instance = read(alloc, day.as_bytes())?;
+    let instance = instance_of(alloc, day)?;
     let tables = Tables::new(alloc, &instance)?;
     let rows = rows_found(alloc, &instance, &tables, 1)?;
     offered(alloc, &instance, &tables, &rows)

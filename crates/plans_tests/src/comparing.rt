@@ -1,6 +1,7 @@
 //! What became of the duties of a plan, worked out by hand.
 
-use crate::fixtures::{OLD, SWAPPED, instance_of, plan_of};
+use crate::rows_of_days::{OLD, SWAPPED, plan_of};
+use fixtures::instance_of;
 use plan_comparison::{DayChanges, changes};
 use std::alloc::Global;
 use std::test::Fail;

@@ -2,18 +2,13 @@
 ghost use Rattle.std.specs.Prelude.{true};
 
 use advice::{Never, Stop};
+use fixtures::{BUSY_MORNING, instance_of};
 use greedy::{greedy_plan, greedy_plan_until};
-use instance_json::read;
 use rota_cost::cost_rows;
 use shift_instance::{Instance, Rows};
 use std::alloc::Global;
 use std::sync::atomic::{AtomicU64, Ordering};
 use std::test::Fail;
-
-/// Hour slots of one day, of which those from 8 to 12 o'clock need two employees. The one shift has these hours, at most two duties on
-/// a day and no breaks. Excess costs 1, shortage 2 and the shift 3.
-const PAIRS: &str =
-    "{\"slot_minutes\":60,\"days\":1,\"need\":[0,0,0,0,0,0,0,0,2,2,2,2,0,0,0,0,0,0,0,0,0,0,0,0],\"max_heads\":2,\"weights\":{\"excess\":1,\"shortage\":2,\"shift\":3},\"types\":[{\"name\":\"M\",\"start_min\":8,\"start_max\":8,\"len_min\":4,\"len_max\":4,\"breaks\":null}]}";
 
 /// A stop that asks once it was looked at `patience` times.
 #[derive(Drop)]
@@ -53,7 +48,7 @@ fn cost_after(alloc: Global, instance: &Instance, patience: u64) -> Result<Optio
 #[test]
 fn a_plan_that_is_broken_off_has_its_rounds_so_far(rt: HostRuntime) -> Result<(), Fail> {
     let alloc = rt.alloc();
-    let instance = read(alloc, PAIRS.as_bytes())?;
+    let instance = instance_of(alloc, BUSY_MORNING)?;
     assert_eq!(rt; cost_after(alloc, &instance, 0)?, Some(16));
     assert_eq!(rt; cost_after(alloc, &instance, 1)?, Some(16));
     assert_eq!(rt; cost_after(alloc, &instance, 2)?, Some(11));
@@ -64,7 +59,7 @@ fn a_plan_that_is_broken_off_has_its_rounds_so_far(rt: HostRuntime) -> Result<()
 #[test]
 fn a_plan_that_no_stop_breaks_off_is_the_greedy_plan(rt: HostRuntime) -> Result<(), Fail> {
     let alloc = rt.alloc();
-    let instance = read(alloc, PAIRS.as_bytes())?;
+    let instance = instance_of(alloc, BUSY_MORNING)?;
     let whole = greedy_plan_until(alloc, &instance, &Never)?;
     assert_eq!(rt; cost_of(&instance, whole), Some(3));
     assert_eq!(rt; cost_of(&instance, greedy_plan(alloc, &instance)?), Some(3));

@@ -1,6 +1,7 @@
 //! Plans that keep duties of another plan, worked out by hand.
 
-use crate::fixtures::{NIGHT, Spelled, TWINS, instance_of, plan_of, rows_of};
+use crate::rows_of_days::{Spelled, TWINS, plan_of, rows_of};
+use fixtures::{NIGHT, instance_of};
 use kept_duties::{least_changed, with_more_kept};
 use plan_comparison::kept_duties;
 use rota_cost::cost_rows;

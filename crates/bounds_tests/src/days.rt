@@ -1,7 +1,8 @@
 //! Days of hours with one shift from 8 on, as documents. An employee too many costs 1, one too few costs 2, and the shift 3.
 ghost use Rattle.std.specs.Prelude.{◌≡◌, IfOk, length};
 
-use break_rules::{Break, Breaks, NoMemory};
+use break_rules::NoMemory;
+use fixtures::one_break;
 use head_splits::{Class, Cut, Cuts, Side};
 use std::alloc::Global;
 
@@ -20,7 +21,7 @@ pub fn first_break(alloc: Global, start: u16) -> Result<Cuts, NoMemory>
     let class = Class {
         shift: 0,
         day: 0,
-        prefix: Breaks::new(vec![in alloc; Break { start, len: 1 }]?),
+        prefix: one_break(alloc, start)?,
     };
     let side = Side::AtLeast;
     Ok(Cuts::new(vec![in alloc; Cut { class, side, m: 1 }]?))

@@ -5,8 +5,9 @@ use crate::days::{BANDED, LONG, first_break};
 use advice::Never;
 use break_rules::NoMemory;
 use dual_bound::prove;
+use fixtures::instance_of;
 use head_splits::{Cut, CutPrices, Cuts, Prices, SlotPrices};
-use instance_json::{generate, read};
+use instance_json::generate;
 use price_climb::{Climb, Limits, Ranges};
 use shift_instance::Instance;
 use shift_tables::Tables;
@@ -83,7 +84,7 @@ fn climb(alloc: Global, instance: &Instance, cuts: Cuts, rounds: u32) -> Result<
 
 /// A climb on a day below a cut to at least one duty whose break lies at this offset.
 fn below(alloc: Global, day: &str, start: u16) -> Result<Climbed, Fail> {
-    let instance = read(alloc, day.as_bytes())?;
+    let instance = instance_of(alloc, day)?;
     climb(alloc, &instance, first_break(alloc, start)?, 40)
 }
 

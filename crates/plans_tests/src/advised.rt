@@ -3,22 +3,13 @@ ghost use Rattle.std.specs.Prelude.{◌≡◌, [], true};
 
 use advice::{Advice, Adviser, Ask, Never, Splitting, Stop};
 use dual_bound::prove;
+use fixtures::{MORNING, MORNING_OF_TWO, instance_of, morning};
 use head_splits::{Cuts, Hint, Prices};
-use instance_json::read;
 use rota_cost::cost_rows;
 use shift_instance::{Instance, Rows};
 use std::alloc::Global;
 use std::test::Fail;
 use thorough_search::{Budget, Thorough};
-
-/// Hour slots of one day, of which those from 8 to 12 o'clock need one employee. The one shift has these hours, at most one duty
-/// on a day and no breaks. Excess costs 1, shortage 2 and the shift 3.
-const MORNING: &str =
-    "{\"slot_minutes\":60,\"days\":1,\"need\":[0,0,0,0,0,0,0,0,1,1,1,1,0,0,0,0,0,0,0,0,0,0,0,0],\"max_heads\":1,\"weights\":{\"excess\":1,\"shortage\":2,\"shift\":3},\"types\":[{\"name\":\"M\",\"start_min\":8,\"start_max\":8,\"len_min\":4,\"len_max\":4,\"breaks\":null}]}";
-
-/// The same with at most two duties on a day.
-const TWO: &str =
-    "{\"slot_minutes\":60,\"days\":1,\"need\":[0,0,0,0,0,0,0,0,1,1,1,1,0,0,0,0,0,0,0,0,0,0,0,0],\"max_heads\":2,\"weights\":{\"excess\":1,\"shortage\":2,\"shift\":3},\"types\":[{\"name\":\"M\",\"start_min\":8,\"start_max\":8,\"len_min\":4,\"len_max\":4,\"breaks\":null}]}";
 
 /// Slots of a quarter of an hour, of one day. The one shift has 51 slots from midnight on, in which a slot of work and a slot of break take
 /// turns, and at most one duty on a day; one employee is needed where it works. Excess costs 1, shortage 2 and the shift 3.
@@ -87,7 +78,7 @@ fn seen_on<S: Stop + Clone>(
     best: u64,
     mut adviser: Thorough<S>,
 ) -> Result<Seen, Fail> {
-    let instance = read(alloc, day.as_bytes())?;
+    let instance = instance_of(alloc, day)?;
     let advice = adviser.advise(&instance, &asked(alloc, best))?;
     Ok(seen(alloc, &instance, advice))
 }
@@ -103,7 +94,7 @@ fn an_adviser_closes_its_day(rt: HostRuntime) -> Result<(), Fail> {
 
 /// The adviser of a day.
 fn adviser_of(alloc: Global, day: &str) -> Result<Thorough<Never>, Fail> {
-    let instance = read(alloc, day.as_bytes())?;
+    let instance = instance_of(alloc, day)?;
     let adviser = Thorough::of(alloc, &instance, 1, Never)?;
     Ok(adviser)
 }
@@ -112,7 +103,7 @@ fn adviser_of(alloc: Global, day: &str) -> Result<Thorough<Never>, Fail> {
 #[test]
 fn the_adviser_of_a_day_splits_it(rt: HostRuntime) -> Result<(), Fail> {
     let alloc = rt.alloc();
-    let found = seen_on(alloc, TWO, 8, adviser_of(alloc, TWO)?)?;
+    let found = seen_on(alloc, MORNING_OF_TWO, 8, adviser_of(alloc, MORNING_OF_TWO)?)?;
     assert_eq!(rt; found, (Some(2), Some(3), Some(1)));
     Ok(())
 }
@@ -131,7 +122,7 @@ fn an_adviser_of_another_day_advises_nothing_unlawful(rt: HostRuntime) -> Result
 #[test]
 fn an_adviser_within_a_budget_closes_its_day(rt: HostRuntime) -> Result<(), Fail> {
     let alloc = rt.alloc();
-    let instance = read(alloc, MORNING.as_bytes())?;
+    let instance = morning(alloc, "1")?;
     let budget = Budget {
         bytes: 18_400,
         seconds: 1_000,

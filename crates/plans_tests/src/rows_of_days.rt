@@ -1,8 +1,8 @@
 //! Small instances, and rows of plans for them.
 ghost use Rattle.std.specs.Prelude.{◌≡◌, IfOk};
 
-use break_rules::{Break, Breaks, NoMemory};
-use instance_json::read;
+use break_rules::{Breaks, NoMemory};
+use fixtures::one_break;
 use rota_cost::{Costed, cost_rows};
 use shift_instance::{Instance, Row, Rows};
 use std::alloc::Global;
@@ -38,11 +38,6 @@ pub const SHORTER: &str =
 pub const PAUSED: &str =
     "{\"slot_minutes\":60,\"days\":2,\"need\":[0,0,0,0,0,0,0,0,0,0,0,0,0,0,0,0,0,0,0,0,0,0,0,0,0,0,0,0,0,0,0,0,0,0,0,0,0,0,0,0,0,0,0,0,0,0,0,0],\"max_heads\":3,\"weights\":{\"excess\":1,\"shortage\":2,\"shift\":3},\"types\":[{\"name\":\"early\",\"start_min\":8,\"start_max\":9,\"len_min\":4,\"len_max\":4,\"breaks\":{\"lead\":2,\"tail\":1,\"work_min\":1,\"work_max\":5,\"long_work\":5,\"long_rest\":1,\"size_min\":1,\"size_max\":1,\"totals\":[[4,1]],\"lunches\":[],\"resettle\":0}},{\"name\":\"late\",\"start_min\":12,\"start_max\":12,\"len_min\":5,\"len_max\":5,\"breaks\":null}]}";
 
-/// Eight hours from midnight on, in each of which three employees are needed. The one shift has these hours and at most three duties, with one
-/// break of an hour after 2 to 5 hours.
-pub const NIGHT: &str =
-    "{\"slot_minutes\":60,\"days\":1,\"need\":[3,3,3,3,3,3,3,3,0,0,0,0,0,0,0,0,0,0,0,0,0,0,0,0],\"max_heads\":3,\"weights\":{\"excess\":1,\"shortage\":2,\"shift\":3},\"types\":[{\"name\":\"N\",\"start_min\":0,\"start_max\":0,\"len_min\":8,\"len_max\":8,\"breaks\":{\"lead\":2,\"tail\":2,\"work_min\":2,\"work_max\":5,\"long_work\":5,\"long_rest\":1,\"size_min\":1,\"size_max\":1,\"totals\":[[8,1]],\"lunches\":[],\"resettle\":0}}]}";
-
 /// Two days of four hours from midnight on in which one employee is needed, and two shifts with these hours, of which each may have one duty.
 pub const TWINS: &str =
     "{\"slot_minutes\":60,\"days\":2,\"need\":[1,1,1,1,0,0,0,0,0,0,0,0,0,0,0,0,0,0,0,0,0,0,0,0,1,1,1,1,0,0,0,0,0,0,0,0,0,0,0,0,0,0,0,0,0,0,0,0],\"max_heads\":1,\"weights\":{\"excess\":1,\"shortage\":2,\"shift\":3},\"types\":[{\"name\":\"X\",\"start_min\":0,\"start_max\":0,\"len_min\":4,\"len_max\":4,\"breaks\":null},{\"name\":\"Y\",\"start_min\":0,\"start_max\":0,\"len_min\":4,\"len_max\":4,\"breaks\":null}]}";
@@ -50,15 +45,10 @@ pub const TWINS: &str =
 /// A row as a table spells it: shift, day, the hours before its one break, if it has one, and how many duties there are.
 pub type Spelled = (u16, u8, Option<u16>, u16);
 
-/// The instance of a document.
-pub fn instance_of(alloc: Global, text: &str) -> Result<Instance, Fail> {
-    Ok(read(alloc, text.as_bytes())?)
-}
-
 /// A break of one hour, or none.
 fn breaks_of(alloc: Global, start: Option<u16>) -> Result<Breaks, NoMemory> {
     match start {
-        Some(start) => Ok(Breaks::new(vec![in alloc; Break { start, len: 1 }]?)),
+        Some(start) => one_break(alloc, start),
         None => Ok(Breaks::new(Vec::new(alloc))),
     }
 }

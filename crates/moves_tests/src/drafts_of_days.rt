@@ -1,8 +1,8 @@
 //! A small day, and drafts of plans for it.
 ghost use Rattle.std.specs.Prelude.{◌≡◌, IfOk};
 
-use break_rules::{Break, Breaks, NoMemory};
-use instance_json::read;
+use break_rules::NoMemory;
+use fixtures::one_break;
 use local_moves::{Draft, Move, MoveFault};
 use rota_cost::cost_rows;
 use shift_instance::{Instance, Rows};
@@ -19,12 +19,7 @@ pub const DAY: &str =
 pub const LONGER: &str =
     "{\"slot_minutes\":60,\"days\":1,\"need\":[0,0,0,0,0,0,0,0,2,2,2,1,1,2,2,2,0,0,0,0,0,0,0,0],\"max_heads\":2,\"weights\":{\"excess\":1,\"shortage\":2,\"shift\":3},\"types\":[{\"name\":\"M\",\"start_min\":8,\"start_max\":8,\"len_min\":8,\"len_max\":9,\"breaks\":{\"lead\":3,\"tail\":4,\"work_min\":2,\"work_max\":5,\"long_work\":5,\"long_rest\":1,\"size_min\":1,\"size_max\":1,\"totals\":[[8,1]],\"lunches\":[],\"resettle\":0}}]}";
 
-/// Eight hours from midnight on, in each of which three employees are needed, with the weights of the day. The one shift has these hours and
-/// at most three duties, with one break of an hour after 2 to 5 hours.
-pub const NIGHT: &str =
-    "{\"slot_minutes\":60,\"days\":1,\"need\":[3,3,3,3,3,3,3,3,0,0,0,0,0,0,0,0,0,0,0,0,0,0,0,0],\"max_heads\":3,\"weights\":{\"excess\":1,\"shortage\":2,\"shift\":3},\"types\":[{\"name\":\"N\",\"start_min\":0,\"start_max\":0,\"len_min\":8,\"len_max\":8,\"breaks\":{\"lead\":2,\"tail\":2,\"work_min\":2,\"work_max\":5,\"long_work\":5,\"long_rest\":1,\"size_min\":1,\"size_max\":1,\"totals\":[[8,1]],\"lunches\":[],\"resettle\":0}}]}";
-
-/// The same with bands: two or three employees will do in each of these hours.
+/// The night with bands: two or three employees will do in each of its hours.
 pub const BANDED_NIGHT: &str =
     "{\"slot_minutes\":60,\"days\":1,\"need\":[2,2,2,2,2,2,2,2,0,0,0,0,0,0,0,0,0,0,0,0,0,0,0,0],\"need_max\":[3,3,3,3,3,3,3,3,0,0,0,0,0,0,0,0,0,0,0,0,0,0,0,0],\"max_heads\":3,\"weights\":{\"excess\":1,\"shortage\":2,\"shift\":3},\"types\":[{\"name\":\"N\",\"start_min\":0,\"start_max\":0,\"len_min\":8,\"len_max\":8,\"breaks\":{\"lead\":2,\"tail\":2,\"work_min\":2,\"work_max\":5,\"long_work\":5,\"long_rest\":1,\"size_min\":1,\"size_max\":1,\"totals\":[[8,1]],\"lunches\":[],\"resettle\":0}}]}";
 
@@ -35,16 +30,6 @@ pub enum Step {
     Drop(u16, u8, u16),
     Rebreak(u16, u8, u16, u16),
     Reshift(u16, u16),
-}
-
-/// The instance of a document.
-pub fn instance_of(alloc: Global, text: &str) -> Result<Instance, Fail> {
-    Ok(read(alloc, text.as_bytes())?)
-}
-
-/// A break of one hour.
-fn pause(alloc: Global, start: u16) -> Result<Breaks, NoMemory> {
-    Ok(Breaks::new(vec![in alloc; Break { start, len: 1 }]?))
 }
 
 /// The draft of the plan without duties.
@@ -58,8 +43,8 @@ pub fn empty(alloc: Global, instance: &Instance) -> Result<Draft, Fail>
 
 /// The move of a duty from some breaks to others.
 fn rebreak(alloc: Global, shift: u16, day: u8, from: u16, to: u16) -> Result<Move, NoMemory> {
-    let from = pause(alloc, from)?;
-    let to = pause(alloc, to)?;
+    let from = one_break(alloc, from)?;
+    let to = one_break(alloc, to)?;
     Ok(Move::Rebreak {
         shift,
         day,
@@ -74,12 +59,12 @@ pub fn move_of(alloc: Global, step: Step) -> Result<Move, NoMemory> {
         Step::Add(shift, day, start) => Move::Add {
             shift,
             day,
-            breaks: pause(alloc, start)?,
+            breaks: one_break(alloc, start)?,
         },
         Step::Drop(shift, day, start) => Move::Drop {
             shift,
             day,
-            breaks: pause(alloc, start)?,
+            breaks: one_break(alloc, start)?,
         },
         Step::Rebreak(shift, day, from, to) => rebreak(alloc, shift, day, from, to)?,
         Step::Reshift(from, to) => Move::Reshift { from, to },

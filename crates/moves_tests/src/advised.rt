@@ -3,21 +3,12 @@ ghost use Rattle.std.specs.Prelude.{◌≡◌, ◌≤◌, ◌^◌, IfOk, length}
 
 use advice::{Advice, Adviser, Ask};
 use advisers::{Fixed, Greedy, GreedyPlan, Subgradient};
-use break_rules::{Break, Breaks, NoMemory};
+use break_rules::NoMemory;
+use fixtures::{BUSY_MORNING, instance_of, morning, one_break};
 use head_splits::{Class, Cut, Cuts, Hint, Side};
-use instance_json::read;
 use shift_instance::{Instance, Rows};
 use std::alloc::Global;
 use std::test::Fail;
-
-/// A day of hours that needs one employee from 8 to 12. The one shift has these hours, no breaks and at most two duties. Excess costs 1,
-/// shortage 2 and the shift 3.
-const MORNING: &str =
-    "{\"slot_minutes\":60,\"days\":1,\"need\":[0,0,0,0,0,0,0,0,1,1,1,1,0,0,0,0,0,0,0,0,0,0,0,0],\"max_heads\":2,\"weights\":{\"excess\":1,\"shortage\":2,\"shift\":3},\"types\":[{\"name\":\"M\",\"start_min\":8,\"start_max\":8,\"len_min\":4,\"len_max\":4,\"breaks\":null}]}";
-
-/// The same where two employees are needed.
-const BUSY: &str =
-    "{\"slot_minutes\":60,\"days\":1,\"need\":[0,0,0,0,0,0,0,0,2,2,2,2,0,0,0,0,0,0,0,0,0,0,0,0],\"max_heads\":2,\"weights\":{\"excess\":1,\"shortage\":2,\"shift\":3},\"types\":[{\"name\":\"M\",\"start_min\":8,\"start_max\":8,\"len_min\":4,\"len_max\":4,\"breaks\":null}]}";
 
 /// One cut: at least one duty of the shift whose breaks begin with that of the slot at offset 1, which no duty has.
 fn unmet(alloc: Global) -> Result<Cuts, NoMemory>
@@ -26,7 +17,7 @@ fn unmet(alloc: Global) -> Result<Cuts, NoMemory>
     let class = Class {
         shift: 0,
         day: 0,
-        prefix: Breaks::new(vec![in alloc; Break { start: 1, len: 1 }]?),
+        prefix: one_break(alloc, 1)?,
     };
     let side = Side::AtLeast;
     Ok(Cuts::new(vec![in alloc; Cut { class, side, m: 1 }]?))
@@ -74,7 +65,7 @@ fn prices_at_ten(
 #[test]
 fn prices_of_greatest_value_are_advised(rt: HostRuntime) -> Result<(), Fail> {
     let alloc = rt.alloc();
-    let instance = read(alloc, MORNING.as_bytes())?;
+    let instance = morning(alloc, "2")?;
     let found = prices_at_ten(alloc, &instance, Cuts::new(Vec::new(alloc)))?;
     assert_eq!(rt; found, (Some(4), None));
     Ok(())
@@ -84,7 +75,7 @@ fn prices_of_greatest_value_are_advised(rt: HostRuntime) -> Result<(), Fail> {
 #[test]
 fn a_cut_that_no_duty_meets_has_a_price(rt: HostRuntime) -> Result<(), Fail> {
     let alloc = rt.alloc();
-    let instance = read(alloc, MORNING.as_bytes())?;
+    let instance = morning(alloc, "2")?;
     let found = prices_at_ten(alloc, &instance, unmet(alloc)?)?;
     assert_eq!(rt; found, (Some(5), Some(15)));
     Ok(())
@@ -102,9 +93,9 @@ fn planned(alloc: Global, adviser: &mut Greedy, instance: &Instance) -> Result<u
 
 /// How many do so in the plans that an adviser advises for the day, and then for the busy one.
 fn planned_twice(alloc: Global, adviser: &mut Greedy) -> Result<(u16, u16), Fail> {
-    let morning = read(alloc, MORNING.as_bytes())?;
-    let busy = read(alloc, BUSY.as_bytes())?;
-    let first = planned(alloc, adviser, &morning)?;
+    let day = morning(alloc, "2")?;
+    let busy = instance_of(alloc, BUSY_MORNING)?;
+    let first = planned(alloc, adviser, &day)?;
     Ok((first, planned(alloc, adviser, &busy)?))
 }
 
@@ -118,7 +109,7 @@ fn an_adviser_of_every_instance_advises_the_plan_of_each(rt: HostRuntime) -> Res
 
 /// The adviser of the day.
 fn adviser_of_morning(alloc: Global) -> Result<Greedy, Fail> {
-    let instance = read(alloc, MORNING.as_bytes())?;
+    let instance = morning(alloc, "2")?;
     let plan = GreedyPlan::of(alloc, &instance)?;
     Ok(Greedy::of(alloc, plan.copy()?))
 }
@@ -142,7 +133,7 @@ fn fixed(alloc: Global, instance: &Instance) -> Result<usize, NoMemory> {
 
 #[test]
 fn fixed_prices_are_told(rt: HostRuntime) -> Result<(), Fail> {
-    let instance = read(rt.alloc(), MORNING.as_bytes())?;
+    let instance = morning(rt.alloc(), "2")?;
     assert_eq!(rt; fixed(rt.alloc(), &instance)?, 1);
     Ok(())
 }

@@ -4,7 +4,7 @@ use Rattle.std.specs.Int.RustNames.{unsigned_abs}
 use Rattle.std.proofs.lemmas.Bool.{cases_lt}
 use Rattle.price_sums.specs.Along.{sum_at, price_in}
 use Rattle.price_sums.proofs.Prices.{last_sum, next_size, next_sum, price_before, price_last, sizes_more}
-use Rattle.layers_tests.proofs.layer_values.sums_of.Goals as goal
+use Rattle.rules_tests.proofs.layer_values.sums_of.Goals as goal
 
 pub loop-offset-preserved : goal.loop-offset-preserved
 loop-offset-preserved c =

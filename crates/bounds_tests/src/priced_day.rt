@@ -2,9 +2,9 @@
 ghost use Rattle.std.specs.Prelude.{◌≡◌, length, IfOk};
 ghost use Rattle.shift_instance.specs.Problem.{shift_list, slots};
 
-use break_rules::{Break, Breaks, NoMemory};
+use break_rules::NoMemory;
+use fixtures::{instance_of, one_break};
 use head_splits::{Class, Cut, CutPrices, Cuts, Prices, Side, SlotPrices};
-use instance_json::read;
 use shift_instance::Instance;
 use std::alloc::Global;
 use std::test::Fail;
@@ -19,7 +19,7 @@ pub fn day(alloc: Global) -> Result<Instance, Fail>
     ensures shifts { IfOk result (λ day. length (shift_list day) ≡ 1) }
     ensures slots { IfOk result (λ day. slots day ≡ 24) }
 {
-    let day = read(alloc, DAY.as_bytes())?;
+    let day = instance_of(alloc, DAY)?;
     if day.shifts().len() == 1 && day.slots() == 24 {
         Ok(day)
     } else {
@@ -27,17 +27,12 @@ pub fn day(alloc: Global) -> Result<Instance, Fail>
     }
 }
 
-/// The list of one break of an hour, at this offset.
-pub fn rest_at(alloc: Global, start: u16) -> Result<Breaks, NoMemory> {
-    Ok(Breaks::new(vec![in alloc; Break { start, len: 1 }]?))
-}
-
 /// A cut on the duties with the break at this offset.
 fn cut_at(alloc: Global, start: u16, side: Side, m: u16) -> Result<Cut, NoMemory> {
     let class = Class {
         shift: 0,
         day: 0,
-        prefix: rest_at(alloc, start)?,
+        prefix: one_break(alloc, start)?,
     };
     Ok(Cut { class, side, m })
 }
