@@ -4,7 +4,7 @@ ghost use Rattle.std.specs.Prelude.{◌≡◌, ◌≤◌, ◌^◌, IfOk, length}
 use advice::{Advice, Adviser, Ask};
 use advisers::{Fixed, Greedy, GreedyPlan, Subgradient};
 use break_rules::NoMemory;
-use fixtures::{BUSY_MORNING, instance_of, morning, one_break};
+use fixtures::{BUSY_MORNING, instance_of, morning_of, one_break};
 use head_splits::{Class, Cut, Cuts, Hint, Side};
 use shift_instance::{Instance, Rows};
 use std::alloc::Global;
@@ -65,7 +65,7 @@ fn prices_at_ten(
 #[test]
 fn prices_of_greatest_value_are_advised(rt: HostRuntime) -> Result<(), Fail> {
     let alloc = rt.alloc();
-    let instance = morning(alloc, "2")?;
+    let instance = morning_of(alloc, "2")?;
     let found = prices_at_ten(alloc, &instance, Cuts::new(Vec::new(alloc)))?;
     assert_eq!(rt; found, (Some(4), None));
     Ok(())
@@ -75,7 +75,7 @@ fn prices_of_greatest_value_are_advised(rt: HostRuntime) -> Result<(), Fail> {
 #[test]
 fn a_cut_that_no_duty_meets_has_a_price(rt: HostRuntime) -> Result<(), Fail> {
     let alloc = rt.alloc();
-    let instance = morning(alloc, "2")?;
+    let instance = morning_of(alloc, "2")?;
     let found = prices_at_ten(alloc, &instance, unmet(alloc)?)?;
     assert_eq!(rt; found, (Some(5), Some(15)));
     Ok(())
@@ -93,7 +93,7 @@ fn planned(alloc: Global, adviser: &mut Greedy, instance: &Instance) -> Result<u
 
 /// How many do so in the plans that an adviser advises for the day, and then for the busy one.
 fn planned_twice(alloc: Global, adviser: &mut Greedy) -> Result<(u16, u16), Fail> {
-    let day = morning(alloc, "2")?;
+    let day = morning_of(alloc, "2")?;
     let busy = instance_of(alloc, BUSY_MORNING)?;
     let first = planned(alloc, adviser, &day)?;
     Ok((first, planned(alloc, adviser, &busy)?))
@@ -109,7 +109,7 @@ fn an_adviser_of_every_instance_advises_the_plan_of_each(rt: HostRuntime) -> Res
 
 /// The adviser of the day.
 fn adviser_of_morning(alloc: Global) -> Result<Greedy, Fail> {
-    let instance = morning(alloc, "2")?;
+    let instance = morning_of(alloc, "2")?;
     let plan = GreedyPlan::of(alloc, &instance)?;
     Ok(Greedy::of(alloc, plan.copy()?))
 }
@@ -133,7 +133,7 @@ fn fixed(alloc: Global, instance: &Instance) -> Result<usize, NoMemory> {
 
 #[test]
 fn fixed_prices_are_told(rt: HostRuntime) -> Result<(), Fail> {
-    let instance = morning(rt.alloc(), "2")?;
+    let instance = morning_of(rt.alloc(), "2")?;
     assert_eq!(rt; fixed(rt.alloc(), &instance)?, 1);
     Ok(())
 }

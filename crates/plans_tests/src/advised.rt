@@ -122,7 +122,7 @@ fn an_adviser_of_another_day_advises_nothing_unlawful(rt: HostRuntime) -> Result
 #[test]
 fn an_adviser_within_a_budget_closes_its_day(rt: HostRuntime) -> Result<(), Fail> {
     let alloc = rt.alloc();
-    let instance = morning(alloc, "1")?;
+    let instance = morning(alloc)?;
     let budget = Budget {
         bytes: 18_400,
         seconds: 1_000,
