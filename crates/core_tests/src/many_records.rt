@@ -12,6 +12,9 @@ use std::thread::Threads;
 /// How many records there are: more than a worker takes at once, and more than twice as many.
 const RECORDS: usize = 150;
 
+/// How many records are more than are read and judged before the posts of the first ones are added.
+const RECORDS_OF_TWO_PARTS: usize = 16_500;
+
 /// A record of no posts.
 const NO_POSTS: [u8; 2] = [0, 0];
 
@@ -25,10 +28,10 @@ const PLAN: [u8; 23] = [
     0, 0, 0, 1, 0, 0, // its row
 ];
 
-/// Records of no posts.
-fn no_posts(alloc: Global) -> Result<Vec<Vec<u8>>, Fail> {
+/// So many records of no posts.
+fn no_posts(alloc: Global, count: usize) -> Result<Vec<Vec<u8>>, Fail> {
     let mut records = Vec::new(alloc);
-    for _ in 0..RECORDS {
+    for _ in 0..count {
         records.push(Vec::from_slice(alloc, &NO_POSTS)?)?;
     }
     Ok(records)
@@ -90,7 +93,7 @@ fn all_are_told<R: Threads + Sync>(
 #[test]
 fn every_number_of_workers_makes_the_state_of_one(rt: HostRuntime) -> Result<(), Fail> {
     let alloc = rt.alloc();
-    let mut records = no_posts(alloc)?;
+    let mut records = no_posts(alloc, RECORDS)?;
     put(alloc, &mut records, 10, &SPLIT)?;
     put(alloc, &mut records, 80, &SETTLED)?;
     put(alloc, &mut records, 149, &PLAN)?;
@@ -102,7 +105,7 @@ fn every_number_of_workers_makes_the_state_of_one(rt: HostRuntime) -> Result<(),
 #[test]
 fn every_number_of_workers_judges_splits_in_their_order(rt: HostRuntime) -> Result<(), Fail> {
     let alloc = rt.alloc();
-    let mut records = no_posts(alloc)?;
+    let mut records = no_posts(alloc, RECORDS)?;
     put(alloc, &mut records, 70, &SETTLED)?;
     put(alloc, &mut records, 90, &SPLIT)?;
     assert!(rt; all_are_told(&rt, alloc, &records, Err(70))?);
@@ -115,12 +118,28 @@ fn every_number_of_workers_judges_splits_in_their_order(rt: HostRuntime) -> Resu
 #[test]
 fn every_number_of_workers_tells_the_first_refusal(rt: HostRuntime) -> Result<(), Fail> {
     let alloc = rt.alloc();
-    let mut records = no_posts(alloc)?;
+    let mut records = no_posts(alloc, RECORDS)?;
     put(alloc, &mut records, 10, &PLAN)?;
     put(alloc, &mut records, 80, &PLAN)?;
     put(alloc, &mut records, 140, &NO_RECORD)?;
     assert!(rt; all_are_told(&rt, alloc, &records, Err(80))?);
     put(alloc, &mut records, 80, &NO_POSTS)?;
     assert!(rt; all_are_told(&rt, alloc, &records, Err(140))?);
+    Ok(())
+}
+
+// What records of the first part make is there for those of the second, and their numbers go on.
+#[test]
+fn records_of_a_second_part_go_on_from_the_first(rt: HostRuntime) -> Result<(), Fail> {
+    let alloc = rt.alloc();
+    let instance = morning(alloc)?;
+    let mut records = no_posts(alloc, RECORDS_OF_TWO_PARTS)?;
+    put(alloc, &mut records, 10, &SPLIT)?;
+    put(alloc, &mut records, 16_450, &SETTLED)?;
+    put(alloc, &mut records, 16_460, &PLAN)?;
+    assert!(rt; told(&rt, alloc, &instance, &records, 1)? == Ok(3));
+    assert!(rt; told(&rt, alloc, &instance, &records, 5)? == Ok(3));
+    put(alloc, &mut records, 16_470, &SPLIT)?;
+    assert!(rt; told(&rt, alloc, &instance, &records, 5)? == Err(16_470));
     Ok(())
 }
