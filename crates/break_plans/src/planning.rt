@@ -32,15 +32,6 @@ pub struct Anew {
     pub steps: u64,
 }
 
-impl Anew {
-    /// Whether it is known that no legal rota with as many duties of each shift on each day costs less.
-    pub fn is_best(&self) -> bool
-        ensures { IsTrue result → self.now.floor ≡ self.now.cost }
-    {
-        self.floor == self.cost
-    }
-}
-
 /// The cuts that fix how many duties legal rows have of each shift on each day.
 #[tactic(auto, using(crate::proofs::Planned::few_pins))]
 fn few_pins(alloc: Global, instance: &Instance, rows: &Rows) -> Result<Cuts, NoMemory>
