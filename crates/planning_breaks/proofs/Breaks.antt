@@ -81,7 +81,7 @@ bounded plan r floor old is low rota legal heads =
 -- ---- after so many steps the floor is what the plan costs
 
 -- what the plan costs then
-paid_now : (plan : Plan) (r : Rebroken) (cheaper : Option (List Row)) → plan.cert.plan ≡ Some (r.cost_before, r.before) → r.plan.cert ≡ cert_after plan.instance plan.cert cheaper → IsTrue (is_accepted plan.instance plan.cert)
+paid_now : (plan : JudgedPlan) (r : Rebroken) (cheaper : Option (List Row)) → plan.cert.plan ≡ Some (r.cost_before, r.before) → r.plan.cert ≡ cert_after plan.instance plan.cert cheaper → IsTrue (is_accepted plan.instance plan.cert)
     → option_map (λ (p : ℕ × List Row). p.0) r.plan.cert.plan ≡ Some (cost plan.instance (rota_of (rows_after r.before cheaper)))
 paid_now plan r None is cert old =
     let parts = plan_parts plan.instance plan.cert r.cost_before r.before old is in
@@ -89,13 +89,13 @@ paid_now plan r None is cert old =
 paid_now plan r (Some rows) is cert old = ap (λ (c : Cert). option_map (λ (p : ℕ × List Row). p.0) c.plan) cert
 
 -- and the bound of its report is no more than that
-bound_now : (plan : Plan) (r : Rebroken) (cheaper : Option (List Row)) → plan.cert.plan ≡ Some (r.cost_before, r.before) → IsTrue (is_accepted plan.instance plan.cert) → IfSome cheaper (IsCheaper plan.instance r.before)
+bound_now : (plan : JudgedPlan) (r : Rebroken) (cheaper : Option (List Row)) → plan.cert.plan ≡ Some (r.cost_before, r.before) → IsTrue (is_accepted plan.instance plan.cert) → IfSome cheaper (IsCheaper plan.instance r.before)
     → plan.cert.bound ≤ cost plan.instance (rota_of (rows_after r.before cheaper))
 bound_now plan r None is old better =
     bounds plan.instance plan.cert old (rota_of r.before) (legal_rows_parts plan.instance r.before (plan_parts plan.instance plan.cert r.cost_before r.before old is).0).legal
 bound_now plan r (Some rows) is old better = bounds plan.instance plan.cert old (rota_of rows) (legal_rows_parts plan.instance rows better.legal).legal
 
-best_now : (plan : Plan) (r : Rebroken) (cheaper : Option (List Row)) (paid floor : ℕ) (asks : Bool) → plan.cert.plan ≡ Some (r.cost_before, r.before) → r.plan.cert ≡ cert_after plan.instance plan.cert cheaper
+best_now : (plan : JudgedPlan) (r : Rebroken) (cheaper : Option (List Row)) (paid floor : ℕ) (asks : Bool) → plan.cert.plan ≡ Some (r.cost_before, r.before) → r.plan.cert ≡ cert_after plan.instance plan.cert cheaper
     → IsTrue (is_accepted plan.instance plan.cert) → IfSome cheaper (IsCheaper plan.instance r.before) → paid ≡ cost plan.instance (rota_of (rows_after r.before cheaper)) → r.floor ≡ max floor plan.cert.bound
     → (floor ≡ paid) ⊎ (asks ≡ true) → CostsItsFloor r ⊎ (asks ≡ true)
 best_now plan r cheaper paid floor asks is cert old better cost_is most (inr asked) = inr asked
@@ -105,10 +105,10 @@ best_now plan r cheaper paid floor asks is cert old better cost_is most (inl sam
     inl (paid_now plan r cheaper is cert old ∙ ap Some floor_is)
 
 -- steps that are enough for a plan are enough for its rows
-steps_of_rows : (plan : Plan) (r : Rebroken) (steps : ℕ) → plan.cert.plan ≡ Some (r.cost_before, r.before) → AreEnough plan steps → steps_for plan.instance r.before ≤ steps
+steps_of_rows : (plan : JudgedPlan) (r : Rebroken) (steps : ℕ) → plan.cert.plan ≡ Some (r.cost_before, r.before) → AreEnough plan steps → steps_for plan.instance r.before ≤ steps
 steps_of_rows plan r steps is h = subst (λ (o : Option (ℕ × List Row)). IfSome o (λ p. steps_for plan.instance p.1 ≤ steps)) is h
 
-pub best_after : (plan : Plan) (r : Rebroken) (cheaper : Option (List Row)) (paid floor steps : ℕ) (asks : Bool) → plan.cert.plan ≡ Some (r.cost_before, r.before) → r.plan.cert ≡ cert_after plan.instance plan.cert cheaper
+pub best_after : (plan : JudgedPlan) (r : Rebroken) (cheaper : Option (List Row)) (paid floor steps : ℕ) (asks : Bool) → plan.cert.plan ≡ Some (r.cost_before, r.before) → r.plan.cert ≡ cert_after plan.instance plan.cert cheaper
     → IsTrue (is_accepted plan.instance plan.cert) → IfSome cheaper (IsCheaper plan.instance r.before) → paid ≡ cost plan.instance (rota_of (rows_after r.before cheaper)) → r.floor ≡ max floor plan.cert.bound
     → (steps_for plan.instance r.before ≤ steps → (floor ≡ paid) ⊎ (asks ≡ true)) → AreEnough plan steps → CostsItsFloor r ⊎ (asks ≡ true)
 best_after plan r cheaper paid floor steps asks is cert old better cost_is most known enough =

@@ -35,7 +35,7 @@ pub record IsRebroken (plan : JudgedPlan) (r : Rebroken) : Type 0 where
 
 -- What a search for cheaper breaks came to, which ended where none can be cheaper, after so many steps, or as it may have been asked to: the report
 -- has the rows that it found, and is as it was where it found none, and the floor is the greater one of its own and the report's bound.
-pub record IsFound (plan : Plan) (steps : ℕ) (asks : Bool) (r : Rebroken) : Type 0 where
+pub record IsFound (plan : JudgedPlan) (steps : ℕ) (asks : Bool) (r : Rebroken) : Type 0 where
   pub anew : Anew
   pub searched : ComesOfSearch plan.instance r.before steps anew
   pub ends : (anew.floor ≡ anew.cost) ⊎ ((anew.steps ≡ steps) ⊎ (asks ≡ true))
@@ -43,7 +43,7 @@ pub record IsFound (plan : Plan) (steps : ℕ) (asks : Bool) (r : Rebroken) : Ty
   pub floor : r.floor ≡ max anew.floor plan.cert.bound
 
 -- steps after which each search for cheaper breaks of a plan is finished
-abbrev pub AreEnough : Plan → ℕ → Type 0
+abbrev pub AreEnough : JudgedPlan → ℕ → Type 0
 AreEnough plan steps = IfSome plan.cert.plan (λ p. steps_for plan.instance p.1 ≤ steps)
 
 -- the plan costs no more than its floor
