@@ -1,12 +1,11 @@
 //! The workers at their places, each in a thread.
-ghost use Rattle.std.specs.Prelude.{◌≡◌, ◌<◌, ◌+◌, ◌^◌, ℕ, All, false, true, length, slice_index_or, vec_len};
-ghost use Rattle.board_lock.specs.Passes.{RestsAt};
+ghost use Rattle.std.specs.Prelude.{◌≡◌, ◌<◌, ◌+◌, ◌^◌, ℕ, All, IsSomeAnd, false, true, length, slice_index_or, vec_len};
 ghost use Rattle.board_lock.specs.declared.roots.BoardRoot.{BoardRoot};
 ghost use Rattle.worker_gate.specs.Workers.{IsToldLast, KnowsBoard};
 
 use crate::gate::Gate;
 use crate::seat::Place;
-use crate::turns::BoardLock;
+use crate::taking::Taking;
 use crate::worker::work;
 use advice::{Adviser, Stop};
 use board_lock::Begun;
@@ -21,6 +20,7 @@ use std::thread::Threads;
 fn work_all<
     B: Board + Send,
     L: Begun + Send + Sync,
+    K: Taking<B, L> + Sync,
     G: Gate + Sync,
     S: Stop + Sync,
     R: Threads + Wait + Sync,
@@ -28,17 +28,18 @@ fn work_all<
     rt: &R,
     alloc: Global,
     instance: &Instance,
-    lock: &BoardLock<B, L>,
+    lock: &K,
     gate: &G,
     stop: &S,
-    bench: &mut [Place<B, L>],
+    bench: &mut [Place<K::Badge, L>],
 )
     requires some { 0 < length bench.old }
-    requires rest { All (λ p. RestsAt (KnowsBoard B.seen instance.now p.number) lock.now p.badge) bench.old }
+    requires rest { (root : BoardRoot B) × All (λ p. IsSomeAnd p.badge (λ b. K.rests lock.now p.number root b) × KnowsBoard B.seen instance.now p.number root) bench.old }
+    ensures rest { (root : BoardRoot B) → All (λ p. IsSomeAnd p.badge (λ b. K.rests lock.now p.number root b)) bench.old → All (λ p. IsSomeAnd p.badge (λ b. K.rests lock.now p.number root b)) bench.new }
     ensures numbers { (i : ℕ) (d : _) → i < length bench.old → (slice_index_or bench.new i d).number ≡ (slice_index_or bench.old i d).number }
     ensures told { (i : ℕ) (d : _) → i < length bench.old → told (slice_index_or bench.old i d).seat.adviser < 2 ^ 63 + (slice_index_or bench.old i d).seat.told
         → told (slice_index_or bench.new i d).seat.adviser + (slice_index_or bench.old i d).seat.told ≡ told (slice_index_or bench.old i d).seat.adviser + (slice_index_or bench.new i d).seat.told }
-    ensures last { (root : BoardRoot B) → All (λ p. RestsAt (λ r. r ≡ root) lock.now p.badge) bench.old → (i : ℕ) (d : _) → i < length bench.old
+    ensures last { (root : BoardRoot B) → All (λ p. IsSomeAnd p.badge (λ b. K.rests lock.now p.number root b)) bench.old → (i : ℕ) (d : _) → i < length bench.old
         → IsToldLast root.workers (B.seen root.opened.value) (slice_index_or bench.old i d).number (slice_index_or bench.old i d).seat.told (slice_index_or bench.new i d).seat.told (last (slice_index_or bench.old i d).seat.adviser) (last (slice_index_or bench.new i d).seat.adviser) }
     ensures asked { (i : ℕ) (d : _) → i < length bench.old → (slice_index_or bench.new i d).asked ≡ true → (slice_index_or bench.old i d).asked ≡ false → S.can_ask stop.now ≡ true }
 {
@@ -47,12 +48,13 @@ fn work_all<
         rt,
         bench,
         threads,
-        &|_, place: &mut Place<B, L>|
-            requires { RestsAt (KnowsBoard B.seen instance.now place.now.number) lock.now place.now.badge }
+        &|_, place: &mut Place<K::Badge, L>|
+            requires { (root : BoardRoot B) × IsSomeAnd place.now.badge (λ b. K.rests lock.now place.now.number root b) × KnowsBoard B.seen instance.now place.now.number root }
             ensures number { place.exit.now.number ≡ place.entry.now.number }
+            ensures rests { (root : BoardRoot B) → IsSomeAnd place.entry.now.badge (λ b. K.rests lock.entry.now place.entry.now.number root b) → IsSomeAnd place.exit.now.badge (λ b. K.rests lock.entry.now place.entry.now.number root b) }
             ensures told { told place.entry.now.seat.adviser < 2 ^ 63 + place.entry.now.seat.told
                 → told place.exit.now.seat.adviser + place.entry.now.seat.told ≡ told place.entry.now.seat.adviser + place.exit.now.seat.told }
-            ensures last { (root : BoardRoot B) → RestsAt (λ r. r ≡ root) lock.entry.now place.entry.now.badge
+            ensures last { (root : BoardRoot B) → IsSomeAnd place.entry.now.badge (λ b. K.rests lock.entry.now place.entry.now.number root b)
                 → IsToldLast root.workers (B.seen root.opened.value) place.entry.now.number place.entry.now.seat.told place.exit.now.seat.told (last place.entry.now.seat.adviser) (last place.exit.now.seat.adviser) }
             ensures asked { place.exit.now.asked ≡ true → place.entry.now.asked ≡ false → S.can_ask stop.entry.now ≡ true }
         { work(rt, alloc, instance, lock, gate, stop, place) },
@@ -63,6 +65,7 @@ fn work_all<
 pub(crate) fn work_bench<
     B: Board + Send,
     L: Begun + Send + Sync,
+    K: Taking<B, L> + Sync,
     G: Gate + Sync,
     S: Stop + Sync,
     R: Threads + Wait + Sync,
@@ -70,18 +73,19 @@ pub(crate) fn work_bench<
     rt: &R,
     alloc: Global,
     instance: &Instance,
-    lock: &BoardLock<B, L>,
+    lock: &K,
     gate: &G,
     stop: &S,
-    bench: &mut Vec<Place<B, L>>,
+    bench: &mut Vec<Place<K::Badge, L>>,
 )
     requires some { 0 < vec_len bench.old }
-    requires rest { All (λ p. RestsAt (KnowsBoard B.seen instance.now p.number) lock.now p.badge) bench.old.items }
+    requires rest { (root : BoardRoot B) × All (λ p. IsSomeAnd p.badge (λ b. K.rests lock.now p.number root b) × KnowsBoard B.seen instance.now p.number root) bench.old.items }
     ensures len { length bench.new.items ≡ length bench.old.items }
+    ensures rest { (root : BoardRoot B) → All (λ p. IsSomeAnd p.badge (λ b. K.rests lock.now p.number root b)) bench.old.items → All (λ p. IsSomeAnd p.badge (λ b. K.rests lock.now p.number root b)) bench.new.items }
     ensures numbers { (i : ℕ) (d : _) → i < vec_len bench.old → (slice_index_or bench.new.items i d).number ≡ (slice_index_or bench.old.items i d).number }
     ensures told { (i : ℕ) (d : _) → i < vec_len bench.old → told (slice_index_or bench.old.items i d).seat.adviser < 2 ^ 63 + (slice_index_or bench.old.items i d).seat.told
         → told (slice_index_or bench.new.items i d).seat.adviser + (slice_index_or bench.old.items i d).seat.told ≡ told (slice_index_or bench.old.items i d).seat.adviser + (slice_index_or bench.new.items i d).seat.told }
-    ensures last { (root : BoardRoot B) → All (λ p. RestsAt (λ r. r ≡ root) lock.now p.badge) bench.old.items → (i : ℕ) (d : _) → i < vec_len bench.old
+    ensures last { (root : BoardRoot B) → All (λ p. IsSomeAnd p.badge (λ b. K.rests lock.now p.number root b)) bench.old.items → (i : ℕ) (d : _) → i < vec_len bench.old
         → IsToldLast root.workers (B.seen root.opened.value) (slice_index_or bench.old.items i d).number (slice_index_or bench.old.items i d).seat.told (slice_index_or bench.new.items i d).seat.told (last (slice_index_or bench.old.items i d).seat.adviser) (last (slice_index_or bench.new.items i d).seat.adviser) }
     ensures asked { (i : ℕ) (d : _) → i < vec_len bench.old → (slice_index_or bench.new.items i d).asked ≡ true → (slice_index_or bench.old.items i d).asked ≡ false → S.can_ask stop.now ≡ true }
 {
