@@ -12,3 +12,5 @@ pub mod Ran
 pub mod Telling
 pub mod News
 pub mod Rooted
+pub mod Passes
+pub mod Appended

@@ -3,17 +3,21 @@
 
 mod asking;
 mod bench;
+mod by_turns;
 mod decision;
 mod gate;
 mod last;
 mod noted;
 mod passing;
 mod run;
+
 mod running;
 mod seat;
 mod seating;
 mod splitting;
 mod taking;
+mod turn_running;
+mod turn_seating;
 mod turns;
 mod worker;
 mod workers;
@@ -21,5 +25,6 @@ mod workers;
 pub use decision::step_of;
 pub use gate::{Gate, Open};
 pub use run::{RunEnd, run_seat};
+pub use by_turns::run_turns;
 pub use seat::Seat;
 pub use workers::run_workers;
