@@ -10,21 +10,21 @@ mod last;
 mod noted;
 mod passing;
 mod run;
-
 mod running;
 mod seat;
 mod seating;
 mod splitting;
 mod taking;
+mod turn_bench;
 mod turn_running;
 mod turn_seating;
 mod turns;
 mod worker;
 mod workers;
 
+pub use by_turns::run_turns;
 pub use decision::step_of;
 pub use gate::{Gate, Open};
 pub use run::{RunEnd, run_seat};
-pub use by_turns::run_turns;
 pub use seat::Seat;
 pub use workers::run_workers;

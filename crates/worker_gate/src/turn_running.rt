@@ -1,17 +1,17 @@
 //! The run of workers over a board by turns, for a ledger of its commits.
-ghost use Rattle.std.specs.Prelude.{◌≡◌, ◌+◌, ◌<◌, ◌≤◌, ◌^◌, ℕ, All, IsSomeAnd, None, Some, false, true, length, slice_index_or, sum_by, vec_len};
+ghost use Rattle.std.specs.Prelude.{◌≡◌, ◌+◌, ◌<◌, ◌≤◌, ◌^◌, ℕ, All, None, Some, false, true, length, slice_index_or, sum_by, vec_len};
 ghost use Rattle.search_core.specs.Core.{empty_hands};
 ghost use Rattle.board_lock.specs.Turns.{AreTurns};
 ghost use Rattle.worker_gate.specs.Passing.{FollowOn};
 ghost use Rattle.worker_gate.specs.Workers.{IsToldLast, WorkersEnd};
 
-use crate::bench::work_bench;
 use crate::noted::Noted;
 use crate::passing::{Passing, TurnPlace};
 use crate::running::{finish_all, tellings};
 use crate::seat::Place;
 use crate::seating::unseat_all;
-use crate::turn_seating::{gather_turns, seat_turns};
+use crate::turn_bench::work_by_turns;
+use crate::turn_seating::seat_turns;
 use crate::{Gate, RunEnd, Seat};
 use advice::{Adviser, Stop};
 use board_lock::{Begun, BoardRoot, Held};
@@ -103,8 +103,9 @@ pub(crate) fn run_turns_in<
         &mut readers,
         &mut bench,
     );
-    work_bench(rt, alloc, instance, &lock, gate, stop, &mut bench);
-    gather_turns(&lock, &root, bench.as_mut_slice(), &mut made);
+    work_by_turns(
+        rt, alloc, instance, &lock, gate, stop, &root, &mut bench, &mut made,
+    );
     let BoardRoot {
         opened: _,
         workers: _,
