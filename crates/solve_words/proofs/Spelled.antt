@@ -100,14 +100,14 @@ module _ (before : List Part) (last : Option Part) (may : MayWait last) (parts :
       → walked option_rules [] (calm (held_at before last) met) word ≡ calm (reacted option_rules (rule_for part) (given_by part) (held_at before last)) met
       → Taken ((all_of ++ part ∷ []) ++ parts) (calm (held_at (all_of ++ part ∷ []) None) met) rest
       → Taken (all_of ++ part ∷ parts) (calm (held_at before last) met) (word ∷ rest)
-  use_taken met part word single turns walks taken =
+  use_taken met part word single turned walks taken =
       let new = new_last before last (part ∷ parts) single in
       let fresh = new_part all_of part parts single in
       let uses : use_fault false (rule_for part) (given_by part) (settled option_rules (held_at before last)).rows ≡ [] =
       ap (λ (h : Held). use_fault false (rule_for part) (given_by part) h.rows) (settled_at before last may new) ∙ use_fresh part (rows_for all_of) fresh in
       let reacts : react_fault option_rules false (rule_for part) (given_by part) (held_at before last) ≡ [] = ap₂ or_else (settle_passes before last may new) uses in
       word_more (all_of ++ part ∷ parts) (calm (held_at before last) met) (calm (held_at (all_of ++ part ∷ []) None) met) word rest
-      (turns ∙ ap (λ (k : Kinds). or_else k []) reacts)
+      (turned ∙ ap (λ (k : Kinds). or_else k []) reacts)
       (walks ∙ ap (λ (h : Held). calm h met) (reacted_at before last part may new (row_more all_of part fresh)))
       (behind part (calm (held_at (all_of ++ part ∷ []) None) met) rest taken)
 

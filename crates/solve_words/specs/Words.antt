@@ -211,5 +211,5 @@ IsReadAs words found = (asked : Asked) → Asks words asked ↔ (found ≡ Some 
 
 -- what is asked for has its numbers within their limits
 abbrev pub IsWithin : Asked → Type 0
-IsWithin (over_journal path count budget wish method turns) = IfSome count (λ n. (1 ≤ n) × (n ≤ 9999)) × (budget ≤ 4000000000)
+IsWithin (over_journal path count budget wish method by_turns) = IfSome count (λ n. (1 ≤ n) × (n ≤ 9999)) × (budget ≤ 4000000000)
 IsWithin (from_number n budget) = (n ≤ 999999) × (budget ≤ 4000000000)
