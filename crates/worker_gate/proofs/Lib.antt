@@ -13,5 +13,5 @@ pub mod Telling
 pub mod News
 pub mod Rooted
 pub mod Passes
-pub mod Seating
+pub mod Dealt
 pub mod Appended

@@ -1,15 +1,15 @@
--- The place of a worker's seat at a lock whose turns are taken in the order of tickets. Source: this project's profile.
-use Rattle.std.specs.Prelude.{◌≡◌, ℕ, Option, Some, option_map_or}
+-- The seat of a worker at a lock whose turns are taken in the order of tickets. Source: this project's profile.
+use Rattle.std.specs.Prelude.{◌≡◌, ℕ, Option, Some}
+use Rattle.std.specs.Option.{option_map_or}
 use Rattle.board_lock.specs.declared.roots.BoardRoot.{BoardRoot}
 use Rattle.turn_lock.specs.Seats.{LockView, SeatView}
-use Rattle.worker_gate.specs.declared.passing.TurnPlace.{TurnPlace}
 
 module _ {B : Type 0} where
-  -- how many turns the seat has left
-  abbrev pub left_of : TurnPlace B → ℕ
-  left_of place = option_map_or (λ s. s.left) place.seat 0
+  -- how many turns the seat has left, if it is there
+  abbrev pub left_of : Option (SeatView (BoardRoot B)) → ℕ
+  left_of seat = option_map_or (λ s. s.left) seat 0
 
-  -- the seat of a number is there, it is of this lock, and knows the root
-  abbrev pub IsSeatedAt : LockView → ℕ → TurnPlace B → Type 0
-  IsSeatedAt lock number place =
-      (seat : SeatView (BoardRoot B)) × (place.seat ≡ Some seat) × (seat.lock ≡ lock.name) × (seat.number ≡ number) × (seat.root ≡ Some place.root.value)
+  -- the seat of a number is there, it is of this lock, and knows that root
+  abbrev pub IsSeatAt : LockView → ℕ → BoardRoot B → Option (SeatView (BoardRoot B)) → Type 0
+  IsSeatAt lock number root seat =
+      (there : SeatView (BoardRoot B)) × (seat ≡ Some there) × (there.lock ≡ lock.name) × (there.number ≡ number) × (there.root ≡ Some root)

@@ -33,39 +33,49 @@ impl<B: Board, L: Begun> Passed for Passing<B, L> {
     ghost passes = { λ p. p.noted.passes.items };
 }
 
-/// A worker's seat at such a lock, with the board as it was opened, of which it knows. The seat is away while its worker is inside.
+/// The place of a worker's seat at such a lock, with the board as it was opened, of which the seat knows. The seat is away while its worker works.
 #[derive(Drop)]
 pub(crate) struct TurnPlace<B> {
     pub(crate) seat: Option<TurnSeat<BoardRoot<B>>>,
     pub(crate) root: Snapshot<BoardRoot<B>>,
 }
 
-impl<B: Board, L: Begun> Taking<B, L> for TurnLock<Passing<B, L>> {
-    ghost use Rattle.worker_gate.specs.Turned.{left_of, IsSeatedAt};
+/// A worker's seat while it works, with its place. The seat is away while its worker is inside.
+#[derive(Drop)]
+pub(crate) struct TurnPass<B> {
+    pub(crate) seat: Option<TurnSeat<BoardRoot<B>>>,
+    pub(crate) place: Snapshot<TurnPlace<B>>,
+}
+
+impl<B: Board, L: Begun> Taking<B, L, TurnPlace<B>> for TurnLock<Passing<B, L>> {
+    ghost use Rattle.worker_gate.specs.Turned.{left_of, IsSeatAt};
 
     ghost use Rattle.std.specs.Prelude.{◌≡◌};
 
-    type Pass = TurnPlace<B>;
+    type Pass = TurnPass<B>;
 
-    type Badge = TurnPlace<B>;
+    ghost outside = { λ lock number pass. IsSeatAt lock number pass.place.value.root.value pass.seat };
 
-    ghost outside = { λ lock number place. IsSeatedAt lock number place };
+    ghost root = { λ pass. pass.place.value.root.value };
 
-    ghost root = { λ place. place.root.value };
+    ghost left = { λ pass. left_of pass.seat };
 
-    ghost left = { λ place. left_of place };
+    ghost rests = { λ lock number known place. IsSeatAt lock number known place.seat × (place.root.value ≡ known) };
 
-    ghost rests = { λ lock number known place. IsSeatedAt lock number place × (place.root.value ≡ known) };
+    ghost waits = { λ known place. place.root.value ≡ known };
 
-    fn sit(&self, badge: TurnPlace<B>) -> TurnPlace<B> {
-        badge
+    fn sit(&self, badge: &mut TurnPlace<B>) -> TurnPass<B> {
+        let seat = badge.seat.take();
+        let place = Snapshot::of(&*badge);
+        TurnPass { seat, place }
     }
 
-    fn rise(&self, pass: TurnPlace<B>) -> TurnPlace<B> {
-        pass
+    fn rise(&self, pass: TurnPass<B>, badge: &mut TurnPlace<B>) {
+        let TurnPass { seat, place: _ } = pass;
+        badge.seat = seat;
     }
 
-    fn lasts(&self, pass: &TurnPlace<B>) -> bool {
+    fn lasts(&self, pass: &TurnPass<B>) -> bool {
         match &pass.seat {
             Some(seat) => seat.left() >= 4,
             None => false,
@@ -75,7 +85,7 @@ impl<B: Board, L: Begun> Taking<B, L> for TurnLock<Passing<B, L>> {
     fn take_turn<R: Wait>(
         &self,
         rt: &R,
-        pass: &mut TurnPlace<B>,
+        pass: &mut TurnPass<B>,
         worker: u32,
         asked: bool,
     ) -> Result<Work, Rest> {
@@ -100,7 +110,7 @@ impl<B: Board, L: Begun> Taking<B, L> for TurnLock<Passing<B, L>> {
     fn commit_turn<R: Wait>(
         &self,
         rt: &R,
-        pass: &mut TurnPlace<B>,
+        pass: &mut TurnPass<B>,
         worker: u32,
         step: StepPosts,
         share: &mut Share<L>,
@@ -127,7 +137,7 @@ impl<B: Board, L: Begun> Taking<B, L> for TurnLock<Passing<B, L>> {
         kept
     }
 
-    fn yield_turn<R: Wait>(&self, rt: &R, pass: &mut TurnPlace<B>, worker: u32) {
+    fn yield_turn<R: Wait>(&self, rt: &R, pass: &mut TurnPass<B>, worker: u32) {
         let Some(seat) = pass.seat.take() else {
             unreachable!()
         };

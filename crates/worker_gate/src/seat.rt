@@ -43,7 +43,7 @@ impl Seat {
 /// its number, and a reader of the best cost.
 #[derive(Drop)]
 pub(crate) struct Place<P, L: Begun> {
-    pub(crate) badge: Option<P>,
+    pub(crate) badge: P,
     pub(crate) seat: Seat,
     pub(crate) share: Share<L>,
     pub(crate) number: u32,

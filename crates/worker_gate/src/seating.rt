@@ -1,5 +1,5 @@
 //! Seats are put onto a bench before a run, and taken from it afterwards.
-ghost use Rattle.std.specs.Prelude.{◌≡◌, ◌≤◌, ◌<◌, ◌+◌, [], ℕ, All, IsSomeAnd, false, map, slice_index_or, sum_by, vec_len};
+ghost use Rattle.std.specs.Prelude.{◌≡◌, ◌≤◌, ◌<◌, ◌+◌, [], ℕ, All, false, map, slice_index_or, sum_by, vec_len};
 ghost use Rattle.std.specs.Vec.{vec_capacity};
 ghost use Rattle.board_lock.specs.Passes.{root_of, IsOutside, RestsAt};
 
@@ -32,12 +32,12 @@ fn seat_one<B: Board, L: Begun>(
     ensures seat { result.seat ≡ seat }
     ensures number { result.number ≡ number }
     ensures unasked { result.asked ≡ false }
-    ensures rests { IsSomeAnd result.badge (λ b. RestsAt (λ r. r ≡ root_of first.old) lock.now b) }
+    ensures rests { RestsAt (λ r. r ≡ root_of first.old) lock.now result.badge }
 {
     let pass = lock.another(first);
     let share = all.split_off(1, 0);
     Place {
-        badge: Some(pass.into_badge()),
+        badge: pass.into_badge(),
         seat,
         share,
         number,
@@ -71,7 +71,7 @@ pub(crate) fn seat_all<B: Board, L: Begun>(
     ensures bench { map (λ p. p.seat) bench.new.items ≡ seats.old.items }
     ensures numbers { (i : ℕ) (d : _) → i < vec_len seats.old → (slice_index_or bench.new.items i d).number ≡ i }
     ensures unasked { All (λ p. p.asked ≡ false) bench.new.items }
-    ensures rest { All (λ p. IsSomeAnd p.badge (λ b. RestsAt (λ r. r ≡ root_of first.old) lock.now b)) bench.new.items }
+    ensures rest { All (λ p. RestsAt (λ r. r ≡ root_of first.old) lock.now p.badge) bench.new.items }
     ensures seats { seats.new.items ≡ [] }
     ensures kept { vec_capacity seats.new ≡ vec_capacity seats.old }
 {

@@ -11,13 +11,10 @@ use search_core::{Board, Kept, StepPosts};
 use std::sync::Wait;
 use std::sync::ledger::Share;
 
-/// A lock at which workers take turns with a board. A turn is one call on the board.
-pub(crate) trait Taking<B: Board, L: Begun> {
-    /// A seat at the lock.
+/// A lock at which workers take turns with a board. A turn is one call on the board. Before and after the run a worker's seat lies at its place, as a `P`.
+pub(crate) trait Taking<B: Board, L: Begun, P> {
+    /// A seat at the lock, as it works.
     type Pass;
-
-    /// A seat at the lock, as it lies at its worker's place before and after the run.
-    type Badge: Send + Drop;
 
     /// The seat is outside the lock, and that of the worker of a number.
     ghost outside: { Self → ℕ → Self.Pass → Type 0 };
@@ -29,18 +26,23 @@ pub(crate) trait Taking<B: Board, L: Begun> {
     ghost left: { Self.Pass → ℕ };
 
     /// What lies at the place of the worker of a number is a seat that is outside the lock, and knows that root.
-    ghost rests: { Self → ℕ → BoardRoot B → Self.Badge → Type 0 };
+    ghost rests: { Self → ℕ → BoardRoot B → P → Type 0 };
 
-    /// The seat as it works.
-    fn sit(&self, badge: Self::Badge) -> Self::Pass
-        requires rests { (number : ℕ) × (known : BoardRoot B) × rests self.now number known badge }
-        ensures outside { (number : ℕ) (known : BoardRoot B) → rests self.now number known badge → outside self.now number result }
-        ensures root { (number : ℕ) (known : BoardRoot B) → rests self.now number known badge → root result ≡ known };
+    /// What lies at a place while the seat is away that knows that root.
+    ghost waits: { BoardRoot B → P → Type 0 };
 
-    /// The seat as it lies at a place.
-    fn rise(&self, pass: Self::Pass) -> Self::Badge
+    /// Takes the seat from its place.
+    fn sit(&self, badge: &mut P) -> Self::Pass
+        requires rests { (number : ℕ) × (known : BoardRoot B) × rests self.now number known badge.old }
+        ensures outside { (number : ℕ) (known : BoardRoot B) → rests self.now number known badge.old → outside self.now number result }
+        ensures root { (number : ℕ) (known : BoardRoot B) → rests self.now number known badge.old → root result ≡ known }
+        ensures waits { waits (root result) badge.new };
+
+    /// Puts the seat back to its place.
+    fn rise(&self, pass: Self::Pass, badge: &mut P)
         requires outside { (number : ℕ) × outside self.now number pass }
-        ensures { (number : ℕ) → outside self.now number pass → rests self.now number (root pass) result };
+        requires waits { waits (root pass) badge.old }
+        ensures { (number : ℕ) → outside self.now number pass → rests self.now number (root pass) badge.new };
 
     /// Whether the seat has turns left for a whole round.
     fn lasts(&self, pass: &Self::Pass) -> bool

@@ -1,7 +1,7 @@
 //! The workers at their places, each in a thread, who take turns in the order of tickets.
-ghost use Rattle.std.specs.Prelude.{◌≡◌, ◌≤◌, ◌<◌, ◌+◌, ◌^◌, [], ℕ, All, IsSomeAnd, Some, false, true, length, slice_index_or, vec_len};
+ghost use Rattle.std.specs.Prelude.{◌≡◌, ◌≤◌, ◌<◌, ◌+◌, ◌^◌, [], ℕ, All, Some, false, true, length, slice_index_or, vec_len};
 ghost use Rattle.std.specs.Vec.{vec_capacity};
-ghost use Rattle.worker_gate.specs.Turned.{IsSeatedAt};
+ghost use Rattle.worker_gate.specs.Turned.{IsSeatAt};
 ghost use Rattle.worker_gate.specs.Workers.{IsToldLast, KnowsBoard};
 
 use crate::bench::work_bench;
@@ -38,7 +38,7 @@ pub(crate) fn work_by_turns<
     made: &mut Vec<TurnSeat<BoardRoot<B>>>,
 )
     requires some { 0 < vec_len bench.old }
-    requires rest { All (λ p. IsSomeAnd p.badge (λ b. IsSeatedAt lock.now p.number b × (b.root.value ≡ root.now)) × KnowsBoard B.seen instance.now p.number root.now) bench.old.items }
+    requires rest { All (λ p. (IsSeatAt lock.now p.number root.now p.badge.seat × (p.badge.root.value ≡ root.now)) × KnowsBoard B.seen instance.now p.number root.now) bench.old.items }
     requires none { made.old.items ≡ [] }
     requires room { vec_len bench.old ≤ vec_capacity made.old }
     ensures len { length bench.new.items ≡ length bench.old.items }

@@ -1,9 +1,9 @@
 //! Seats with turns are given to the places of a bench before a run, and taken from them afterwards.
-ghost use Rattle.std.specs.Prelude.{◌≡◌, ◌≤◌, ◌<◌, ◌+◌, [], ℕ, All, IsSomeAnd, Some, false, map, length, slice_index_or, vec_len};
+ghost use Rattle.std.specs.Prelude.{◌≡◌, ◌≤◌, ◌<◌, ◌+◌, [], ℕ, All, Some, false, map, length, slice_index_or, vec_len};
 ghost use Rattle.std.specs.Vec.{vec_capacity};
 ghost use Rattle.board_lock.specs.declared.roots.BoardRoot.{BoardRoot};
 ghost use Rattle.turn_lock.specs.Seats.{new_seats};
-ghost use Rattle.worker_gate.specs.Turned.{IsSeatedAt};
+ghost use Rattle.worker_gate.specs.Turned.{IsSeatAt};
 
 use crate::passing::{Passing, TurnPlace};
 use crate::seat::{Place, Seat};
@@ -36,14 +36,14 @@ fn seat_turn<B: Board, L: Begun>(
     ensures seat { result.seat ≡ seat }
     ensures number { result.number ≡ number }
     ensures unasked { result.asked ≡ false }
-    ensures rests { IsSomeAnd result.badge (λ b. IsSeatedAt _lock.now result.number b × (b.root.value ≡ root.now)) }
+    ensures rests { IsSeatAt _lock.now result.number root.now result.badge.seat × (result.badge.root.value ≡ root.now) }
 {
     let share = all.split_off(1, 0);
     Place {
-        badge: Some(TurnPlace {
+        badge: TurnPlace {
             seat: Some(turns),
             root: Snapshot::of(root),
-        }),
+        },
         seat,
         share,
         number,
@@ -76,7 +76,7 @@ pub(crate) fn seat_turns<B: Board, L: Begun>(
     ensures bench { map (λ p. p.seat) bench.new.items ≡ seats.old.items }
     ensures numbers { (i : ℕ) (d : _) → i < vec_len seats.old → (slice_index_or bench.new.items i d).number ≡ i }
     ensures unasked { All (λ p. p.asked ≡ false) bench.new.items }
-    ensures rest { All (λ p. IsSomeAnd p.badge (λ b. IsSeatedAt lock.now p.number b × (b.root.value ≡ root.now))) bench.new.items }
+    ensures rest { All (λ p. IsSeatAt lock.now p.number root.now p.badge.seat × (p.badge.root.value ≡ root.now)) bench.new.items }
     ensures seats { seats.new.items ≡ [] }
     ensures kept { vec_capacity seats.new ≡ vec_capacity seats.old }
     ensures given { made.new.items ≡ [] }
@@ -101,7 +101,7 @@ pub(crate) fn gather_turns<B: Board, L: Begun>(
     bench: &mut [Place<TurnPlace<B>, L>],
     made: &mut Vec<TurnSeat<BoardRoot<B>>>,
 )
-    requires rest { All (λ p. IsSomeAnd p.badge (λ b. IsSeatedAt _lock.now p.number b × (b.root.value ≡ _root.now))) bench.old }
+    requires rest { All (λ p. IsSeatAt _lock.now p.number _root.now p.badge.seat) bench.old }
     requires none { made.old.items ≡ [] }
     requires room { length bench.old ≤ vec_capacity made.old }
     ensures len { length bench.new ≡ length bench.old }
@@ -113,10 +113,9 @@ pub(crate) fn gather_turns<B: Board, L: Begun>(
     ensures asked { (i : ℕ) (d : _) → i < length bench.old → (slice_index_or bench.new i d).asked ≡ (slice_index_or bench.old i d).asked }
 {
     for place in bench.iter_mut() {
-        let Some(TurnPlace { seat, root: _ }) = place.badge.take() else {
+        let Some(seat) = place.badge.seat.take() else {
             unreachable!()
         };
-        let Some(seat) = seat else { unreachable!() };
         made.push_reserved(seat);
     }
 }

@@ -18,6 +18,7 @@ use advice::Ask;
 use atomic_table::Badge;
 use board_lock::{Begun, BoardRoot, Desk, Held, Lock, Pass, View};
 use search_core::{Board, CommitFault, Kept, StepPosts, Taken};
+use std::mem;
 use std::sync::Wait;
 use std::sync::ledger::Share;
 
@@ -153,13 +154,11 @@ pub(crate) fn commit_in<B: Board, L: Begun>(
     }
 }
 
-impl<B: Board, L: Begun> Taking<B, L> for Lock<Desk<B, L>> {
+impl<B: Board, L: Begun> Taking<B, L, Badge<View<BoardRoot<B>>>> for Lock<Desk<B, L>> {
     ghost use Rattle.std.specs.Prelude.{◌≡◌};
     ghost use Rattle.board_lock.specs.Passes.{root_of, IsOutside, RestsAt};
 
     type Pass = BoardPass<B, L>;
-
-    type Badge = Badge<View<BoardRoot<B>>>;
 
     ghost outside = { λ lock number pass. IsOutside lock pass };
 
@@ -169,12 +168,15 @@ impl<B: Board, L: Begun> Taking<B, L> for Lock<Desk<B, L>> {
 
     ghost rests = { λ lock number known badge. RestsAt (λ r. r ≡ known) lock badge };
 
-    fn sit(&self, badge: Badge<View<BoardRoot<B>>>) -> BoardPass<B, L> {
-        badge.into_seat()
+    ghost waits = { λ known badge. Unit {0} };
+
+    fn sit(&self, badge: &mut Badge<View<BoardRoot<B>>>) -> BoardPass<B, L> {
+        let there = mem::replace(badge, Badge::blank());
+        there.into_seat()
     }
 
-    fn rise(&self, pass: BoardPass<B, L>) -> Badge<View<BoardRoot<B>>> {
-        pass.into_badge()
+    fn rise(&self, pass: BoardPass<B, L>, badge: &mut Badge<View<BoardRoot<B>>>) {
+        *badge = pass.into_badge();
     }
 
     fn lasts(&self, _pass: &BoardPass<B, L>) -> bool {

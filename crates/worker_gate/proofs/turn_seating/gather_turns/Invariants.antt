@@ -1,7 +1,6 @@
 use Rattle.std.proofs.Common.{◌≡◌, ◌<◌, ◌≤◌, ℕ, All, Some, length, slice_index_or, vec_len}
-use Rattle.std.specs.Prelude.{IsSomeAnd}
 use Rattle.std.specs.Vec.{vec_capacity}
-use Rattle.worker_gate.specs.Turned.{IsSeatedAt}
+use Rattle.worker_gate.specs.Turned.{IsSeatAt}
 use Rattle.worker_gate.proofs.turn_seating.gather_turns.Given as goal
 
 abbrev pub invariant-loop-place : goal.invariant-loop-place
@@ -10,7 +9,7 @@ invariant-loop-place g l = record {
   room : vec_capacity l.made ≡ vec_capacity l.initial.made;
   lock : All (λ s. s.lock ≡ l._lock.name) l.made.items;
   root : All (λ s. s.root ≡ Some l._root) l.made.items;
-  there : (i : ℕ) (d : _) → i < length l.bench → l.place-index ≤ i → IsSomeAnd (slice_index_or l.bench i d).badge (λ b. IsSeatedAt l._lock (slice_index_or l.bench i d).number b × (b.root.value ≡ l._root));
+  there : (i : ℕ) (d : _) → i < length l.bench → l.place-index ≤ i → IsSeatAt l._lock (slice_index_or l.bench i d).number l._root (slice_index_or l.bench i d).badge.seat;
   seats : (i : ℕ) (d : _) → i < length l.bench → (slice_index_or l.bench i d).seat ≡ (slice_index_or l.initial.bench i d).seat;
   numbers : (i : ℕ) (d : _) → i < length l.bench → (slice_index_or l.bench i d).number ≡ (slice_index_or l.initial.bench i d).number;
   asked : (i : ℕ) (d : _) → i < length l.bench → (slice_index_or l.bench i d).asked ≡ (slice_index_or l.initial.bench i d).asked;
