@@ -8,7 +8,6 @@ ghost use Rattle.best_cell.specs.Told.{Follows};
 ghost use Rattle.board_lock.specs.Best.{best_of};
 ghost use Rattle.board_lock.specs.Passes.{root_of, IsOutside};
 ghost use Rattle.board_lock.specs.Roots.{root_at};
-ghost use Rattle.worker_gate.specs.Passing.{AppendsOf};
 ghost use Rattle.worker_gate.specs.Runs.{news_of};
 ghost use Rattle.worker_gate.specs.Workers.{IsLeft, IsNews, LeavesStep};
 
@@ -137,7 +136,6 @@ pub(crate) fn commit_in<B: Board, L: Begun>(
     ensures left { IfErr result (LeavesStep worker step (B.seen held.old.board) (B.seen held.new.board)) }
     ensures news { IfOk result (λ kept. ∥ IsNews held.old.workers (B.seen held.old.opened.value) worker (news_of step.node kept) ∥₁) }
     ensures best { Follows (best_of (B.seen held.old.board)) (best_of (B.seen held.new.board)) }
-    ensures posts { AppendsOf worker (B.seen held.old.board).history (B.seen held.new.board).history }
 {
     match held.commit(worker, step, share) {
         Ok(kept) => Ok(kept),
