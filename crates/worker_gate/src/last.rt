@@ -79,12 +79,12 @@ fn commit_alone<B: Board, L: Begun>(
 }
 
 /// Finishes the node in a hand with that hand's seat. Unless the board is shut, the hand is empty afterwards.
-fn finish<P, B: Board, L: Begun>(
+fn finish<B: Board, L: Begun>(
     alloc: Global,
     instance: &Instance,
     buffers: &mut Buffers,
     noted: &mut Noted<B, L>,
-    place: &mut Place<P, L>,
+    place: &mut Place<B, L>,
     work: Work,
 )
     requires knows { KnowsBoard B.seen instance.now place.old.number (root_at noted.old.held.opened noted.old.held.workers) }
@@ -104,7 +104,7 @@ fn finish<P, B: Board, L: Begun>(
     ensures last { IsToldLast noted.old.held.workers (B.seen noted.old.held.opened.value) place.old.number place.old.seat.told place.new.seat.told (last place.old.seat.adviser) (last place.new.seat.adviser) }
 {
     let Place {
-        badge: _,
+        chair: _,
         seat,
         share,
         number,
@@ -129,12 +129,12 @@ fn finish<P, B: Board, L: Begun>(
 
 /// Finishes the node in a hand, or lets go of it where there is no memory for its cuts. Unless the board is shut, the hand is empty
 /// afterwards.
-fn finish_node<P, B: Board, L: Begun>(
+fn finish_node<B: Board, L: Begun>(
     alloc: Global,
     instance: &Instance,
     buffers: &mut Buffers,
     noted: &mut Noted<B, L>,
-    place: &mut Place<P, L>,
+    place: &mut Place<B, L>,
     node: u32,
     floor: u64,
     best: u64,
@@ -159,12 +159,12 @@ fn finish_node<P, B: Board, L: Begun>(
 }
 
 /// Empties a hand, unless the board is shut: its node is finished with its seat, or let go of where a worker gave up.
-fn empty_hand<P, B: Board, L: Begun>(
+fn empty_hand<B: Board, L: Begun>(
     alloc: Global,
     instance: &Instance,
     buffers: &mut Buffers,
     noted: &mut Noted<B, L>,
-    place: &mut Place<P, L>,
+    place: &mut Place<B, L>,
 )
     requires knows { KnowsBoard B.seen instance.now place.old.number (root_at noted.old.held.opened noted.old.held.workers) }
     requires buffers { buffers.old ≡ instance.now }
@@ -194,12 +194,12 @@ fn empty_hand<P, B: Board, L: Begun>(
 }
 
 /// Empties each hand, unless the board is shut. The places have the numbers of the hands.
-pub(crate) fn empty_all<P, B: Board, L: Begun>(
+pub(crate) fn empty_all<B: Board, L: Begun>(
     alloc: Global,
     instance: &Instance,
     buffers: &mut Buffers,
     noted: &mut Noted<B, L>,
-    bench: &mut [Place<P, L>],
+    bench: &mut [Place<B, L>],
 )
     requires numbers { (i : ℕ) (d : _) → i < length bench.old → (slice_index_or bench.old i d).number ≡ i }
     requires all { length bench.old ≡ noted.old.held.workers }
@@ -223,7 +223,7 @@ pub(crate) fn empty_all<P, B: Board, L: Begun>(
 
 /// Goes on with the first seat, as its worker did, until nothing is taken any more, and tells how the run ends. Where a worker saw
 /// that the run is asked to stop, nothing is taken. Unless the board is shut, all hands are empty before and afterwards.
-pub(crate) fn go_on<P, B: Board, L: Begun, G: Gate, S: Stop>(
+pub(crate) fn go_on<B: Board, L: Begun, G: Gate, S: Stop>(
     alloc: Global,
     instance: &Instance,
     buffers: &mut Buffers,
@@ -231,7 +231,7 @@ pub(crate) fn go_on<P, B: Board, L: Begun, G: Gate, S: Stop>(
     gate: &G,
     stop: &S,
     asked: bool,
-    place: &mut Place<P, L>,
+    place: &mut Place<B, L>,
 ) -> RunEnd
     requires knows { KnowsBoard B.seen instance.now place.old.number (root_at noted.old.held.opened noted.old.held.workers) }
     requires buffers { buffers.old ≡ instance.now }

@@ -4,6 +4,7 @@
 mod asking;
 mod bench;
 mod by_turns;
+mod chair;
 mod decision;
 mod gate;
 mod last;

@@ -118,7 +118,20 @@ impl<B: Board, L: Begun> Noted<B, L> {
         work_of(&mut self.held, worker, node, floor, best, taken)
     }
 
-    /// The node that the worker's hand holds, or else one that it takes, unless it is asked to stop. Without room for a pass the worker gives up.
+    /// The node that the worker's hand holds, or else one that it takes, unless it is asked to stop.
+    fn find_work(&mut self, worker: u32, asked: bool) -> Result<Work, Rest>
+        requires worker { worker < self.old.held.workers }
+        ensures root { root_at self.new.held.opened self.new.held.workers ≡ root_at self.old.held.opened self.old.held.workers }
+        ensures few { IfOk result (λ work. length work.ask.cuts ≤ 2 ^ 24) }
+        ensures asked { IfErr result (λ rest. rest ≡ Rest.Asked → asked ≡ true) }
+        ensures best { best_of (B.seen self.new.held.board) ≡ best_of (B.seen self.old.held.board) }
+        ensures passes { self.new.passes.items ≡ self.old.passes.items }
+        ensures keeps { self.new.keeps ≡ self.old.keeps }
+    {
+        next_work(&mut self.held, worker, asked)
+    }
+
+    /// The same, where there is room for a pass. Without room the worker gives up.
     pub(crate) fn next_work(&mut self, worker: u32, asked: bool) -> Result<Work, Rest>
         requires worker { worker < self.old.held.workers }
         ensures root { root_at self.new.held.opened self.new.held.workers ≡ root_at self.old.held.opened self.old.held.workers }
@@ -129,14 +142,53 @@ impl<B: Board, L: Begun> Noted<B, L> {
         ensures keeps { self.new.keeps ≡ self.old.keeps }
     {
         if self.make_room().is_err() {
-            self.held.yield_node(worker);
+            self.yield_node(worker);
             return Err(Rest::End);
         }
-        next_work(&mut self.held, worker, asked)
+        self.find_work(worker, asked)
     }
 
-    /// Commits the worker's step, or tells how it goes on. Where posts are appended, they make a pass. Without room for it, or memory for the step,
-    /// the worker lets go of its node.
+    /// Commits the worker's step, or tells how it goes on. Where posts are appended, and passes are kept, they make a pass, for which there is room.
+    fn commit_noted(
+        &mut self,
+        worker: u32,
+        step: StepPosts,
+        share: &mut Share<L>,
+    ) -> Result<Kept, Left>
+        requires worker { worker < 16 }
+        requires fits { Fits (B.seen self.old.held.opened.value).instance step }
+        requires part { 0 < share.old.parts }
+        requires room { self.old.keeps ≡ true → vec_len self.old.passes < vec_capacity self.old.passes }
+        ensures root { root_at self.new.held.opened self.new.held.workers ≡ root_at self.old.held.opened self.old.held.workers }
+        ensures counted { OnOk result (share.new.amount ≡ share.old.amount + 1) }
+        ensures uncounted { OnErr result (share.new.amount ≡ share.old.amount) }
+        ensures within { OnOk result (share.new.amount ≤ (B.seen self.old.held.opened.value).budget) }
+        ensures parts { share.new.parts ≡ share.old.parts }
+        ensures kept { IfOk result (Commits worker step (B.seen self.old.held.board) (B.seen self.new.held.board)) }
+        ensures left { IfErr result (LeavesStep worker step (B.seen self.old.held.board) (B.seen self.new.held.board)) }
+        ensures news { IfOk result (λ kept. ∥ IsNews self.old.held.workers (B.seen self.old.held.opened.value) worker (news_of step.node kept) ∥₁) }
+        ensures best { Follows (best_of (B.seen self.old.held.board)) (best_of (B.seen self.new.held.board)) }
+        ensures passes { AddsAtMostOne worker self.old.passes.items self.new.passes.items }
+        ensures keeps { self.new.keeps ≡ self.old.keeps }
+    {
+        let from = self.held.board.posts();
+        let kept = commit_in(&mut self.held, worker, step, share);
+        if !self.keeps {
+            return kept;
+        }
+        let to = self.held.board.posts();
+        if to <= from {
+            return kept;
+        }
+        self.passes.push_reserved(Pass {
+            seat: worker,
+            from,
+            to,
+        });
+        kept
+    }
+
+    /// The same, where there is room for a pass. Without room for it, or memory for the step, the worker lets go of its node.
     pub(crate) fn commit(
         &mut self,
         worker: u32,
@@ -159,19 +211,9 @@ impl<B: Board, L: Begun> Noted<B, L> {
         ensures keeps { self.new.keeps ≡ self.old.keeps }
     {
         if self.make_room().is_err() {
-            self.held.yield_node(worker);
+            self.yield_node(worker);
             return Err(Left::End);
         }
-        let from = self.held.board.posts();
-        let kept = commit_in(&mut self.held, worker, step, share);
-        let to = self.held.board.posts();
-        if self.keeps && from < to {
-            self.passes.push_reserved(Pass {
-                seat: worker,
-                from,
-                to,
-            });
-        }
-        kept
+        self.commit_noted(worker, step, share)
     }
 }

@@ -3,16 +3,17 @@ ghost use Rattle.std.specs.Prelude.{◌≡◌, true};
 ghost use Rattle.best_cell.specs.Told.{last_of};
 ghost use Rattle.board_lock.specs.Best.{best_of};
 
+use crate::chair::{Chair, TurnPass};
 use crate::noted::Noted;
 use crate::taking::Taking;
 use crate::turns::{Left, Rest, Work};
 use best_cell::Teller;
 use board_lock::{Begun, BestOf, BoardRoot};
 use search_core::{Board, Kept, StepPosts};
-use std::snapshot::Snapshot;
+use std::mem;
 use std::sync::Wait;
 use std::sync::ledger::Share;
-use turn_lock::{Passed, Turn, TurnLock, TurnSeat};
+use turn_lock::{Passed, Turn, TurnLock};
 
 /// A board with its ledger and the passes that were made on it, and the teller of its best cost, which has told last how many posts the board has and
 /// what its best rota costs.
@@ -33,46 +34,29 @@ impl<B: Board, L: Begun> Passed for Passing<B, L> {
     ghost passes = { λ p. p.noted.passes.items };
 }
 
-/// The place of a worker's seat at such a lock, with the board as it was opened, of which the seat knows. The seat is away while its worker works.
-#[derive(Drop)]
-pub(crate) struct TurnPlace<B> {
-    pub(crate) seat: Option<TurnSeat<BoardRoot<B>>>,
-    pub(crate) root: Snapshot<BoardRoot<B>>,
-}
-
-/// A worker's seat while it works, with its place. The seat is away while its worker is inside.
-#[derive(Drop)]
-pub(crate) struct TurnPass<B> {
-    pub(crate) seat: Option<TurnSeat<BoardRoot<B>>>,
-    pub(crate) place: Snapshot<TurnPlace<B>>,
-}
-
-impl<B: Board, L: Begun> Taking<B, L, TurnPlace<B>> for TurnLock<Passing<B, L>> {
-    ghost use Rattle.worker_gate.specs.Turned.{left_of, IsSeatAt};
-
-    ghost use Rattle.std.specs.Prelude.{◌≡◌};
+impl<B: Board, L: Begun> Taking<B, L> for TurnLock<Passing<B, L>> {
+    ghost use Rattle.worker_gate.specs.Turned.{left_of, HasTurns, IsSeatAt};
 
     type Pass = TurnPass<B>;
 
-    ghost outside = { λ lock number pass. IsSeatAt lock number pass.place.value.root.value pass.seat };
+    ghost outside = { λ lock number pass. IsSeatAt lock number pass.root.value pass.seat };
 
-    ghost root = { λ pass. pass.place.value.root.value };
+    ghost root = { λ pass. pass.root.value };
 
     ghost left = { λ pass. left_of pass.seat };
 
-    ghost rests = { λ lock number known place. IsSeatAt lock number known place.seat × (place.root.value ≡ known) };
+    ghost rests = { λ lock number known chair. HasTurns lock number known chair };
 
-    ghost waits = { λ known place. place.root.value ≡ known };
-
-    fn sit(&self, badge: &mut TurnPlace<B>) -> TurnPass<B> {
-        let seat = badge.seat.take();
-        let place = Snapshot::of(&*badge);
-        TurnPass { seat, place }
+    fn sit(&self, chair: &mut Chair<B>) -> TurnPass<B> {
+        let there = mem::replace(chair, Chair::Away);
+        let Chair::Turns(pass) = there else {
+            unreachable!()
+        };
+        pass
     }
 
-    fn rise(&self, pass: TurnPass<B>, badge: &mut TurnPlace<B>) {
-        let TurnPass { seat, place: _ } = pass;
-        badge.seat = seat;
+    fn rise(&self, pass: TurnPass<B>, chair: &mut Chair<B>) {
+        *chair = Chair::Turns(pass);
     }
 
     fn lasts(&self, pass: &TurnPass<B>) -> bool {

@@ -15,9 +15,8 @@ use crate::seat::Place;
 use crate::seating::{seat_all, unseat_all};
 use crate::{Gate, RunEnd, Seat};
 use advice::{Adviser, Stop};
-use atomic_table::Badge;
 use best_cell::{Reader, Teller, pair};
-use board_lock::{Begun, BestOf, BoardRoot, Desk, Held, Lock, View};
+use board_lock::{Begun, BestOf, Desk, Held, Lock};
 use break_rules::NoMemory;
 use dual_bound::Buffers;
 use search_core::Board;
@@ -28,7 +27,7 @@ use std::sync::ledger::Blank;
 use std::thread::Threads;
 
 /// Whether a worker saw that the run is asked to stop.
-fn saw_stop<P, L: Begun, S: Stop>(bench: &[Place<P, L>], _stop: &S) -> bool
+fn saw_stop<B: Board, L: Begun, S: Stop>(bench: &[Place<B, L>], _stop: &S) -> bool
     requires asked { (i : ℕ) (d : _) → i < length bench.now → (slice_index_or bench.now i d).asked ≡ true → S.can_ask _stop.now ≡ true }
     ensures { result ≡ true → S.can_ask _stop.now ≡ true }
 {
@@ -42,13 +41,13 @@ fn saw_stop<P, L: Begun, S: Stop>(bench: &[Place<P, L>], _stop: &S) -> bool
 
 /// Once all workers have ended: empties each hand, goes on with the first seat unless a worker saw that the run is asked to stop, and
 /// tells how the run ends.
-pub(crate) fn finish_all<P, B: Board, L: Begun, G: Gate, S: Stop>(
+pub(crate) fn finish_all<B: Board, L: Begun, G: Gate, S: Stop>(
     alloc: Global,
     instance: &Instance,
     noted: &mut Noted<B, L>,
     gate: &G,
     stop: &S,
-    bench: &mut Vec<Place<P, L>>,
+    bench: &mut Vec<Place<B, L>>,
 ) -> RunEnd
     requires some { 0 < vec_len bench.old }
     requires numbers { (i : ℕ) (d : _) → i < vec_len bench.old → (slice_index_or bench.old.items i d).number ≡ i }
@@ -151,7 +150,7 @@ pub(crate) fn run_in<
     ensures last { (i : ℕ) (d : _) → i < vec_len seats
         → IsToldLast (vec_len seats) (B.seen board) i 0 (slice_index_or result.1.items i d).told (last (slice_index_or seats.items i d).adviser) (last (slice_index_or result.1.items i d).adviser) }
 {
-    let Ok(mut bench) = Vec::<Place<Badge<View<BoardRoot<B>>>, L>>::with_capacity(alloc, seats.len()) else {
+    let Ok(mut bench) = Vec::<Place<B, L>>::with_capacity(alloc, seats.len()) else {
         return (board, seats, RunEnd::NoMemory);
     };
     let Ok((teller, mut readers)) = tellings(rt, alloc, &board, seats.len()) else {

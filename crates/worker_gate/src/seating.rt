@@ -1,13 +1,14 @@
 //! Seats are put onto a bench before a run, and taken from it afterwards.
 ghost use Rattle.std.specs.Prelude.{◌≡◌, ◌≤◌, ◌<◌, ◌+◌, [], ℕ, All, false, map, slice_index_or, sum_by, vec_len};
 ghost use Rattle.std.specs.Vec.{vec_capacity};
-ghost use Rattle.board_lock.specs.Passes.{root_of, IsOutside, RestsAt};
+ghost use Rattle.board_lock.specs.Passes.{root_of, IsOutside};
+ghost use Rattle.worker_gate.specs.Turned.{HasBadge};
 
+use crate::chair::Chair;
 use crate::seat::{Place, Seat};
 use crate::turns::{BoardLock, BoardPass};
-use atomic_table::Badge;
 use best_cell::Reader;
-use board_lock::{Begun, BestOf, BoardRoot, View};
+use board_lock::{Begun, BestOf};
 use search_core::Board;
 use std::sync::ledger::Share;
 
@@ -19,7 +20,7 @@ fn seat_one<B: Board, L: Begun>(
     seat: Seat,
     number: u32,
     reader: Reader<BestOf<L>>,
-) -> Place<Badge<View<BoardRoot<B>>>, L>
+) -> Place<B, L>
     requires first { IsOutside lock.now first.old }
     requires number { number < 16 }
     requires new { (seat.told ≡ 0) × (seat.share ≡ 0) }
@@ -32,12 +33,12 @@ fn seat_one<B: Board, L: Begun>(
     ensures seat { result.seat ≡ seat }
     ensures number { result.number ≡ number }
     ensures unasked { result.asked ≡ false }
-    ensures rests { RestsAt (λ r. r ≡ root_of first.old) lock.now result.badge }
+    ensures rests { HasBadge lock.now (root_of first.old) result.chair }
 {
     let pass = lock.another(first);
     let share = all.split_off(1, 0);
     Place {
-        badge: pass.into_badge(),
+        chair: Chair::Badge(pass.into_badge()),
         seat,
         share,
         number,
@@ -54,7 +55,7 @@ pub(crate) fn seat_all<B: Board, L: Begun>(
     all: &mut Share<L>,
     seats: &mut Vec<Seat>,
     readers: &mut Vec<Reader<BestOf<L>>>,
-    bench: &mut Vec<Place<Badge<View<BoardRoot<B>>>, L>>,
+    bench: &mut Vec<Place<B, L>>,
 )
     requires first { IsOutside lock.now first.old }
     requires sixteen { vec_len seats.old ≤ 16 }
@@ -71,7 +72,7 @@ pub(crate) fn seat_all<B: Board, L: Begun>(
     ensures bench { map (λ p. p.seat) bench.new.items ≡ seats.old.items }
     ensures numbers { (i : ℕ) (d : _) → i < vec_len seats.old → (slice_index_or bench.new.items i d).number ≡ i }
     ensures unasked { All (λ p. p.asked ≡ false) bench.new.items }
-    ensures rest { All (λ p. RestsAt (λ r. r ≡ root_of first.old) lock.now p.badge) bench.new.items }
+    ensures rest { All (λ p. HasBadge lock.now (root_of first.old) p.chair) bench.new.items }
     ensures seats { seats.new.items ≡ [] }
     ensures kept { vec_capacity seats.new ≡ vec_capacity seats.old }
 {
@@ -87,8 +88,8 @@ pub(crate) fn seat_all<B: Board, L: Begun>(
 }
 
 /// The seats come back in their order, and their shares are put together.
-pub(crate) fn unseat_all<P: Drop, L: Begun>(
-    bench: &mut Vec<Place<P, L>>,
+pub(crate) fn unseat_all<B: Board, L: Begun>(
+    bench: &mut Vec<Place<B, L>>,
     seats: &mut Vec<Seat>,
     all: &mut Share<L>,
 )
@@ -101,7 +102,7 @@ pub(crate) fn unseat_all<P: Drop, L: Begun>(
 {
     while !bench.is_empty() {
         let Place {
-            badge: _,
+            chair: _,
             seat,
             share,
             number: _,

@@ -3,16 +3,18 @@ ghost use Rattle.std.specs.Prelude.{◌≡◌, ◌+◌, ◌<◌, ◌≤◌, ◌^
 ghost use Rattle.search_core.specs.Steps.{Fits};
 ghost use Rattle.board_lock.specs.declared.roots.BoardRoot.{BoardRoot};
 ghost use Rattle.worker_gate.specs.Runs.{news_of};
+ghost use Rattle.worker_gate.specs.declared.chair.Chair.{Chair};
 ghost use Rattle.worker_gate.specs.Workers.{IsLeft, IsNews};
 
+use crate::chair::Chair;
 use crate::turns::{Left, Rest, Work};
 use board_lock::{Begun, BoardRoot};
 use search_core::{Board, Kept, StepPosts};
 use std::sync::Wait;
 use std::sync::ledger::Share;
 
-/// A lock at which workers take turns with a board. A turn is one call on the board. Before and after the run a worker's seat lies at its place, as a `P`.
-pub(crate) trait Taking<B: Board, L: Begun, P> {
+/// A lock at which workers take turns with a board. A turn is one call on the board. Before and after the run a worker's seat lies at its place.
+pub(crate) trait Taking<B: Board, L: Begun> {
     /// A seat at the lock, as it works.
     type Pass;
 
@@ -25,24 +27,19 @@ pub(crate) trait Taking<B: Board, L: Begun, P> {
     /// How many turns the seat has left.
     ghost left: { Self.Pass → ℕ };
 
-    /// What lies at the place of the worker of a number is a seat that is outside the lock, and knows that root.
-    ghost rests: { Self → ℕ → BoardRoot B → P → Type 0 };
-
-    /// What lies at a place while the seat is away that knows that root.
-    ghost waits: { BoardRoot B → P → Type 0 };
+    /// At the place of the worker of a number lies a seat that is outside the lock, and knows that root.
+    ghost rests: { Self → ℕ → BoardRoot B → Chair B → Type 0 };
 
     /// Takes the seat from its place.
-    fn sit(&self, badge: &mut P) -> Self::Pass
-        requires rests { (number : ℕ) × (known : BoardRoot B) × rests self.now number known badge.old }
-        ensures outside { (number : ℕ) (known : BoardRoot B) → rests self.now number known badge.old → outside self.now number result }
-        ensures root { (number : ℕ) (known : BoardRoot B) → rests self.now number known badge.old → root result ≡ known }
-        ensures waits { waits (root result) badge.new };
+    fn sit(&self, chair: &mut Chair<B>) -> Self::Pass
+        requires rests { (number : ℕ) × (known : BoardRoot B) × rests self.now number known chair.old }
+        ensures outside { (number : ℕ) (known : BoardRoot B) → rests self.now number known chair.old → outside self.now number result }
+        ensures root { (number : ℕ) (known : BoardRoot B) → rests self.now number known chair.old → root result ≡ known };
 
     /// Puts the seat back to its place.
-    fn rise(&self, pass: Self::Pass, badge: &mut P)
+    fn rise(&self, pass: Self::Pass, chair: &mut Chair<B>)
         requires outside { (number : ℕ) × outside self.now number pass }
-        requires waits { waits (root pass) badge.old }
-        ensures { (number : ℕ) → outside self.now number pass → rests self.now number (root pass) badge.new };
+        ensures { (number : ℕ) → outside self.now number pass → rests self.now number (root pass) chair.new };
 
     /// Whether the seat has turns left for a whole round.
     fn lasts(&self, pass: &Self::Pass) -> bool

@@ -6,7 +6,7 @@ ghost use Rattle.worker_gate.specs.Passing.{FollowOn};
 ghost use Rattle.worker_gate.specs.Workers.{IsToldLast, WorkersEnd};
 
 use crate::noted::Noted;
-use crate::passing::{Passing, TurnPlace};
+use crate::passing::Passing;
 use crate::running::{finish_all, tellings};
 use crate::seat::Place;
 use crate::seating::unseat_all;
@@ -63,7 +63,7 @@ pub(crate) fn run_turns_in<
     ensures last { (i : ℕ) (d : _) → i < vec_len seats
         → IsToldLast (vec_len seats) (B.seen board) i 0 (slice_index_or result.1.items i d).told (last (slice_index_or seats.items i d).adviser) (last (slice_index_or result.1.items i d).adviser) }
 {
-    let Ok(mut bench) = Vec::<Place<TurnPlace<B>, L>>::with_capacity(alloc, seats.len()) else {
+    let Ok(mut bench) = Vec::<Place<B, L>>::with_capacity(alloc, seats.len()) else {
         return (board, seats, Vec::new(alloc), RunEnd::NoMemory);
     };
     let Ok((teller, mut readers)) = tellings(rt, alloc, &board, seats.len()) else {

@@ -12,10 +12,10 @@ ghost use Rattle.worker_gate.specs.Runs.{news_of};
 ghost use Rattle.worker_gate.specs.Workers.{IsLeft, IsNews, LeavesStep};
 
 use crate::asking::ask_of;
+use crate::chair::Chair;
 use crate::taking::Taking;
 use advice::Ask;
-use atomic_table::Badge;
-use board_lock::{Begun, BoardRoot, Desk, Held, Lock, Pass, View};
+use board_lock::{Begun, BoardRoot, Desk, Held, Lock, Pass};
 use search_core::{Board, CommitFault, Kept, StepPosts, Taken};
 use std::mem;
 use std::sync::Wait;
@@ -152,9 +152,10 @@ pub(crate) fn commit_in<B: Board, L: Begun>(
     }
 }
 
-impl<B: Board, L: Begun> Taking<B, L, Badge<View<BoardRoot<B>>>> for Lock<Desk<B, L>> {
+impl<B: Board, L: Begun> Taking<B, L> for Lock<Desk<B, L>> {
     ghost use Rattle.std.specs.Prelude.{◌≡◌};
-    ghost use Rattle.board_lock.specs.Passes.{root_of, IsOutside, RestsAt};
+    ghost use Rattle.board_lock.specs.Passes.{root_of, IsOutside};
+    ghost use Rattle.worker_gate.specs.Turned.{HasBadge};
 
     type Pass = BoardPass<B, L>;
 
@@ -164,17 +165,18 @@ impl<B: Board, L: Begun> Taking<B, L, Badge<View<BoardRoot<B>>>> for Lock<Desk<B
 
     ghost left = { λ pass. 4 };
 
-    ghost rests = { λ lock number known badge. RestsAt (λ r. r ≡ known) lock badge };
+    ghost rests = { λ lock number known chair. HasBadge lock known chair };
 
-    ghost waits = { λ known badge. Unit {0} };
-
-    fn sit(&self, badge: &mut Badge<View<BoardRoot<B>>>) -> BoardPass<B, L> {
-        let there = mem::replace(badge, Badge::blank());
-        there.into_seat()
+    fn sit(&self, chair: &mut Chair<B>) -> BoardPass<B, L> {
+        let there = mem::replace(chair, Chair::Away);
+        let Chair::Badge(badge) = there else {
+            unreachable!()
+        };
+        badge.into_seat()
     }
 
-    fn rise(&self, pass: BoardPass<B, L>, badge: &mut Badge<View<BoardRoot<B>>>) {
-        *badge = pass.into_badge();
+    fn rise(&self, pass: BoardPass<B, L>, chair: &mut Chair<B>) {
+        *chair = Chair::Badge(pass.into_badge());
     }
 
     fn lasts(&self, _pass: &BoardPass<B, L>) -> bool {

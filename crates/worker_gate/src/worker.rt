@@ -84,7 +84,7 @@ pub(crate) fn closed_again(
 }
 
 /// Commits a step that came back, closed by the split or the settled plan that its cuts have.
-fn commit_again<B: Board, L: Begun, K: Taking<B, L, P>, P, R: Wait>(
+fn commit_again<B: Board, L: Begun, K: Taking<B, L>, R: Wait>(
     rt: &R,
     alloc: Global,
     instance: &Instance,
@@ -124,7 +124,7 @@ fn commit_again<B: Board, L: Begun, K: Taking<B, L, P>, P, R: Wait>(
 
 /// Commits a step for the worker's node. Where by its price alone it would leave the node open, it is committed once more, closed by
 /// the split or the settled plan that its cuts have.
-fn commit_closing<B: Board, L: Begun, K: Taking<B, L, P>, P, R: Wait>(
+fn commit_closing<B: Board, L: Begun, K: Taking<B, L>, R: Wait>(
     rt: &R,
     alloc: Global,
     instance: &Instance,
@@ -165,7 +165,7 @@ fn wait_for_nodes<R: Wait>(rt: &R) {
 }
 
 /// One round of a worker, and whether it goes on. Without turns for a whole round it begins none.
-fn round<B: Board, L: Begun, K: Taking<B, L, P>, P, G: Gate, S: Stop, R: Wait>(
+fn round<B: Board, L: Begun, K: Taking<B, L>, G: Gate, S: Stop, R: Wait>(
     rt: &R,
     alloc: Global,
     instance: &Instance,
@@ -174,7 +174,7 @@ fn round<B: Board, L: Begun, K: Taking<B, L, P>, P, G: Gate, S: Stop, R: Wait>(
     gate: &G,
     stop: &S,
     pass: &mut K::Pass,
-    place: &mut Place<P, L>,
+    place: &mut Place<B, L>,
 ) -> bool
     requires pass { K.outside lock.now place.old.number pass.old }
     requires knows { KnowsBoard B.seen instance.now place.old.number (K.root pass.old) }
@@ -183,7 +183,6 @@ fn round<B: Board, L: Begun, K: Taking<B, L, P>, P, G: Gate, S: Stop, R: Wait>(
     ensures root { K.root pass.new ≡ K.root pass.old }
     ensures buffers { buffers.new ≡ buffers.old }
     ensures number { place.new.number ≡ place.old.number }
-    ensures badge { place.new.badge ≡ place.old.badge }
     ensures told { told place.old.seat.adviser < 2 ^ 63 + place.old.seat.told
         → told place.new.seat.adviser + place.old.seat.told ≡ told place.old.seat.adviser + place.new.seat.told }
     ensures last { IsToldLast (K.root pass.old).workers (B.seen (K.root pass.old).opened.value) place.old.number place.old.seat.told place.new.seat.told (last place.old.seat.adviser) (last place.new.seat.adviser) }
@@ -193,7 +192,7 @@ fn round<B: Board, L: Begun, K: Taking<B, L, P>, P, G: Gate, S: Stop, R: Wait>(
         return false;
     }
     let Place {
-        badge: _,
+        chair: _,
         seat,
         share,
         number,
@@ -235,7 +234,7 @@ fn round<B: Board, L: Begun, K: Taking<B, L, P>, P, G: Gate, S: Stop, R: Wait>(
 }
 
 /// Round after round, until there is nothing more to do or the worker sees that it is asked to stop.
-fn rounds<B: Board, L: Begun, K: Taking<B, L, P>, P, G: Gate, S: Stop, R: Wait>(
+fn rounds<B: Board, L: Begun, K: Taking<B, L>, G: Gate, S: Stop, R: Wait>(
     rt: &R,
     alloc: Global,
     instance: &Instance,
@@ -243,12 +242,11 @@ fn rounds<B: Board, L: Begun, K: Taking<B, L, P>, P, G: Gate, S: Stop, R: Wait>(
     gate: &G,
     stop: &S,
     pass: &mut K::Pass,
-    place: &mut Place<P, L>,
+    place: &mut Place<B, L>,
 )
     requires pass { K.outside lock.now place.old.number pass.old }
     requires knows { KnowsBoard B.seen instance.now place.old.number (K.root pass.old) }
     ensures number { place.new.number ≡ place.old.number }
-    ensures badge { place.new.badge ≡ place.old.badge }
     ensures told { told place.old.seat.adviser < 2 ^ 63 + place.old.seat.told
         → told place.new.seat.adviser + place.old.seat.told ≡ told place.old.seat.adviser + place.new.seat.told }
     ensures last { IsToldLast (K.root pass.old).workers (B.seen (K.root pass.old).opened.value) place.old.number place.old.seat.told place.new.seat.told (last place.old.seat.adviser) (last place.new.seat.adviser) }
@@ -273,25 +271,25 @@ fn rounds<B: Board, L: Begun, K: Taking<B, L, P>, P, G: Gate, S: Stop, R: Wait>(
 }
 
 /// Works until there is nothing more to do, or the worker sees that it is asked to stop. The seat at the lock lies at its place before and afterwards.
-pub(crate) fn work<B: Board, L: Begun, K: Taking<B, L, P>, P, G: Gate, S: Stop, R: Wait>(
+pub(crate) fn work<B: Board, L: Begun, K: Taking<B, L>, G: Gate, S: Stop, R: Wait>(
     rt: &R,
     alloc: Global,
     instance: &Instance,
     lock: &K,
     gate: &G,
     stop: &S,
-    place: &mut Place<P, L>,
+    place: &mut Place<B, L>,
 )
-    requires { (root : BoardRoot B) × K.rests lock.now place.old.number root place.old.badge × KnowsBoard B.seen instance.now place.old.number root }
+    requires { (root : BoardRoot B) × K.rests lock.now place.old.number root place.old.chair × KnowsBoard B.seen instance.now place.old.number root }
     ensures number { place.new.number ≡ place.old.number }
-    ensures rests { (root : BoardRoot B) → K.rests lock.now place.old.number root place.old.badge → K.rests lock.now place.old.number root place.new.badge }
+    ensures rests { (root : BoardRoot B) → K.rests lock.now place.old.number root place.old.chair → K.rests lock.now place.old.number root place.new.chair }
     ensures told { told place.old.seat.adviser < 2 ^ 63 + place.old.seat.told
         → told place.new.seat.adviser + place.old.seat.told ≡ told place.old.seat.adviser + place.new.seat.told }
-    ensures last { (root : BoardRoot B) → K.rests lock.now place.old.number root place.old.badge
+    ensures last { (root : BoardRoot B) → K.rests lock.now place.old.number root place.old.chair
         → IsToldLast root.workers (B.seen root.opened.value) place.old.number place.old.seat.told place.new.seat.told (last place.old.seat.adviser) (last place.new.seat.adviser) }
     ensures asked { place.new.asked ≡ true → place.old.asked ≡ false → S.can_ask stop.now ≡ true }
 {
-    let mut pass = lock.sit(&mut place.badge);
+    let mut pass = lock.sit(&mut place.chair);
     rounds(rt, alloc, instance, lock, gate, stop, &mut pass, place);
-    lock.rise(pass, &mut place.badge);
+    lock.rise(pass, &mut place.chair);
 }
