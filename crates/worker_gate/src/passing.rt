@@ -1,7 +1,10 @@
 //! The board behind a lock whose turns are taken in the order of tickets, and a worker's turns there.
-ghost use Rattle.std.specs.Prelude.{◌≡◌, true};
+ghost use Rattle.std.specs.Prelude.{◌≡◌, ◌+◌, ◌<◌, ◌≤◌, true, Some};
 ghost use Rattle.best_cell.specs.Told.{last_of};
 ghost use Rattle.board_lock.specs.Best.{best_of};
+ghost use Rattle.board_lock.specs.Roots.{root_at};
+ghost use Rattle.turn_lock.specs.Passes.{AddsAtMostOne};
+ghost use Rattle.worker_gate.specs.Turned.{left_of, IsSeatAt};
 
 use crate::chair::{Chair, TurnPass};
 use crate::noted::Noted;
@@ -32,6 +35,49 @@ impl<B: Board, L: Begun> Passed for Passing<B, L> {
     ghost root = { λ p. root_at p.noted.held.opened p.noted.held.workers };
 
     ghost passes = { λ p. p.noted.passes.items };
+}
+
+/// A seat's turn at the lock begins.
+fn begin_turn<B: Board, L: Begun, R: Wait>(
+    rt: &R,
+    lock: &TurnLock<Passing<B, L>>,
+    pass: &mut TurnPass<B>,
+    _worker: u32,
+) -> Turn<Passing<B, L>>
+    requires seat { IsSeatAt lock.now _worker pass.old.root.value pass.old.seat }
+    requires turns { 0 < left_of pass.old.seat }
+    ensures root { root_at result.value.noted.held.opened result.value.noted.held.workers ≡ pass.old.root.value }
+    ensures lock { result.seat.lock ≡ lock.now.name }
+    ensures number { result.seat.number ≡ _worker }
+    ensures left { result.seat.left ≡ left_of pass.old.seat }
+    ensures of_root { result.seat.root ≡ Some pass.old.root.value }
+    ensures known { result.seat.known ≡ result.value.noted.passes.items }
+    ensures pass { pass.new.root ≡ pass.old.root }
+{
+    let Some(seat) = pass.seat.take() else {
+        unreachable!()
+    };
+    lock.enter(rt, seat)
+}
+
+/// A seat's turn at the lock ends, with at most one more pass of its worker.
+fn end_turn<B: Board, L: Begun>(
+    lock: &TurnLock<Passing<B, L>>,
+    turn: Turn<Passing<B, L>>,
+    pass: &mut TurnPass<B>,
+    _worker: u32,
+)
+    requires root { root_at turn.value.noted.held.opened turn.value.noted.held.workers ≡ pass.old.root.value }
+    requires lock { turn.seat.lock ≡ lock.now.name }
+    requires number { turn.seat.number ≡ _worker }
+    requires of_root { turn.seat.root ≡ Some pass.old.root.value }
+    requires passes { AddsAtMostOne _worker turn.seat.known turn.value.noted.passes.items }
+    ensures seat { IsSeatAt lock.now _worker pass.old.root.value pass.new.seat }
+    ensures left { turn.seat.left ≤ left_of pass.new.seat + 1 }
+    ensures pass { pass.new.root ≡ pass.old.root }
+{
+    let seat = lock.leave(turn);
+    pass.seat = Some(seat);
 }
 
 impl<B: Board, L: Begun> Taking<B, L> for TurnLock<Passing<B, L>> {
@@ -73,21 +119,11 @@ impl<B: Board, L: Begun> Taking<B, L> for TurnLock<Passing<B, L>> {
         worker: u32,
         asked: bool,
     ) -> Result<Work, Rest> {
-        let Some(seat) = pass.seat.take() else {
-            unreachable!()
-        };
-        let Turn {
-            value,
-            seat: inside,
-        } = self.enter(rt, seat);
+        let Turn { value, seat } = begin_turn(rt, self, pass, worker);
         let Passing { mut noted, teller } = value;
         let work = noted.next_work(worker, asked);
         let value = Passing { noted, teller };
-        let seat = self.leave(Turn {
-            value,
-            seat: inside,
-        });
-        pass.seat = Some(seat);
+        end_turn(self, Turn { value, seat }, pass, worker);
         work
     }
 
@@ -99,13 +135,7 @@ impl<B: Board, L: Begun> Taking<B, L> for TurnLock<Passing<B, L>> {
         step: StepPosts,
         share: &mut Share<L>,
     ) -> Result<Kept, Left> {
-        let Some(seat) = pass.seat.take() else {
-            unreachable!()
-        };
-        let Turn {
-            value,
-            seat: inside,
-        } = self.enter(rt, seat);
+        let Turn { value, seat } = begin_turn(rt, self, pass, worker);
         let Passing {
             mut noted,
             mut teller,
@@ -113,29 +143,15 @@ impl<B: Board, L: Begun> Taking<B, L> for TurnLock<Passing<B, L>> {
         let kept = noted.commit(worker, step, share);
         noted.held.tell(rt, &mut teller);
         let value = Passing { noted, teller };
-        let seat = self.leave(Turn {
-            value,
-            seat: inside,
-        });
-        pass.seat = Some(seat);
+        end_turn(self, Turn { value, seat }, pass, worker);
         kept
     }
 
     fn yield_turn<R: Wait>(&self, rt: &R, pass: &mut TurnPass<B>, worker: u32) {
-        let Some(seat) = pass.seat.take() else {
-            unreachable!()
-        };
-        let Turn {
-            value,
-            seat: inside,
-        } = self.enter(rt, seat);
+        let Turn { value, seat } = begin_turn(rt, self, pass, worker);
         let Passing { mut noted, teller } = value;
         noted.yield_node(worker);
         let value = Passing { noted, teller };
-        let seat = self.leave(Turn {
-            value,
-            seat: inside,
-        });
-        pass.seat = Some(seat);
+        end_turn(self, Turn { value, seat }, pass, worker);
     }
 }

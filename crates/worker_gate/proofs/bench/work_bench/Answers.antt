@@ -25,9 +25,3 @@ returns-clause-asked g c =
     let same = written c.args.bench.now.len c.args.bench.now.items c.work_all.new.bench (omega (arith, c.args.bench.now.ok)) (c.work_all.auto.bench ∙ ap length c.as_mut_slice.ensures.value) in
     let asked = rw c.as_mut_slice.ensures.value at c.work_all.ensures.asked in
     λ i d low. rw same (asked i d (omega (arith, low, c.args.bench.now.ok)))
-
-pub returns-clause-rest : goal.returns-clause-rest
-returns-clause-rest g c =
-    let same = written c.args.bench.now.len c.args.bench.now.items c.work_all.new.bench (omega (arith, c.args.bench.now.ok)) (c.work_all.auto.bench ∙ ap length c.as_mut_slice.ensures.value) in
-    let rest = rw c.as_mut_slice.ensures.value at c.work_all.ensures.rest in
-    λ root rests. rw same (rest root rests)

@@ -1,6 +1,6 @@
 use Rattle.std.proofs.Common.{false, ◌≡◌, ◌∙◌, arith, ap, subst, suc, sym, Some, vec_len}
 use Rattle.turn_lock.specs.Seats.{new_seats}
-use Rattle.worker_gate.specs.Turned.{IsSeatAt}
+use Rattle.worker_gate.specs.Turned.{HasTurns}
 use Rattle.worker_gate.proofs.Moved.{all_more, all_rest, all_placed, moved_on}
 use Rattle.worker_gate.proofs.Dealt.{new_count, seat_first, seats_rest}
 use Rattle.worker_gate.proofs.turn_seating.seat_turns.Goals as goal
@@ -23,7 +23,7 @@ loop-seats-preserved g c =
       moved = rw (push.items, took.items) (moved_on (λ p. p.seat) c.loop-seats.bench.items c.seat_turn-place.result c.loop-seats.seats.items c.remove-seat.result c.args.seats.now.items (omega (arith, took.len)) took.value one.seat i.moved);
       numbers = rw push.items (all_placed (λ k p. p.number ≡ k) c.loop-seats.bench.items c.seat_turn-place.result i.numbers (omega (arith, one.number, c.loop-seats.bench.ok)));
       unasked = rw push.items (all_more (λ p. p.asked ≡ false) c.loop-seats.bench.items c.seat_turn-place.result i.unasked one.unasked);
-      rest = rw push.items (all_more (λ p. IsSeatAt c.args.lock.now p.number c.args.root.now p.badge.seat × (p.badge.root.value ≡ c.args.root.now)) c.loop-seats.bench.items c.seat_turn-place.result i.rest one.rests);
+      rest = rw push.items (all_more (λ p. HasTurns c.args.lock.now p.number c.args.root.now p.chair) c.loop-seats.bench.items c.seat_turn-place.result i.rest one.rests);
       readers = omega (arith, c.in-Some.ensures.len, took.len, i.readers);
       new = rw took.items (all_rest (λ s. (s.told ≡ 0) × (s.share ≡ 0)) c.loop-seats.seats.items i.new);
       room = push.capacity ∙ i.room;

@@ -1,7 +1,7 @@
 use Rattle.std.proofs.Common.{false, ◌≡◌, ◌<◌, ◌+◌, ◌++◌, ℕ, All, length, map, slice_index_or, vec_len, Some}
 use Rattle.std.specs.Vec.{vec_capacity}
 use Rattle.turn_lock.specs.Seats.{new_seats}
-use Rattle.worker_gate.specs.Turned.{IsSeatAt}
+use Rattle.worker_gate.specs.Turned.{HasTurns}
 use Rattle.worker_gate.proofs.turn_seating.seat_turns.Given as goal
 
 abbrev pub invariant-loop-seats : goal.invariant-loop-seats
@@ -15,7 +15,7 @@ invariant-loop-seats g l = record {
   moved : map (λ p. p.seat) l.bench.items ++ l.seats.items ≡ l.initial.seats.items;
   numbers : (i : ℕ) (d : _) → i < length l.bench.items → (slice_index_or l.bench.items i d).number ≡ i;
   unasked : All (λ p. p.asked ≡ false) l.bench.items;
-  rest : All (λ p. IsSeatAt l.lock p.number l.root p.badge.seat × (p.badge.root.value ≡ l.root)) l.bench.items;
+  rest : All (λ p. HasTurns l.lock p.number l.root p.chair) l.bench.items;
   readers : vec_len l.readers ≡ vec_len l.seats;
   new : All (λ s. (s.told ≡ 0) × (s.share ≡ 0)) l.seats.items;
   room : vec_capacity l.bench ≡ vec_capacity l.initial.bench;

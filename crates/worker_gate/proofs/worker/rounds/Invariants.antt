@@ -9,7 +9,6 @@ invariant-loop g l = record {
   outside : g.K.Taking.outside l.lock l.place.number l.pass;
   knows : KnowsBoard g.B.Board.seen l.instance l.place.number (g.K.Taking.root l.pass);
   number : l.place.number ≡ l.initial.place.number;
-  badge : l.place.badge ≡ l.initial.place.badge;
   buffers : l.buffers ≡ l.instance;
   told : (goal.Adviser-dyn g (l.initial.place.seat.adviser.vtable, l.initial.place.seat.adviser.value)).told l.initial.place.seat.adviser.value < 2 ^ 63 + l.initial.place.seat.told
       → (goal.Adviser-dyn g (l.place.seat.adviser.vtable, l.place.seat.adviser.value)).told l.place.seat.adviser.value + l.initial.place.seat.told
