@@ -2,7 +2,7 @@
 ghost use Rattle.std.specs.Prelude.{◌≡◌, ◌≤◌, All, length, vec_len};
 ghost use Rattle.instance_json.specs.Canonical.{canonical_text};
 
-use crate::fixtures::{LIMIT, morning, parted};
+use crate::fixtures::{LIMIT, morning, parted, quiet_morning};
 use crate::side_by_side::{Meeting, two_seats};
 use advice::Never;
 use advisers::Greedy;
@@ -76,19 +76,37 @@ fn two_workers_meet_at_the_gate_by_turns(rt: HostRuntime) -> Result<(), Fail> {
     Ok(())
 }
 
-/// How a run of two workers by turns ends who may take no node, whether it made a pass, and how many posts there are.
-fn without_steps<R: Threads + Wait + Sync>(rt: &R, alloc: Global) -> Result<(RunEnd, bool, u64), Fail> {
-    let instance = morning(alloc, "2")?;
+/// How a run of two workers by turns ends who begin without a post and take at most so many nodes, whether it made a pass, and how many posts there
+/// are.
+fn from_nothing<R: Threads + Wait + Sync>(
+    rt: &R,
+    alloc: Global,
+    instance: &Instance,
+    steps: u64,
+) -> Result<(RunEnd, bool, u64), Fail>
+    requires canonical { length (canonical_text instance.now) ≡ 372 }
+    requires steps { steps ≤ 100 }
+{
     let bytes = Vec::new(alloc);
     let (end, passes, posts) =
-        run_two(rt, alloc, &instance, bytes, 0, two_seats(alloc)?, &Open)?;
+        run_two(rt, alloc, instance, bytes, steps, two_seats(alloc)?, &Open)?;
     Ok((end, !passes.is_empty(), posts))
 }
 
 #[test]
 fn no_step_makes_no_pass(rt: HostRuntime) -> Result<(), Fail> {
-    let (end, passed, posts) = without_steps(&rt, rt.alloc())?;
+    let instance = morning(rt.alloc(), "2")?;
+    let (end, passed, posts) = from_nothing(&rt, rt.alloc(), &instance, 0)?;
     assert!(rt; end == RunEnd::Spent);
+    assert!(rt; !passed && posts == 0);
+    Ok(())
+}
+
+#[test]
+fn nothing_to_do_makes_no_pass(rt: HostRuntime) -> Result<(), Fail> {
+    let instance = quiet_morning(rt.alloc())?;
+    let (end, passed, posts) = from_nothing(&rt, rt.alloc(), &instance, 100)?;
+    assert!(rt; end == RunEnd::Finished);
     assert!(rt; !passed && posts == 0);
     Ok(())
 }
