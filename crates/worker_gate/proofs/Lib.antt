@@ -15,3 +15,4 @@ pub mod Rooted
 pub mod Passes
 pub mod Dealt
 pub mod Appended
+pub mod Snapped
