@@ -60,9 +60,9 @@ pub pushed_on : (h k o q : List Post) (passes others : List Pass) (worker : ℕ)
 pushed_on h k o q passes others worker p appends f e seat from to more was =
     let posts : List Post = appends.0 in
     ∥∥₁_elim was (hlevel props) (λ there.
-        let last : IsPassAt (h ++ posts) (length h) p = pass_made h posts worker p appends.2 seat from (to ∙ ap length appends.1) more in
-        let all : FollowOn (h ++ posts) (length o) (passes ++ p ∷ []) p.to = follow_more (h ++ posts) (length o) passes (length h) p (follow_stays h posts (length o) passes (length h) there) last in
-        ∣ rw (appends.1, f, e) (subst (λ (n : ℕ). FollowOn (h ++ posts) (length o) (passes ++ p ∷ []) n) (to ∙ ap length appends.1) all) ∣₁)
+    let last : IsPassAt (h ++ posts) (length h) p = pass_made h posts worker p appends.2 seat from (to ∙ ap length appends.1) more in
+    let all : FollowOn (h ++ posts) (length o) (passes ++ p ∷ []) p.to = follow_more (h ++ posts) (length o) passes (length h) p (follow_stays h posts (length o) passes (length h) there) last in
+    ∣ rw (appends.1, f, e) (subst (λ (n : ℕ). FollowOn (h ++ posts) (length o) (passes ++ p ∷ []) n) (to ∙ ap length appends.1) all) ∣₁)
 
 -- the passes as they stand, where nothing was appended
 pub unpushed_on : (h k o q : List Post) (passes others : List Pass) (worker : ℕ) → AppendsOf worker h k → q ≡ o → others ≡ passes → length k ≤ length h
@@ -71,4 +71,4 @@ unpushed_on h k o q passes others worker appends f e few was =
     let posts : List Post = appends.0 in
     let same : length h ≡ length (h ++ posts) = omega (arith, few, ap length appends.1, length-append h posts) in
     ∥∥₁_elim was (hlevel props) (λ there.
-        ∣ rw (appends.1, f, e) (subst (λ (n : ℕ). FollowOn (h ++ posts) (length o) passes n) same (follow_stays h posts (length o) passes (length h) there)) ∣₁)
+    ∣ rw (appends.1, f, e) (subst (λ (n : ℕ). FollowOn (h ++ posts) (length o) passes n) same (follow_stays h posts (length o) passes (length h) there)) ∣₁)

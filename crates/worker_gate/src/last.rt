@@ -8,8 +8,8 @@ ghost use Rattle.board_lock.specs.Roots.{root_at};
 ghost use Rattle.worker_gate.specs.Runs.{news_of};
 ghost use Rattle.worker_gate.specs.Workers.{IsNews, IsToldLast, KnowsBoard, WorkersEnd};
 
-use crate::seat::Place;
 use crate::noted::Noted;
+use crate::seat::Place;
 use crate::turns::{Left, Rest, Work};
 use crate::worker::{closed_again, decide};
 use crate::{Gate, RunEnd};

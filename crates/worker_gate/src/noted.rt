@@ -1,5 +1,5 @@
 //! A board with the passes of its workers.
-ghost use Rattle.std.specs.Prelude.{◌≡◌, ◌<◌, ◌≤◌, ◌^◌, [], None, Some, true, false, IfErr, IfOk, OnErr, OnOk, length, vec_len};
+ghost use Rattle.std.specs.Prelude.{◌≡◌, ◌+◌, ◌<◌, ◌≤◌, ◌^◌, [], None, Some, true, false, IfErr, IfOk, OnErr, OnOk, length, vec_len};
 ghost use Rattle.std.specs.Vec.{vec_capacity};
 ghost use Rattle.search_core.specs.Board.{book_at, yields, Commits, TakeMakes};
 ghost use Rattle.search_core.specs.Core.{hand};

@@ -1,7 +1,11 @@
 //! The run of workers over a board by turns, for a ledger of its commits.
-ghost use Rattle.std.specs.Prelude.{◌≡◌, ◌+◌, ◌<◌, ◌≤◌, ◌^◌, ℕ, All, None, Some, false, true, length, slice_index_or, sum_by, vec_len};
+ghost use Rattle.std.specs.Prelude.{◌≡◌, ◌+◌, ◌<◌, ◌≤◌, ◌^◌, ℕ, All, IfErr, IfOk, None, Some, false, true, length, slice_index_or, sum_by, vec_len};
 ghost use Rattle.search_core.specs.Core.{empty_hands};
+ghost use Rattle.best_cell.specs.Told.{last_of};
+ghost use Rattle.board_lock.specs.Best.{best_of};
+ghost use Rattle.board_lock.specs.Roots.{root_at};
 ghost use Rattle.board_lock.specs.Turns.{AreTurns};
+ghost use Rattle.turn_lock.specs.Seats.{new_seats};
 ghost use Rattle.worker_gate.specs.Passing.{FollowOn};
 ghost use Rattle.worker_gate.specs.Workers.{IsToldLast, WorkersEnd};
 
@@ -14,15 +18,91 @@ use crate::turn_bench::work_by_turns;
 use crate::turn_seating::seat_turns;
 use crate::{Gate, RunEnd, Seat};
 use advice::{Adviser, Stop};
-use board_lock::{Begun, BoardRoot, Held};
+use best_cell::Teller;
+use board_lock::{Begun, BestOf, BoardRoot, Held};
 use search_core::Board;
 use shift_instance::Instance;
 use std::alloc::Global;
 use std::snapshot::Snapshot;
 use std::sync::Wait;
-use std::sync::ledger::Blank;
+use std::sync::ledger::{Blank, Book};
 use std::thread::Threads;
-use turn_lock::{Pass, TurnLock, Unmade};
+use turn_lock::{Pass, TurnLock, TurnSeat, Unmade};
+
+/// A lock with turns round a board, its seats, and what they know of the board.
+type Locked<B, L> = (
+    TurnLock<Passing<B, L>>,
+    Vec<TurnSeat<BoardRoot<B>>>,
+    BoardRoot<B>,
+);
+
+/// A lock with turns round a board as it is opened, its seats, and what they know of the board. Without memory the board comes back with its ledger.
+fn lock_up<B: Board, L: Begun>(
+    alloc: Global,
+    board: B,
+    workers: u32,
+    commits: Book<L>,
+    teller: Teller<BestOf<L>>,
+) -> Result<Locked<B, L>, Held<B, L>>
+    requires some { 0 < workers }
+    requires sixteen { workers ≤ 16 }
+    requires begun { (L.begun_at ≡ Some (B.seen board)) × (L.begun_by ≡ workers) }
+    requires fresh { (B.seen board).taken ≡ 0 }
+    requires running { (B.seen board).shut ≡ None }
+    requires going { (B.seen board).halted ≡ false }
+    requires empty { (B.seen board).hands ≡ empty_hands }
+    requires none { commits.total ≡ 0 }
+    requires told { last_of teller ≡ best_of (B.seen board) }
+    ensures opened { IfOk result (λ made. made.2.opened.value ≡ board) }
+    ensures workers { IfOk result (λ made. made.2.workers ≡ workers) }
+    ensures count { IfOk result (λ made. made.0.seats ≡ workers) }
+    ensures seats { IfOk result (λ made. made.1.items ≡ new_seats made.0.name (Some made.2) 0 workers) }
+    ensures refused { IfErr result (λ held. held.board ≡ board) }
+{
+    let root = BoardRoot {
+        opened: Snapshot::of(&board),
+        workers,
+    };
+    let held = Held::new(board, workers, commits);
+    let noted = Noted::kept(alloc, held);
+    match TurnLock::new(alloc, Passing { noted, teller }, workers) {
+        Ok((lock, made)) => Ok((lock, made, root)),
+        Err(Unmade { value }) => {
+            let BoardRoot {
+                opened: _,
+                workers: _,
+            } = root;
+            let Passing { noted, teller: _ } = value;
+            let Noted {
+                held,
+                passes: _,
+                keeps: _,
+            } = noted;
+            Err(held)
+        }
+    }
+}
+
+/// The board with its passes, once all seats at its lock are back.
+fn unlock<B: Board, L: Begun>(
+    lock: TurnLock<Passing<B, L>>,
+    made: Vec<TurnSeat<BoardRoot<B>>>,
+    root: BoardRoot<B>,
+) -> Noted<B, L>
+    requires some { 0 < length made.items }
+    requires all { length made.items ≡ lock.seats }
+    requires lock { All (λ s. s.lock ≡ lock.name) made.items }
+    requires of_root { All (λ s. s.root ≡ Some root) made.items }
+    ensures root { root_at result.held.opened result.held.workers ≡ root }
+    ensures keeps { result.keeps ≡ true }
+{
+    let BoardRoot {
+        opened: _,
+        workers: _,
+    } = root;
+    let Passing { noted, teller: _ } = lock.close(made);
+    noted
+}
 
 /// What `run_turns` does, for the ledger that the blank stands for.
 pub(crate) fn run_turns_in<
@@ -70,28 +150,11 @@ pub(crate) fn run_turns_in<
         return (board, seats, Vec::new(alloc), RunEnd::NoMemory);
     };
     let (commits, mut all) = blank.open::<L>();
-    let workers = seats.len() as u32;
-    let root = BoardRoot {
-        opened: Snapshot::of(&board),
-        workers,
-    };
-    let held = Held::new(board, workers, commits);
-    let noted = Noted::kept(alloc, held);
-    let (lock, mut made) = match TurnLock::new(alloc, Passing { noted, teller }, workers) {
+    let (lock, mut made, root) = match lock_up(alloc, board, seats.len() as u32, commits, teller) {
         Ok(made) => made,
-        Err(Unmade { value }) => {
-            let BoardRoot {
-                opened: _,
-                workers: _,
-            } = root;
-            let Passing { noted, teller: _ } = value;
-            let Noted {
-                held,
-                passes,
-                keeps: _,
-            } = noted;
+        Err(held) => {
             let board = held.into_board(&mut all);
-            return (board, seats, passes, RunEnd::NoMemory);
+            return (board, seats, Vec::new(alloc), RunEnd::NoMemory);
         }
     };
     seat_turns(
@@ -106,14 +169,7 @@ pub(crate) fn run_turns_in<
     work_by_turns(
         rt, alloc, instance, &lock, gate, stop, &root, &mut bench, &mut made,
     );
-    let BoardRoot {
-        opened: _,
-        workers: _,
-    } = root;
-    let Passing {
-        mut noted,
-        teller: _,
-    } = lock.close(made);
+    let mut noted = unlock(lock, made, root);
     let end = finish_all(alloc, instance, &mut noted, gate, stop, &mut bench);
     unseat_all(&mut bench, &mut seats, &mut all);
     let Noted {

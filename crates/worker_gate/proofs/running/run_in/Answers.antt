@@ -30,12 +30,14 @@ work_bench-requires-clause-rest g c κs within =
     let mapped = length-map {A = _} xs (λ p. p.seat) in
     let instance = ap (λ b. (g.B.Board.seen b).instance) c.new-held.ensures.opened ∙ c.requires.instance in
     let budget = subst (λ b. (g.B.Board.seen b).budget < 2 ^ 63) (sym c.new-held.ensures.opened) c.requires.budget in
-    let root = root_of c.in-Ok-new.made.1 in
-    (root, all_know g.B.Board.seen (λ p. p.number) (λ p. HasBadge c.in-Ok-new.made.0 root p.chair) c.args.instance.now root xs
-    (λ k low. subst (λ r. KnowsBoard g.B.Board.seen c.args.instance.now k r) (sym c.in-Ok-new.ensures.root)
-    (knows g.B.Board.seen c.args.instance.now k c.new-held.result.workers c.new-held.result.opened instance budget (omega (arith, low, many, mapped, c.new-held.ensures.workers, c.len-3.ensures, c.args.seats.ok, c.requires.sixteen))))
-    (λ k d low. c.seat_all.ensures.numbers k d (omega (arith, low, many, mapped, c.args.seats.ok)))
-    c.seat_all.ensures.rest)
+    let root = root_of c.in-Ok-new.made.1 in (
+      root,
+      all_know g.B.Board.seen (λ p. p.number) (λ p. HasBadge c.in-Ok-new.made.0 root p.chair) c.args.instance.now root xs
+          (λ k low. subst (λ r. KnowsBoard g.B.Board.seen c.args.instance.now k r) (sym c.in-Ok-new.ensures.root)
+          (knows g.B.Board.seen c.args.instance.now k c.new-held.result.workers c.new-held.result.opened instance budget (omega (arith, low, many, mapped, c.new-held.ensures.workers, c.len-3.ensures, c.args.seats.ok, c.requires.sixteen))))
+          (λ k d low. c.seat_all.ensures.numbers k d (omega (arith, low, many, mapped, c.args.seats.ok)))
+          c.seat_all.ensures.rest,
+    )
 
 pub finish_all-end-requires-clause-numbers : goal.finish_all-end-requires-clause-numbers
 finish_all-end-requires-clause-numbers g c =
