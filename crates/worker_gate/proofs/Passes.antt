@@ -48,6 +48,10 @@ pass_made history new worker p all seat from to more = record {
   own = λ k post low high at. behind_get (λ (post : Post). worker_of post ≡ worker) history new k post all (omega (arith, from, low)) at ∙ sym seat;
 }
 
+-- there are none, and no post behind those that were there
+pub never_passed : (h k : List Post) (passes : List Pass) → k ≡ h → passes ≡ [] → ∥ FollowOn k (length h) passes (length k) ∥₁
+never_passed h k passes e f = rw (e, f) ∣ refl ∣₁
+
 -- the passes as they stand, where nothing changed
 pub kept_on : (h k o q : List Post) (passes others : List Pass) (keeps still : Bool) → k ≡ h → q ≡ o → others ≡ passes → still ≡ keeps
     → (keeps ≡ true → ∥ FollowOn h (length o) passes (length h) ∥₁) → still ≡ true → ∥ FollowOn k (length q) others (length k) ∥₁

@@ -64,7 +64,7 @@ fn turns_all<
     );
 }
 
-/// The same for a bench that owns its places.
+/// The same for a bench that owns its places, whose seats know one root.
 pub(crate) fn turns_bench<
     B: Board + Send,
     L: Begun + Send + Sync,
@@ -78,17 +78,18 @@ pub(crate) fn turns_bench<
     lock: &TurnLock<Passing<B, L>>,
     gate: &G,
     stop: &S,
+    _root: &BoardRoot<B>,
     bench: &mut Vec<Place<B, L>>,
 )
     requires some { 0 < vec_len bench.old }
-    requires rest { (root : BoardRoot B) × All (λ p. HasTurns lock.now p.number root p.chair × KnowsBoard B.seen instance.now p.number root) bench.old.items }
+    requires rest { All (λ p. HasTurns lock.now p.number _root.now p.chair × KnowsBoard B.seen instance.now p.number _root.now) bench.old.items }
     ensures len { length bench.new.items ≡ length bench.old.items }
-    ensures rest { (root : BoardRoot B) → All (λ p. HasTurns lock.now p.number root p.chair) bench.old.items → All (λ p. HasTurns lock.now p.number root p.chair) bench.new.items }
+    ensures rest { All (λ p. HasTurns lock.now p.number _root.now p.chair) bench.new.items }
     ensures numbers { (i : ℕ) (d : _) → i < vec_len bench.old → (slice_index_or bench.new.items i d).number ≡ (slice_index_or bench.old.items i d).number }
     ensures told { (i : ℕ) (d : _) → i < vec_len bench.old → told (slice_index_or bench.old.items i d).seat.adviser < 2 ^ 63 + (slice_index_or bench.old.items i d).seat.told
         → told (slice_index_or bench.new.items i d).seat.adviser + (slice_index_or bench.old.items i d).seat.told ≡ told (slice_index_or bench.old.items i d).seat.adviser + (slice_index_or bench.new.items i d).seat.told }
-    ensures last { (root : BoardRoot B) → All (λ p. HasTurns lock.now p.number root p.chair) bench.old.items → (i : ℕ) (d : _) → i < vec_len bench.old
-        → IsToldLast root.workers (B.seen root.opened.value) (slice_index_or bench.old.items i d).number (slice_index_or bench.old.items i d).seat.told (slice_index_or bench.new.items i d).seat.told (last (slice_index_or bench.old.items i d).seat.adviser) (last (slice_index_or bench.new.items i d).seat.adviser) }
+    ensures last { (i : ℕ) (d : _) → i < vec_len bench.old
+        → IsToldLast _root.now.workers (B.seen _root.now.opened.value) (slice_index_or bench.old.items i d).number (slice_index_or bench.old.items i d).seat.told (slice_index_or bench.new.items i d).seat.told (last (slice_index_or bench.old.items i d).seat.adviser) (last (slice_index_or bench.new.items i d).seat.adviser) }
     ensures asked { (i : ℕ) (d : _) → i < vec_len bench.old → (slice_index_or bench.new.items i d).asked ≡ true → (slice_index_or bench.old.items i d).asked ≡ false → S.can_ask stop.now ≡ true }
 {
     turns_all(rt, alloc, instance, lock, gate, stop, bench.as_mut_slice());
@@ -128,6 +129,6 @@ pub(crate) fn work_by_turns<
         → IsToldLast root.now.workers (B.seen root.now.opened.value) (slice_index_or bench.old.items i d).number (slice_index_or bench.old.items i d).seat.told (slice_index_or bench.new.items i d).seat.told (last (slice_index_or bench.old.items i d).seat.adviser) (last (slice_index_or bench.new.items i d).seat.adviser) }
     ensures asked { (i : ℕ) (d : _) → i < vec_len bench.old → (slice_index_or bench.new.items i d).asked ≡ true → (slice_index_or bench.old.items i d).asked ≡ false → S.can_ask stop.now ≡ true }
 {
-    turns_bench(rt, alloc, instance, lock, gate, stop, bench);
+    turns_bench(rt, alloc, instance, lock, gate, stop, root, bench);
     gather_turns(lock, root, bench.as_mut_slice(), made);
 }

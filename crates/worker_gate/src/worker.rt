@@ -246,6 +246,8 @@ fn rounds<B: Board, L: Begun, K: Taking<B, L>, G: Gate, S: Stop, R: Wait>(
 )
     requires pass { K.outside lock.now place.old.number pass.old }
     requires knows { KnowsBoard B.seen instance.now place.old.number (K.root pass.old) }
+    ensures pass { K.outside lock.now place.old.number pass.new }
+    ensures root { K.root pass.new ≡ K.root pass.old }
     ensures number { place.new.number ≡ place.old.number }
     ensures told { told place.old.seat.adviser < 2 ^ 63 + place.old.seat.told
         → told place.new.seat.adviser + place.old.seat.told ≡ told place.old.seat.adviser + place.new.seat.told }

@@ -1,12 +1,14 @@
-use Rattle.std.proofs.Common.{◌<◌, ◌^◌, ◌∙◌, arith, refl, sym, ap, subst, length, slice_index_or, sum_by, vec_len}
+use Rattle.std.proofs.Common.{◌<◌, ◌^◌, ◌∙◌, Some, arith, refl, sym, ap, subst, length, slice_index_or, sum_by, vec_len}
 use Rattle.std.proofs.lemmas.List.{length-map}
 use Rattle.board_lock.specs.Roots.{root_at}
 use Rattle.board_lock.proofs.Turned.{no_turns}
 use Rattle.worker_gate.specs.Passing.{FollowOn}
 use Rattle.worker_gate.specs.Turned.{HasTurns}
 use Rattle.worker_gate.specs.Workers.{IsToldLast, WorkersEnd}
+use Rattle.worker_gate.proofs.Dealt.{new_count}
 use Rattle.worker_gate.proofs.Moved.{sum_none}
 use Rattle.worker_gate.proofs.News.{each_on, each_through, tells_on, told_at, told_nothing, Tells}
+use Rattle.worker_gate.proofs.Passes.{never_passed}
 use Rattle.worker_gate.proofs.Rooted.{all_know, knows}
 use Rattle.worker_gate.proofs.Telling.{told_through}
 use Rattle.worker_gate.proofs.turn_running.run_turns_in.Goals as goal
@@ -42,7 +44,9 @@ returns-in-Err-clause-turns g c =
     no_turns (vec_len c.args.seats) (g.B.Board.seen c.args.board) (g.B.Board.seen c.into_board-board.result) (sum_by (λ s. s.share) c.args.seats.items) (ap g.B.Board.seen (sym back)) none
 
 pub returns-in-Err-clause-passes : goal.returns-in-Err-clause-passes
-returns-in-Err-clause-passes g c = ∣ ap (λ b. length (g.B.Board.seen b).history) (sym (c.into_board-board.ensures.board ∙ c.in-Err.ensures.refused)) ∣₁
+returns-in-Err-clause-passes g c =
+    never_passed (g.B.Board.seen c.args.board).history (g.B.Board.seen c.into_board-board.result).history c.new-in-Err.result.items
+    (ap (λ b. (g.B.Board.seen b).history) (c.into_board-board.ensures.board ∙ c.in-Err.ensures.refused)) c.new-in-Err.ensures.items
 
 pub returns-in-Err-clause-last : goal.returns-in-Err-clause-last
 returns-in-Err-clause-last g c =
@@ -63,6 +67,14 @@ work_by_turns-requires-clause-rest g c κs within =
     (λ k low. knows g.B.Board.seen c.args.instance.now k root.workers root.opened instance budget (omega (arith, low, many, mapped, c.in-Ok-lock_up.ensures.workers, c.len-3.ensures, c.args.seats.ok, c.requires.sixteen)))
     (λ k d low. c.seat_turns.ensures.numbers k d (omega (arith, low, many, mapped, c.args.seats.ok)))
     c.seat_turns.ensures.rest
+
+pub work_by_turns-requires-clause-room : goal.work_by_turns-requires-clause-room
+work_by_turns-requires-clause-room g c κs within =
+    let made = c.in-Ok-lock_up.made.1 in
+    let dealt = ap length c.in-Ok-lock_up.ensures.seats ∙ new_count c.in-Ok-lock_up.made.0.name (Some c.in-Ok-lock_up.made.2) 0 c.len-3.result in
+    let many = ap length c.seat_turns.ensures.bench in
+    let mapped = length-map {A = _} c.seat_turns.new.bench.items (λ p. p.seat) in
+    omega (arith, dealt, many, mapped, made.ok, c.seat_turns.ensures.made, c.seat_turns.new.bench.ok, c.len-3.ensures, c.args.seats.ok)
 
 pub finish_all-end-requires-clause-numbers : goal.finish_all-end-requires-clause-numbers
 finish_all-end-requires-clause-numbers g c =

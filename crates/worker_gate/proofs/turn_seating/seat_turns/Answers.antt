@@ -1,4 +1,4 @@
-use Rattle.std.proofs.Common.{false, ◌≡◌, ◌∙◌, arith, ap, subst, suc, sym, Some, vec_len}
+use Rattle.std.proofs.Common.{false, ◌≡◌, ◌∙◌, arith, ap, length, refl, suc, sym, Some, vec_len}
 use Rattle.turn_lock.specs.Seats.{new_seats}
 use Rattle.worker_gate.specs.Turned.{HasTurns}
 use Rattle.worker_gate.proofs.Moved.{all_more, all_rest, all_placed, moved_on}
@@ -28,4 +28,26 @@ loop-seats-preserved g c =
       new = rw took.items (all_rest (λ s. (s.told ≡ 0) × (s.share ≡ 0)) c.loop-seats.seats.items i.new);
       room = push.capacity ∙ i.room;
       kept = took.capacity ∙ i.kept;
+    }
+
+pub loop-seats-init : goal.loop-seats-init
+loop-seats-init g c =
+    let none = ap length c.requires.empty in
+    let no_place : vec_len c.args.bench.now ≡ 0 = omega (arith, none, c.args.bench.now.ok) in
+    let dealt = ap length c.requires.made ∙ new_count c.args.lock.now.name (Some c.args.root.now) 0 (vec_len c.args.seats.now) in
+    record {
+      made = c.requires.made ∙ ap (λ n. new_seats c.args.lock.now.name (Some c.args.root.now) n (vec_len c.args.seats.now)) (sym no_place);
+      many = omega (arith, dealt, c.args.made.now.ok);
+      given = refl;
+      parts = omega (arith, no_place);
+      amount = c.requires.none;
+      lens = omega (arith, no_place);
+      moved = rw c.requires.empty refl;
+      numbers = λ i d low. absurd (omega (arith, low, none));
+      unasked = λ i d low. absurd (omega (arith, low, none));
+      rest = λ i d low. absurd (omega (arith, low, none));
+      readers = c.requires.readers;
+      new = c.requires.new;
+      room = refl;
+      kept = refl;
     }
