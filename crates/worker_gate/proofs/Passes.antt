@@ -50,7 +50,7 @@ pass_made history new worker p all seat from to more = record {
 
 -- there are none, and no post behind those that were there
 pub never_passed : (h k : List Post) (passes : List Pass) → k ≡ h → passes ≡ [] → ∥ FollowOn k (length h) passes (length k) ∥₁
-never_passed h k passes e f = rw (e, f) ∣ refl ∣₁
+never_passed h k passes e f = rw (e, f) (∣ refl ∣₁)
 
 -- the passes as they stand, where nothing changed
 pub kept_on : (h k o q : List Post) (passes others : List Pass) (keeps still : Bool) → k ≡ h → q ≡ o → others ≡ passes → still ≡ keeps

@@ -6,7 +6,7 @@ use Rattle.worker_gate.proofs.turn_bench.turns_all.Goals as goal
 
 pub for_each_mut-requires-clause-accepts : goal.for_each_mut-requires-clause-accepts
 for_each_mut-requires-clause-accepts g c κs within i p low e =
-    subst (λ q. (root : BoardRoot g.row.B.Denot) × HasTurns c.args.lock.now q.number root q.chair × KnowsBoard g.B.Board.seen c.args.instance.now q.number root) (sym e) (c.requires.rest.0, c.requires.rest.1 i p.now low)
+    subst (λ q. (root : BoardRoot g.row.B.Denot) × HasTurns c.args.lock.now q.number root q.chair × KnowsBoard g.B.Board.seen c.args.instance.now q.number root) (sym e) (c.requires.rest.0, (c.requires.rest.1 i p.now low).0, (c.requires.rest.1 i p.now low).1)
 
 pub returns-clause-rest : goal.returns-clause-rest
 returns-clause-rest g c = λ root rests i d low.

@@ -11,7 +11,7 @@ returns-clause-last g c =
     (c.sit-pass.ensures.root c.args.place.now.number root rests) refl c.rounds.ensures.last
 
 pub rise-requires : goal.rise-requires
-rise-requires g c = (c.args.place.now.number, c.rounds.ensures.pass)
+rise-requires g c = record { outside = (c.args.place.now.number, c.rounds.ensures.pass) }
 
 pub returns-clause-rests : goal.returns-clause-rests
 returns-clause-rests g c =
