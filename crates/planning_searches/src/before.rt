@@ -78,6 +78,7 @@ fn unsearched<R: Threads + Wait + Sync>(
     let request = Request {
         workers: words.workers,
         steps: 0,
+        turns: false,
     };
     Ok(search_plan(
         rt,

@@ -79,6 +79,7 @@ fn advised<R: Threads + Wait + Sync>(
     let request = Request {
         workers: team.words.workers,
         steps: steps_of(team.words.seconds),
+        turns: false,
     };
     Ok(search_plan(
         rt,

@@ -109,8 +109,8 @@ not_unread met command status ends never (inl before) = reads_when met command s
 not_unread met command status ends never (inr asked) = never asked.0 asked.1 asked.2
 
 -- a search is no demonstration
-pub no_demonstration : (asked : Asked) (path : List ℕ) (workers : Option ℕ) (budget : ℕ) (table : Bool) (method : Method) (number steps : ℕ) → over_journal path workers budget table method ≡ asked → from_number number steps ≡ asked → ⊥
-no_demonstration asked path workers budget table method number steps one other = absurd (cc (one, other))
+pub no_demonstration : (asked : Asked) (path : List ℕ) (workers : Option ℕ) (budget : ℕ) (table : Bool) (method : Method) (turns : Bool) (number steps : ℕ) → over_journal path workers budget table method turns ≡ asked → from_number number steps ≡ asked → ⊥
+no_demonstration asked path workers budget table method turns number steps one other = absurd (cc (one, other))
 
 -- what words leave unread is unread of what they are read as
 pub unread_of : (words : List (List ℕ)) (found : Asked) (status : Status) → IsReadAs words (Some found) → IsUnread (Asks words) status → IsUnread (λ asked. asked ≡ found) status
@@ -180,7 +180,7 @@ module _ (met : Met) (asks : Asked → Type 0) where
 -- a run that was asked for one thing, as one with that and maybe more
 module _ (met : Met) (asks : Asked → Type 0) (one : Asked) (is : met.asks one) (turn : (asked : Asked) → met.asks asked → asks asked) where
   command_turned : (command : Command) → IsCommand met.asks command → IsCommand asks command
-  command_turned command c = record { workers = c.workers; method = c.method; is = turn (over_journal command.journal c.workers command.steps command.table c.method) c.is; all = c.all }
+  command_turned command c = record { workers = c.workers; method = c.method; turns = c.turns; is = turn (over_journal command.journal c.workers command.steps command.table c.method c.turns) c.is; all = c.all }
 
   workers_turned : (asked : ℕ) → AsksWorkers met.asks asked → AsksWorkers asks asked
   workers_turned asked (inl a) = inl (a.0, command_turned a.0 a.1, a.2)

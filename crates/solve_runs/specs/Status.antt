@@ -22,7 +22,7 @@ status_number (Journal why) = 9
 
 -- the words of the command line, as they are shown to whoever gave others
 abbrev pub usage_text : List ℕ
-usage_text = codes "usage: solve JOURNAL [--workers W] [--steps B] [--table] [--local | --thorough] or solve --demo N [--steps B]"
+usage_text = codes "usage: solve JOURNAL [--workers W] [--steps B] [--table] [--local | --thorough] [--turns] or solve --demo N [--steps B]"
 
 -- what is said of a status on standard error; nothing of an optimal plan
 abbrev pub status_text : Status → List ℕ

@@ -19,11 +19,12 @@ workers_unsaid = 4
 abbrev pub workers_for : List ℕ → ℕ
 workers_for advisers = min 16 (length advisers)
 
--- what is asked for is that search, by a method; where no number of workers is said, four search
+-- what is asked for is that search, by a method, and by workers who take turns or not; where no number of workers is said, four search
 pub record IsCommand (asks : Asked → Type 0) (command : Command) : Type 0 where
   pub workers : Option ℕ
   pub method : Method
-  pub is : asks (over_journal command.journal workers command.steps command.table method)
+  pub turns : Bool
+  pub is : asks (over_journal command.journal workers command.steps command.table method turns)
   pub all : command.workers ≡ unwrap_or workers workers_unsaid
 
 -- so many workers are asked for: those of a search, or the one of a demonstration
@@ -38,7 +39,8 @@ pub record NamesJournal (words : List (List ℕ)) (path : List ℕ) : Type 0 whe
   pub steps : ℕ
   pub table : Bool
   pub method : Method
-  pub asks : Asks words (over_journal path workers steps table method)
+  pub turns : Bool
+  pub asks : Asks words (over_journal path workers steps table method turns)
 
 -- that, and nothing else, is the path of the journal that the words name
 abbrev pub IsPathIn : List (List ℕ) → Option (List ℕ) → Type 0

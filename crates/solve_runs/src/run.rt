@@ -273,6 +273,7 @@ pub fn run_command<
             workers,
             steps,
             table,
+            turns,
             ..
         } => {
             let workers = workers.unwrap_or(WORKERS_UNSAID);
@@ -280,7 +281,11 @@ pub fn run_command<
             if have < asked {
                 return Ended::early(alloc, Status::Workers { asked, have }, disk);
             }
-            let request = Request { workers, steps };
+            let request = Request {
+                workers,
+                steps,
+                turns,
+            };
             run_over(rt, alloc, request, table, input, out, disk, advisers, gate)
         }
         Command::Demo { number, steps } => {

@@ -18,7 +18,7 @@ use shift_instance::Instance;
 use std::alloc::Global;
 use std::sync::Wait;
 use std::thread::Threads;
-use worker_gate::{Gate, RunEnd, Seat, run_workers};
+use worker_gate::{Gate, RunEnd, Seat, run_turns, run_workers};
 
 /// The most workers of a search.
 const WORKERS_MOST: usize = 16;
@@ -38,7 +38,8 @@ fn steps_in(posts: &[Post]) -> u64 {
     priced.count() as u64
 }
 
-/// Runs a worker for each seat over a book from which no node was taken yet. The gate is told of the book first.
+/// Runs a worker for each seat over a book from which no node was taken yet, by turns in the order of tickets or not. The gate is told of the book
+/// first.
 fn search_by<D: Disk + Send, G: Gate + Sync, S: Stop + Sync, R: Threads + Wait + Sync>(
     rt: &R,
     alloc: Global,
@@ -47,6 +48,7 @@ fn search_by<D: Disk + Send, G: Gate + Sync, S: Stop + Sync, R: Threads + Wait +
     seats: Vec<Seat>,
     gate: &G,
     stop: &S,
+    turns: bool,
 ) -> (Book<D>, Vec<Seat>, RunEnd)
     requires same { book.log.instance ≡ instance.now }
     requires begun { IsBegun book }
@@ -62,6 +64,10 @@ fn search_by<D: Disk + Send, G: Gate + Sync, S: Stop + Sync, R: Threads + Wait +
     gate.begin(steps_in(book.history()), book.best_cost(), book.floor());
     // what every board keeps, and this one as it is opened
     keeps_sound(&book);
+    if turns {
+        let (book, seats, _passes, end) = run_turns(rt, alloc, instance, book, seats, gate, stop);
+        return (book, seats, end);
+    }
     run_workers(rt, alloc, instance, book, seats, gate, stop)
 }
 
@@ -75,6 +81,7 @@ fn search_with<D: Disk + Send, G: Gate + Sync, S: Stop + Sync, R: Threads + Wait
     mut advisers: Vec<Box<dyn Adviser + Send>>,
     gate: &G,
     stop: &S,
+    turns: bool,
 ) -> Searched<D>
     requires count { D.calls disk < 2 ^ 62 }
     requires steps { steps < 2 ^ 63 }
@@ -95,7 +102,7 @@ fn search_with<D: Disk + Send, G: Gate + Sync, S: Stop + Sync, R: Threads + Wait
         Err(left) => Searched::unopened(end_unopened(left.fault), left.disk, advisers),
         Ok(book) => {
             seats_of(&mut advisers, &mut seats);
-            let (book, seats, end) = search_by(rt, alloc, instance, book, seats, gate, stop);
+            let (book, seats, end) = search_by(rt, alloc, instance, book, seats, gate, stop, turns);
             advisers_of(seats, &mut advisers);
             // what this answer says is what is known of the book
             let _made = book.batches();
@@ -112,7 +119,7 @@ fn search_with<D: Disk + Send, G: Gate + Sync, S: Stop + Sync, R: Threads + Wait
 /// were taken as are asked for. The journal may have `JOURNAL_MAX` bytes. The book comes back with its disk; where none was opened,
 /// the disk does.
 ///
-/// So many workers search as are asked for, each with an adviser of its own: the first advisers serve and come back in their order,
+/// So many workers search as are asked for, by turns in the order of tickets where that is asked for, each with an adviser of its own: the first advisers serve and come back in their order,
 /// the others are dropped. Where there are too few of them, or more than sixteen workers are asked for, all come back. Whatever they
 /// advise, and in whatever order the workers get the book, all that is said here holds.
 ///
@@ -151,5 +158,6 @@ pub fn run_search<D: Disk + Send, G: Gate + Sync, S: Stop + Sync, R: Threads + W
         advisers,
         gate,
         stop,
+        request.turns,
     )
 }

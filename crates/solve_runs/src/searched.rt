@@ -17,6 +17,8 @@ pub struct Request {
     pub workers: u16,
     /// How many steps they may take, all together.
     pub steps: u64,
+    /// Whether they take turns with the book in the order of tickets.
+    pub turns: bool,
 }
 
 /// How a search over a disk ends.

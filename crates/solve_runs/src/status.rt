@@ -9,7 +9,7 @@ use std::alloc::{AllocError, Global};
 
 /// The words of the command line, as they are shown to whoever gave others.
 const USAGE: &str =
-    "usage: solve JOURNAL [--workers W] [--steps B] [--table] [--local | --thorough] or solve --demo N [--steps B]";
+    "usage: solve JOURNAL [--workers W] [--steps B] [--table] [--local | --thorough] [--turns] or solve --demo N [--steps B]";
 
 /// How a run of `solve` ends.
 #[derive(Drop)]

@@ -10,7 +10,7 @@ use Rattle.clap.specs.Kinds.{Kinds, or_else}
 use Rattle.clap.specs.Lexer.{long_of, short_of}
 use Rattle.clap.specs.Walk.{after_flag, after_step, Held, idle, long_or_other, option, Outcome, plain, plain_word, positional_held, Row, settled, positional, short_or_plain, Step, subcommand_met, subcommand_or_other, Text, trailing, value, Waiting, walked, word_met}
 use Rattle.clap.proofs.WalkLemmas.{bundle_ends}
-use Rattle.solve_words.specs.Words.{demo, flag, is_journal, journal, local, number, Part, Setting, steps, table, thorough, workers}
+use Rattle.solve_words.specs.Words.{demo, flag, is_journal, journal, local, number, Part, Setting, steps, table, thorough, turns, workers}
 use Rattle.solve_words.proofs.Rows.{held_at, option_rules, pending_for, rows_for, rule_for, shape}
 use Rattle.solve_words.proofs.Steps.{calm, held_for, hungry, place}
 
@@ -108,6 +108,7 @@ path_held word before (Some (number demo digits)) = refl
 path_held word before (Some (flag table)) = refl
 path_held word before (Some (flag local)) = refl
 path_held word before (Some (flag thorough)) = refl
+path_held word before (Some (flag turns)) = refl
 
 pub path_walked : (word : Text) (before : List Part) (last : Option Part) → IsBare word
     → walked option_rules [] (calm (held_at before last) false) word ≡ calm (record (settled option_rules (held_at before last)) { pending = Some (codes "JOURNAL", word ∷ []) }) true
@@ -125,6 +126,7 @@ path_passes word before (Some (number demo digits)) = refl
 path_passes word before (Some (flag table)) = refl
 path_passes word before (Some (flag local)) = refl
 path_passes word before (Some (flag thorough)) = refl
+path_passes word before (Some (flag turns)) = refl
 
 pub path_fault : (word : Text) (before : List Part) (last : Option Part) → IsBare word
     → turn_fault shape [] (calm (held_at before last) false) word ≡ settle_fault option_rules false (held_at before last)

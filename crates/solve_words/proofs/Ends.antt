@@ -6,7 +6,7 @@ use Rattle.clap.specs.Kinds.{Kinds, or_else}
 use Rattle.clap.specs.Simple.{built, entered, matches_of}
 use Rattle.clap.specs.Walk.{finished, has_row, Row, settled, Text, Walk, with_default}
 use Rattle.solve_words.specs.Options.{options_app}
-use Rattle.solve_words.specs.Words.{demo, Flag, journal, local, Part, Setting, steps, table, thorough, workers}
+use Rattle.solve_words.specs.Words.{demo, Flag, journal, local, Part, Setting, steps, table, thorough, turns, workers}
 use Rattle.solve_words.proofs.Rows.{bare_flag, held_at, option_rules, wish_rule, rows_for, rule_for, setting_rule, shape}
 use Rattle.solve_words.proofs.Walks.{at_part, end_of, no_faults, walk_at}
 
@@ -62,8 +62,9 @@ defaults_pass rows =
     let four = with_default three (setting_rule demo) in
     let five = with_default four (wish_rule table) in
     let six = with_default five (wish_rule local) in
+    let seven = with_default six (wish_rule thorough) in
     ap₂ or_else (passes (journal []) rows)
-    (ap₂ or_else (setting_passes workers one) (ap₂ or_else (setting_passes steps two) (ap₂ or_else (setting_passes demo three) (ap₂ or_else (flag_passes table four) (ap₂ or_else (flag_passes local five) (ap₂ or_else (flag_passes thorough six) refl))))))
+    (ap₂ or_else (setting_passes workers one) (ap₂ or_else (setting_passes steps two) (ap₂ or_else (setting_passes demo three) (ap₂ or_else (flag_passes table four) (ap₂ or_else (flag_passes local five) (ap₂ or_else (flag_passes thorough six) (ap₂ or_else (flag_passes turns seven) refl)))))))
   where
     passes : (part : Part) (rs : List Row) → default_fault rs (rule_for (journal [])) ≡ []
     passes part rs = elim (has_row (codes "JOURNAL") rs) as (λ b. (if b || true then [] else or_else [] []) ≡ []) [ true ↦ refl | false ↦ refl ]

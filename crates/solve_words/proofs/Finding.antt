@@ -14,7 +14,7 @@ use Rattle.clap.specs.Values.{kind_of}
 use Rattle.clap.specs.Simple.{matches_of}
 use Rattle.clap.specs.Walk.{has_row, one_of, Text}
 use Rattle.solve_words.specs.Options.{has_separator, options_app}
-use Rattle.solve_words.specs.Words.{asked_in, budget_in, demo, demonstration_of, digits_in, flag, from_number, is_journal, is_number, journal, local, method_of, number, number_in, over_journal, path_in, Part, search_on, Setting, steps, table, thorough, workers, workers_in, AreSpelled, Asked, Flag, Give, Given, IsFoundIn, IsGivenBy, IsReadAs, IsSpelled}
+use Rattle.solve_words.specs.Words.{asked_in, budget_in, demo, demonstration_of, digits_in, flag, from_number, is_journal, is_number, journal, local, method_of, number, number_in, over_journal, path_in, Part, search_on, Setting, steps, table, thorough, turns, workers, workers_in, AreSpelled, Asked, Flag, Give, Given, IsFoundIn, IsGivenBy, IsReadAs, IsSpelled}
 use Rattle.solve_words.proofs.Classes.{first_apart, path_bare, IsBare}
 use Rattle.solve_words.proofs.Digits.{digit_small}
 use Rattle.solve_words.proofs.Ends.{fault_parts, matches_are, no_fault}
@@ -80,38 +80,39 @@ record ArePlainIn (given : Given) : Type 0 where
   demo_is : PlainIn given.demo
 
 -- what is given by a path or a number, and whatever else
-abbrev given_of : Option Text → Option Text → Option Text → Option Text → Bool → Bool → Bool → Given
-given_of j w s d t l h = record { journal = j; workers = w; steps = s; demo = d; table = t; local = l; thorough = h }
+abbrev given_of : Option Text → Option Text → Option Text → Option Text → Bool → Bool → Bool → Bool → Given
+given_of j w s d t l h u = record { journal = j; workers = w; steps = s; demo = d; table = t; local = l; thorough = h; turns = u }
 
-search_plain : (path : Text) (w s : Option Text) (t l h : Bool) (asked : Asked) → search_on path (given_of (Some path) w s None t l h) ≡ Some asked → ArePlainIn (given_of (Some path) w s None t l h)
-search_plain path w s t l h asked e = elim (cases_Bool (is_journal path)) [
+search_plain : (path : Text) (w s : Option Text) (t l h u : Bool) (asked : Asked) → search_on path (given_of (Some path) w s None t l h u) ≡ Some asked → ArePlainIn (given_of (Some path) w s None t l h u)
+search_plain path w s t l h u asked e = elim (cases_Bool (is_journal path)) [
   | inl is ↦
-      let last : Option ℕ → ℕ → Option Asked = λ count budget. option_map (λ method. over_journal path count budget t method) (method_of l h) in
+      let last : Option ℕ → ℕ → Option Asked = λ count budget. option_map (λ method. over_journal path count budget t method u) (method_of l h) in
       let next : Option ℕ → Option Asked = λ count. option_and_then (last count) (budget_in s) in
-      let same : search_on path (given_of (Some path) w s None t l h) ≡ option_and_then next (workers_in w) = rw is refl in
+      let same : search_on path (given_of (Some path) w s None t l h u) ≡ option_and_then next (workers_in w) = rw is refl in
       let crew = and_then_some next (workers_in w) asked (sym same ∙ e) in
       let budget = and_then_some (last crew.0) (budget_in s) asked crew.2 in
       record { journal_is = path_bare path is; workers_are = workers_plain w crew.0 crew.1; steps_are = budget_plain s budget.0 budget.1; demo_is = tt }
-  | inr not ↦ absurd (false≢true (ap is_some (let none : search_on path (given_of (Some path) w s None t l h) ≡ None = rw not refl in sym none ∙ e)))
+  | inr not ↦ absurd (false≢true (ap is_some (let none : search_on path (given_of (Some path) w s None t l h u) ≡ None = rw not refl in sym none ∙ e)))
 ]
 
-demo_plain : (digits : Text) (w s : Option Text) (t l h : Bool) (asked : Asked)
-    → demonstration_of digits (given_of None w s (Some digits) t l h) ≡ Some asked → ArePlainIn (given_of None w s (Some digits) t l h)
-demo_plain digits (Some crew) s t l h asked e = absurd (false≢true (ap is_some e))
-demo_plain digits None s true l h asked e = absurd (false≢true (ap is_some e))
-demo_plain digits None s false true h asked e = absurd (false≢true (ap is_some e))
-demo_plain digits None s false false true asked e = absurd (false≢true (ap is_some e))
-demo_plain digits None s false false false asked e =
+demo_plain : (digits : Text) (w s : Option Text) (t l h u : Bool) (asked : Asked)
+    → demonstration_of digits (given_of None w s (Some digits) t l h u) ≡ Some asked → ArePlainIn (given_of None w s (Some digits) t l h u)
+demo_plain digits (Some crew) s t l h u asked e = absurd (false≢true (ap is_some e))
+demo_plain digits None s true l h u asked e = absurd (false≢true (ap is_some e))
+demo_plain digits None s false true h u asked e = absurd (false≢true (ap is_some e))
+demo_plain digits None s false false true u asked e = absurd (false≢true (ap is_some e))
+demo_plain digits None s false false false true asked e = absurd (false≢true (ap is_some e))
+demo_plain digits None s false false false false asked e =
     let next : ℕ → Option Asked = λ n. option_map (λ budget. from_number n budget) (budget_in s) in
     let n = and_then_some next (number_in demo digits) asked e in
     let budget = map_some (λ budget. from_number n.0 budget) (budget_in s) asked n.2 in
     record { journal_is = tt; workers_are = tt; steps_are = budget_plain s budget.0 budget.1; demo_is = number_bare demo digits n.0 n.1 }
 
-asked_plain : (j w s d : Option Text) (t l h : Bool) (asked : Asked) → asked_in (given_of j w s d t l h) ≡ Some asked → ArePlainIn (given_of j w s d t l h)
-asked_plain (Some path) w s None t l h asked e = search_plain path w s t l h asked e
-asked_plain None w s (Some digits) t l h asked e = demo_plain digits w s t l h asked e
-asked_plain (Some path) w s (Some digits) t l h asked e = absurd (false≢true (ap is_some e))
-asked_plain None w s None t l h asked e = absurd (false≢true (ap is_some e))
+asked_plain : (j w s d : Option Text) (t l h u : Bool) (asked : Asked) → asked_in (given_of j w s d t l h u) ≡ Some asked → ArePlainIn (given_of j w s d t l h u)
+asked_plain (Some path) w s None t l h u asked e = search_plain path w s t l h u asked e
+asked_plain None w s (Some digits) t l h u asked e = demo_plain digits w s t l h u asked e
+asked_plain (Some path) w s (Some digits) t l h u asked e = absurd (false≢true (ap is_some e))
+asked_plain None w s None t l h u asked e = absurd (false≢true (ap is_some e))
 
 -- ---- and so have the parts that give it
 
@@ -141,7 +142,7 @@ parts_plain parts given give plain = all_plain parts
 -- ---- words that give something
 
 given_plain : (words : List Text) (given : Given) (asked : Asked) → (by : IsGivenBy words given) → asked_in given ≡ Some asked → ArePlain by.0
-given_plain words given asked by asks = parts_plain by.0 given by.2 (asked_plain given.journal given.workers given.steps given.demo given.table given.local given.thorough asked asks)
+given_plain words given asked by asks = parts_plain by.0 given by.2 (asked_plain given.journal given.workers given.steps given.demo given.table given.local given.thorough given.turns asked asks)
 
 -- the parser takes them, and its rows say what they give
 pub given_found : (words : List Text) (given : Given) (asked : Asked) → IsGivenBy words given → asked_in given ≡ Some asked → (fault_of options_app words ≡ []) × (said_by (matches_of options_app words) ≡ given)
@@ -165,6 +166,7 @@ separate (part ∷ parts) words plain spelled = ap has_separator spelled.4 ∙ f
     first_separate (flag table) first rest bare is none = ap (λ (ws : List Text). has_separator (ws ++ rest)) is ∙ none
     first_separate (flag local) first rest bare is none = ap (λ (ws : List Text). has_separator (ws ++ rest)) is ∙ none
     first_separate (flag thorough) first rest bare is none = ap (λ (ws : List Text). has_separator (ws ++ rest)) is ∙ none
+    first_separate (flag turns) first rest bare is none = ap (λ (ws : List Text). has_separator (ws ++ rest)) is ∙ none
 
 pub given_separate : (words : List Text) (given : Given) (asked : Asked) → IsGivenBy words given → asked_in given ≡ Some asked → has_separator words ≡ false
 given_separate words given asked by asks = separate by.0 words (given_plain words given asked by asks) by.1

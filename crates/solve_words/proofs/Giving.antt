@@ -8,7 +8,7 @@ use Rattle.std.proofs.lemmas.Bool.{cases_Bool, cases_eq, false≢true, or_parts,
 use Rattle.std.proofs.lemmas.List.Recursion.{is_count_by}
 use Rattle.clap.specs.declared.parser.matches.ValueSource.TheVariants.{DefaultValue}
 use Rattle.clap.specs.Walk.{first_of, has_row, more_values, one_of, reading_by, Row, row_text, Text, with_default}
-use Rattle.solve_words.specs.Words.{demo, digits_in, flag, Flag, is_flag, journal, local, number, path_in, Part, Setting, steps, table, thorough, workers, Give, Given}
+use Rattle.solve_words.specs.Words.{demo, digits_in, flag, Flag, is_flag, journal, local, number, path_in, Part, Setting, steps, table, thorough, turns, workers, Give, Given}
 use Rattle.solve_words.proofs.Rows.{at_none, bare_flag, bare_name, id_of, option_rules, wish_rule, row_for, rows_for, rule_for, setting_rule}
 use Rattle.solve_words.proofs.Singles.{no_row, no_times, times, Single}
 
@@ -33,6 +33,7 @@ first_path (number demo digits ∷ parts) = first_path parts
 first_path (flag table ∷ parts) = first_path parts
 first_path (flag local ∷ parts) = first_path parts
 first_path (flag thorough ∷ parts) = first_path parts
+first_path (flag turns ∷ parts) = first_path parts
 
 first_digits : (setting : Setting) (parts : List Part) → first_of (bare_name setting) (rows_for parts) ≡ head_of (flat_map (digits_in setting) parts)
 first_digits workers [] = refl
@@ -43,6 +44,7 @@ first_digits workers (number demo digits ∷ parts) = first_digits workers parts
 first_digits workers (flag table ∷ parts) = first_digits workers parts
 first_digits workers (flag local ∷ parts) = first_digits workers parts
 first_digits workers (flag thorough ∷ parts) = first_digits workers parts
+first_digits workers (flag turns ∷ parts) = first_digits workers parts
 first_digits steps [] = refl
 first_digits steps (journal path ∷ parts) = first_digits steps parts
 first_digits steps (number workers digits ∷ parts) = first_digits steps parts
@@ -51,6 +53,7 @@ first_digits steps (number demo digits ∷ parts) = first_digits steps parts
 first_digits steps (flag table ∷ parts) = first_digits steps parts
 first_digits steps (flag local ∷ parts) = first_digits steps parts
 first_digits steps (flag thorough ∷ parts) = first_digits steps parts
+first_digits steps (flag turns ∷ parts) = first_digits steps parts
 first_digits demo [] = refl
 first_digits demo (journal path ∷ parts) = first_digits demo parts
 first_digits demo (number workers digits ∷ parts) = first_digits demo parts
@@ -59,6 +62,7 @@ first_digits demo (number demo digits ∷ parts) = refl
 first_digits demo (flag table ∷ parts) = first_digits demo parts
 first_digits demo (flag local ∷ parts) = first_digits demo parts
 first_digits demo (flag thorough ∷ parts) = first_digits demo parts
+first_digits demo (flag turns ∷ parts) = first_digits demo parts
 
 -- how many parts there are of each kind
 pub path_times : (parts : List Part) → length (flat_map path_in parts) ≡ times (codes "JOURNAL") parts
@@ -70,6 +74,7 @@ path_times (number demo digits ∷ parts) = path_times parts
 path_times (flag table ∷ parts) = path_times parts
 path_times (flag local ∷ parts) = path_times parts
 path_times (flag thorough ∷ parts) = path_times parts
+path_times (flag turns ∷ parts) = path_times parts
 
 pub digit_times : (setting : Setting) (parts : List Part) → length (flat_map (digits_in setting) parts) ≡ times (bare_name setting) parts
 digit_times workers [] = refl
@@ -80,6 +85,7 @@ digit_times workers (number demo digits ∷ parts) = digit_times workers parts
 digit_times workers (flag table ∷ parts) = digit_times workers parts
 digit_times workers (flag local ∷ parts) = digit_times workers parts
 digit_times workers (flag thorough ∷ parts) = digit_times workers parts
+digit_times workers (flag turns ∷ parts) = digit_times workers parts
 digit_times steps [] = refl
 digit_times steps (journal path ∷ parts) = digit_times steps parts
 digit_times steps (number workers digits ∷ parts) = digit_times steps parts
@@ -88,6 +94,7 @@ digit_times steps (number demo digits ∷ parts) = digit_times steps parts
 digit_times steps (flag table ∷ parts) = digit_times steps parts
 digit_times steps (flag local ∷ parts) = digit_times steps parts
 digit_times steps (flag thorough ∷ parts) = digit_times steps parts
+digit_times steps (flag turns ∷ parts) = digit_times steps parts
 digit_times demo [] = refl
 digit_times demo (journal path ∷ parts) = digit_times demo parts
 digit_times demo (number workers digits ∷ parts) = digit_times demo parts
@@ -96,6 +103,7 @@ digit_times demo (number demo digits ∷ parts) = let rest = digit_times demo pa
 digit_times demo (flag table ∷ parts) = digit_times demo parts
 digit_times demo (flag local ∷ parts) = digit_times demo parts
 digit_times demo (flag thorough ∷ parts) = digit_times demo parts
+digit_times demo (flag turns ∷ parts) = digit_times demo parts
 
 -- a part has the id of a flag where it is that flag
 named_flag : (wish : Flag) (part : Part) → bytes_eq (id_of part) (bare_flag wish) ≡ is_flag wish part
@@ -106,6 +114,7 @@ named_flag table (number demo digits) = refl
 named_flag table (flag table) = refl
 named_flag table (flag local) = refl
 named_flag table (flag thorough) = refl
+named_flag table (flag turns) = refl
 named_flag local (journal path) = refl
 named_flag local (number workers digits) = refl
 named_flag local (number steps digits) = refl
@@ -113,6 +122,7 @@ named_flag local (number demo digits) = refl
 named_flag local (flag table) = refl
 named_flag local (flag local) = refl
 named_flag local (flag thorough) = refl
+named_flag local (flag turns) = refl
 named_flag thorough (journal path) = refl
 named_flag thorough (number workers digits) = refl
 named_flag thorough (number steps digits) = refl
@@ -120,6 +130,15 @@ named_flag thorough (number demo digits) = refl
 named_flag thorough (flag table) = refl
 named_flag thorough (flag local) = refl
 named_flag thorough (flag thorough) = refl
+named_flag thorough (flag turns) = refl
+named_flag turns (journal path) = refl
+named_flag turns (number workers digits) = refl
+named_flag turns (number steps digits) = refl
+named_flag turns (number demo digits) = refl
+named_flag turns (flag table) = refl
+named_flag turns (flag local) = refl
+named_flag turns (flag thorough) = refl
+named_flag turns (flag turns) = refl
 
 flag_step : (wish : Flag) (part : Part) (parts : List Part) → times (bare_flag wish) (part ∷ parts) ≡ cond (is_flag wish part) (1 + times (bare_flag wish) parts) (times (bare_flag wish) parts)
 flag_step wish part parts = ap (λ (b : Bool). cond b (1 + times (bare_flag wish) parts) (times (bare_flag wish) parts)) (named_flag wish part)
@@ -143,6 +162,7 @@ said_by rows = record {
   table = is_wished (one_of (codes "table") rows);
   local = is_wished (one_of (codes "local") rows);
   thorough = is_wished (one_of (codes "thorough") rows);
+  turns = is_wished (one_of (codes "turns") rows);
 }
 
 -- ---- the first row of an id
@@ -198,6 +218,7 @@ own_id : (wish : Flag) → bytes_eq (bare_flag wish) (bare_flag wish) ≡ true
 own_id table = refl
 own_id local = refl
 own_id thorough = refl
+own_id turns = refl
 
 -- where every row of the flag says so, its row says whether there was one
 own_default : (wish : Flag) (rows : List Row) → (has_row (bare_flag wish) rows ≡ true → one_of (bare_flag wish) rows ≡ Some (codes "true"))
@@ -240,8 +261,11 @@ with_table rows = with_default rows (wish_rule table)
 abbrev with_local : List Row → List Row
 with_local rows = with_default (with_table rows) (wish_rule local)
 
+abbrev with_thorough : List Row → List Row
+with_thorough rows = with_default (with_local rows) (wish_rule thorough)
+
 abbrev with_flags : List Row → List Row
-with_flags rows = with_default (with_local rows) (wish_rule thorough)
+with_flags rows = with_default (with_thorough rows) (wish_rule turns)
 
 finished_is : (rows : List Row) → fold with_default rows option_rules ≡ with_flags rows
 finished_is rows =
@@ -254,7 +278,7 @@ other_first : (id : Text) → ((wish : Flag) → bytes_eq (bare_flag wish) id �
 other_first id other rows =
     ap (first_of id) (finished_is rows)
     ∙ ap (option_and_then (λ (r : Row). slice_get r.values 0))
-    (other_default thorough id (other thorough) (with_local rows) ∙ other_default local id (other local) (with_table rows) ∙ other_default table id (other table) rows)
+    (other_default turns id (other turns) (with_thorough rows) ∙ other_default thorough id (other thorough) (with_local rows) ∙ other_default local id (other local) (with_table rows) ∙ other_default table id (other table) rows)
 
 -- what the row of a flag says behind others, of whatever parts
 own_behind : (wish : Flag) (parts : List Part) (rows : List Row) → row_at (bare_flag wish) rows ≡ row_at (bare_flag wish) (rows_for parts)
@@ -269,17 +293,22 @@ pub flag_text : (wish : Flag) (parts : List Part) → one_of (bare_flag wish) (f
 flag_text table parts =
     let rows = rows_for parts in
     ap (one_of (codes "table")) (finished_is rows)
-    ∙ ap (option_and_then row_text) (other_default thorough (codes "table") refl (with_local rows) ∙ other_default local (codes "table") refl (with_table rows))
+    ∙ ap (option_and_then row_text) (other_default turns (codes "table") refl (with_thorough rows) ∙ other_default thorough (codes "table") refl (with_local rows) ∙ other_default local (codes "table") refl (with_table rows))
     ∙ own_behind table parts rows refl
 flag_text local parts =
     let rows = rows_for parts in
     ap (one_of (codes "local")) (finished_is rows)
-    ∙ ap (option_and_then row_text) (other_default thorough (codes "local") refl (with_local rows))
+    ∙ ap (option_and_then row_text) (other_default turns (codes "local") refl (with_thorough rows) ∙ other_default thorough (codes "local") refl (with_local rows))
     ∙ own_behind local parts (with_table rows) (other_default table (codes "local") refl rows)
 flag_text thorough parts =
     let rows = rows_for parts in
     ap (one_of (codes "thorough")) (finished_is rows)
+    ∙ ap (option_and_then row_text) (other_default turns (codes "thorough") refl (with_thorough rows))
     ∙ own_behind thorough parts (with_local rows) (other_default local (codes "thorough") refl (with_table rows) ∙ other_default table (codes "thorough") refl rows)
+flag_text turns parts =
+    let rows = rows_for parts in
+    ap (one_of (codes "turns")) (finished_is rows)
+    ∙ own_behind turns parts (with_thorough rows) (other_default thorough (codes "turns") refl (with_local rows) ∙ other_default local (codes "turns") refl (with_table rows) ∙ other_default table (codes "turns") refl rows)
 
 -- ---- the first of each kind, and which flags there are
 
@@ -292,17 +321,19 @@ heads parts = record {
   table = has_row (codes "table") (rows_for parts);
   local = has_row (codes "local") (rows_for parts);
   thorough = has_row (codes "thorough") (rows_for parts);
+  turns = has_row (codes "turns") (rows_for parts);
 }
 
-pub same_given : (a b : Given) → a.journal ≡ b.journal → a.workers ≡ b.workers → a.steps ≡ b.steps → a.demo ≡ b.demo → a.table ≡ b.table → a.local ≡ b.local → a.thorough ≡ b.thorough → a ≡ b
-same_given a b j w s d t l h =
+pub same_given : (a b : Given) → a.journal ≡ b.journal → a.workers ≡ b.workers → a.steps ≡ b.steps → a.demo ≡ b.demo → a.table ≡ b.table → a.local ≡ b.local → a.thorough ≡ b.thorough → a.turns ≡ b.turns → a ≡ b
+same_given a b j w s d t l h u =
     ap (λ x. record a { journal = x }) j
     ∙ ap (λ x. record a { journal = b.journal; workers = x }) w
     ∙ ap (λ x. record a { journal = b.journal; workers = b.workers; steps = x }) s
     ∙ ap (λ x. record a { journal = b.journal; workers = b.workers; steps = b.steps; demo = x }) d
-    ∙ ap (λ x. record b { table = x; local = a.local; thorough = a.thorough }) t
-    ∙ ap (λ x. record b { local = x; thorough = a.thorough }) l
-    ∙ ap (λ x. record b { thorough = x }) h
+    ∙ ap (λ x. record b { table = x; local = a.local; thorough = a.thorough; turns = a.turns }) t
+    ∙ ap (λ x. record b { local = x; thorough = a.thorough; turns = a.turns }) l
+    ∙ ap (λ x. record b { thorough = x; turns = a.turns }) h
+    ∙ ap (λ x. record b { turns = x }) u
 
 wish_said : (b : Bool) → is_wished (Some (wish_text b)) ≡ b
 wish_said true = refl
@@ -313,17 +344,21 @@ path_apart : (wish : Flag) → bytes_eq (bare_flag wish) (codes "JOURNAL") ≡ f
 path_apart table = refl
 path_apart local = refl
 path_apart thorough = refl
+path_apart turns = refl
 
 number_apart : (setting : Setting) (wish : Flag) → bytes_eq (bare_flag wish) (bare_name setting) ≡ false
 number_apart workers table = refl
 number_apart workers local = refl
 number_apart workers thorough = refl
+number_apart workers turns = refl
 number_apart steps table = refl
 number_apart steps local = refl
 number_apart steps thorough = refl
+number_apart steps turns = refl
 number_apart demo table = refl
 number_apart demo local = refl
 number_apart demo thorough = refl
+number_apart demo turns = refl
 
 finished_said : (parts : List Part) → said_by (fold with_default (rows_for parts) option_rules) ≡ heads parts
 finished_said parts = same_given (said_by (fold with_default (rows_for parts) option_rules)) (heads parts)
@@ -334,6 +369,7 @@ finished_said parts = same_given (said_by (fold with_default (rows_for parts) op
     (ap is_wished (flag_text table parts) ∙ wish_said (has_row (codes "table") (rows_for parts)))
     (ap is_wished (flag_text local parts) ∙ wish_said (has_row (codes "local") (rows_for parts)))
     (ap is_wished (flag_text thorough parts) ∙ wish_said (has_row (codes "thorough") (rows_for parts)))
+    (ap is_wished (flag_text turns parts) ∙ wish_said (has_row (codes "turns") (rows_for parts)))
 
 head_option : (o : Option Text) → head_of (option_to_list o) ≡ o
 head_option None = refl
@@ -365,6 +401,7 @@ rows_said parts given give =
     (flag_given table parts given.table give.of_table)
     (flag_given local parts given.local give.of_local)
     (flag_given thorough parts given.thorough give.of_thorough)
+    (flag_given turns parts given.turns give.of_turns)
 
 flag_single : (wish : Flag) (parts : List Part) → Single parts → count_by (is_flag wish) parts ≡ (if has_row (bare_flag wish) (rows_for parts) then 1 else 0)
 flag_single wish parts single =
@@ -381,4 +418,5 @@ rows_give parts single = subst (Give parts) (sym (finished_said parts)) (record 
   of_table = flag_single table parts single;
   of_local = flag_single local parts single;
   of_thorough = flag_single thorough parts single;
+  of_turns = flag_single turns parts single;
 })

@@ -14,7 +14,7 @@ use Rattle.clap.specs.Simple.{built, filled, Shape, with_index}
 use Rattle.clap.specs.Walk.{at_row, has_row, Held, more_values, reading_by, Row, Rule, settled, Text, used, with_values, without}
 use Rattle.clap.specs.Words.{new_rule}
 use Rattle.solve_words.specs.Options.{flag_rule, option_rule, options_app}
-use Rattle.solve_words.specs.Words.{demo, flag, Flag, journal, local, number, Part, Setting, steps, table, thorough, workers}
+use Rattle.solve_words.specs.Words.{demo, flag, Flag, journal, local, number, Part, Setting, steps, table, thorough, turns, workers}
 
 -- ---- the options
 
@@ -38,6 +38,7 @@ abbrev pub bare_flag : Flag → Text
 bare_flag table = codes "table"
 bare_flag local = codes "local"
 bare_flag thorough = codes "thorough"
+bare_flag turns = codes "turns"
 
 -- the option of a flag
 abbrev pub wish_rule : Flag → Rule

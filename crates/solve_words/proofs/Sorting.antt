@@ -12,7 +12,7 @@ use Rattle.clap.specs.Lexer.{long_of, name_and_value, short_of}
 use Rattle.clap.specs.Walk.{arg_by_long, idle, option, positional, Row, Rule, Text, Waiting}
 use Rattle.clap.proofs.CutLemmas.{Lacks}
 use Rattle.clap.proofs.LexerLemmas.{name_and_value-at, name_and_value-without}
-use Rattle.solve_words.specs.Words.{demo, Flag, local, name_of, name_of_flag, Setting, steps, table, thorough, workers}
+use Rattle.solve_words.specs.Words.{demo, Flag, local, name_of, name_of_flag, Setting, steps, table, thorough, turns, workers}
 use Rattle.solve_words.proofs.Rows.{bare_flag, bare_name, option_rules, shape}
 use Rattle.std.proofs.lemmas.Bool.Decides.{nat_tests}
 use Rattle.solve_words.proofs.Classes.{first_apart, held_of, IsBare}
@@ -80,7 +80,10 @@ names name = elim (cases_Bool (bytes_eq (codes "workers") name)) [
           | inl e ↦ flag_name local (is_named (codes "local") name e)
           | inr l ↦ elim (cases_Bool (bytes_eq (codes "thorough") name)) [
             | inl e ↦ flag_name thorough (is_named (codes "thorough") name e)
-            | inr h ↦ unknown (rw (w, s, d, t, l, h) refl)
+            | inr h ↦ elim (cases_Bool (bytes_eq (codes "turns") name)) [
+              | inl e ↦ flag_name turns (is_named (codes "turns") name e)
+              | inr u ↦ unknown (rw (w, s, d, t, l, h, u) refl)
+            ]
           ]
         ]
       ]
@@ -110,6 +113,7 @@ module _ (z : ℕ) (zs : Text) where
   strange_flag table v e = record { fault = λ waiting rows pending. some_kind kind.TooManyValues [] _ (long_fault_is waiting rows pending (codes "table", Some v) e) }
   strange_flag local v e = record { fault = λ waiting rows pending. some_kind kind.TooManyValues [] _ (long_fault_is waiting rows pending (codes "local", Some v) e) }
   strange_flag thorough v e = record { fault = λ waiting rows pending. some_kind kind.TooManyValues [] _ (long_fault_is waiting rows pending (codes "thorough", Some v) e) }
+  strange_flag turns v e = record { fault = λ waiting rows pending. some_kind kind.TooManyValues [] _ (long_fault_is waiting rows pending (codes "turns", Some v) e) }
 
   -- without a value
   sort_name : Lacks 61 (z ∷ zs) → Sort (45 ∷ 45 ∷ z ∷ zs)
@@ -130,6 +134,7 @@ module _ (z : ℕ) (zs : Text) where
       long_flag table = refl
       long_flag local = refl
       long_flag thorough = refl
+      long_flag turns = refl
 
   -- with one
   sort_value : IsCut 61 (z ∷ zs) → Sort (45 ∷ 45 ∷ z ∷ zs)

@@ -9,7 +9,7 @@ use Rattle.std.proofs.lemmas.List.{append-nil, append_assoc}
 use Rattle.clap.specs.Faults.{react_fault, settle_fault, turn_fault, use_fault, walk_fault}
 use Rattle.clap.specs.Kinds.{Kinds, or_else}
 use Rattle.clap.specs.Walk.{has_row, Held, reacted, settled, Text, Walk, walked}
-use Rattle.solve_words.specs.Words.{demo, flag, journal, local, name_of, name_of_flag, number, Part, Setting, steps, table, thorough, workers, AreSpelled, Flag, Give, Given, IsSpelled}
+use Rattle.solve_words.specs.Words.{demo, flag, journal, local, name_of, name_of_flag, number, Part, Setting, steps, table, thorough, turns, workers, AreSpelled, Flag, Give, Given, IsSpelled}
 use Rattle.solve_words.proofs.Rows.{bare_flag, bare_name, given_by, held_at, id_of, option_rules, rows_for, rule_for, settle_passes, settled_at, shape, use_fresh, IsNewLast, MayWait, row_more}
 use Rattle.solve_words.proofs.Classes.{number_fault, number_walked, path_fault, path_walked, IsBare}
 use Rattle.solve_words.proofs.Giving.{digit_times, flag_times, path_times}
@@ -58,6 +58,7 @@ own_time (number demo digits) = refl
 own_time (flag table) = refl
 own_time (flag local) = refl
 own_time (flag thorough) = refl
+own_time (flag turns) = refl
 
 -- the last part has no row among the others, and neither has the part behind it
 new_last : (before : List Part) (last : Option Part) (parts : List Part) → Single ((before ++ option_to_list last) ++ parts) → IsNewLast before last
@@ -83,6 +84,7 @@ no_path_flag : (wish : Flag) → times (codes "JOURNAL") (flag wish ∷ []) ≡ 
 no_path_flag table = refl
 no_path_flag local = refl
 no_path_flag thorough = refl
+no_path_flag turns = refl
 
 module _ (before : List Part) (last : Option Part) (may : MayWait last) (parts : List Part) (rest : List Text) where
   abbrev all_of : List Part
@@ -98,14 +100,14 @@ module _ (before : List Part) (last : Option Part) (may : MayWait last) (parts :
       → walked option_rules [] (calm (held_at before last) met) word ≡ calm (reacted option_rules (rule_for part) (given_by part) (held_at before last)) met
       → Taken ((all_of ++ part ∷ []) ++ parts) (calm (held_at (all_of ++ part ∷ []) None) met) rest
       → Taken (all_of ++ part ∷ parts) (calm (held_at before last) met) (word ∷ rest)
-  use_taken met part word single turns walks taken =
+  use_taken met part word single turned walks taken =
       let new = new_last before last (part ∷ parts) single in
       let fresh = new_part all_of part parts single in
       let uses : use_fault false (rule_for part) (given_by part) (settled option_rules (held_at before last)).rows ≡ [] =
       ap (λ (h : Held). use_fault false (rule_for part) (given_by part) h.rows) (settled_at before last may new) ∙ use_fresh part (rows_for all_of) fresh in
       let reacts : react_fault option_rules false (rule_for part) (given_by part) (held_at before last) ≡ [] = ap₂ or_else (settle_passes before last may new) uses in
       word_more (all_of ++ part ∷ parts) (calm (held_at before last) met) (calm (held_at (all_of ++ part ∷ []) None) met) word rest
-      (turns ∙ ap (λ (k : Kinds). or_else k []) reacts)
+      (turned ∙ ap (λ (k : Kinds). or_else k []) reacts)
       (walks ∙ ap (λ (h : Held). calm h met) (reacted_at before last part may new (row_more all_of part fresh)))
       (behind part (calm (held_at (all_of ++ part ∷ []) None) met) rest taken)
 
@@ -237,7 +239,10 @@ given_single parts given give id =
                 | inl e ↦ at (codes "local") e (let n = flag_times local parts in let l = give.of_local in let few = few_wishes given.local in omega (arith, n, l, few))
                 | inr l ↦ elim (cases_Bool (bytes_eq (codes "thorough") id)) [
                   | inl e ↦ at (codes "thorough") e (let n = flag_times thorough parts in let l = give.of_thorough in let few = few_wishes given.thorough in omega (arith, n, l, few))
-                  | inr h ↦ let none = no_other id j w s d (no_flag t l h) parts in omega (arith, none)
+                  | inr h ↦ elim (cases_Bool (bytes_eq (codes "turns") id)) [
+                    | inl e ↦ at (codes "turns") e (let n = flag_times turns parts in let l = give.of_turns in let few = few_wishes given.turns in omega (arith, n, l, few))
+                    | inr u ↦ let none = no_other id j w s d (no_flag t l h u) parts in omega (arith, none)
+                  ]
                 ]
               ]
             ]
@@ -249,7 +254,8 @@ given_single parts given give id =
     at : (known : Text) → bytes_eq known id ≡ true → times known parts ≤ 1 → times id parts ≤ 1
     at known e few = subst (λ (i : Text). times i parts ≤ 1) ((bytes_eq-Decides known id).0 e) few
 
-    no_flag : bytes_eq (codes "table") id ≡ false → bytes_eq (codes "local") id ≡ false → bytes_eq (codes "thorough") id ≡ false → (wish : Flag) → bytes_eq (bare_flag wish) id ≡ false
-    no_flag t l h table = t
-    no_flag t l h local = l
-    no_flag t l h thorough = h
+    no_flag : bytes_eq (codes "table") id ≡ false → bytes_eq (codes "local") id ≡ false → bytes_eq (codes "thorough") id ≡ false → bytes_eq (codes "turns") id ≡ false → (wish : Flag) → bytes_eq (bare_flag wish) id ≡ false
+    no_flag t l h u table = t
+    no_flag t l h u local = l
+    no_flag t l h u thorough = h
+    no_flag t l h u turns = u

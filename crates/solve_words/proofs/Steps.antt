@@ -4,7 +4,7 @@ use Rattle.std.specs.Prelude.{if◌then◌else◌}
 use Rattle.clap.specs.Faults.{react_fault, settle_fault, turn_fault}
 use Rattle.clap.specs.Kinds.{or_else}
 use Rattle.clap.specs.Walk.{Held, idle, option, reacted, settled, Text, Walk, walked}
-use Rattle.solve_words.specs.Words.{demo, Flag, local, name_of, name_of_flag, Part, Setting, steps, table, thorough, workers}
+use Rattle.solve_words.specs.Words.{demo, Flag, local, name_of, name_of_flag, Part, Setting, steps, table, thorough, turns, workers}
 use Rattle.solve_words.proofs.Rows.{bare_name, option_rules, wish_rule, rows_for, setting_rule, shape}
 
 -- between two parts: the parts that have rows, the one that waits for its, and whether a path was met
@@ -58,8 +58,10 @@ unfolding walked
 flag_walked table held met = refl
 flag_walked local held met = refl
 flag_walked thorough held met = refl
+flag_walked turns held met = refl
 
 pub flag_fault : (wish : Flag) (held : Held) (met : Bool) → turn_fault shape [] (calm held met) (name_of_flag wish) ≡ or_else (react_fault option_rules false (wish_rule wish) [] held) []
 flag_fault table held met = refl
 flag_fault local held met = refl
 flag_fault thorough held met = refl
+flag_fault turns held met = refl

@@ -8,7 +8,7 @@ use Rattle.clap.specs.declared.error.kind.ErrorKind.TheVariants as kind
 use Rattle.clap.specs.Faults.{react_fault, settle_fault, turn_fault, use_fault, walk_fault}
 use Rattle.clap.specs.Kinds.{Kinds, or_else}
 use Rattle.clap.specs.Walk.{Held, idle, option, reacted, Row, settled, Text, used, Walk, walked}
-use Rattle.solve_words.specs.Words.{demo, flag, Flag, journal, local, name_of, name_of_flag, number, Part, Setting, steps, table, thorough, workers, AreSpelled, IsSpelled}
+use Rattle.solve_words.specs.Words.{demo, flag, Flag, journal, local, name_of, name_of_flag, number, Part, Setting, steps, table, thorough, turns, workers, AreSpelled, IsSpelled}
 use Rattle.solve_words.specs.Options.{has_separator}
 use Rattle.solve_words.proofs.Rows.{bare_name, given_by, held_at, option_rules, wish_rule, pending_for, rows_for, rule_for, setting_rule, settle_new, settled_at, shape, use_new, IsNewLast, MayWait, row_more}
 use Rattle.solve_words.proofs.Classes.{number_walked, path_fault, path_walked, second_path_fault}
@@ -149,6 +149,7 @@ hungry_flag : (wish : Flag) (held : Held) (setting : Setting) (met : Bool) → t
 hungry_flag table held setting met = refl
 hungry_flag local held setting met = refl
 hungry_flag thorough held setting met = refl
+hungry_flag turns held setting met = refl
 
 module _ (word : Text) (words : List Text) (read : (state : State) → BeforeAt state words → FoundAt state words) where
   -- ---- behind the name of an option

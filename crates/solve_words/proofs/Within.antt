@@ -43,13 +43,13 @@ few_workers (Some digits) w e =
 
 search_within : (path : List ℕ) (given : Given) (asked : Asked) → search_on path given ≡ Some asked → IsWithin asked
 search_within path given asked e =
-    let last : Option ℕ → ℕ → Option Asked = λ count budget. option_map (λ method. over_journal path count budget given.table method) (method_in given) in
+    let last : Option ℕ → ℕ → Option Asked = λ count budget. option_map (λ method. over_journal path count budget given.table method given.turns) (method_in given) in
     let next : Option ℕ → Option Asked = λ count. option_and_then (last count) (budget_in given.steps) in
     let r = when (is_journal path) (option_and_then next (workers_in given.workers)) asked e in
     let w = bind_some next (workers_in given.workers) asked r in
     let s = bind_some (last w.0) (budget_in given.steps) asked w.2 in
-    let m = map_some (λ method. over_journal path w.0 s.0 given.table method) (method_in given) asked s.2 in
-    subst IsWithin {x = over_journal path w.0 s.0 given.table m.0} m.2 (few_workers given.workers w.0 w.1, few_steps given.steps s.0 s.1)
+    let m = map_some (λ method. over_journal path w.0 s.0 given.table method given.turns) (method_in given) asked s.2 in
+    subst IsWithin {x = over_journal path w.0 s.0 given.table m.0 given.turns} m.2 (few_workers given.workers w.0 w.1, few_steps given.steps s.0 s.1)
   where
     when : (b : Bool) (o : Option Asked) (a : Asked) → cond b o None ≡ Some a → o ≡ Some a
     when true o a e = e
@@ -57,7 +57,7 @@ search_within path given asked e =
 
 demonstration_within : (digits : List ℕ) (given : Given) (asked : Asked) → demonstration_of digits given ≡ Some asked → IsWithin asked
 demonstration_within digits given asked e =
-    let r = unless (is_some given.workers || (given.table || (given.local || given.thorough))) (option_and_then (λ n. option_map (λ budget. from_number n budget) (budget_in given.steps)) (number_in demo_setting digits)) asked e in
+    let r = unless (is_some given.workers || (given.table || (given.local || (given.thorough || given.turns)))) (option_and_then (λ n. option_map (λ budget. from_number n budget) (budget_in given.steps)) (number_in demo_setting digits)) asked e in
     let w = bind_some (λ n. option_map (λ budget. from_number n budget) (budget_in given.steps)) (number_in demo_setting digits) asked r in
     let s = map_some (λ budget. from_number w.0 budget) (budget_in given.steps) asked w.2 in
     subst IsWithin s.2 ((within 0 999999 w.0 digits w.1).1, few_steps given.steps s.0 s.1)

@@ -8,7 +8,7 @@ use Rattle.solve_words.specs.declared.texts.Texts.{Texts}
 
 -- what a command asks for
 abbrev pub asked : Command → Asked
-asked (Search journal workers steps table method) = over_journal journal.now workers steps table method
+asked (Search journal workers steps table method turns) = over_journal journal.now workers steps table method turns
 asked (Demo number steps) = from_number number steps
 
 -- the text behind a reference, if there is one
@@ -25,4 +25,5 @@ given texts = record {
   table = texts.table;
   local = texts.local;
   thorough = texts.thorough;
+  turns = texts.turns;
 }

@@ -22,9 +22,9 @@ abbrev pub with_options : App → App
 with_options app = with_rule (with_rule (with_rule app (option_rule (codes "workers"))) (option_rule (codes "steps"))) (option_rule (codes "demo"))
 
 abbrev pub with_flags : App → App
-with_flags app = with_rule (with_rule (with_rule app (flag_rule (codes "table"))) (flag_rule (codes "local"))) (flag_rule (codes "thorough"))
+with_flags app = with_rule (with_rule (with_rule (with_rule app (flag_rule (codes "table"))) (flag_rule (codes "local"))) (flag_rule (codes "thorough"))) (flag_rule (codes "turns"))
 
--- the positional argument, the three options with a number and the three flags
+-- the positional argument, the three options with a number and the four flags
 abbrev pub options_app : App
 options_app = with_flags (with_options (with_rule bare_app (new_rule (codes "JOURNAL"))))
 

@@ -15,12 +15,13 @@ pub data Setting : Type 0 where
   steps : Setting
   demo : Setting
 
--- the flags, which are options without a number: the wish for a table of the plan, that for a local search of plans, and that for a
--- thorough search
+-- the flags, which are options without a number: the wish for a table of the plan, that for a local search of plans, that for a
+-- thorough search, and that for workers who take turns in the order of tickets
 pub data Flag : Type 0 where
   table : Flag
   local : Flag
   thorough : Flag
+  turns : Flag
 
 -- what may stand behind `solve`: the path of a journal, an option with the digits of its number, and a flag
 pub data Part : Type 0 where
@@ -39,6 +40,7 @@ abbrev pub name_of_flag : Flag → List ℕ
 name_of_flag table = codes "--table"
 name_of_flag local = codes "--local"
 name_of_flag thorough = codes "--thorough"
+name_of_flag turns = codes "--turns"
 
 -- a part is these words; the digits of an option are its next word, or stand behind `=` in the same one
 abbrev pub IsSpelled : Part → List (List ℕ) → Type 0
@@ -76,6 +78,7 @@ abbrev pub is_same_flag : Flag → Flag → Bool
 is_same_flag table table = true
 is_same_flag local local = true
 is_same_flag thorough thorough = true
+is_same_flag turns turns = true
 is_same_flag _ _ = false
 
 -- whether a part is that flag
@@ -93,6 +96,7 @@ pub record Given : Type 0 where
   pub table : Bool
   pub local : Bool
   pub thorough : Bool
+  pub turns : Bool
 
 -- parts give that: each kind of part is among them at most once
 pub record Give (parts : List Part) (given : Given) : Type 0 where
@@ -103,6 +107,7 @@ pub record Give (parts : List Part) (given : Given) : Type 0 where
   pub of_table : count_by (is_flag table) parts ≡ (if given.table then 1 else 0)
   pub of_local : count_by (is_flag local) parts ≡ (if given.local then 1 else 0)
   pub of_thorough : count_by (is_flag thorough) parts ≡ (if given.thorough then 1 else 0)
+  pub of_turns : count_by (is_flag turns) parts ≡ (if given.turns then 1 else 0)
 
 -- words give that: they are the words of parts, in any order, each kind of part at most once
 abbrev pub IsGivenBy : List (List ℕ) → Given → Type 0
@@ -138,10 +143,10 @@ abbrev pub number_in : Setting → List ℕ → Option ℕ
 number_in setting = number_within (least setting) (most setting)
 
 -- what the words ask for: a search over the journal at a path, by so many workers where that is said, of so many steps, with the
--- table of its plan or without, and by a method; or a demonstration, which is a search without a journal, of so many steps, for the
+-- table of its plan or without, by a method, and by workers who take turns or not; or a demonstration, which is a search without a journal, of so many steps, for the
 -- instance made from a number
 pub data Asked : Type 0 where
-  over_journal : List ℕ → Option ℕ → ℕ → Bool → Method → Asked
+  over_journal : List ℕ → Option ℕ → ℕ → Bool → Method → Bool → Asked
   from_number : ℕ → ℕ → Asked
 
 -- the budget of steps: a thousand where none is given
@@ -167,12 +172,12 @@ method_in given = method_of given.local given.thorough
 -- a search over the journal at a path
 abbrev pub search_on : List ℕ → Given → Option Asked
 search_on path given = if is_journal path
-    then option_and_then (λ count. option_and_then (λ budget. option_map (λ method. over_journal path count budget given.table method) (method_in given)) (budget_in given.steps)) (workers_in given.workers)
+    then option_and_then (λ count. option_and_then (λ budget. option_map (λ method. over_journal path count budget given.table method given.turns) (method_in given)) (budget_in given.steps)) (workers_in given.workers)
     else None
 
 -- a demonstration has neither workers nor a flag
 abbrev pub demonstration_of : List ℕ → Given → Option Asked
-demonstration_of digits given = if is_some given.workers || (given.table || (given.local || given.thorough)) then None
+demonstration_of digits given = if is_some given.workers || (given.table || (given.local || (given.thorough || given.turns))) then None
     else option_and_then (λ n. option_map (λ budget. from_number n budget) (budget_in given.steps)) (number_in demo digits)
 
 -- exactly one of a journal and a demonstration is asked for
@@ -206,5 +211,5 @@ IsReadAs words found = (asked : Asked) → Asks words asked ↔ (found ≡ Some 
 
 -- what is asked for has its numbers within their limits
 abbrev pub IsWithin : Asked → Type 0
-IsWithin (over_journal path count budget wish method) = IfSome count (λ n. (1 ≤ n) × (n ≤ 9999)) × (budget ≤ 4000000000)
+IsWithin (over_journal path count budget wish method by_turns) = IfSome count (λ n. (1 ≤ n) × (n ≤ 9999)) × (budget ≤ 4000000000)
 IsWithin (from_number n budget) = (n ≤ 999999) × (budget ≤ 4000000000)

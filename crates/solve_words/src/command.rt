@@ -36,13 +36,14 @@ pub enum Method {
 #[derive(Clone, Copy, Drop)]
 pub enum Command<'a> {
     /// A search over the journal at a path, by so many workers where the words say how many, of at most so many steps, with the
-    /// table of its plan or without, and by a method.
+    /// table of its plan or without, by a method, and by workers who take turns in the order of tickets or not.
     Search {
         journal: &'a str,
         workers: Option<u16>,
         steps: u64,
         table: bool,
         method: Method,
+        turns: bool,
     },
     /// A search without a journal, of at most so many steps, for the instance that is made from a number.
     Demo {
@@ -122,12 +123,14 @@ fn search_on<'a>(journal: &'a str, texts: &Texts<'a>) -> Option<Command<'a>>
     let steps = budget_in(texts.steps)?;
     let table = texts.table;
     let method = method_in(texts)?;
+    let turns = texts.turns;
     Some(Command::Search {
         journal,
         workers,
         steps,
         table,
         method,
+        turns,
     })
 }
 
@@ -135,7 +138,7 @@ fn search_on<'a>(journal: &'a str, texts: &Texts<'a>) -> Option<Command<'a>>
 fn demonstration_of<'a>(digits: &str, texts: &Texts<'a>) -> Option<Command<'a>>
     ensures { option_map asked result ≡ demonstration_of digits.now (given texts.now) }
 {
-    if texts.workers.is_some() || texts.table || texts.local || texts.thorough {
+    if texts.workers.is_some() || texts.table || texts.local || texts.thorough || texts.turns {
         return None;
     }
     let number = demo_in(digits)?;
@@ -156,7 +159,7 @@ fn asked_in<'a>(texts: &Texts<'a>) -> Option<Command<'a>>
 
 /// What the words of a command line ask for, and none where they are no command. Running out of memory is the one refusal.
 ///
-/// The words are `solve JOURNAL [--workers W] [--steps B] [--table] [--local | --thorough]` or `solve --demo N [--steps B]`:
+/// The words are `solve JOURNAL [--workers W] [--steps B] [--table] [--local | --thorough] [--turns]` or `solve --demo N [--steps B]`:
 /// `solve` comes first, and the rest in any order, each at most once. The number of an option is the next word, or stands behind `=` in the
 /// option's word. A number is one to ten decimal digits. W is from 1 to 9,999, B at most 4,000,000,000 and 1,000 where it isn't
 /// given, and N at most 999,999. JOURNAL isn't empty and doesn't begin with `-`.

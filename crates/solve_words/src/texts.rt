@@ -22,6 +22,7 @@ pub(crate) struct Texts<'a> {
     pub table: bool,
     pub local: bool,
     pub thorough: bool,
+    pub turns: bool,
 }
 
 /// An option with a value.
@@ -66,7 +67,8 @@ fn with_flags<'a>(alloc: Global, command: Command<'a>) -> Result<Command<'a>, Al
     command
         .arg(flag_word(alloc, "table"))?
         .arg(flag_word(alloc, "local"))?
-        .arg(flag_word(alloc, "thorough"))
+        .arg(flag_word(alloc, "thorough"))?
+        .arg(flag_word(alloc, "turns"))
 }
 
 /// The options behind `solve`.
@@ -111,6 +113,7 @@ pub(crate) fn texts_in<'a>(
             table: matches.get_flag("table"),
             local: matches.get_flag("local"),
             thorough: matches.get_flag("thorough"),
+            turns: matches.get_flag("turns"),
         })),
         Err(fault) if fault.kind() == ErrorKind::OutOfMemory => Err(AllocError),
         Err(_) => Ok(None),

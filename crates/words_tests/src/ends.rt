@@ -35,6 +35,7 @@ fn morning<R: Threads + Wait + Sync>(
     let request = Request {
         workers: 1,
         steps: 100,
+        turns: false,
     };
     let disk = MemDisk::new(alloc, Vec::new(alloc), Vec::new(alloc));
     let until = Until::new(progress, host);

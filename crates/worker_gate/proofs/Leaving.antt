@@ -19,13 +19,13 @@ module _ (w : ℕ) (step : StepPosts) (old new : BoardView) where
   not_closing floor best back m = (m.0, m.1, m.5, m.6)
 
   pub by_disk : CommitRefuses w step old new DiskFault → LeavesStep w step old new End
-  by_disk m = inl (subst (λ (v : BoardView). IsSome v.shut × (v.taken ≡ old.taken)) (sym m.1) (refl, refl))
+  by_disk m = inl (subst (λ (v : BoardView). IsSome v.shut × (v.taken ≡ old.taken) × (v.history ≡ old.history)) (sym m.1) (refl, refl, refl))
 
   pub by_limit : (end limit : ℕ) → CommitRefuses w step old new (Full end limit) → LeavesStep w step old new End
-  by_limit end limit m = inl (subst (λ (v : BoardView). IsSome v.shut × (v.taken ≡ old.taken)) (sym m.4) (refl, refl))
+  by_limit end limit m = inl (subst (λ (v : BoardView). IsSome v.shut × (v.taken ≡ old.taken) × (v.history ≡ old.history)) (sym m.4) (refl, refl, refl))
 
   pub by_shut : CommitRefuses w step old new Shut → LeavesStep w step old new End
-  by_shut m = inl (subst (λ (v : BoardView). IsSome v.shut × (v.taken ≡ old.taken)) (sym m.1) (m.0, refl))
+  by_shut m = inl (subst (λ (v : BoardView). IsSome v.shut × (v.taken ≡ old.taken) × (v.history ≡ old.history)) (sym m.1) (m.0, refl, refl))
 
   pub let_go : (last : BoardView) → CommitRefuses w step old new NoMemory → last ≡ yields w new → LeavesStep w step old last End
   let_go last m e = inr (e ∙ ap (yields w) m)

@@ -12,3 +12,7 @@ pub mod Ran
 pub mod Telling
 pub mod News
 pub mod Rooted
+pub mod Passes
+pub mod Dealt
+pub mod Appended
+pub mod Snapped

@@ -1,13 +1,9 @@
 -- What the root of a board's lock says of the board as it was opened.
 use Rattle.std.proofs.Common.{◌≡◌, ◌⊎◌, inr, ℕ, ◌<◌, ◌^◌, true, All, List, length, get_or, refl, sym, ap, subst, None}
 use Rattle.std.specs.declared.snapshot.Snapshot.{Snapshot}
-use Rattle.atomic_table.specs.Seated.{TableId}
-use Rattle.atomic_table.specs.declared.badge.Badge.{Badge}
 use Rattle.shift_instance.specs.Problem.{Problem}
 use Rattle.search_core.specs.Board.{BoardView}
 use Rattle.board_lock.specs.declared.roots.BoardRoot.{BoardRoot}
-use Rattle.board_lock.specs.declared.view.View.{View}
-use Rattle.board_lock.specs.Passes.{RestsAt}
 use Rattle.board_lock.specs.Roots.{root_at}
 use Rattle.board_lock.specs.Turns.{AreTurns}
 use Rattle.search_core.specs.Core.{empty_hands}
@@ -19,14 +15,11 @@ module _ {B : Type 0} (seen : B → BoardView) where
   pub knows : (i : Problem) (number workers : ℕ) (opened : Snapshot B) → (seen opened.value).instance ≡ i → (seen opened.value).budget < 2 ^ 63 → number < workers → KnowsBoard seen i number (root_at opened workers)
   knows i number workers opened instance budget low = record { instance = instance; budget = budget; worker = low }
 
-  -- seats that know one root, each at the place of its number
-  pub all_know : {A : Type 0} (number : A → ℕ) (badge : A → Badge (View (BoardRoot B))) (lock : TableId) (i : Problem) (root : BoardRoot B) (xs : List A)
-      → ((k : ℕ) → k < length xs → KnowsBoard seen i k root) → ((k : ℕ) (d : A) → k < length xs → number (get_or xs k d) ≡ k) → All (λ p. RestsAt (λ r. r ≡ root) lock (badge p)) xs
-      → All (λ p. RestsAt (KnowsBoard seen i (number p)) lock (badge p)) xs
-  all_know number badge lock i root xs known numbers rests k d low =
-      let r = rests k d low in
-      let one : KnowsBoard seen i (number (get_or xs k d)) root = subst (λ (n : ℕ). KnowsBoard seen i n root) (sym (numbers k d low)) (known k low) in
-      (r.0, (r.1.0, r.1.1, r.1.2, subst (λ (q : BoardRoot B). KnowsBoard seen i (number (get_or xs k d)) q) (sym r.1.3) one))
+  -- workers of whom each knows the root, each at the place of its number
+  pub all_know : {A : Type 0} (number : A → ℕ) (P : A → Type 0) (i : Problem) (root : BoardRoot B) (xs : List A)
+      → ((k : ℕ) → k < length xs → KnowsBoard seen i k root) → ((k : ℕ) (d : A) → k < length xs → number (get_or xs k d) ≡ k) → All P xs
+      → All (λ p. P p × KnowsBoard seen i (number p) root) xs
+  all_know number P i root xs known numbers rests k d low = (rests k d low, subst (λ (n : ℕ). KnowsBoard seen i n root) (sym (numbers k d low)) (known k low))
 
   -- turns from the board of one root are turns from that of the same
   pub turns_from : (workers n : ℕ) (opened first : Snapshot B) (board : B) (new : BoardView) (commits sum : ℕ) → root_at opened workers ≡ root_at first n → first.value ≡ board → commits ≡ sum

@@ -56,11 +56,11 @@ pub record KnowsBoard {B : Type 0} (seen : B → BoardView) (i : Problem) (numbe
   pub worker : number < root.workers
 
 -- what becomes of a step that isn't committed: the worker doesn't hold its node, or its prices are for other cuts; by its price alone
--- it would leave its node open; or the board is shut; or, on running out of memory, the worker lets go of its node
+-- it would leave its node open; or the board is shut, with the posts that it had; or, on running out of memory, the worker lets go of its node
 abbrev pub LeavesStep : ℕ → StepPosts → BoardView → BoardView → Left → Type 0
 LeavesStep w step old new LeftAgain = (HoldsStep w step old → ⊥) × (new ≡ old)
 LeavesStep w step old new (LeftNotClosing back) = HoldsStep w step old × (step.close ≡ ByPrice) × (back ≡ step) × (new ≡ old)
-LeavesStep w step old new LeftEnd = (IsSome new.shut × (new.taken ≡ old.taken)) ⊎ (new ≡ yields w old)
+LeavesStep w step old new LeftEnd = (IsSome new.shut × (new.taken ≡ old.taken) × (new.history ≡ old.history)) ⊎ (new ≡ yields w old)
 
 -- what comes back of a step that wasn't committed: the step itself, where by its price alone it would have left its node open
 abbrev pub IsLeft : StepPosts → Left → Type 0

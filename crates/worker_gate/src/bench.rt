@@ -1,7 +1,7 @@
 //! The workers at their places, each in a thread.
 ghost use Rattle.std.specs.Prelude.{◌≡◌, ◌<◌, ◌+◌, ◌^◌, ℕ, All, false, true, length, slice_index_or, vec_len};
-ghost use Rattle.board_lock.specs.Passes.{RestsAt};
 ghost use Rattle.board_lock.specs.declared.roots.BoardRoot.{BoardRoot};
+ghost use Rattle.worker_gate.specs.Turned.{HasBadge};
 ghost use Rattle.worker_gate.specs.Workers.{IsToldLast, KnowsBoard};
 
 use crate::gate::Gate;
@@ -34,11 +34,11 @@ fn work_all<
     bench: &mut [Place<B, L>],
 )
     requires some { 0 < length bench.old }
-    requires rest { All (λ p. RestsAt (KnowsBoard B.seen instance.now p.number) lock.now p.badge) bench.old }
+    requires rest { (root : BoardRoot B) × All (λ p. HasBadge lock.now root p.chair × KnowsBoard B.seen instance.now p.number root) bench.old }
     ensures numbers { (i : ℕ) (d : _) → i < length bench.old → (slice_index_or bench.new i d).number ≡ (slice_index_or bench.old i d).number }
     ensures told { (i : ℕ) (d : _) → i < length bench.old → told (slice_index_or bench.old i d).seat.adviser < 2 ^ 63 + (slice_index_or bench.old i d).seat.told
         → told (slice_index_or bench.new i d).seat.adviser + (slice_index_or bench.old i d).seat.told ≡ told (slice_index_or bench.old i d).seat.adviser + (slice_index_or bench.new i d).seat.told }
-    ensures last { (root : BoardRoot B) → All (λ p. RestsAt (λ r. r ≡ root) lock.now p.badge) bench.old → (i : ℕ) (d : _) → i < length bench.old
+    ensures last { (root : BoardRoot B) → All (λ p. HasBadge lock.now root p.chair) bench.old → (i : ℕ) (d : _) → i < length bench.old
         → IsToldLast root.workers (B.seen root.opened.value) (slice_index_or bench.old i d).number (slice_index_or bench.old i d).seat.told (slice_index_or bench.new i d).seat.told (last (slice_index_or bench.old i d).seat.adviser) (last (slice_index_or bench.new i d).seat.adviser) }
     ensures asked { (i : ℕ) (d : _) → i < length bench.old → (slice_index_or bench.new i d).asked ≡ true → (slice_index_or bench.old i d).asked ≡ false → S.can_ask stop.now ≡ true }
 {
@@ -48,11 +48,11 @@ fn work_all<
         bench,
         threads,
         &|_, place: &mut Place<B, L>|
-            requires { RestsAt (KnowsBoard B.seen instance.now place.now.number) lock.now place.now.badge }
+            requires { (root : BoardRoot B) × HasBadge lock.now root place.now.chair × KnowsBoard B.seen instance.now place.now.number root }
             ensures number { place.exit.now.number ≡ place.entry.now.number }
             ensures told { told place.entry.now.seat.adviser < 2 ^ 63 + place.entry.now.seat.told
                 → told place.exit.now.seat.adviser + place.entry.now.seat.told ≡ told place.entry.now.seat.adviser + place.exit.now.seat.told }
-            ensures last { (root : BoardRoot B) → RestsAt (λ r. r ≡ root) lock.entry.now place.entry.now.badge
+            ensures last { (root : BoardRoot B) → HasBadge lock.entry.now root place.entry.now.chair
                 → IsToldLast root.workers (B.seen root.opened.value) place.entry.now.number place.entry.now.seat.told place.exit.now.seat.told (last place.entry.now.seat.adviser) (last place.exit.now.seat.adviser) }
             ensures asked { place.exit.now.asked ≡ true → place.entry.now.asked ≡ false → S.can_ask stop.entry.now ≡ true }
         { work(rt, alloc, instance, lock, gate, stop, place) },
@@ -76,12 +76,12 @@ pub(crate) fn work_bench<
     bench: &mut Vec<Place<B, L>>,
 )
     requires some { 0 < vec_len bench.old }
-    requires rest { All (λ p. RestsAt (KnowsBoard B.seen instance.now p.number) lock.now p.badge) bench.old.items }
+    requires rest { (root : BoardRoot B) × All (λ p. HasBadge lock.now root p.chair × KnowsBoard B.seen instance.now p.number root) bench.old.items }
     ensures len { length bench.new.items ≡ length bench.old.items }
     ensures numbers { (i : ℕ) (d : _) → i < vec_len bench.old → (slice_index_or bench.new.items i d).number ≡ (slice_index_or bench.old.items i d).number }
     ensures told { (i : ℕ) (d : _) → i < vec_len bench.old → told (slice_index_or bench.old.items i d).seat.adviser < 2 ^ 63 + (slice_index_or bench.old.items i d).seat.told
         → told (slice_index_or bench.new.items i d).seat.adviser + (slice_index_or bench.old.items i d).seat.told ≡ told (slice_index_or bench.old.items i d).seat.adviser + (slice_index_or bench.new.items i d).seat.told }
-    ensures last { (root : BoardRoot B) → All (λ p. RestsAt (λ r. r ≡ root) lock.now p.badge) bench.old.items → (i : ℕ) (d : _) → i < vec_len bench.old
+    ensures last { (root : BoardRoot B) → All (λ p. HasBadge lock.now root p.chair) bench.old.items → (i : ℕ) (d : _) → i < vec_len bench.old
         → IsToldLast root.workers (B.seen root.opened.value) (slice_index_or bench.old.items i d).number (slice_index_or bench.old.items i d).seat.told (slice_index_or bench.new.items i d).seat.told (last (slice_index_or bench.old.items i d).seat.adviser) (last (slice_index_or bench.new.items i d).seat.adviser) }
     ensures asked { (i : ℕ) (d : _) → i < vec_len bench.old → (slice_index_or bench.new.items i d).asked ≡ true → (slice_index_or bench.old.items i d).asked ≡ false → S.can_ask stop.now ≡ true }
 {

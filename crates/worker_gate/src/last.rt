@@ -8,12 +8,13 @@ ghost use Rattle.board_lock.specs.Roots.{root_at};
 ghost use Rattle.worker_gate.specs.Runs.{news_of};
 ghost use Rattle.worker_gate.specs.Workers.{IsNews, IsToldLast, KnowsBoard, WorkersEnd};
 
+use crate::noted::Noted;
 use crate::seat::Place;
-use crate::turns::{Left, Rest, Work, commit_in, work_of};
+use crate::turns::{Left, Rest, Work};
 use crate::worker::{closed_again, decide};
 use crate::{Gate, RunEnd};
 use advice::{Adviser, Stop};
-use board_lock::{Begun, Held};
+use board_lock::Begun;
 use dual_bound::Buffers;
 use search_core::{Board, Kept, Shutting, StepPosts, Taken};
 use shift_instance::Instance;
@@ -37,26 +38,27 @@ fn end_of(shut: Shutting) -> RunEnd
 fn commit_alone<B: Board, L: Begun>(
     alloc: Global,
     instance: &Instance,
-    held: &mut Held<B, L>,
+    noted: &mut Noted<B, L>,
     worker: u32,
     step: StepPosts,
     share: &mut Share<L>,
 ) -> Result<Kept, Rest>
     requires worker { worker < 16 }
-    requires instance { (B.seen held.old.opened.value).instance ≡ instance.now }
-    requires holds { HoldsStep worker step (B.seen held.old.board) }
+    requires instance { (B.seen noted.old.held.opened.value).instance ≡ instance.now }
+    requires holds { HoldsStep worker step (B.seen noted.old.held.board) }
     requires fits { Fits instance.now step }
     requires part { 0 < share.old.parts }
-    ensures root { root_at held.new.opened held.new.workers ≡ root_at held.old.opened held.old.workers }
-    ensures emptied { (B.seen held.new.board).shut ≡ None → (B.seen held.new.board).hands ≡ slice_set (B.seen held.old.board).hands worker None }
-    ensures taken { (B.seen held.new.board).taken ≡ (B.seen held.old.board).taken }
+    ensures keeps { noted.new.keeps ≡ noted.old.keeps }
+    ensures root { root_at noted.new.held.opened noted.new.held.workers ≡ root_at noted.old.held.opened noted.old.held.workers }
+    ensures emptied { (B.seen noted.new.held.board).shut ≡ None → (B.seen noted.new.held.board).hands ≡ slice_set (B.seen noted.old.held.board).hands worker None }
+    ensures taken { (B.seen noted.new.held.board).taken ≡ (B.seen noted.old.held.board).taken }
     ensures counted { OnOk result (share.new.amount ≡ share.old.amount + 1) }
     ensures uncounted { OnErr result (share.new.amount ≡ share.old.amount) }
-    ensures within { share.new.amount ≤ (B.seen held.old.opened.value).budget }
+    ensures within { OnOk result (share.new.amount ≤ (B.seen noted.old.held.opened.value).budget) }
     ensures parts { share.new.parts ≡ share.old.parts }
-    ensures news { IfOk result (λ kept. ∥ IsNews held.old.workers (B.seen held.old.opened.value) worker (news_of step.node kept) ∥₁) }
+    ensures news { IfOk result (λ kept. ∥ IsNews noted.old.held.workers (B.seen noted.old.held.opened.value) worker (news_of step.node kept) ∥₁) }
 {
-    let step = match commit_in(held, worker, step, share) {
+    let step = match noted.commit(worker, step, share) {
         Ok(kept) => return Ok(kept),
         Err(Left::NotClosing(step)) => step,
         Err(Left::End) => return Err(Rest::End),
@@ -64,10 +66,10 @@ fn commit_alone<B: Board, L: Begun>(
         Err(Left::Again) => unreachable!(),
     };
     let Ok(step) = closed_again(alloc, instance, step) else {
-        held.yield_node(worker);
+        noted.yield_node(worker);
         return Err(Rest::End);
     };
-    match commit_in(held, worker, step, share) {
+    match noted.commit(worker, step, share) {
         Ok(kept) => Ok(kept),
         Err(Left::End) => Err(Rest::End),
         Err(Left::Again) => unreachable!(),
@@ -81,27 +83,28 @@ fn finish<B: Board, L: Begun>(
     alloc: Global,
     instance: &Instance,
     buffers: &mut Buffers,
-    held: &mut Held<B, L>,
+    noted: &mut Noted<B, L>,
     place: &mut Place<B, L>,
     work: Work,
 )
-    requires knows { KnowsBoard B.seen instance.now place.old.number (root_at held.old.opened held.old.workers) }
+    requires knows { KnowsBoard B.seen instance.now place.old.number (root_at noted.old.held.opened noted.old.held.workers) }
     requires buffers { buffers.old ≡ instance.now }
-    requires running { (B.seen held.old.board).shut ≡ None }
-    requires holds { hand (B.seen held.old.board).hands place.old.number ≡ Some work.node }
-    requires cuts { work.ask.cuts ≡ cuts_in (book_at (B.seen held.old.board)).nodes work.node }
+    requires running { (B.seen noted.old.held.board).shut ≡ None }
+    requires holds { hand (B.seen noted.old.held.board).hands place.old.number ≡ Some work.node }
+    requires cuts { work.ask.cuts ≡ cuts_in (book_at (B.seen noted.old.held.board)).nodes work.node }
     requires few { length work.ask.cuts ≤ 2 ^ 24 }
-    ensures root { root_at held.new.opened held.new.workers ≡ root_at held.old.opened held.old.workers }
+    ensures keeps { noted.new.keeps ≡ noted.old.keeps }
+    ensures root { root_at noted.new.held.opened noted.new.held.workers ≡ root_at noted.old.held.opened noted.old.held.workers }
     ensures buffers { buffers.new ≡ buffers.old }
-    ensures emptied { (B.seen held.new.board).shut ≡ None → (B.seen held.new.board).hands ≡ slice_set (B.seen held.old.board).hands place.old.number None }
-    ensures taken { (B.seen held.new.board).taken ≡ (B.seen held.old.board).taken }
+    ensures emptied { (B.seen noted.new.held.board).shut ≡ None → (B.seen noted.new.held.board).hands ≡ slice_set (B.seen noted.old.held.board).hands place.old.number None }
+    ensures taken { (B.seen noted.new.held.board).taken ≡ (B.seen noted.old.held.board).taken }
     ensures number { place.new.number ≡ place.old.number }
     ensures told { told place.old.seat.adviser < 2 ^ 63 + place.old.seat.told
         → told place.new.seat.adviser + place.old.seat.told ≡ told place.old.seat.adviser + place.new.seat.told }
-    ensures last { IsToldLast held.old.workers (B.seen held.old.opened.value) place.old.number place.old.seat.told place.new.seat.told (last place.old.seat.adviser) (last place.new.seat.adviser) }
+    ensures last { IsToldLast noted.old.held.workers (B.seen noted.old.held.opened.value) place.old.number place.old.seat.told place.new.seat.told (last place.old.seat.adviser) (last place.new.seat.adviser) }
 {
     let Place {
-        badge: _,
+        chair: _,
         seat,
         share,
         number,
@@ -115,10 +118,10 @@ fn finish<B: Board, L: Begun>(
         taken: _,
     } = work;
     let Ok(step) = decide(alloc, instance, buffers, seat, node, ask) else {
-        held.yield_node(*number);
+        noted.yield_node(*number);
         return;
     };
-    let Ok(kept) = commit_alone(alloc, instance, held, *number, step, share) else {
+    let Ok(kept) = commit_alone(alloc, instance, noted, *number, step, share) else {
         return;
     };
     seat.tell(node, kept);
@@ -130,27 +133,28 @@ fn finish_node<B: Board, L: Begun>(
     alloc: Global,
     instance: &Instance,
     buffers: &mut Buffers,
-    held: &mut Held<B, L>,
+    noted: &mut Noted<B, L>,
     place: &mut Place<B, L>,
     node: u32,
     floor: u64,
     best: u64,
 )
-    requires knows { KnowsBoard B.seen instance.now place.old.number (root_at held.old.opened held.old.workers) }
+    requires knows { KnowsBoard B.seen instance.now place.old.number (root_at noted.old.held.opened noted.old.held.workers) }
     requires buffers { buffers.old ≡ instance.now }
-    requires running { (B.seen held.old.board).shut ≡ None }
-    requires holds { hand (B.seen held.old.board).hands place.old.number ≡ Some node }
-    ensures root { root_at held.new.opened held.new.workers ≡ root_at held.old.opened held.old.workers }
+    requires running { (B.seen noted.old.held.board).shut ≡ None }
+    requires holds { hand (B.seen noted.old.held.board).hands place.old.number ≡ Some node }
+    ensures keeps { noted.new.keeps ≡ noted.old.keeps }
+    ensures root { root_at noted.new.held.opened noted.new.held.workers ≡ root_at noted.old.held.opened noted.old.held.workers }
     ensures buffers { buffers.new ≡ buffers.old }
-    ensures emptied { (B.seen held.new.board).shut ≡ None → (B.seen held.new.board).hands ≡ slice_set (B.seen held.old.board).hands place.old.number None }
-    ensures taken { (B.seen held.new.board).taken ≡ (B.seen held.old.board).taken }
+    ensures emptied { (B.seen noted.new.held.board).shut ≡ None → (B.seen noted.new.held.board).hands ≡ slice_set (B.seen noted.old.held.board).hands place.old.number None }
+    ensures taken { (B.seen noted.new.held.board).taken ≡ (B.seen noted.old.held.board).taken }
     ensures number { place.new.number ≡ place.old.number }
     ensures told { told place.old.seat.adviser < 2 ^ 63 + place.old.seat.told
         → told place.new.seat.adviser + place.old.seat.told ≡ told place.old.seat.adviser + place.new.seat.told }
-    ensures last { IsToldLast held.old.workers (B.seen held.old.opened.value) place.old.number place.old.seat.told place.new.seat.told (last place.old.seat.adviser) (last place.new.seat.adviser) }
+    ensures last { IsToldLast noted.old.held.workers (B.seen noted.old.held.opened.value) place.old.number place.old.seat.told place.new.seat.told (last place.old.seat.adviser) (last place.new.seat.adviser) }
 {
-    if let Ok(work) = work_of(held, place.number, node, floor, best, false) {
-        finish(alloc, instance, buffers, held, place, work);
+    if let Ok(work) = noted.work_of(place.number, node, floor, best, false) {
+        finish(alloc, instance, buffers, noted, place, work);
     }
 }
 
@@ -159,33 +163,34 @@ fn empty_hand<B: Board, L: Begun>(
     alloc: Global,
     instance: &Instance,
     buffers: &mut Buffers,
-    held: &mut Held<B, L>,
+    noted: &mut Noted<B, L>,
     place: &mut Place<B, L>,
 )
-    requires knows { KnowsBoard B.seen instance.now place.old.number (root_at held.old.opened held.old.workers) }
+    requires knows { KnowsBoard B.seen instance.now place.old.number (root_at noted.old.held.opened noted.old.held.workers) }
     requires buffers { buffers.old ≡ instance.now }
-    ensures root { root_at held.new.opened held.new.workers ≡ root_at held.old.opened held.old.workers }
+    ensures keeps { noted.new.keeps ≡ noted.old.keeps }
+    ensures root { root_at noted.new.held.opened noted.new.held.workers ≡ root_at noted.old.held.opened noted.old.held.workers }
     ensures buffers { buffers.new ≡ buffers.old }
-    ensures emptied { (B.seen held.new.board).shut ≡ None → (B.seen held.new.board).hands ≡ slice_set (B.seen held.old.board).hands place.old.number None }
-    ensures running { (B.seen held.new.board).shut ≡ None → (B.seen held.old.board).shut ≡ None }
+    ensures emptied { (B.seen noted.new.held.board).shut ≡ None → (B.seen noted.new.held.board).hands ≡ slice_set (B.seen noted.old.held.board).hands place.old.number None }
+    ensures running { (B.seen noted.new.held.board).shut ≡ None → (B.seen noted.old.held.board).shut ≡ None }
     ensures number { place.new.number ≡ place.old.number }
     ensures told { told place.old.seat.adviser < 2 ^ 63 + place.old.seat.told
         → told place.new.seat.adviser + place.old.seat.told ≡ told place.old.seat.adviser + place.new.seat.told }
-    ensures last { IsToldLast held.old.workers (B.seen held.old.opened.value) place.old.number place.old.seat.told place.new.seat.told (last place.old.seat.adviser) (last place.new.seat.adviser) }
+    ensures last { IsToldLast noted.old.held.workers (B.seen noted.old.held.opened.value) place.old.number place.old.seat.told place.new.seat.told (last place.old.seat.adviser) (last place.new.seat.adviser) }
 {
     let number = place.number;
-    if held.shut.is_some() {
+    if noted.held.shut.is_some() {
         return;
     }
-    let Some(node) = held.board.held(number) else {
+    let Some(node) = noted.held.board.held(number) else {
         return;
     };
-    if held.halted {
-        held.yield_node(number);
+    if noted.held.halted {
+        noted.yield_node(number);
         return;
     }
-    let best = held.board.best_cost();
-    finish_node(alloc, instance, buffers, held, place, node, 0, best);
+    let best = noted.held.board.best_cost();
+    finish_node(alloc, instance, buffers, noted, place, node, 0, best);
 }
 
 /// Empties each hand, unless the board is shut. The places have the numbers of the hands.
@@ -193,25 +198,26 @@ pub(crate) fn empty_all<B: Board, L: Begun>(
     alloc: Global,
     instance: &Instance,
     buffers: &mut Buffers,
-    held: &mut Held<B, L>,
+    noted: &mut Noted<B, L>,
     bench: &mut [Place<B, L>],
 )
     requires numbers { (i : ℕ) (d : _) → i < length bench.old → (slice_index_or bench.old i d).number ≡ i }
-    requires all { length bench.old ≡ held.old.workers }
-    requires knows { (i : ℕ) → i < held.old.workers → KnowsBoard B.seen instance.now i (root_at held.old.opened held.old.workers) }
+    requires all { length bench.old ≡ noted.old.held.workers }
+    requires knows { (i : ℕ) → i < noted.old.held.workers → KnowsBoard B.seen instance.now i (root_at noted.old.held.opened noted.old.held.workers) }
     requires buffers { buffers.old ≡ instance.now }
-    ensures root { root_at held.new.opened held.new.workers ≡ root_at held.old.opened held.old.workers }
+    ensures keeps { noted.new.keeps ≡ noted.old.keeps }
+    ensures root { root_at noted.new.held.opened noted.new.held.workers ≡ root_at noted.old.held.opened noted.old.held.workers }
     ensures buffers { buffers.new ≡ buffers.old }
-    ensures empty { (B.seen held.new.board).shut ≡ None → (B.seen held.new.board).hands ≡ empty_hands }
+    ensures empty { (B.seen noted.new.held.board).shut ≡ None → (B.seen noted.new.held.board).hands ≡ empty_hands }
     ensures len { length bench.new ≡ length bench.old }
     ensures numbers { (i : ℕ) (d : _) → i < length bench.old → (slice_index_or bench.new i d).number ≡ i }
     ensures told { (i : ℕ) (d : _) → i < length bench.old → told (slice_index_or bench.old i d).seat.adviser < 2 ^ 63 + (slice_index_or bench.old i d).seat.told
         → told (slice_index_or bench.new i d).seat.adviser + (slice_index_or bench.old i d).seat.told ≡ told (slice_index_or bench.old i d).seat.adviser + (slice_index_or bench.new i d).seat.told }
     ensures last { (i : ℕ) (d : _) → i < length bench.old
-        → IsToldLast held.old.workers (B.seen held.old.opened.value) i (slice_index_or bench.old i d).seat.told (slice_index_or bench.new i d).seat.told (last (slice_index_or bench.old i d).seat.adviser) (last (slice_index_or bench.new i d).seat.adviser) }
+        → IsToldLast noted.old.held.workers (B.seen noted.old.held.opened.value) i (slice_index_or bench.old i d).seat.told (slice_index_or bench.new i d).seat.told (last (slice_index_or bench.old i d).seat.adviser) (last (slice_index_or bench.new i d).seat.adviser) }
 {
     for place in bench.iter_mut() {
-        empty_hand(alloc, instance, buffers, held, place);
+        empty_hand(alloc, instance, buffers, noted, place);
     }
 }
 
@@ -221,37 +227,38 @@ pub(crate) fn go_on<B: Board, L: Begun, G: Gate, S: Stop>(
     alloc: Global,
     instance: &Instance,
     buffers: &mut Buffers,
-    held: &mut Held<B, L>,
+    noted: &mut Noted<B, L>,
     gate: &G,
     stop: &S,
     asked: bool,
     place: &mut Place<B, L>,
 ) -> RunEnd
-    requires knows { KnowsBoard B.seen instance.now place.old.number (root_at held.old.opened held.old.workers) }
+    requires knows { KnowsBoard B.seen instance.now place.old.number (root_at noted.old.held.opened noted.old.held.workers) }
     requires buffers { buffers.old ≡ instance.now }
     requires first { place.old.number ≡ 0 }
-    requires empty { (B.seen held.old.board).shut ≡ None → (B.seen held.old.board).hands ≡ empty_hands }
+    requires empty { (B.seen noted.old.held.board).shut ≡ None → (B.seen noted.old.held.board).hands ≡ empty_hands }
     requires asked { asked ≡ true → S.can_ask stop.now ≡ true }
-    ensures root { root_at held.new.opened held.new.workers ≡ root_at held.old.opened held.old.workers }
+    ensures keeps { noted.new.keeps ≡ noted.old.keeps }
+    ensures root { root_at noted.new.held.opened noted.new.held.workers ≡ root_at noted.old.held.opened noted.old.held.workers }
     ensures buffers { buffers.new ≡ buffers.old }
-    ensures end { (before : BoardView) → WorkersEnd before (B.seen held.new.board) result }
+    ensures end { (before : BoardView) → WorkersEnd before (B.seen noted.new.held.board) result }
     ensures stopped { result ≡ RunEnd.Stopped → S.can_ask stop.now ≡ true }
     ensures told { told place.old.seat.adviser < 2 ^ 63 + place.old.seat.told
         → told place.new.seat.adviser + place.old.seat.told ≡ told place.old.seat.adviser + place.new.seat.told }
-    ensures last { IsToldLast held.old.workers (B.seen held.old.opened.value) 0 place.old.seat.told place.new.seat.told (last place.old.seat.adviser) (last place.new.seat.adviser) }
+    ensures last { IsToldLast noted.old.held.workers (B.seen noted.old.held.opened.value) 0 place.old.seat.told place.new.seat.told (last place.old.seat.adviser) (last place.new.seat.adviser) }
 {
     loop {
-        if let Some(shut) = held.shut {
+        if let Some(shut) = noted.held.shut {
             return end_of(shut);
         }
-        if (asked || stop.is_asked()) && held.board.gives() {
+        if (asked || stop.is_asked()) && noted.held.board.gives() {
             return RunEnd::Stopped;
         }
-        match held.take(0) {
+        match noted.take(0) {
             Taken::Node { node, floor, best } => {
                 place.steps = place.steps.saturating_add(1);
                 gate.enter(0, place.steps);
-                finish_node(alloc, instance, buffers, held, place, node, floor, best);
+                finish_node(alloc, instance, buffers, noted, place, node, floor, best);
             }
             Taken::Finished => return RunEnd::Finished,
             Taken::Spent => return RunEnd::Spent,

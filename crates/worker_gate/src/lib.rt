@@ -3,18 +3,27 @@
 
 mod asking;
 mod bench;
+mod by_turns;
+mod chair;
 mod decision;
 mod gate;
 mod last;
+mod noted;
+mod passing;
 mod run;
 mod running;
 mod seat;
 mod seating;
 mod splitting;
+mod taking;
+mod turn_bench;
+mod turn_running;
+mod turn_seating;
 mod turns;
 mod worker;
 mod workers;
 
+pub use by_turns::run_turns;
 pub use decision::step_of;
 pub use gate::{Gate, Open};
 pub use run::{RunEnd, run_seat};

@@ -10,6 +10,7 @@ ghost use Rattle.worker_gate.specs.Workers.{IsToldLast, WorkersEnd};
 
 use crate::bench::work_bench;
 use crate::last::{empty_all, go_on};
+use crate::noted::Noted;
 use crate::seat::Place;
 use crate::seating::{seat_all, unseat_all};
 use crate::{Gate, RunEnd, Seat};
@@ -40,37 +41,38 @@ fn saw_stop<B: Board, L: Begun, S: Stop>(bench: &[Place<B, L>], _stop: &S) -> bo
 
 /// Once all workers have ended: empties each hand, goes on with the first seat unless a worker saw that the run is asked to stop, and
 /// tells how the run ends.
-fn finish_all<B: Board, L: Begun, G: Gate, S: Stop>(
+pub(crate) fn finish_all<B: Board, L: Begun, G: Gate, S: Stop>(
     alloc: Global,
     instance: &Instance,
-    held: &mut Held<B, L>,
+    noted: &mut Noted<B, L>,
     gate: &G,
     stop: &S,
     bench: &mut Vec<Place<B, L>>,
 ) -> RunEnd
     requires some { 0 < vec_len bench.old }
     requires numbers { (i : ℕ) (d : _) → i < vec_len bench.old → (slice_index_or bench.old.items i d).number ≡ i }
-    requires all { vec_len bench.old ≡ held.old.workers }
-    requires instance { (B.seen held.old.opened.value).instance ≡ instance.now }
-    requires budget { (B.seen held.old.opened.value).budget < 2 ^ 63 }
+    requires all { vec_len bench.old ≡ noted.old.held.workers }
+    requires instance { (B.seen noted.old.held.opened.value).instance ≡ instance.now }
+    requires budget { (B.seen noted.old.held.opened.value).budget < 2 ^ 63 }
     requires asked { (i : ℕ) (d : _) → i < vec_len bench.old → (slice_index_or bench.old.items i d).asked ≡ true → S.can_ask stop.now ≡ true }
-    ensures root { root_at held.new.opened held.new.workers ≡ root_at held.old.opened held.old.workers }
-    ensures end { (before : BoardView) → WorkersEnd before (B.seen held.new.board) result }
+    ensures keeps { noted.new.keeps ≡ noted.old.keeps }
+    ensures root { root_at noted.new.held.opened noted.new.held.workers ≡ root_at noted.old.held.opened noted.old.held.workers }
+    ensures end { (before : BoardView) → WorkersEnd before (B.seen noted.new.held.board) result }
     ensures stopped { result ≡ RunEnd.Stopped → S.can_ask stop.now ≡ true }
     ensures len { length bench.new.items ≡ length bench.old.items }
     ensures told { (i : ℕ) (d : _) → i < vec_len bench.old → told (slice_index_or bench.old.items i d).seat.adviser < 2 ^ 63 + (slice_index_or bench.old.items i d).seat.told
         → told (slice_index_or bench.new.items i d).seat.adviser + (slice_index_or bench.old.items i d).seat.told ≡ told (slice_index_or bench.old.items i d).seat.adviser + (slice_index_or bench.new.items i d).seat.told }
     ensures last { (i : ℕ) (d : _) → i < vec_len bench.old
-        → IsToldLast held.old.workers (B.seen held.old.opened.value) i (slice_index_or bench.old.items i d).seat.told (slice_index_or bench.new.items i d).seat.told (last (slice_index_or bench.old.items i d).seat.adviser) (last (slice_index_or bench.new.items i d).seat.adviser) }
+        → IsToldLast noted.old.held.workers (B.seen noted.old.held.opened.value) i (slice_index_or bench.old.items i d).seat.told (slice_index_or bench.new.items i d).seat.told (last (slice_index_or bench.old.items i d).seat.adviser) (last (slice_index_or bench.new.items i d).seat.adviser) }
 {
     let asked = saw_stop(bench.as_slice(), stop);
     let mut buffers = Buffers::new(alloc, instance);
-    empty_all(alloc, instance, &mut buffers, held, bench.as_mut_slice());
+    empty_all(alloc, instance, &mut buffers, noted, bench.as_mut_slice());
     go_on(
         alloc,
         instance,
         &mut buffers,
-        held,
+        noted,
         gate,
         stop,
         asked,
@@ -95,7 +97,7 @@ fn readers_of<L: Begun>(
 }
 
 /// A teller that has told what the best rota costs on a board as it was opened, and so many readers.
-fn tellings<B: Board, L: Begun, R: Wait>(
+pub(crate) fn tellings<B: Board, L: Begun, R: Wait>(
     rt: &R,
     alloc: Global,
     board: &B,
@@ -173,12 +175,15 @@ pub(crate) fn run_in<
         &mut bench,
     );
     work_bench(rt, alloc, instance, &lock, gate, stop, &mut bench);
-    let Desk {
-        mut held,
-        teller: _,
-    } = lock.enter(rt, &mut first);
+    let Desk { held, teller: _ } = lock.enter(rt, &mut first);
     lock.retire(first);
-    let end = finish_all(alloc, instance, &mut held, gate, stop, &mut bench);
+    let mut noted = Noted::unkept(alloc, held);
+    let end = finish_all(alloc, instance, &mut noted, gate, stop, &mut bench);
+    let Noted {
+        held,
+        passes: _,
+        keeps: _,
+    } = noted;
     unseat_all(&mut bench, &mut seats, &mut all);
     let board = held.into_board(&mut all);
     (board, seats, end)

@@ -2,10 +2,10 @@
 ghost use Rattle.std.specs.Prelude.{◌≡◌, ◌+◌, ◌-◌, ◌<◌, ◌^◌, Some, min};
 ghost use Rattle.worker_gate.specs.Runs.{news_of};
 
+use crate::chair::Chair;
 use advice::{Adviser, Told};
-use atomic_table::Badge;
 use best_cell::Reader;
-use board_lock::{Begun, BestOf, BoardRoot, View};
+use board_lock::{Begun, BestOf};
 use search_core::Kept;
 use std::sync::ledger::Share;
 
@@ -40,11 +40,11 @@ impl Seat {
     }
 }
 
-/// A seat with what its worker needs: a seat at the lock of the board, a share of the ledger of commits,
+/// A seat with what its worker needs: a seat at the lock of the board, which is away while the worker works, a share of the ledger of commits,
 /// its number, and a reader of the best cost.
 #[derive(Drop)]
 pub(crate) struct Place<B, L: Begun> {
-    pub(crate) badge: Badge<View<BoardRoot<B>>>,
+    pub(crate) chair: Chair<B>,
     pub(crate) seat: Seat,
     pub(crate) share: Share<L>,
     pub(crate) number: u32,

@@ -1,8 +1,10 @@
 //! Seats are put onto a bench before a run, and taken from it afterwards.
 ghost use Rattle.std.specs.Prelude.{◌≡◌, ◌≤◌, ◌<◌, ◌+◌, [], ℕ, All, false, map, slice_index_or, sum_by, vec_len};
 ghost use Rattle.std.specs.Vec.{vec_capacity};
-ghost use Rattle.board_lock.specs.Passes.{root_of, IsOutside, RestsAt};
+ghost use Rattle.board_lock.specs.Passes.{root_of, IsOutside};
+ghost use Rattle.worker_gate.specs.Turned.{HasBadge};
 
+use crate::chair::Chair;
 use crate::seat::{Place, Seat};
 use crate::turns::{BoardLock, BoardPass};
 use best_cell::Reader;
@@ -31,12 +33,12 @@ fn seat_one<B: Board, L: Begun>(
     ensures seat { result.seat ≡ seat }
     ensures number { result.number ≡ number }
     ensures unasked { result.asked ≡ false }
-    ensures rests { RestsAt (λ r. r ≡ root_of first.old) lock.now result.badge }
+    ensures rests { HasBadge lock.now (root_of first.old) result.chair }
 {
     let pass = lock.another(first);
     let share = all.split_off(1, 0);
     Place {
-        badge: pass.into_badge(),
+        chair: Chair::Badge(pass.into_badge()),
         seat,
         share,
         number,
@@ -70,7 +72,7 @@ pub(crate) fn seat_all<B: Board, L: Begun>(
     ensures bench { map (λ p. p.seat) bench.new.items ≡ seats.old.items }
     ensures numbers { (i : ℕ) (d : _) → i < vec_len seats.old → (slice_index_or bench.new.items i d).number ≡ i }
     ensures unasked { All (λ p. p.asked ≡ false) bench.new.items }
-    ensures rest { All (λ p. RestsAt (λ r. r ≡ root_of first.old) lock.now p.badge) bench.new.items }
+    ensures rest { All (λ p. HasBadge lock.now (root_of first.old) p.chair) bench.new.items }
     ensures seats { seats.new.items ≡ [] }
     ensures kept { vec_capacity seats.new ≡ vec_capacity seats.old }
 {
@@ -100,7 +102,7 @@ pub(crate) fn unseat_all<B: Board, L: Begun>(
 {
     while !bench.is_empty() {
         let Place {
-            badge: _,
+            chair: _,
             seat,
             share,
             number: _,

@@ -12,9 +12,12 @@ ghost use Rattle.worker_gate.specs.Runs.{news_of};
 ghost use Rattle.worker_gate.specs.Workers.{IsLeft, IsNews, LeavesStep};
 
 use crate::asking::ask_of;
+use crate::chair::Chair;
+use crate::taking::Taking;
 use advice::Ask;
 use board_lock::{Begun, BoardRoot, Desk, Held, Lock, Pass};
 use search_core::{Board, CommitFault, Kept, StepPosts, Taken};
+use std::mem;
 use std::sync::Wait;
 use std::sync::ledger::Share;
 
@@ -73,6 +76,7 @@ pub(crate) fn work_of<B: Board, L: Begun>(
     ensures let_go { OnErr result (B.seen held.new.board ≡ yields worker (B.seen held.old.board)) }
     ensures end { IfErr result (λ rest. rest ≡ Rest.End) }
     ensures best { best_of (B.seen held.new.board) ≡ best_of (B.seen held.old.board) }
+    ensures posts { (B.seen held.new.board).history ≡ (B.seen held.old.board).history }
 {
     match ask_of(&held.board, worker, floor, best) {
         Ok(ask) => Ok(Work { node, ask, taken }),
@@ -84,7 +88,7 @@ pub(crate) fn work_of<B: Board, L: Begun>(
 }
 
 /// The node that the worker's hand holds, or else one that it takes, unless it is asked to stop.
-fn next_work<B: Board, L: Begun>(
+pub(crate) fn next_work<B: Board, L: Begun>(
     held: &mut Held<B, L>,
     worker: u32,
     asked: bool,
@@ -94,6 +98,7 @@ fn next_work<B: Board, L: Begun>(
     ensures few { IfOk result (λ work. length work.ask.cuts ≤ 2 ^ 24) }
     ensures asked { IfErr result (λ rest. rest ≡ Rest.Asked → asked ≡ true) }
     ensures best { best_of (B.seen held.new.board) ≡ best_of (B.seen held.old.board) }
+    ensures posts { (B.seen held.new.board).history ≡ (B.seen held.old.board).history }
 {
     match held.board.held(worker) {
         Some(node) => {
@@ -110,27 +115,6 @@ fn next_work<B: Board, L: Begun>(
             Taken::Spent => Err(Rest::End),
         },
     }
-}
-
-/// A turn for a node to work on. A worker that is asked to stop takes none.
-pub(crate) fn take_turn<B: Board, L: Begun, R: Wait>(
-    rt: &R,
-    lock: &BoardLock<B, L>,
-    pass: &mut BoardPass<B, L>,
-    worker: u32,
-    asked: bool,
-) -> Result<Work, Rest>
-    requires pass { IsOutside lock.now pass.old }
-    requires worker { worker < (root_of pass.old).workers }
-    ensures pass { IsOutside lock.now pass.new }
-    ensures root { root_of pass.new ≡ root_of pass.old }
-    ensures few { IfOk result (λ work. length work.ask.cuts ≤ 2 ^ 24) }
-    ensures asked { IfErr result (λ rest. rest ≡ Rest.Asked → asked ≡ true) }
-{
-    let Desk { mut held, teller } = lock.enter(rt, pass);
-    let work = next_work(&mut held, worker, asked);
-    lock.leave(Desk { held, teller }, pass);
-    work
 }
 
 /// Commits the worker's step, or tells how it goes on. Without memory the worker lets go of its node.
@@ -168,51 +152,71 @@ pub(crate) fn commit_in<B: Board, L: Begun>(
     }
 }
 
-/// A turn to commit a step for the worker's node, which then tells what the best rota costs.
-pub(crate) fn commit_turn<B: Board, L: Begun, R: Wait>(
-    rt: &R,
-    lock: &BoardLock<B, L>,
-    pass: &mut BoardPass<B, L>,
-    worker: u32,
-    step: StepPosts,
-    share: &mut Share<L>,
-) -> Result<Kept, Left>
-    requires pass { IsOutside lock.now pass.old }
-    requires worker { worker < 16 }
-    requires fits { Fits (B.seen (root_of pass.old).opened.value).instance step }
-    requires part { 0 < share.old.parts }
-    ensures pass { IsOutside lock.now pass.new }
-    ensures root { root_of pass.new ≡ root_of pass.old }
-    ensures counted { OnOk result (share.new.amount ≡ share.old.amount + 1) }
-    ensures uncounted { OnErr result (share.new.amount ≡ share.old.amount) }
-    ensures within { share.new.amount ≤ (B.seen (root_of pass.old).opened.value).budget }
-    ensures parts { share.new.parts ≡ share.old.parts }
-    ensures left { IfErr result (IsLeft step) }
-    ensures news { IfOk result (λ kept. ∥ IsNews (root_of pass.old).workers (B.seen (root_of pass.old).opened.value) worker (news_of step.node kept) ∥₁) }
-{
-    let Desk {
-        mut held,
-        mut teller,
-    } = lock.enter(rt, pass);
-    let kept = commit_in(&mut held, worker, step, share);
-    held.tell(rt, &mut teller);
-    lock.leave(Desk { held, teller }, pass);
-    kept
-}
+impl<B: Board, L: Begun> Taking<B, L> for Lock<Desk<B, L>> {
+    ghost use Rattle.std.specs.Prelude.{◌≡◌};
+    ghost use Rattle.board_lock.specs.Passes.{root_of, IsOutside};
+    ghost use Rattle.worker_gate.specs.Turned.{HasBadge};
 
-/// A turn to let go of the worker's node on running out of memory.
-pub(crate) fn yield_turn<B: Board, L: Begun, R: Wait>(
-    rt: &R,
-    lock: &BoardLock<B, L>,
-    pass: &mut BoardPass<B, L>,
-    worker: u32,
-)
-    requires pass { IsOutside lock.now pass.old }
-    requires worker { worker < 16 }
-    ensures pass { IsOutside lock.now pass.new }
-    ensures root { root_of pass.new ≡ root_of pass.old }
-{
-    let Desk { mut held, teller } = lock.enter(rt, pass);
-    held.yield_node(worker);
-    lock.leave(Desk { held, teller }, pass);
+    type Pass = BoardPass<B, L>;
+
+    ghost outside = { λ lock number pass. IsOutside lock pass };
+
+    ghost root = { λ pass. root_of pass };
+
+    ghost left = { λ pass. 4 };
+
+    ghost rests = { λ lock number known chair. HasBadge lock known chair };
+
+    fn sit(&self, chair: &mut Chair<B>) -> BoardPass<B, L> {
+        let there = mem::replace(chair, Chair::Away);
+        let Chair::Badge(badge) = there else {
+            unreachable!()
+        };
+        badge.into_seat()
+    }
+
+    fn rise(&self, pass: BoardPass<B, L>, chair: &mut Chair<B>) {
+        *chair = Chair::Badge(pass.into_badge());
+    }
+
+    fn lasts(&self, _pass: &BoardPass<B, L>) -> bool {
+        true
+    }
+
+    fn take_turn<R: Wait>(
+        &self,
+        rt: &R,
+        pass: &mut BoardPass<B, L>,
+        worker: u32,
+        asked: bool,
+    ) -> Result<Work, Rest> {
+        let Desk { mut held, teller } = self.enter(rt, pass);
+        let work = next_work(&mut held, worker, asked);
+        self.leave(Desk { held, teller }, pass);
+        work
+    }
+
+    fn commit_turn<R: Wait>(
+        &self,
+        rt: &R,
+        pass: &mut BoardPass<B, L>,
+        worker: u32,
+        step: StepPosts,
+        share: &mut Share<L>,
+    ) -> Result<Kept, Left> {
+        let Desk {
+            mut held,
+            mut teller,
+        } = self.enter(rt, pass);
+        let kept = commit_in(&mut held, worker, step, share);
+        held.tell(rt, &mut teller);
+        self.leave(Desk { held, teller }, pass);
+        kept
+    }
+
+    fn yield_turn<R: Wait>(&self, rt: &R, pass: &mut BoardPass<B, L>, worker: u32) {
+        let Desk { mut held, teller } = self.enter(rt, pass);
+        held.yield_node(worker);
+        self.leave(Desk { held, teller }, pass);
+    }
 }

@@ -3,7 +3,6 @@ ghost use Rattle.std.specs.Prelude.{◌≡◌, ◌≢◌, ◌+◌, ◌<◌, ◌�
 ghost use Rattle.advice.specs.declared.advice.Advice.{Advice};
 ghost use Rattle.search_core.specs.Steps.{Fits};
 ghost use Rattle.search_core.specs.declared.step_posts.Close.TheVariants.{ByPrice};
-ghost use Rattle.board_lock.specs.Passes.{root_of, IsOutside, RestsAt};
 ghost use Rattle.board_lock.specs.declared.roots.BoardRoot.{BoardRoot};
 ghost use Rattle.worker_gate.specs.Decision.{IsDecision};
 ghost use Rattle.worker_gate.specs.Runs.{news_of};
@@ -13,16 +12,15 @@ use crate::asking::with_newest;
 use crate::decision::{close_of, copy_of, step_in};
 use crate::gate::Gate;
 use crate::seat::{Place, Seat};
-use crate::turns::{BoardLock, BoardPass, Left, Rest, Work, commit_turn, take_turn, yield_turn};
+use crate::taking::Taking;
+use crate::turns::{Left, Rest, Work};
 use advice::{Adviser, Ask, Stop};
-use atomic_table::Badge;
 use board_lock::Begun;
 use break_rules::NoMemory;
 use dual_bound::Buffers;
 use search_core::{Board, Kept, StepPosts};
 use shift_instance::Instance;
 use std::alloc::Global;
-use std::mem;
 use std::sync::Wait;
 use std::sync::ledger::Share;
 use std::thread::Parker;
@@ -86,35 +84,36 @@ pub(crate) fn closed_again(
 }
 
 /// Commits a step that came back, closed by the split or the settled plan that its cuts have.
-fn commit_again<B: Board, L: Begun, R: Wait>(
+fn commit_again<B: Board, L: Begun, K: Taking<B, L>, R: Wait>(
     rt: &R,
     alloc: Global,
     instance: &Instance,
-    lock: &BoardLock<B, L>,
-    pass: &mut BoardPass<B, L>,
+    lock: &K,
+    pass: &mut K::Pass,
     worker: u32,
     step: StepPosts,
     share: &mut Share<L>,
 ) -> Result<Kept, Rest>
-    requires pass { IsOutside lock.now pass.old }
-    requires knows { KnowsBoard B.seen instance.now worker (root_of pass.old) }
+    requires pass { K.outside lock.now worker pass.old }
+    requires knows { KnowsBoard B.seen instance.now worker (K.root pass.old) }
     requires worker { worker < 16 }
     requires fits { Fits instance.now step }
     requires part { 0 < share.old.parts }
-    ensures pass { IsOutside lock.now pass.new }
-    ensures root { root_of pass.new ≡ root_of pass.old }
+    requires turns { 1 ≤ K.left pass.old }
+    ensures pass { K.outside lock.now worker pass.new }
+    ensures root { K.root pass.new ≡ K.root pass.old }
     ensures counted { OnOk result (share.new.amount ≡ share.old.amount + 1) }
     ensures uncounted { OnErr result (share.new.amount ≡ share.old.amount) }
     ensures within { OnOk result (share.new.amount < 2 ^ 63) }
     ensures parts { share.new.parts ≡ share.old.parts }
-    ensures news { IfOk result (λ kept. ∥ IsNews (root_of pass.old).workers (B.seen (root_of pass.old).opened.value) worker (news_of step.node kept) ∥₁) }
+    ensures news { IfOk result (λ kept. ∥ IsNews (K.root pass.old).workers (B.seen (K.root pass.old).opened.value) worker (news_of step.node kept) ∥₁) }
     ensures rest { IfErr result (λ rest. rest ≢ Rest.Asked) }
 {
     let Ok(step) = closed_again(alloc, instance, step) else {
-        yield_turn(rt, lock, pass, worker);
+        lock.yield_turn(rt, pass, worker);
         return Err(Rest::End);
     };
-    match commit_turn(rt, lock, pass, worker, step, share) {
+    match lock.commit_turn(rt, pass, worker, step, share) {
         Ok(kept) => Ok(kept),
         Err(Left::Again) => Err(Rest::Again),
         Err(Left::End) => Err(Rest::End),
@@ -125,31 +124,32 @@ fn commit_again<B: Board, L: Begun, R: Wait>(
 
 /// Commits a step for the worker's node. Where by its price alone it would leave the node open, it is committed once more, closed by
 /// the split or the settled plan that its cuts have.
-fn commit_closing<B: Board, L: Begun, R: Wait>(
+fn commit_closing<B: Board, L: Begun, K: Taking<B, L>, R: Wait>(
     rt: &R,
     alloc: Global,
     instance: &Instance,
-    lock: &BoardLock<B, L>,
-    pass: &mut BoardPass<B, L>,
+    lock: &K,
+    pass: &mut K::Pass,
     worker: u32,
     step: StepPosts,
     share: &mut Share<L>,
 ) -> Result<Kept, Rest>
-    requires pass { IsOutside lock.now pass.old }
-    requires knows { KnowsBoard B.seen instance.now worker (root_of pass.old) }
+    requires pass { K.outside lock.now worker pass.old }
+    requires knows { KnowsBoard B.seen instance.now worker (K.root pass.old) }
     requires worker { worker < 16 }
     requires fits { Fits instance.now step }
     requires part { 0 < share.old.parts }
-    ensures pass { IsOutside lock.now pass.new }
-    ensures root { root_of pass.new ≡ root_of pass.old }
+    requires turns { 2 ≤ K.left pass.old }
+    ensures pass { K.outside lock.now worker pass.new }
+    ensures root { K.root pass.new ≡ K.root pass.old }
     ensures counted { OnOk result (share.new.amount ≡ share.old.amount + 1) }
     ensures uncounted { OnErr result (share.new.amount ≡ share.old.amount) }
     ensures within { OnOk result (share.new.amount < 2 ^ 63) }
     ensures parts { share.new.parts ≡ share.old.parts }
-    ensures news { IfOk result (λ kept. ∥ IsNews (root_of pass.old).workers (B.seen (root_of pass.old).opened.value) worker (news_of step.node kept) ∥₁) }
+    ensures news { IfOk result (λ kept. ∥ IsNews (K.root pass.old).workers (B.seen (K.root pass.old).opened.value) worker (news_of step.node kept) ∥₁) }
     ensures rest { IfErr result (λ rest. rest ≢ Rest.Asked) }
 {
-    match commit_turn(rt, lock, pass, worker, step, share) {
+    match lock.commit_turn(rt, pass, worker, step, share) {
         Ok(kept) => Ok(kept),
         Err(Left::Again) => Err(Rest::Again),
         Err(Left::End) => Err(Rest::End),
@@ -164,32 +164,35 @@ fn wait_for_nodes<R: Wait>(rt: &R) {
     Parker::new().park_timeout(rt, Duration::from_micros(IDLE));
 }
 
-/// One round of a worker, and whether it goes on.
-fn round<B: Board, L: Begun, G: Gate, S: Stop, R: Wait>(
+/// One round of a worker, and whether it goes on. Without turns for a whole round it begins none.
+fn round<B: Board, L: Begun, K: Taking<B, L>, G: Gate, S: Stop, R: Wait>(
     rt: &R,
     alloc: Global,
     instance: &Instance,
     buffers: &mut Buffers,
-    lock: &BoardLock<B, L>,
+    lock: &K,
     gate: &G,
     stop: &S,
-    pass: &mut BoardPass<B, L>,
+    pass: &mut K::Pass,
     place: &mut Place<B, L>,
 ) -> bool
-    requires pass { IsOutside lock.now pass.old }
-    requires knows { KnowsBoard B.seen instance.now place.old.number (root_of pass.old) }
+    requires pass { K.outside lock.now place.old.number pass.old }
+    requires knows { KnowsBoard B.seen instance.now place.old.number (K.root pass.old) }
     requires buffers { buffers.old ≡ instance.now }
-    ensures pass { IsOutside lock.now pass.new }
-    ensures root { root_of pass.new ≡ root_of pass.old }
+    ensures pass { K.outside lock.now place.old.number pass.new }
+    ensures root { K.root pass.new ≡ K.root pass.old }
     ensures buffers { buffers.new ≡ buffers.old }
     ensures number { place.new.number ≡ place.old.number }
     ensures told { told place.old.seat.adviser < 2 ^ 63 + place.old.seat.told
         → told place.new.seat.adviser + place.old.seat.told ≡ told place.old.seat.adviser + place.new.seat.told }
-    ensures last { IsToldLast (root_of pass.old).workers (B.seen (root_of pass.old).opened.value) place.old.number place.old.seat.told place.new.seat.told (last place.old.seat.adviser) (last place.new.seat.adviser) }
+    ensures last { IsToldLast (K.root pass.old).workers (B.seen (K.root pass.old).opened.value) place.old.number place.old.seat.told place.new.seat.told (last place.old.seat.adviser) (last place.new.seat.adviser) }
     ensures asked { place.new.asked ≡ true → place.old.asked ≡ false → S.can_ask stop.now ≡ true }
 {
+    if !lock.lasts(pass) {
+        return false;
+    }
     let Place {
-        badge: _,
+        chair: _,
         seat,
         share,
         number,
@@ -197,7 +200,7 @@ fn round<B: Board, L: Begun, G: Gate, S: Stop, R: Wait>(
         steps,
         asked,
     } = place;
-    let Work { node, ask, taken } = match take_turn(rt, lock, pass, *number, stop.is_asked()) {
+    let Work { node, ask, taken } = match lock.take_turn(rt, pass, *number, stop.is_asked()) {
         Ok(work) => work,
         Err(Rest::Again) => {
             wait_for_nodes(rt);
@@ -215,7 +218,7 @@ fn round<B: Board, L: Begun, G: Gate, S: Stop, R: Wait>(
     }
     let ask = with_newest(rt, reader, ask);
     let Ok(step) = decide(alloc, instance, buffers, seat, node, ask) else {
-        yield_turn(rt, lock, pass, *number);
+        lock.yield_turn(rt, pass, *number);
         return false;
     };
     match commit_closing(rt, alloc, instance, lock, pass, *number, step, share) {
@@ -231,22 +234,24 @@ fn round<B: Board, L: Begun, G: Gate, S: Stop, R: Wait>(
 }
 
 /// Round after round, until there is nothing more to do or the worker sees that it is asked to stop.
-fn rounds<B: Board, L: Begun, G: Gate, S: Stop, R: Wait>(
+fn rounds<B: Board, L: Begun, K: Taking<B, L>, G: Gate, S: Stop, R: Wait>(
     rt: &R,
     alloc: Global,
     instance: &Instance,
-    lock: &BoardLock<B, L>,
+    lock: &K,
     gate: &G,
     stop: &S,
-    pass: &mut BoardPass<B, L>,
+    pass: &mut K::Pass,
     place: &mut Place<B, L>,
 )
-    requires pass { IsOutside lock.now pass.old }
-    requires knows { KnowsBoard B.seen instance.now place.old.number (root_of pass.old) }
+    requires pass { K.outside lock.now place.old.number pass.old }
+    requires knows { KnowsBoard B.seen instance.now place.old.number (K.root pass.old) }
+    ensures pass { K.outside lock.now place.old.number pass.new }
+    ensures root { K.root pass.new ≡ K.root pass.old }
     ensures number { place.new.number ≡ place.old.number }
     ensures told { told place.old.seat.adviser < 2 ^ 63 + place.old.seat.told
         → told place.new.seat.adviser + place.old.seat.told ≡ told place.old.seat.adviser + place.new.seat.told }
-    ensures last { IsToldLast (root_of pass.old).workers (B.seen (root_of pass.old).opened.value) place.old.number place.old.seat.told place.new.seat.told (last place.old.seat.adviser) (last place.new.seat.adviser) }
+    ensures last { IsToldLast (K.root pass.old).workers (B.seen (K.root pass.old).opened.value) place.old.number place.old.seat.told place.new.seat.told (last place.old.seat.adviser) (last place.new.seat.adviser) }
     ensures asked { place.new.asked ≡ true → place.old.asked ≡ false → S.can_ask stop.now ≡ true }
 {
     let mut buffers = Buffers::new(alloc, instance);
@@ -267,25 +272,26 @@ fn rounds<B: Board, L: Begun, G: Gate, S: Stop, R: Wait>(
     }
 }
 
-/// Works until there is nothing more to do, or the worker sees that it is asked to stop.
-pub(crate) fn work<B: Board, L: Begun, G: Gate, S: Stop, R: Wait>(
+/// Works until there is nothing more to do, or the worker sees that it is asked to stop. The seat at the lock lies at its place before and afterwards.
+pub(crate) fn work<B: Board, L: Begun, K: Taking<B, L>, G: Gate, S: Stop, R: Wait>(
     rt: &R,
     alloc: Global,
     instance: &Instance,
-    lock: &BoardLock<B, L>,
+    lock: &K,
     gate: &G,
     stop: &S,
     place: &mut Place<B, L>,
 )
-    requires { RestsAt (KnowsBoard B.seen instance.now place.old.number) lock.now place.old.badge }
+    requires { (root : BoardRoot B) × K.rests lock.now place.old.number root place.old.chair × KnowsBoard B.seen instance.now place.old.number root }
     ensures number { place.new.number ≡ place.old.number }
+    ensures rests { (root : BoardRoot B) → K.rests lock.now place.old.number root place.old.chair → K.rests lock.now place.old.number root place.new.chair }
     ensures told { told place.old.seat.adviser < 2 ^ 63 + place.old.seat.told
         → told place.new.seat.adviser + place.old.seat.told ≡ told place.old.seat.adviser + place.new.seat.told }
-    ensures last { (root : BoardRoot B) → RestsAt (λ r. r ≡ root) lock.now place.old.badge
+    ensures last { (root : BoardRoot B) → K.rests lock.now place.old.number root place.old.chair
         → IsToldLast root.workers (B.seen root.opened.value) place.old.number place.old.seat.told place.new.seat.told (last place.old.seat.adviser) (last place.new.seat.adviser) }
     ensures asked { place.new.asked ≡ true → place.old.asked ≡ false → S.can_ask stop.now ≡ true }
 {
-    let badge = mem::replace(&mut place.badge, Badge::blank());
-    let mut pass = badge.into_seat();
+    let mut pass = lock.sit(&mut place.chair);
     rounds(rt, alloc, instance, lock, gate, stop, &mut pass, place);
+    lock.rise(pass, &mut place.chair);
 }

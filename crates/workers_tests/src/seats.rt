@@ -3,7 +3,7 @@ ghost use Rattle.std.specs.Prelude.{◌≡◌, ◌+◌, All, IfOk, OnOk, length,
 ghost use Rattle.instance_json.specs.Canonical.{canonical_text};
 
 use advice::{Adviser, Never};
-use fixtures::morning_of;
+use fixtures::{instance_of, morning_document, morning_of};
 use instance_json::canonical;
 use plan_base::MemDisk;
 use search_book::Book;
@@ -28,7 +28,22 @@ fn canonical_len(alloc: Global, instance: &Instance) -> Result<usize, Fail>
 pub fn morning(alloc: Global, heads: &str) -> Result<Instance, Fail>
     ensures { IfOk result (λ i. length (canonical_text i) ≡ 372) }
 {
-    let instance = morning_of(alloc, heads)?;
+    as_long(alloc, morning_of(alloc, heads)?)
+}
+
+/// A morning on which nobody is needed.
+pub fn quiet_morning(alloc: Global) -> Result<Instance, Fail>
+    ensures { IfOk result (λ i. length (canonical_text i) ≡ 372) }
+{
+    let text = morning_document(alloc, "1")?;
+    let text = text.replacen(alloc, "1,1,1,1", "0,0,0,0", 1)?;
+    as_long(alloc, instance_of(alloc, &text)?)
+}
+
+/// The instance, whose canonical text is as long as that of a morning.
+fn as_long(alloc: Global, instance: Instance) -> Result<Instance, Fail>
+    ensures { IfOk result (λ i. length (canonical_text i) ≡ 372) }
+{
     match canonical_len(alloc, &instance)? {
         372 => Ok(instance),
         _ => Err("the document has another length")?,

@@ -15,9 +15,26 @@ const TURNS: u32 = 20_000_000;
 
 /// A gate that holds each worker that enters it for the first time until two have entered, or for all its turns.
 #[derive(Drop)]
-struct Meeting {
+pub struct Meeting {
     entered: AtomicU64,
     missed: AtomicU64,
+}
+
+impl Meeting {
+    /// A gate that nobody has entered.
+    pub fn new() -> Meeting {
+        Meeting {
+            entered: AtomicU64::new(0),
+            missed: AtomicU64::new(0),
+        }
+    }
+
+    /// How many entered it first, and how many missed the other there.
+    pub fn told(&self) -> (u64, u64) {
+        let entered = self.entered.load(Ordering::SeqCst);
+        let missed = self.missed.load(Ordering::SeqCst);
+        (entered, missed)
+    }
 }
 
 impl Gate for Meeting {
@@ -37,7 +54,7 @@ impl Gate for Meeting {
 }
 
 /// Two seats with greedy advice.
-fn two_seats(alloc: Global) -> Result<Vec<Seat>, Fail>
+pub fn two_seats(alloc: Global) -> Result<Vec<Seat>, Fail>
     ensures new { IfOk result (λ seats. All (λ s. (s.told ≡ 0) × (s.share ≡ 0)) seats.items) }
     ensures two { IfOk result (λ seats. vec_len seats ≡ 2) }
 {
@@ -51,13 +68,9 @@ fn two_seats(alloc: Global) -> Result<Vec<Seat>, Fail>
 fn meet<R: Threads + Wait + Sync>(rt: &R, alloc: Global) -> Result<(RunEnd, u64, u64), Fail> {
     let instance = morning(alloc, "2")?;
     let bytes = parted(rt, alloc, &instance, Box::new(alloc, Greedy::new(alloc))?)?;
-    let gate = Meeting {
-        entered: AtomicU64::new(0),
-        missed: AtomicU64::new(0),
-    };
+    let gate = Meeting::new();
     let end = run_two(rt, alloc, &instance, bytes, two_seats(alloc)?, &gate)?;
-    let entered = gate.entered.load(Ordering::SeqCst);
-    let missed = gate.missed.load(Ordering::SeqCst);
+    let (entered, missed) = gate.told();
     Ok((end, entered, missed))
 }
 

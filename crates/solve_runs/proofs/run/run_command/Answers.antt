@@ -16,7 +16,7 @@ returns-then-have-asked-clause-status g c =
     let e = c.early.ensures in
     let command : Command = record { journal = s.journal.now; workers = unwrap_or s.workers workers_unsaid; steps = s.steps; table = s.table } in
     too_many _ c.unwrap_or-workers.result c.workers_for-have.result _ e.0 e.3 (none_in _ _ e.4) (ap (map heard) e.1)
-    (inl (command, record { workers = s.workers; method = s.method; is = sym (ap asked s.is); all = refl }, sym c.unwrap_or-workers.ensures)) all c.if-have-asked.true
+    (inl (command, record { workers = s.workers; method = s.method; turns = s.turns; is = sym (ap asked s.is); all = refl }, sym c.unwrap_or-workers.ensures)) all c.if-have-asked.true
 
 pub run_over-requires-clause-some : goal.run_over-requires-clause-some
 run_over-requires-clause-some g c =
@@ -43,7 +43,7 @@ returns-else-have-asked-clause-status g c =
     let all = have_same heard c.as_slice.result.now c.args.advisers.items c.workers_for-have.result c.workers_for-have.ensures c.as_slice.ensures.value in
     let command : Command = record { journal = s.journal.now; workers = c.unwrap_or-workers.result; steps = s.steps; table = s.table } in
     search_explains _ command _
-    (record { workers = s.workers; method = s.method; is = sym (ap asked s.is); all = c.unwrap_or-workers.ensures }) (omega (arith, all, c.if-have-asked.false))
+    (record { workers = s.workers; method = s.method; turns = s.turns; is = sym (ap asked s.is); all = c.unwrap_or-workers.ensures }) (omega (arith, all, c.if-have-asked.false))
     (ends_turned _ (λ a. a ≡ asked c.args.command) command _ (c.run_over.ensures.status s.journal.now))
 
 pub returns-else-have-asked-clause-unread : goal.returns-else-have-asked-clause-unread
@@ -51,12 +51,12 @@ returns-else-have-asked-clause-unread g c = λ unread.
     let s = c.in-Search in
     let command : Command = record { journal = s.journal.now; workers = c.unwrap_or-workers.result; steps = s.steps; table = s.table } in
     absurd (not_unread _ command _ (ends_turned _ (λ a. a ≡ asked c.args.command) command _ (c.run_over.ensures.status s.journal.now))
-    (λ number steps is. no_demonstration (asked c.args.command) s.journal.now s.workers s.steps s.table s.method number steps (sym (ap asked s.is)) is) unread)
+    (λ number steps is. no_demonstration (asked c.args.command) s.journal.now s.workers s.steps s.table s.method s.turns number steps (sym (ap asked s.is)) is) unread)
 
 pub returns-else-have-asked-clause-beside : goal.returns-else-have-asked-clause-beside
 returns-else-have-asked-clause-beside g c = λ number steps is.
     let s = c.in-Search in
-    absurd (no_demonstration (asked c.args.command) s.journal.now s.workers s.steps s.table s.method number steps (sym (ap asked s.is)) (sym is))
+    absurd (no_demonstration (asked c.args.command) s.journal.now s.workers s.steps s.table s.method s.turns number steps (sym (ap asked s.is)) (sym is))
 
 pub returns-then-have-lt1-clause-status : goal.returns-then-have-lt1-clause-status
 returns-then-have-lt1-clause-status g c =

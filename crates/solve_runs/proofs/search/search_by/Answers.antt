@@ -25,3 +25,22 @@ returns-clause-ends g c =
       are_told (λ s. (goal.Adviser-dyn g (s.adviser.vtable, s.adviser.value)).told s.adviser.value) (λ s. s.told) (λ s. s.share) (vec_len c.args.seats) c.args.seats.items seats.items
           (omega (arith, c.args.seats.ok)) (omega (arith, seats.ok, r.seats)) r.each r.told,
     )
+
+pub run_turns-book-requires-send-B : goal.run_turns-book-requires-send-B
+run_turns-book-requires-send-B g c κs within = let s = c.type_bounds.send-D in search (book_send, param_send, arg_send)
+
+pub returns-then-turns-clause-goes_on : goal.returns-then-turns-clause-goes_on
+returns-then-turns-clause-goes_on g c = let r = c.run_turns-book.ensures in record { same = r.same; begins = r.begins }
+
+pub returns-then-turns-clause-ends : goal.returns-then-turns-clause-ends
+returns-then-turns-clause-ends g c =
+    let K = g.D.Disk in
+    let r = c.run_turns-book.ensures in
+    let seats = c.run_turns-book.result.1 in
+    let commits = sum_by (λ s. s.share) seats.items in
+    let fresh : IsFresh (board_of K.reads K.calls K.faults c.args.book) = record { sound = c.keeps_sound.ensures; none_taken = c.requires.begun.fresh; empty = c.requires.begun.empty } in (
+      commits,
+      run_ends K.reads K.calls K.faults (vec_len c.args.seats) commits c.args.book c.run_turns-book.result.0 c.run_turns-book.result.3 r.same fresh r.end r.turns r.posts r.exact r.enough,
+      are_told (λ s. (goal.Adviser-dyn g (s.adviser.vtable, s.adviser.value)).told s.adviser.value) (λ s. s.told) (λ s. s.share) (vec_len c.args.seats) c.args.seats.items seats.items
+          (omega (arith, c.args.seats.ok)) (omega (arith, seats.ok, r.seats)) r.each r.told,
+    )

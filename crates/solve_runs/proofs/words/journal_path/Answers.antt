@@ -9,8 +9,8 @@ pub returns-in_ok-from_str-in-Some-Search : goal.returns-in_ok-from_str-in-Some-
 returns-in_ok-from_str-in-Some-Search c =
     let words : List (List ℕ) = map (string_bytes {Z = Global}) c.args.words.now in
     let s = c.in-Some-Search in
-    let reads : IsReadAs words (Some (over_journal s.journal.now s.field-0-1 s.field-0-2 s.field-0-3 s.field-0-4)) = subst (λ (o : Option Command). IsReadAs words (option_map asked o)) (s.is ∙ ap (λ (x : Command). Some x) s.field-0-is) c.in_ok-journal.ensures.reads in
-    journal_named words s.journal.now s.field-0-1 s.field-0-2 s.field-0-3 s.field-0-4 _ reads (ap (λ (path : List ℕ). Some path) c.in_ok-from_str-in-Some-Search.ensures.ok)
+    let reads : IsReadAs words (Some (over_journal s.journal.now s.field-0-1 s.field-0-2 s.field-0-3 s.field-0-4 s.field-0-5)) = subst (λ (o : Option Command). IsReadAs words (option_map asked o)) (s.is ∙ ap (λ (x : Command). Some x) s.field-0-is) c.in_ok-journal.ensures.reads in
+    journal_named words s.journal.now s.field-0-1 s.field-0-2 s.field-0-3 s.field-0-4 s.field-0-5 _ reads (ap (λ (path : List ℕ). Some path) c.in_ok-from_str-in-Some-Search.ensures.ok)
 
 pub returns-in-Some-Demo : goal.returns-in-Some-Demo
 returns-in-Some-Demo c =

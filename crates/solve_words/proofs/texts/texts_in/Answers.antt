@@ -9,7 +9,7 @@ use Rattle.clap.specs.Walk.{first_of, one_of, rows_of, Text}
 use Rattle.clap.specs.Words.{App, app_of}
 use Rattle.clap.proofs.WalkLemmas.{first_value-rows, list_any-map, one_text-rows}
 use Rattle.solve_words.specs.Options.{has_separator, is_separator, options_app}
-use Rattle.solve_words.specs.Words.{local, table, thorough}
+use Rattle.solve_words.specs.Words.{local, table, thorough, turns}
 use Rattle.solve_words.proofs.Finding.{fault_found, flag_found, has_fault, separator_found, texts_found}
 use Rattle.solve_words.proofs.Giving.{said_by, same_given}
 use Rattle.solve_words.proofs.texts.texts_in.Goals as goal
@@ -39,7 +39,8 @@ returns-in-Ok c =
     (c.get_str-in-Ok-3.ensures ∙ first_value-rows found (codes "demo") ∙ ap (first_of (codes "demo")) rows)
     (flag_found table words plain none c.get_flag.result (one_text found (codes "table")) (one_text-rows found (codes "table") ∙ ap (one_of (codes "table")) rows) c.get_flag.ensures.value c.get_flag.ensures.other)
     (flag_found local words plain none c.get_flag-in-Ok.result (one_text found (codes "local")) (one_text-rows found (codes "local") ∙ ap (one_of (codes "local")) rows) c.get_flag-in-Ok.ensures.value c.get_flag-in-Ok.ensures.other)
-    (flag_found thorough words plain none c.get_flag-in-Ok-2.result (one_text found (codes "thorough")) (one_text-rows found (codes "thorough") ∙ ap (one_of (codes "thorough")) rows) c.get_flag-in-Ok-2.ensures.value c.get_flag-in-Ok-2.ensures.other))
+    (flag_found thorough words plain none c.get_flag-in-Ok-2.result (one_text found (codes "thorough")) (one_text-rows found (codes "thorough") ∙ ap (one_of (codes "thorough")) rows) c.get_flag-in-Ok-2.ensures.value c.get_flag-in-Ok-2.ensures.other)
+    (flag_found turns words plain none c.get_flag-in-Ok-3.result (one_text found (codes "turns")) (one_text-rows found (codes "turns") ∙ ap (one_of (codes "turns")) rows) c.get_flag-in-Ok-3.ensures.value c.get_flag-in-Ok-3.ensures.other))
 
 pub returns : goal.returns
 returns c =

@@ -25,3 +25,6 @@ returns-clause-asked g c =
     let same = written c.args.bench.now.len c.args.bench.now.items c.work_all.new.bench (omega (arith, c.args.bench.now.ok)) (c.work_all.auto.bench ∙ ap length c.as_mut_slice.ensures.value) in
     let asked = rw c.as_mut_slice.ensures.value at c.work_all.ensures.asked in
     λ i d low. rw same (asked i d (omega (arith, low, c.args.bench.now.ok)))
+
+pub work_all-requires-clause-rest : goal.work_all-requires-clause-rest
+work_all-requires-clause-rest g c κs within = (c.requires.rest.0, rw c.as_mut_slice.ensures.value c.requires.rest.1)

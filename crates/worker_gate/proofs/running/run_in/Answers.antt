@@ -1,6 +1,7 @@
 use Rattle.std.proofs.Common.{◌<◌, ◌^◌, ◌∙◌, arith, refl, sym, ap, subst, length, slice_index_or, sum_by, vec_len}
 use Rattle.std.proofs.lemmas.List.{length-map}
 use Rattle.board_lock.specs.Passes.{root_of}
+use Rattle.worker_gate.specs.Turned.{HasBadge}
 use Rattle.board_lock.proofs.Turned.{no_turns}
 use Rattle.worker_gate.specs.Workers.{KnowsBoard, WorkersEnd}
 use Rattle.worker_gate.proofs.Moved.{sum_none}
@@ -29,11 +30,14 @@ work_bench-requires-clause-rest g c κs within =
     let mapped = length-map {A = _} xs (λ p. p.seat) in
     let instance = ap (λ b. (g.B.Board.seen b).instance) c.new-held.ensures.opened ∙ c.requires.instance in
     let budget = subst (λ b. (g.B.Board.seen b).budget < 2 ^ 63) (sym c.new-held.ensures.opened) c.requires.budget in
-    all_know g.B.Board.seen (λ p. p.number) (λ p. p.badge) c.in-Ok-new.made.0 c.args.instance.now (root_of c.in-Ok-new.made.1) xs
-    (λ k low. subst (λ r. KnowsBoard g.B.Board.seen c.args.instance.now k r) (sym c.in-Ok-new.ensures.root)
-    (knows g.B.Board.seen c.args.instance.now k c.new-held.result.workers c.new-held.result.opened instance budget (omega (arith, low, many, mapped, c.new-held.ensures.workers, c.len-3.ensures, c.args.seats.ok, c.requires.sixteen))))
-    (λ k d low. c.seat_all.ensures.numbers k d (omega (arith, low, many, mapped, c.args.seats.ok)))
-    c.seat_all.ensures.rest
+    let root = root_of c.in-Ok-new.made.1 in (
+      root,
+      all_know g.B.Board.seen (λ p. p.number) (λ p. HasBadge c.in-Ok-new.made.0 root p.chair) c.args.instance.now root xs
+          (λ k low. subst (λ r. KnowsBoard g.B.Board.seen c.args.instance.now k r) (sym c.in-Ok-new.ensures.root)
+          (knows g.B.Board.seen c.args.instance.now k c.new-held.result.workers c.new-held.result.opened instance budget (omega (arith, low, many, mapped, c.new-held.ensures.workers, c.len-3.ensures, c.args.seats.ok, c.requires.sixteen))))
+          (λ k d low. c.seat_all.ensures.numbers k d (omega (arith, low, many, mapped, c.args.seats.ok)))
+          c.seat_all.ensures.rest,
+    )
 
 pub finish_all-end-requires-clause-numbers : goal.finish_all-end-requires-clause-numbers
 finish_all-end-requires-clause-numbers g c =
@@ -74,7 +78,7 @@ returns-clause-last g c =
     let numbers = c.seat_all.ensures.numbers in
     let many = ap length c.seat_all.ensures.bench in
     let mapped = length-map {A = _} first (λ p. p.seat) in
-    let entered = c.enter-held.ensures.value ∙ c.seat_all.ensures.root in
+    let entered = ap (λ h. root_at h.opened h.workers) c.unkept-noted.ensures.held ∙ c.enter-held.ensures.value ∙ c.seat_all.ensures.root in
     let worked = c.work_bench.ensures.last root c.seat_all.ensures.rest in
     let all = each_through (λ p. p.seat) (Tells (λ s. s.told) (λ s. (goal.Adviser-dyn g (s.adviser.vtable, s.adviser.value)).last s.adviser.value) root.workers (g.B.Board.seen root.opened.value))
     first last c.args.seats.items c.unseat_all.new.seats.items c.seat_all.ensures.bench c.unseat_all.ensures.seats (c.finish_all-end.ensures.len ∙ c.work_bench.ensures.len)
@@ -82,7 +86,7 @@ returns-clause-last g c =
     (λ i d low. told_at g.B.Board.seen root root i (slice_index_or first i d).number (slice_index_or first i d).seat.told (slice_index_or mid i d).seat.told
     ((goal.Adviser-dyn g ((slice_index_or first i d).seat.adviser.vtable, (slice_index_or first i d).seat.adviser.value)).last (slice_index_or first i d).seat.adviser.value) ((goal.Adviser-dyn g ((slice_index_or mid i d).seat.adviser.vtable, (slice_index_or mid i d).seat.adviser.value)).last (slice_index_or mid i d).seat.adviser.value)
     refl (numbers i d (omega (arith, low, many, mapped, c.args.seats.ok))) (worked i d (omega (arith, low, c.seat_all.new.bench.ok))))
-    (λ i d low. told_at g.B.Board.seen root (root_at c.enter-held.result.held.opened c.enter-held.result.held.workers) i i (slice_index_or mid i d).seat.told (slice_index_or last i d).seat.told
+    (λ i d low. told_at g.B.Board.seen root (root_at c.unkept-noted.result.held.opened c.unkept-noted.result.held.workers) i i (slice_index_or mid i d).seat.told (slice_index_or last i d).seat.told
     ((goal.Adviser-dyn g ((slice_index_or mid i d).seat.adviser.vtable, (slice_index_or mid i d).seat.adviser.value)).last (slice_index_or mid i d).seat.adviser.value) ((goal.Adviser-dyn g ((slice_index_or last i d).seat.adviser.vtable, (slice_index_or last i d).seat.adviser.value)).last (slice_index_or last i d).seat.adviser.value)
     entered refl (c.finish_all-end.ensures.last i d (omega (arith, low, c.work_bench.new.bench.ok))))) in
     let opened = c.in-Ok-new.ensures.root in

@@ -1,6 +1,7 @@
 use Rattle.std.proofs.Common.{false, ◌≡◌, ◌<◌, ◌+◌, ◌++◌, ℕ, All, length, map, slice_index_or, vec_len}
 use Rattle.std.specs.Vec.{vec_capacity}
-use Rattle.board_lock.specs.Passes.{root_of, IsOutside, RestsAt}
+use Rattle.board_lock.specs.Passes.{root_of, IsOutside}
+use Rattle.worker_gate.specs.Turned.{HasBadge}
 use Rattle.worker_gate.proofs.seating.seat_all.Given as goal
 
 abbrev pub invariant-loop-seats : goal.invariant-loop-seats
@@ -13,7 +14,7 @@ invariant-loop-seats g l = record {
   moved : map (λ p. p.seat) l.bench.items ++ l.seats.items ≡ l.initial.seats.items;
   numbers : (i : ℕ) (d : _) → i < length l.bench.items → (slice_index_or l.bench.items i d).number ≡ i;
   unasked : All (λ p. p.asked ≡ false) l.bench.items;
-  rest : All (λ p. RestsAt (λ r. r ≡ root_of l.initial.first) l.lock p.badge) l.bench.items;
+  rest : All (λ p. HasBadge l.lock (root_of l.initial.first) p.chair) l.bench.items;
   readers : vec_len l.readers ≡ vec_len l.seats;
   new : All (λ s. (s.told ≡ 0) × (s.share ≡ 0)) l.seats.items;
   room : vec_capacity l.bench ≡ vec_capacity l.initial.bench;

@@ -1,5 +1,4 @@
 use Rattle.std.proofs.Common.{◌≡◌, ◌<◌, ◌+◌, ◌^◌, true, false}
-use Rattle.board_lock.specs.Passes.{root_of, IsOutside}
 use Rattle.worker_gate.specs.Workers.{IsToldLast, KnowsBoard}
 use Rattle.worker_gate.proofs.worker.rounds.Given as goal
 
@@ -7,15 +6,15 @@ abbrev pub invariant-loop : goal.invariant-loop
 invariant-loop g l = record {
   next : (goal.iterator-loop g).can_next l.iterator';
   finite : (goal.iterator-loop g).is_finite l.iterator';
-  outside : IsOutside l.lock l.pass;
-  knows : KnowsBoard g.B.Board.seen l.instance l.place.number (root_of l.pass);
+  outside : g.K.Taking.outside l.lock l.place.number l.pass;
+  knows : KnowsBoard g.B.Board.seen l.instance l.place.number (g.K.Taking.root l.pass);
   number : l.place.number ≡ l.initial.place.number;
   buffers : l.buffers ≡ l.instance;
   told : (goal.Adviser-dyn g (l.initial.place.seat.adviser.vtable, l.initial.place.seat.adviser.value)).told l.initial.place.seat.adviser.value < 2 ^ 63 + l.initial.place.seat.told
       → (goal.Adviser-dyn g (l.place.seat.adviser.vtable, l.place.seat.adviser.value)).told l.place.seat.adviser.value + l.initial.place.seat.told
       ≡ (goal.Adviser-dyn g (l.initial.place.seat.adviser.vtable, l.initial.place.seat.adviser.value)).told l.initial.place.seat.adviser.value + l.place.seat.told;
-  root : root_of l.pass ≡ root_of l.initial.pass;
-  last : IsToldLast (root_of l.initial.pass).workers (g.B.Board.seen (root_of l.initial.pass).opened.value) l.initial.place.number l.initial.place.seat.told l.place.seat.told
+  root : g.K.Taking.root l.pass ≡ g.K.Taking.root l.initial.pass;
+  last : IsToldLast (g.K.Taking.root l.initial.pass).workers (g.B.Board.seen (g.K.Taking.root l.initial.pass).opened.value) l.initial.place.number l.initial.place.seat.told l.place.seat.told
       ((goal.Adviser-dyn g (l.initial.place.seat.adviser.vtable, l.initial.place.seat.adviser.value)).last l.initial.place.seat.adviser.value)
       ((goal.Adviser-dyn g (l.place.seat.adviser.vtable, l.place.seat.adviser.value)).last l.place.seat.adviser.value);
   asked : l.place.asked ≡ true → l.initial.place.asked ≡ false → g.S.Stop.can_ask l.stop ≡ true;

@@ -1,0 +1,11 @@
+use Rattle.std.proofs.Common.{◌≡◌, ◌∙◌, Some, slice_index_or}
+use Rattle.std.proofs.lemmas.Option.{same_Some}
+use Rattle.board_lock.specs.Roots.{root_at}
+use Rattle.turn_lock.specs.Seats.{new_seat}
+use Rattle.worker_gate.proofs.turn_running.unlock.Goals as goal
+
+pub returns-clause-root : goal.returns-clause-root
+returns-clause-root g c =
+    let d = new_seat c.args.lock.name (Some c.args.root) 0 in
+    let noted = c.close-noted.result.noted in
+    same_Some (root_at noted.held.opened noted.held.workers) c.args.root (c.close-noted.ensures.root 0 d c.requires.some ∙ c.requires.of_root 0 d c.requires.some)
