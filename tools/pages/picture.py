@@ -1,6 +1,6 @@
 #!/usr/bin/env python3
 """Makes one picture of a day of a plan from the page that shift_plan wrote: its styles, its drawings and its texts, one below the other.
-    bench/picture.py FOLDER/plan.html DAY PICTURE.svg"""
+    tools/pages/picture.py FOLDER/plan.html DAY PICTURE.svg"""
 import html
 import re
 import sys
