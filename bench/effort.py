@@ -8,6 +8,7 @@ the adviser's code stands. A program that is built otherwise may have other byte
 and the load before it are printed. N is 60, W and S are 1, and the document is the call week where none is named."""
 import os
 import pathlib
+import re
 import sys
 import tempfile
 
@@ -15,16 +16,18 @@ import instances
 import journals
 import measured
 
-# `ahead.min(10)`, behind the subtraction that stops at 0: a comparison with 10, 10 into a register, and the lesser of both
-MOST = bytes.fromhex("4829d1 480f43c1 4883f80a b90a000000 480f42c8")
-NONE = bytes.fromhex("4829d1 480f43c1 4883f800 b900000000 480f42c8")
+# `ahead.min(10)`: a comparison with 10, 10 into a register, and the lesser of both; behind it `1 << ahead`: 1 into a register, and that shifted. The adviser's
+# code stands in the program once for each kind of stop (a search's, that of planned breaks, and none where an old journal is read), and the bytes in each.
+SHIFTED = rb"(?=\x41?[\xb8-\xbf]\x01\0\0\0\x41?\xd3[\xe0-\xe7])"
+MOST = re.compile(re.escape(bytes.fromhex("4883f80a b90a000000 480f42c8")) + SHIFTED)
+NONE = bytes.fromhex("4883f800 b900000000 480f42c8")
 
 
 def without_effort(plan, folder):
-    content, path = plan.read_bytes(), folder / "shift_plan"
-    if MOST not in content:
+    (content, places), path = MOST.subn(NONE, plan.read_bytes()), folder / "shift_plan"
+    if not places:
         sys.exit("the program nowhere has the bytes that are changed")
-    path.write_bytes(content.replace(MOST, NONE))
+    path.write_bytes(content)
     path.chmod(0o755)
     return path
 

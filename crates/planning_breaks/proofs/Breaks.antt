@@ -10,7 +10,7 @@ use Rattle.certificate.specs.declared.Cert.{Cert}
 use Rattle.certificate.specs.Accepted.{is_accepted, is_bound, is_plan}
 use Rattle.certificate.proofs.Acceptance.{bounds}
 use Rattle.break_plans.specs.Anew.{HasHeadsOf, IsCheaper}
-use Rattle.planning_runs.specs.declared.plan.Plan.{Plan}
+use Rattle.planning_runs.specs.declared.plan.JudgedPlan.{JudgedPlan}
 use Rattle.planning_breaks.specs.declared.anew.Rebroken.{Rebroken}
 use Rattle.planning_breaks.specs.Anew.{BoundsBreaks, IsRebroken, cert_after}
 
@@ -22,7 +22,7 @@ plan_parts i c paid rows accepted is =
     (parts.0, eqb-true (cost i (rota_of rows)) paid parts.1)
 
 -- the plan as it was
-as_before : (plan : Plan) (r : Rebroken) → plan.cert.plan ≡ Some (r.cost_before, r.before) → r.plan.instance ≡ plan.instance → r.plan.cert ≡ plan.cert
+as_before : (plan : JudgedPlan) (r : Rebroken) → plan.cert.plan ≡ Some (r.cost_before, r.before) → r.plan.instance ≡ plan.instance → r.plan.cert ≡ plan.cert
     → IsTrue (is_accepted plan.instance plan.cert) → IsTrue (is_accepted r.plan.instance r.plan.cert) → IsRebroken plan r
 as_before plan r is same cert old accepted =
     let parts = plan_parts plan.instance plan.cert r.cost_before r.before old is in
@@ -42,7 +42,7 @@ as_before plan r is same cert old accepted =
     }
 
 -- cheaper rows
-with_new : (plan : Plan) (r : Rebroken) (rows : List Row) → plan.cert.plan ≡ Some (r.cost_before, r.before) → r.plan.instance ≡ plan.instance → r.plan.cert ≡ cert_after plan.instance plan.cert (Some rows)
+with_new : (plan : JudgedPlan) (r : Rebroken) (rows : List Row) → plan.cert.plan ≡ Some (r.cost_before, r.before) → r.plan.instance ≡ plan.instance → r.plan.cert ≡ cert_after plan.instance plan.cert (Some rows)
     → IsTrue (is_accepted plan.instance plan.cert) → IsTrue (is_accepted r.plan.instance r.plan.cert) → IsCheaper plan.instance r.before rows → IsRebroken plan r
 with_new plan r rows is same cert old accepted cheaper =
     let parts = plan_parts plan.instance plan.cert r.cost_before r.before old is in
@@ -63,13 +63,13 @@ with_new plan r rows is same cert old accepted cheaper =
       cheap = most;
     }
 
-pub rebroken : (plan : Plan) (r : Rebroken) (cheaper : Option (List Row)) → plan.cert.plan ≡ Some (r.cost_before, r.before) → r.plan.instance ≡ plan.instance → r.plan.cert ≡ cert_after plan.instance plan.cert cheaper
+pub rebroken : (plan : JudgedPlan) (r : Rebroken) (cheaper : Option (List Row)) → plan.cert.plan ≡ Some (r.cost_before, r.before) → r.plan.instance ≡ plan.instance → r.plan.cert ≡ cert_after plan.instance plan.cert cheaper
     → IsTrue (is_accepted plan.instance plan.cert) → IsTrue (is_accepted r.plan.instance r.plan.cert) → IfSome cheaper (IsCheaper plan.instance r.before) → IsRebroken plan r
 rebroken plan r None is same cert old accepted cheaper = as_before plan r is same cert old accepted
 rebroken plan r (Some rows) is same cert old accepted cheaper = with_new plan r rows is same cert old accepted cheaper
 
 -- both bounds hold
-pub bounded : (plan : Plan) (r : Rebroken) (floor : ℕ) → IsTrue (is_accepted plan.instance plan.cert) → r.floor ≡ max floor plan.cert.bound
+pub bounded : (plan : JudgedPlan) (r : Rebroken) (floor : ℕ) → IsTrue (is_accepted plan.instance plan.cert) → r.floor ≡ max floor plan.cert.bound
     → ((rota : List Duty) → IsTrue (is_legal_rota plan.instance rota) → HasHeadsOf plan.instance r.before rota → floor ≤ cost plan.instance rota) → BoundsBreaks plan r
 bounded plan r floor old is low rota legal heads =
     let one : floor ≤ cost plan.instance rota = low rota legal heads in

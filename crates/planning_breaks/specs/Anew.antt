@@ -8,7 +8,7 @@ use Rattle.certificate.specs.declared.Cert.{Cert}
 use Rattle.certificate.specs.Accepted.{is_accepted}
 use Rattle.break_plans.specs.Anew.{HasHeadsOf}
 use Rattle.planning_runs.specs.Reports.{with_rows}
-use Rattle.planning_runs.specs.declared.plan.Plan.{Plan}
+use Rattle.planning_runs.specs.declared.plan.JudgedPlan.{JudgedPlan}
 use Rattle.planning_breaks.specs.declared.anew.Rebroken.{Rebroken}
 
 -- a certificate with cheaper rows as its plan, where there are some, and else as it is
@@ -18,7 +18,7 @@ cert_after i c (Some rows) = with_rows i c rows
 
 -- A plan whose breaks were planned anew, with the rows before and what they cost. Its report is accepted, with the proof and the bound of the
 -- report before; its rows are legal at the cost told, which is no more than before, and have as many duties of each shift on each day.
-pub record IsRebroken (plan : Plan) (r : Rebroken) : Type 0 where
+pub record IsRebroken (plan : JudgedPlan) (r : Rebroken) : Type 0 where
   pub before : plan.cert.plan ≡ Some (r.cost_before, r.before)
   pub after : ℕ × List Row
   pub now : r.plan.cert.plan ≡ Some after
@@ -32,5 +32,5 @@ pub record IsRebroken (plan : Plan) (r : Rebroken) : Type 0 where
   pub cheap : after.0 ≤ r.cost_before
 
 -- no legal rota with as many duties of each shift on each day as the rows before costs less than the floor
-abbrev pub BoundsBreaks : Plan → Rebroken → Type 0
+abbrev pub BoundsBreaks : JudgedPlan → Rebroken → Type 0
 BoundsBreaks plan r = (rota : List Duty) → IsTrue (is_legal_rota plan.instance rota) → HasHeadsOf plan.instance r.before rota → r.floor ≤ cost plan.instance rota

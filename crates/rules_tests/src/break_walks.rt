@@ -4,7 +4,7 @@ ghost use Rattle.std.specs.Prelude.{◌<◌, length};
 ghost use Rattle.break_rules.specs.Ranges.{IsRule};
 ghost use Rattle.shift_instance.specs.Problem.{shift_list};
 
-use crate::fixtures::{eighth, judge, short};
+use crate::small_rules::{eighth, judge, short};
 use crate::instances::day_instance;
 use break_layers::LayerValues;
 use break_rules::{NoMemory, Rule, Spot};
