@@ -1,8 +1,8 @@
 //! A plan with other breaks.
 
-ghost use Rattle.std.specs.Prelude.{◌≡◌, ◌≤◌, ◌^◌, IfOk, IfSome, IsTrue, MatchOption, None, Some};
+ghost use Rattle.std.specs.Prelude.{◌≡◌, ◌⊎◌, ◌≤◌, ◌^◌, IfOk, IfSome, IsTrue, MatchOption, None, Some, true};
 ghost use Rattle.shift_instance.specs.Rota.{are_legal_rows};
-ghost use Rattle.planning_breaks.specs.Anew.{BoundsBreaks, IsRebroken, cert_after};
+ghost use Rattle.planning_breaks.specs.Anew.{cert_after, AreEnough, BoundsBreaks, CostsItsFloor, IsFound, IsRebroken};
 
 use advice::{Adviser, Stop};
 use break_plans::{Anew, planned_anew};
@@ -61,7 +61,10 @@ pub fn with_breaks<A: Adviser, S: Stop>(
 ) -> Result<Option<Rebroken>, NoMemory>
     requires steps { steps ≤ 10 ^ 9 }
     ensures rebroken { IfOk result (λ found. MatchOption found (plan.cert.plan ≡ None) (IsRebroken plan)) }
+    ensures found { IfOk result (λ found. IfSome found (IsFound plan steps (S.can_ask stop.now))) }
     ensures floor { IfOk result (λ found. IfSome found (BoundsBreaks plan)) }
+    // So many steps find the cheapest breaks, whatever is advised.
+    ensures enough { AreEnough plan steps → IfOk result (λ found. IfSome found (λ r. CostsItsFloor r ⊎ (S.can_ask stop.now ≡ true))) }
 {
     let Some((cost_before, before)) = rows_in(&plan)? else {
         return Ok(None);
