@@ -1,18 +1,21 @@
 #!/usr/bin/env python3
-"""Measures what the law of effort does: `shift_plan` of `bin/` beside a copy of it in which no step gets more work than a usual one, on some weeks. The copy is
-made of the program's bytes: the most hundredths that count of those by which the bytes are ahead of the time, 10, are 0 there. Prints of each run the steps, the
-bound, the cost, the bytes of the journal, the processor seconds, and the load before it. Words: `--seconds N` (60), `--workers W` (1), `--seed S` (1), and the
-documents (the call week of `examples/` where none is named). A program that is built otherwise may have other bytes in that place; then the script says so."""
-import argparse
+"""Measures what the law of effort does: `shift_plan` beside a copy of it in which no step gets more work than a usual one.
+
+    bench/effort.py [--seconds N] [--workers W] [--seed S] [--programs FOLDER] [--] [DOCUMENT..]
+
+The copy is made of the program's bytes: the most hundredths that count of those by which the bytes are ahead of the time, 10, are 0 there, in each place where
+the adviser's code stands. A program that is built otherwise may have other bytes in those places; then the script says so. Of each run the steps, the bound, the cost, the bytes of the journal, the seconds
+and the load before it are printed. N is 60, W and S are 1, and the document is the call week where none is named."""
 import os
+import pathlib
 import re
-import subprocess
 import sys
 import tempfile
-import time
 
-TOP = os.path.dirname(os.path.dirname(os.path.abspath(__file__)))
-PLAN = os.path.join(TOP, "bin", "shift_plan")
+import instances
+import journals
+import measured
+
 # `ahead.min(10)`: a comparison with 10, 10 into a register, and the lesser of both; behind it `1 << ahead`: 1 into a register, and that shifted. The adviser's
 # code stands in the program once for each kind of stop (a search's, that of planned breaks, and none where an old journal is read), and the bytes in each.
 SHIFTED = rb"(?=\x41?[\xb8-\xbf]\x01\0\0\0\x41?\xd3[\xe0-\xe7])"
@@ -20,62 +23,37 @@ MOST = re.compile(re.escape(bytes.fromhex("4883f80a b90a000000 480f42c8")) + SHI
 NONE = bytes.fromhex("4883f800 b900000000 480f42c8")
 
 
-def without_effort(folder):
-    with open(PLAN, "rb") as file:
-        content, places = MOST.subn(NONE, file.read())
+def without_effort(plan, folder):
+    (content, places), path = MOST.subn(NONE, plan.read_bytes()), folder / "shift_plan"
     if not places:
-        sys.exit("the program has such bytes nowhere")
-    path = os.path.join(folder, "shift_plan")
-    with open(path, "wb") as file:
-        file.write(content)
-    os.chmod(path, 0o755)
+        sys.exit("the program nowhere has the bytes that are changed")
+    path.write_bytes(content)
+    path.chmod(0o755)
     return path
 
 
-def head_of(report):
-    """The cost and the bound that a report says."""
-    with open(report) as lines:
-        words = dict(line.split(None, 1) for line in (next(lines).strip() for _ in range(8)) if " " in line)
-    return words.get("cost", "?").strip(), words.get("bound", "?").strip()
-
-
-def steps_of(journal):
-    """How many records a journal has, one for each step."""
-    with open(journal, "rb") as file:
-        content = file.read()
-    at, steps = 12 + int.from_bytes(content[8:12], "little"), 0
-    while content[at] == 1:
-        at, steps = at + 5 + int.from_bytes(content[at + 1:at + 5], "little"), steps + 1
-    return steps
-
-
-def searched(program, document, args, folder, name):
-    journal, out = os.path.join(folder, name + ".journal"), os.path.join(folder, name + ".plan")
-    words = [program, "plan", document, "--journal", journal, "--out", out, "--seconds", str(args.seconds), "--workers", str(args.workers), "--seed", str(args.seed)]
-    load, begin = os.getloadavg()[0], time.perf_counter()
-    child = subprocess.Popen(words, stdin=subprocess.DEVNULL, stdout=subprocess.DEVNULL, stderr=subprocess.PIPE, text=True)
-    said = child.stderr.read()
-    _, status, usage = os.wait4(child.pid, 0)
-    elapsed = time.perf_counter() - begin
-    assert os.waitstatus_to_exitcode(status) == 0, said
-    cost, bound = head_of(os.path.join(out, "report"))
-    print("%s: %d steps, cost %s, bound %s, journal %d bytes; %.1f s elapsed, %.1f s of processors, load %.1f"
-          % (name, steps_of(journal), cost, bound, os.path.getsize(journal), elapsed, usage.ru_utime + usage.ru_stime, load), flush=True)
+def searched(asked, program, name, law, folder):
+    document, journal, out = instances.path_of(name, folder), measured.fresh(folder / "journal"), folder / "plan"
+    words = [program, "plan", document, "--journal", journal, "--out", out, "--seconds", asked.seconds, "--workers", asked.workers, "--seed", asked.seed]
+    load, run = os.getloadavg()[0], measured.run(words)
+    steps = sum(1 for _ in journals.records(journal.read_bytes()))
+    print("%s, %s: %d steps, %s, journal %d bytes; %s, load %.1f"
+          % (instances.name_of(name), law, steps, measured.told(out / "report"), os.path.getsize(journal), run, load), flush=True)
 
 
 def main():
-    words = argparse.ArgumentParser()
-    words.add_argument("--seconds", type=int, default=60)
-    words.add_argument("--workers", type=int, default=1)
-    words.add_argument("--seed", type=int, default=1)
-    words.add_argument("documents", nargs="*", default=[os.path.join(TOP, "examples", "call_week.json")])
-    args = words.parse_args()
-    with tempfile.TemporaryDirectory() as folder:
-        plain = without_effort(folder)
-        for document in args.documents:
-            name = os.path.splitext(os.path.basename(document))[0]
-            searched(PLAN, document, args, folder, name + ", with the law")
-            searched(plain, document, args, folder, name + ", effort 1")
+    parser = measured.words_of(__doc__)
+    for name, number in (("seconds", 60), ("workers", 1), ("seed", 1)):
+        parser.add_argument("--" + name, type=int, default=number)
+    parser.add_argument("documents", nargs="*", default=["call_week"])
+    asked = parser.parse_args()
+    plan = measured.program(asked.programs, "shift_plan")
+    with tempfile.TemporaryDirectory() as name:
+        folder = pathlib.Path(name)
+        plain = without_effort(plan, folder)
+        for document in asked.documents:
+            searched(asked, plan, document, "with the law", folder)
+            searched(asked, plain, document, "effort 1", folder)
 
 
 if __name__ == "__main__":

@@ -8,19 +8,18 @@ hold its bound down `graft_run below --thorough` then searches for S seconds or 
 leaves below its node, and the bytes that it adds to the report, are the measured gains. From them R rounds of T seconds or steps on N machines are played,
 and the bound after each is printed, the mean of some plays, with what is assumed. B is 30, S 10 seconds, K 12, T 300, R 10 and N 1, 10 and 100 where they
 aren't given.
-PROGRAMS is the folder of shift_plan and graft_run, `bin/` where none is given."""
-import argparse
+The programs are those of `bin/` where no folder of shift_plan and graft_run is given."""
 import concurrent.futures
 import heapq
 import os
 import pathlib
 import random
 import statistics
-import subprocess
-import sys
 import tempfile
 
-TOP = pathlib.Path(__file__).resolve().parent.parent
+import instances
+import measured
+
 REPORT_MOST = 268435456  # bytes that a report may have
 PLAYS = 5
 ASSUMED = """Assumed: a task of %d %s does what tasks of %d %s do one after another, each below the node of least floor that is left of it; what lies
@@ -28,22 +27,14 @@ below a node of any depth gains what one of the measured tasks gained, drawn by 
 is lost, no cheaper plan is found, and joining takes no time; what a report of %d bytes has no room for is dropped."""
 
 
-def run(*words):
-    done = subprocess.run([str(word) for word in words], stdin=subprocess.DEVNULL, stdout=subprocess.PIPE, stderr=subprocess.PIPE, text=True)
-    if done.returncode:
-        sys.exit("%s ends with %d: %s" % (words[0], done.returncode, (done.stderr or done.stdout).strip()))
-    return done.stdout
-
-
 class Report:
     """A report of an instance: its size, what it claims, and the floors of its open nodes by their numbers, the least first."""
 
     def __init__(self, programs, instance, path):
-        self.path, self.size = path, path.stat().st_size
-        with path.open() as lines:
-            head = [next(lines) for _ in range(4)]
-        self.cost, self.bound = int(head[2][5:]), int(head[3][6:])
-        rows = [line.split() for line in run(programs / "graft_run", "nodes", instance, path, 10**9).splitlines()]
+        self.path, self.size, head = path, path.stat().st_size, measured.head_of(path)
+        self.cost, self.bound = int(head["cost"]), int(head["bound"])
+        graft = measured.program(programs, "graft_run")
+        rows = [line.split() for line in measured.run([graft, "nodes", instance, path, 10**9]).out.splitlines()]
         self.floors = {int(row[1]): int(row[3]) for row in rows}
 
 
@@ -58,7 +49,7 @@ class Gain:
 def begun(asked, instance, folder):
     """The report of a search of some seconds."""
     words = ["--seconds", asked.begin, "--out", folder / "plan", "--journal", folder / "journal"]
-    run(asked.programs / "shift_plan", "plan", instance, *words)
+    measured.run([measured.program(asked.programs, "shift_plan"), "plan", instance, *words])
     return Report(asked.programs, instance, folder / "plan" / "report")
 
 
@@ -66,8 +57,8 @@ def gain_of(asked, instance, whole, node):
     """The gain of a task that searches below a node; None where it had no time for a step."""
     path = whole.path.with_name("part_%d" % node)
     most = [asked.steps] if asked.steps else ["--seconds", asked.seconds]
-    text = run(asked.programs / "graft_run", "below", instance, whole.path, node, *most, "--thorough")
-    path.write_text(text)
+    graft = measured.program(asked.programs, "graft_run")
+    measured.run([graft, "below", instance, whole.path, node, *most, "--thorough"], target=path)
     gain = Gain(whole, Report(asked.programs, instance, path), node)
     return gain if gain.bytes else None
 
@@ -142,12 +133,11 @@ def measure(asked, instance):
 
 
 def main():
-    parser = argparse.ArgumentParser(description="Reckons what rounds of searches on many machines gain.")
+    parser = measured.words_of(__doc__)
     for name, number in (("begin", 30), ("seconds", 10), ("tasks", 12), ("length", 300), ("rounds", 10), ("steps", None)):
         parser.add_argument("--" + name, type=int, default=number)
     parser.add_argument("--machines", type=int, nargs="+", default=[1, 10, 100])
-    parser.add_argument("--programs", type=pathlib.Path, default=TOP / "bin")
-    parser.add_argument("files", type=pathlib.Path, nargs="*", default=[TOP / "examples" / name for name in ("call_week.json", "control_week.json")])
+    parser.add_argument("files", type=pathlib.Path, nargs="*", default=[instances.EXAMPLES / name for name in ("call_week.json", "control_week.json")])
     asked = parser.parse_args()
     for instance in asked.files:
         measure(asked, instance)

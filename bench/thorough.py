@@ -1,16 +1,14 @@
 #!/usr/bin/env python3
-"""Measures searches for plans: of each instance of `examples/`, of the airport day seven times and of the files given as words, plans and
+"""Measures searches for plans: of each instance of `examples/`, of the airport week and of the files given as words, plans and
 bounds of several seeds after so many processor seconds of each worker.
 
-    bench/thorough.py [--seconds N] [--workers W] [--seeds K] [--only NAME..] [--] [FILE..]
+    bench/thorough.py [--seconds N] [--workers W] [--seeds K] [--only NAME..] [--programs FOLDER] [--] [FILE..]
 
 N is 24, W is 1 and K is 5 where they aren't given. The seeds are 1, W + 1, 2 W + 1 and so on, so that no two workers draw alike. Each search
 has a new journal and is asked to end once the processor time of its process comes to N seconds for each worker, or ends by itself before. A
 line for each instance has the least cost known (of `best_known.json`, by the name of the file), the mean and the worst cost over it, the worst
 cost over the best, means of the steps, the bound, the gap (the part of the cost by which the bound lies below it) and the processor seconds,
-and the costs by seed. Then come the means over the instances and the worst of them, and in how many steps the advised prices weren't lawful.
-Build the program first, by `./run --build shift_plan`."""
-import argparse
+and the costs by seed. Then come the means over the instances and the worst of them, and in how many steps the advised prices weren't lawful."""
 import json
 import os
 import pathlib
@@ -20,8 +18,9 @@ import sys
 import tempfile
 import time
 
-TOP = pathlib.Path(__file__).resolve().parent.parent
-PROGRAM = TOP / "crates" / "shift_plan" / "out" / "shift_plan"
+import instances
+import measured
+
 TICKS = os.sysconf("SC_CLK_TCK")
 SCALE = "10000"  # of the prices that are advised; a step whose prices aren't lawful has the price 0 at scale 1
 COLUMNS = "%-16s %6s %6s %6s %6s %8s %8s %7s %8s  %s"
@@ -39,11 +38,11 @@ def processor_seconds(pid):
 class Search:
     """One search of an instance with a seed over a new journal, of at most so many processor seconds."""
 
-    def __init__(self, text, seed, workers, seconds):
+    def __init__(self, program, text, seed, workers, seconds):
         with tempfile.TemporaryDirectory() as folder:
             (pathlib.Path(folder) / "week.json").write_text(text)
             words = ["plan", "week.json", "--seconds", "4000000", "--stop-on", "line", "--workers", str(workers), "--seed", str(seed)]
-            run = subprocess.Popen([PROGRAM, *words], cwd=folder, stdin=subprocess.PIPE, stdout=subprocess.DEVNULL, stderr=subprocess.PIPE)
+            run = subprocess.Popen([program, *words], cwd=folder, stdin=subprocess.PIPE, stdout=subprocess.DEVNULL, stderr=subprocess.PIPE)
             self.seconds = awaited(run, workers * seconds)
             said = run.communicate()[1].decode()
             if run.returncode != 0:
@@ -68,15 +67,6 @@ def awaited(run, seconds):
         time.sleep(0.02)
 
 
-def instances(files):
-    for path in sorted((TOP / "examples").glob("*.json")):
-        yield path.stem, path.read_text()
-    day = json.loads((TOP / "examples" / "airport_day.json").read_text())
-    yield "airport_week", json.dumps({**day, "days": 7, "need": day["need"] * 7})
-    for path in map(pathlib.Path, files):
-        yield path.stem, path.read_text()
-
-
 def over(cost, least):
     """How many times as dear as the least cost known a cost is."""
     return cost / least if least else 1.0
@@ -95,22 +85,23 @@ def line_of(name, known, searches):
 
 
 def main():
-    parser = argparse.ArgumentParser(description="Measures searches for plans.")
+    parser = measured.words_of(__doc__)
     parser.add_argument("--seconds", type=float, default=24)
     parser.add_argument("--workers", type=int, default=1)
     parser.add_argument("--seeds", type=int, default=5)
     parser.add_argument("--only", nargs="*", help="the names of the instances that are measured")
     parser.add_argument("files", nargs="*")
     asked = parser.parse_args()
-    if not PROGRAM.exists():
-        sys.exit("build the program first: ./run --build shift_plan")
-    known = json.loads((TOP / "bench" / "best_known.json").read_text())
+    program = measured.program(asked.programs, "shift_plan")
+    known = json.loads((measured.BENCH / "best_known.json").read_text())
     rows, unlawful = [], 0
     print(COLUMNS % ("instance", "known", "mean", "worst", "spread", "steps", "bound", "gap", "seconds", "costs"))
-    for name, text in instances(asked.files):
+    for document in [*instances.examples(), "airport_week", *asked.files]:
+        name = instances.name_of(document)
         if asked.only and name not in asked.only:
             continue
-        searches = [Search(text, 1 + number * asked.workers, asked.workers, asked.seconds) for number in range(asked.seeds)]
+        text = instances.text_of(document)
+        searches = [Search(program, text, 1 + number * asked.workers, asked.workers, asked.seconds) for number in range(asked.seeds)]
         rows.append(line_of(name, known.get(name), searches))
         unlawful += sum(it.unlawful for it in searches)
     means, worsts, spreads, gaps = zip(*rows)

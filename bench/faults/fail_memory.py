@@ -1,21 +1,25 @@
 #!/usr/bin/env python3
-"""Makes each allocation of some runs fail, once alone and once with all behind it: of `solve` of the instance of `cases/texts/morning.json` with
-one step and with two employees at a time and three steps, of `check` of the first one's report, and of `shift_plan plan` (of the journal of a
-finished search) and `shift_plan show` of `examples/one_shift.json`. A run must end with 8, or end and write as it does without, or, of
-`plan`, say that its search ended early for want of memory. What it leaves must be gone on with: a journal opens and gives the same report, a folder
-is made whole. The allocations are counted by a library that this script compiles from `fail_memory.c` by `cc`. Words: the programs
-`shift_solve`, `shift_check` and `shift_plan` where they aren't those of `bin/`. It prints each run that is otherwise, a line for each command, and last
-`N passed, M failed`."""
+"""Makes each allocation of some runs fail, once alone and once with all behind it.
+
+    bench/faults/fail_memory.py [--only NAME..] [--programs FOLDER]
+
+The runs are `solve` of the instance of `cases/texts/morning.json` with one step and with two employees at a time and three steps, `check` of the first one's
+report, and `shift_plan plan` (of the journal of a finished search) and `shift_plan show` of `examples/one_shift.json`; of these only the named ones, by the names
+that are printed, where there are such words. A run must end with 8, or end and write as it does without, or, of `plan`, say that its search ended early for want
+of memory. What it leaves must be gone on with: a journal opens and gives the same report, a folder is made whole. The allocations are counted by a library that
+this script compiles from `fail_memory.c` by `cc`. It prints each run that is otherwise, a line for each command, and last `N passed, M failed`."""
 import collections
 import json
 import os
 import pathlib
-import shutil
 import subprocess
 import sys
 import tempfile
 
-TOP = pathlib.Path(__file__).resolve().parent.parent
+TOP = pathlib.Path(__file__).resolve().parents[2]
+sys.path.insert(0, str(TOP / "bench"))
+import measured
+
 SECONDS = 60           # that a run may take
 NO_MEMORY = 8
 EARLY = b"ends early"  # what `plan` says of a search that memory ended
@@ -24,7 +28,7 @@ EARLY = b"ends early"  # what `plan` says of a search that memory ended
 def compiled(folder):
     """The library that fails allocations."""
     library = os.path.join(folder, "fail_memory.so")
-    subprocess.run(["cc", "-O2", "-shared", "-fPIC", "-o", library, TOP / "bench" / "fail_memory.c"], check=True)
+    subprocess.run(["cc", "-O2", "-shared", "-fPIC", "-o", library, pathlib.Path(__file__).with_name("fail_memory.c")], check=True)
     return library
 
 
@@ -125,12 +129,17 @@ def commands(solve, check, plan, scratch):
     yield Command("show of its report", [plan, "show", "one_shift.json", "R"], {"one_shift.json": shift, "R": text}, kept=kept)
 
 
-def main(words):
-    programs = words or [str(TOP / "bin" / name) for name in ("shift_solve", "shift_check", "shift_plan")]
+def main():
+    parser = measured.words_of(__doc__)
+    parser.add_argument("--only", nargs="+", metavar="NAME")
+    asked = parser.parse_args()
+    programs = [str(measured.program(asked.programs, name)) for name in ("shift_solve", "shift_check", "shift_plan")]
     runs = faults = 0
     with tempfile.TemporaryDirectory() as scratch:
         library = compiled(scratch)
         for command in commands(*programs, scratch):
+            if asked.only and command.name not in asked.only:
+                continue
             trial = Trial(command, library, scratch)
             trial.all()
             runs, faults = runs + 2 * trial.count, faults + len(trial.faults)
@@ -139,4 +148,4 @@ def main(words):
 
 
 if __name__ == "__main__":
-    sys.exit(main(sys.argv[1:]))
+    sys.exit(main())

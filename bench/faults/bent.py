@@ -1,9 +1,11 @@
 #!/usr/bin/env python3
 """Gives programs bent files: documents, journals and reports of random bytes, or of searches of small instances and then cut, doubled in part,
-spliced with one another, or with some bytes changed. Words: the number of files (100000 where none is given), a seed, and the programs
-`shift_solve` and `shift_check` where they aren't those that are built. A run that doesn't end by a named status, or a journal that opens to
-a plan that `shift_check` doesn't count at its cost, is printed with its number; `bench/bent.py NUMBER SEED` with a greater number tries the
-same files first. The last line is `N passed, M failed`."""
+spliced with one another, or with some bytes changed.
+
+    bench/faults/bent.py [--files N] [--seed S] [--programs FOLDER]
+
+N is 100,000 and S is 1 where they aren't given. A run that doesn't end by a named status, or a journal that opens to a plan that `shift_check` doesn't count at
+its cost, is printed with its number; a greater number of files with the same seed tries the same files first. The last line is `N passed, M failed`."""
 import multiprocessing
 import os
 import pathlib
@@ -13,9 +15,10 @@ import signal
 import sys
 import tempfile
 
-TOP = pathlib.Path(__file__).resolve().parent.parent
-sys.path.insert(0, str(TOP / "cases"))
+TOP = pathlib.Path(__file__).resolve().parents[2]
+sys.path[:0] = [str(TOP / "bench"), str(TOP / "cases")]
 import bent_bytes
+import measured
 
 TEXTS = ("morning.json", "noon.json", "early_and_late.json", "quarters.json")
 STEPS = 6              # of the searches whose journals and reports are bent
@@ -115,10 +118,10 @@ def faults_of(programs, number, seed, whole):
     return ["file %d, a %s %s: %s" % (number, kind, way.__name__, fault) for fault in found]
 
 
-def prepared(words):
+def prepared(seed, *programs):
     """Keeps for this process what all files are made of: the programs, the seed, and each document with its journal and its report."""
     global PROGRAMS, SEED, WHOLE
-    SEED, PROGRAMS, WHOLE = int(words[1]), Spawned(*words[2:4]), []
+    SEED, PROGRAMS, WHOLE = seed, Spawned(*programs), []
     for name in TEXTS:
         document = (TOP / "cases" / "texts" / name).read_bytes()
         WHOLE.append((document, *bent_bytes.made(PROGRAMS, document, STEPS)))
@@ -128,16 +131,19 @@ def tried(number):
     return faults_of(PROGRAMS, number, SEED, WHOLE)
 
 
-def main(words):
-    words = words + ["100000", "1"][len(words):]
-    count, failed = int(words[0]), 0
-    with multiprocessing.Pool(os.cpu_count(), prepared, (words,)) as pool:
-        for found in pool.imap(tried, range(count), AT_ONCE):
+def main():
+    parser = measured.words_of(__doc__)
+    parser.add_argument("--files", type=int, default=100_000)
+    parser.add_argument("--seed", type=int, default=1)
+    asked = parser.parse_args()
+    programs, failed = [str(measured.program(asked.programs, it)) for it in ("shift_solve", "shift_check")], 0
+    with multiprocessing.Pool(os.cpu_count(), prepared, (asked.seed, *programs)) as pool:
+        for found in pool.imap(tried, range(asked.files), AT_ONCE):
             print("".join(fault + "\n" for fault in found), end="", flush=True)
             failed += found != []
-    print("%d passed, %d failed" % (count - failed, failed))
+    print("%d passed, %d failed" % (asked.files - failed, failed))
     return int(failed > 0)
 
 
 if __name__ == "__main__":
-    sys.exit(main(sys.argv[1:]))
+    sys.exit(main())

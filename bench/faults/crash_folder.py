@@ -1,12 +1,15 @@
 #!/usr/bin/env python3
-"""Kills `shift_plan show` (`kill -9`) some hundred times while it puts a plan in the place of another one: at random moments of the run, and, every
-second time, of the writing, which begins once the first file stands under its other name. Looks at what the folder is then: the old plan, the new
-one, or one that says that it isn't whole; and writes another plan there, after which the folder must be that one and nothing else.
-Prints how many folders were left how. Build the program first, by `./run --build shift_plan`, or name one behind the number. Words: the number of
-runs (200 where none is given), and the program."""
+"""Kills `shift_plan show` (`kill -9`) while it puts a plan in the place of another one: at random moments of the run, and, every second time, of the writing,
+which begins once the first file stands under its other name.
+
+    bench/faults/crash_folder.py [--runs K] [--programs FOLDER]
+
+It does so 200 times where no number is given, and looks at what the folder is then: the old plan, the new one, or one that says that it isn't whole; and writes
+another plan there, after which the folder must be that one and nothing else. It prints how many folders were left how."""
 import collections
 import json
 import os
+import pathlib
 import random
 import signal
 import subprocess
@@ -14,8 +17,9 @@ import sys
 import tempfile
 import time
 
-TOP = os.path.dirname(os.path.dirname(os.path.abspath(__file__)))
-PROGRAM = os.path.join(TOP, "crates", "shift_plan", "out", "shift_plan")
+sys.path.insert(0, str(pathlib.Path(__file__).resolve().parent.parent))
+import measured
+
 MARKER = "UNFINISHED"
 REPORT = "shift-report 1\nstatus stopped\ncost %d\nbound 0\nrows 1\nrow 0 0 1 -\nproof 0\nend\n"
 
@@ -89,8 +93,10 @@ class Runs:
 
 
 def main():
-    runs = int(sys.argv[1]) if len(sys.argv) > 1 else 200
-    program = os.path.abspath(sys.argv[2]) if len(sys.argv) > 2 else PROGRAM
+    parser = measured.words_of(__doc__)
+    parser.add_argument("--runs", type=int, default=200)
+    asked = parser.parse_args()
+    program, runs = measured.program(asked.programs, "shift_plan"), asked.runs
     left, killed, faults = collections.Counter(), 0, 0
     with tempfile.TemporaryDirectory() as folder:
         shown = Runs(folder, program)

@@ -1,40 +1,28 @@
 #!/usr/bin/env python3
-"""Kills `shift_migrate` (`kill -9`) at random moments of the way of an old journal to the present version, some hundred times, each time to a
-file of its own and every second time once that is there, and looks at both files: the old one must be as it was, and the new one refused, empty or whole. Then cuts a small old journal
-at each byte: none but the whole one is carried over, and none changes. Prints how many files were left how; the exit status is 1 where one
-was left otherwise.
-Build the program first, by `./run --build shift_migrate`. Words: the number of runs (200 where none is given), and the program in place of
-the one that is built."""
+"""Kills `shift_migrate` (`kill -9`) at random moments of the way of an old journal to the present version, each time to a file of its own and every second time
+once that is there, and looks at both files: the old one must be as it was, and the new one refused, empty or whole.
+
+    bench/faults/crash_migrate.py [--runs K] [--programs FOLDER]
+
+It does so 200 times where no number is given. Then it cuts a small old journal at each byte: none but the whole one is carried over, and none changes. It
+prints how many files were left how; the exit status is 1 where one was left otherwise."""
 import collections
 import hashlib
 import os
+import pathlib
 import random
 import signal
-import struct
 import subprocess
 import sys
 import tempfile
 import time
 
-TOP = os.path.dirname(os.path.dirname(os.path.abspath(__file__)))
-PROGRAM = os.path.join(TOP, "crates", "shift_migrate", "out", "shift_migrate")
-TEXT = os.path.join(TOP, "cases", "texts", "morning.canonical.json")
-OLD_MARK, MARK = b"SHIFTJ1\n", b"SHIFTJ2\n"
+sys.path.insert(0, str(pathlib.Path(__file__).resolve().parent.parent))
+import journals
+import measured
+
 # how many records the journal has over which the program is killed
 RECORDS = 40_000
-
-
-def record(size):
-    """A record that prices the first node with 24 slots at 0, each price in so many bytes: it may stand in a journal any number of times."""
-    post = bytes([2]) + struct.pack("<HIHI", 0, 0, 1, 24) + bytes(24 * size) + struct.pack("<I", 0)
-    payload = struct.pack("<H", 1) + post
-    return bytes([1]) + struct.pack("<I", len(payload)) + payload
-
-
-def journal(mark, size, records):
-    with open(TEXT, "rb") as file:
-        head = file.read().rstrip(b"\n")
-    return mark + struct.pack("<I", len(head)) + head + record(size) * records + bytes([0])
 
 
 def sum_of(path):
@@ -52,7 +40,7 @@ def left_at(path, whole):
         return "an empty file"
     if content == whole:
         return "the whole journal"
-    if len(content) < 8 or content[:8] not in (MARK, OLD_MARK):
+    if len(content) < 8 or content[:8] not in (journals.MARK, journals.OLD_MARK):
         return "a file that is no journal"
     return None
 
@@ -67,8 +55,8 @@ def killed_runs(program, runs, folder):
     """Kills so many runs, and counts how they left their files."""
     old = os.path.join(folder, "old.journal")
     with open(old, "wb") as file:
-        file.write(journal(OLD_MARK, 8, RECORDS))
-    whole, before = journal(MARK, 5, RECORDS), sum_of(old)
+        file.write(journals.made(True, RECORDS))
+    whole, before = journals.made(False, RECORDS), sum_of(old)
     first = os.path.join(folder, "first.journal")
     begin = time.perf_counter()
     child = subprocess.Popen([program, old, first], stdout=subprocess.PIPE)
@@ -96,7 +84,7 @@ def killed_runs(program, runs, folder):
 def cut_runs(program, folder):
     """Cuts a small old journal at each byte, and counts what became of it."""
     found = collections.Counter()
-    content = journal(OLD_MARK, 8, 1)
+    content = journals.made(True, 1)
     old, new = os.path.join(folder, "cut.journal"), os.path.join(folder, "cut.new")
     for length in range(len(content) + 1):
         with open(old, "wb") as file:
@@ -110,8 +98,10 @@ def cut_runs(program, folder):
 
 
 def main():
-    runs = int(sys.argv[1]) if len(sys.argv) > 1 else 200
-    program = sys.argv[2] if len(sys.argv) > 2 else PROGRAM
+    parser = measured.words_of(__doc__)
+    parser.add_argument("--runs", type=int, default=200)
+    asked = parser.parse_args()
+    program, runs = measured.program(asked.programs, "shift_migrate"), asked.runs
     with tempfile.TemporaryDirectory() as folder:
         found = killed_runs(program, runs, folder) + cut_runs(program, folder)
     for state, count in sorted(found.items(), key=str):

@@ -1,10 +1,10 @@
 #!/usr/bin/env bash
 # Tries cluster/rounds by Slurm on this machine alone: begins a Slurm of one machine in a folder of its own, runs two rounds from a short search of the
 # usual week, kills a task of the first one, and looks whether the rounds went on. Ends what it began.
-#     bench/slurm.sh [PROGRAMS]
+#     bench/faults/slurm.sh [PROGRAMS]
 # PROGRAMS is the folder of graft_run, shift_check and shift_solve, bin/ where none is given. It needs Debian's slurm-wlm and munge, and root.
 set -euo pipefail
-top=$(realpath "$(dirname "$0")/..")
+top=$(realpath "$(dirname "$0")/../..")
 programs=$(realpath "${1:-$top/bin}")
 work=$(mktemp -d)
 export SLURM_CONF=$work/slurm.conf

@@ -1,6 +1,6 @@
 #!/usr/bin/env python3
 """Makes one picture of a day of a plan from the page that shift_plan wrote: its styles, its drawings and its texts, one below the other.
-    bench/picture.py FOLDER/plan.html DAY PICTURE.svg"""
+    tools/pages/picture.py FOLDER/plan.html DAY PICTURE.svg"""
 import html
 import re
 import sys
@@ -22,11 +22,13 @@ def picture(page, day):
     shapes = " ".join(re.findall(r"^(?:\.covered|\.need|\.grid|\.work)\{.*$", style, re.M))
     patterns = re.search(r"<defs>.*?</defs>", page, re.S).group(0)
     section = re.search(r"<h2>Day %d</h2>(.*?)</section>" % day, page, re.S).group(1)
-    rows = re.findall(r'<div class="row"><span>([^<]*)</span>(<svg class="bar".*?</svg>|<svg class="chart".*?</svg>)</div>', section, re.S)
+    chart = re.search(r'<svg class="chart".*?</svg>', section, re.S).group(0)
+    axis = re.findall(r"<span[^>]*>([^<]+)</span>", section.partition('<span class="axis">')[2].partition("<svg")[0])
+    # of a bar's two lines the second tells the breaks, which the bar shows
+    bars = re.findall(r'<div class="row"><span>([^<]*)(?:<br>[^<]*)?</span>(<svg class="bar".*?</svg>)</div>', section, re.S)
     hours = re.findall(r"<span>(\d\d:\d\d)</span>", section)
     width, lines = WIDTH - LABELS - 10, [text("Day %d" % day, 10, 18, "head")]
-    (most, chart), bars = rows[0], rows[1:]
-    lines += [placed(chart, LABELS, TOP, width, CHART), text(most, 10, TOP + CHART // 2)]
+    lines += [placed(chart, LABELS, TOP, width, CHART), text("up to " + axis[0], 10, TOP + CHART // 2)]
     lines += [text(hour, LABELS + width * at // len(hours), TOP + CHART + 14, "hour") for at, hour in enumerate(hours)]
     below = TOP + CHART + 22
     for at, (label, bar) in enumerate(bars):

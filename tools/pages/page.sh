@@ -1,6 +1,6 @@
 #!/usr/bin/env bash
 # Opens a plan's page in headless Chromium and keeps four pictures of it: at 1280 and at 390 pixels, in colours and in shades of grey.
-#     bench/page.sh FOLDER/plan.html PICTURES
+#     tools/pages/page.sh FOLDER/plan.html PICTURES
 # It is no part of the tests: look at the pictures. It needs `chromium`.
 set -euo pipefail
 page=$(realpath "$1")
