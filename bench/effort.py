@@ -5,6 +5,7 @@ bound, the cost, the bytes of the journal, the processor seconds, and the load b
 documents (the call week of `examples/` where none is named). A program that is built otherwise may have other bytes in that place; then the script says so."""
 import argparse
 import os
+import re
 import subprocess
 import sys
 import tempfile
@@ -12,20 +13,21 @@ import time
 
 TOP = os.path.dirname(os.path.dirname(os.path.abspath(__file__)))
 PLAN = os.path.join(TOP, "bin", "shift_plan")
-# `ahead.min(10)`: a comparison with 10, 10 into a register, and the lesser of both
-MOST = bytes.fromhex("4883f80a b90a000000 480f42c8")
+# `ahead.min(10)`: a comparison with 10, 10 into a register, and the lesser of both; behind it `1 << ahead`: 1 into a register, and that shifted. The adviser's
+# code stands in the program once for each kind of stop (a search's, that of planned breaks, and none where an old journal is read), and the bytes in each.
+SHIFTED = rb"(?=\x41?[\xb8-\xbf]\x01\0\0\0\x41?\xd3[\xe0-\xe7])"
+MOST = re.compile(re.escape(bytes.fromhex("4883f80a b90a000000 480f42c8")) + SHIFTED)
 NONE = bytes.fromhex("4883f800 b900000000 480f42c8")
-PLACES = 2  # the adviser's code stands twice in the program, once for each kind of stop
 
 
 def without_effort(folder):
     with open(PLAN, "rb") as file:
-        content = file.read()
-    if content.count(MOST) != PLACES:
-        sys.exit("the program has no such bytes in %d places, but in %d" % (PLACES, content.count(MOST)))
+        content, places = MOST.subn(NONE, file.read())
+    if not places:
+        sys.exit("the program has such bytes nowhere")
     path = os.path.join(folder, "shift_plan")
     with open(path, "wb") as file:
-        file.write(content.replace(MOST, NONE))
+        file.write(content)
     os.chmod(path, 0o755)
     return path
 

@@ -11,7 +11,7 @@ from os.path import dirname, realpath
 sys.dont_write_bytecode = True
 sys.path.insert(0, dirname(realpath(__file__)))
 from proved import purpose_of
-from rooms import TOP, crates, text_of
+from rooms import TOP, crates, is_of_tests, text_of
 
 PICTURE, PAGE = "docs/floors.svg", "docs/ARCHITECTURE.md"
 PART = re.compile(r"^## The floors\n.*?(?=^## |\Z)", re.M | re.S)
@@ -89,7 +89,7 @@ def drawn(floor, top, lines, is_even):
     for number, line in enumerate(lines):
         y = top + GAP + number * (BOX + GAP)
         for name, left, width in line:
-            kind = "box tests" if name.endswith("_tests") else "box"
+            kind = "box tests" if is_of_tests(name) else "box"
             made += f'<rect class="{kind}" x="{left}" y="{y}" width="{width}" height="{BOX}" rx="3"/>'
             made += f'<text class="crate" x="{left + width / 2:g}" y="{y + 16}">{name}</text>\n'
     return made, height

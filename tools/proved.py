@@ -9,7 +9,7 @@ import os, re, sys
 sys.dont_write_bytecode = True
 sys.path.insert(0, os.path.dirname(os.path.realpath(__file__)))
 from edits import CLAUSE, OWNER, blanked, end_of_angles, end_of_group, without_groups
-from rooms import TOP, crates, files_of, text_of
+from rooms import TOP, crates, files_of, is_of_tests, text_of
 
 PAGE = f"{TOP}/docs/PROVED.md"
 HEAD = """# What is proved
@@ -135,7 +135,7 @@ class Crate:
 
 def page():
     """Returns the page of the sources: all crates but those of tests, in the order of crates.txt."""
-    found = [Crate(it) for it in crates() if not it.endswith("_tests")]
+    found = [Crate(it) for it in crates() if not is_of_tests(it)]
     of_traits = {line.in_trait: line.told for crate in found for line in crate.lines if line.told}
     links = ", ".join(f"[{it.name}](#{it.name})" for it in found)
     return f"{HEAD}\nThe crates: {links}.\n" + "".join(it.text(of_traits) for it in found)

@@ -23,6 +23,11 @@ def crates():
     return {name: [it for it in words if it in used] for name, words in used.items()}
 
 
+def is_of_tests(name):
+    """Returns whether a crate holds tests, or what tests use."""
+    return name.endswith("_tests") or name == "fixtures"
+
+
 def below(used, name):
     """Returns the crate and all that it stands on."""
     found, left = set(), [name]

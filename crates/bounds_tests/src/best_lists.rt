@@ -2,8 +2,9 @@
 ghost use Rattle.std.specs.Prelude.{◌≡◌, ◌<◌, length};
 ghost use Rattle.shift_instance.specs.Problem.{shift_list, slots};
 
-use crate::fixtures::{day, rest_at};
+use crate::priced_day::day;
 use break_rules::NoMemory;
+use fixtures::one_break;
 use price_sums::{DaySums, lane_at};
 use pricing::{Steps, Tables, best_pattern};
 use shift_instance::Instance;
@@ -17,7 +18,7 @@ fn best_worth(alloc: Global, instance: &Instance) -> Result<i128, NoMemory>
     requires shifts { length (shift_list instance.now) ≡ 1 }
     requires slots { slots instance.now ≡ 24 }
 {
-    let bonus = vec![in alloc; (rest_at(alloc, 2)?, 3i64)]?;
+    let bonus = vec![in alloc; (one_break(alloc, 2)?, 3i64)]?;
     match best_pattern(alloc, instance, 0, 0, &[2i64; 24], &bonus)? {
         Some((_, worth)) => Ok(worth),
         None => Ok(0),

@@ -1,7 +1,7 @@
 //! The bound of prices below two cuts, and a pricer that follows them.
 ghost use Rattle.std.specs.Prelude.{◌≡◌, ◌<◌, length};
 
-use crate::fixtures::{day, prices, two_cuts};
+use crate::priced_day::{day, prices, two_cuts};
 use dual_bound::{PriceFault, Pricer, prove};
 use head_splits::{Cuts, Prices};
 use pricing::Steps;

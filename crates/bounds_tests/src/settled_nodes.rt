@@ -1,5 +1,5 @@
 //! A node whose two cuts leave one plan: two duties with the break from 10 on.
-use crate::fixtures::{day, two_cuts};
+use crate::priced_day::{day, two_cuts};
 use break_rules::NoMemory;
 use dual_bound::{Fixing, settle};
 use head_splits::{Cuts, Settle, settled};

@@ -21,7 +21,7 @@ use Rattle.subtree_search.specs.Searching.{top_of}
 use Rattle.subtree_search.specs.Stepping.{IsSearched}
 use Rattle.subtree_search.proofs.Sound.{steps_hold, Holds, IsKept}
 use Rattle.break_plans.specs.declared.planning.Anew.{Anew}
-use Rattle.break_plans.specs.Anew.{HasHeadsOf, IsCheaper, rows_after}
+use Rattle.break_plans.specs.Anew.{rows_after, ComesOfSearch, HasHeadsOf, IsCheaper}
 
 -- ---- pins
 
@@ -124,3 +124,17 @@ pub ok_floor : {E : Type 0} (i : Problem) (rows : List Row) (limit budget : ℕ)
     → IfOk result (λ a. (rota : List Duty) → IsTrue (is_legal_rota i rota) → HasHeadsOf i rows rota → a.floor ≤ cost i rota)
 ok_floor i rows limit budget base r (Ok a) valid is s h = floor_known i rows limit budget a.floor r valid (subst (λ (cs : List Cut). IsSearched i cs limit budget r) is s) h
 ok_floor i rows limit budget base r (Err x) valid is s h = tt
+
+pub ok_searched : {E : Type 0} (i : Problem) (rows : List Row) (limit budget : ℕ) (base : List Cut) (r : Run) (result : Result Anew E) → limit ≡ cost i (rota_of rows)
+    → base ≡ pins_of i (rota_of rows) → IsSearched i base limit budget r → IfOk result (λ a. a.cheaper ≡ option_map (λ (b : Costing). b.rows) r.best) → IfOk result (λ a. a.cost ≡ top r)
+    → IfOk result (λ a. a.floor ≡ r.floor) → IfOk result (λ a. a.steps ≡ r.taken) → IfOk result (ComesOfSearch i rows budget)
+ok_searched i rows limit budget base r (Ok a) e is s found paid low taken =
+    record {
+      run = r;
+      searched = subst (λ n. IsSearched i (pins_of i (rota_of rows)) n budget r) e (subst (λ (cs : List Cut). IsSearched i cs limit budget r) is s);
+      cheaper = found;
+      cost = paid;
+      floor = low;
+      taken = taken;
+    }
+ok_searched i rows limit budget base r (Err x) e is s found paid low taken = tt

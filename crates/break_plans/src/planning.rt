@@ -7,8 +7,7 @@ ghost use Rattle.shift_instance.specs.Valid.{IsValid};
 ghost use Rattle.head_splits.specs.Cuts.{meets};
 ghost use Rattle.report_grafts.specs.Pins.{pins_of};
 ghost use Rattle.report_grafts.specs.Run.{IsSound, is_finished, top};
-ghost use Rattle.subtree_search.specs.Stepping.{steps_enough};
-ghost use Rattle.break_plans.specs.Anew.{HasHeadsOf, IsCheaper, rows_after};
+ghost use Rattle.break_plans.specs.Anew.{ComesOfSearch, HasHeadsOf, IsCheaper, rows_after, steps_for};
 
 use advice::{Adviser, Stop};
 use break_rules::NoMemory;
@@ -30,15 +29,6 @@ pub struct Anew {
     pub floor: u64,
     /// How many steps the search took.
     pub steps: u64,
-}
-
-impl Anew {
-    /// Whether it is known that no legal rota with as many duties of each shift on each day costs less.
-    pub fn is_best(&self) -> bool
-        ensures { IsTrue result → self.now.floor ≡ self.now.cost }
-    {
-        self.floor == self.cost
-    }
 }
 
 /// The cuts that fix how many duties legal rows have of each shift on each day.
@@ -106,11 +96,12 @@ pub fn planned_anew<A: Adviser, S: Stop>(
 ) -> Result<Anew, NoMemory>
     requires legal { IsTrue (are_legal_rows instance.now rows.now) }
     requires steps { steps ≤ 10 ^ 9 }
+    ensures searched { IfOk result (ComesOfSearch instance.now rows.now steps) }
     ensures cheaper { IfOk result (λ a. IfSome a.cheaper (IsCheaper instance.now rows.now)) }
     ensures cost { IfOk result (λ a. a.cost ≡ cost instance.now (rota_of (rows_after rows.now a.cheaper))) }
     ensures floor { IfOk result (λ a. (rota : List Duty) → IsTrue (is_legal_rota instance.now rota) → HasHeadsOf instance.now rows.now rota → a.floor ≤ cost instance.now rota) }
     ensures ends { IfOk result (λ a. (a.floor ≡ a.cost) ⊎ ((a.steps ≡ steps) ⊎ (S.can_ask stop.now ≡ true))) }
-    ensures enough { steps_enough instance.now (pins_of instance.now (rota_of rows.now)) ≤ steps → IfOk result (λ a. (a.floor ≡ a.cost) ⊎ (S.can_ask stop.now ≡ true)) }
+    ensures enough { steps_for instance.now rows.now ≤ steps → IfOk result (λ a. (a.floor ≡ a.cost) ⊎ (S.can_ask stop.now ≡ true)) }
 {
     let before = recount(instance, rows);
     let base = few_pins(alloc, instance, rows)?;

@@ -1,8 +1,9 @@
 //! Cuts of the nodes of a report, and cuts that pin the heads of its rows.
 ghost use Rattle.std.specs.Prelude.{◌≡◌};
 
-use crate::fixtures::{morning, report};
+use crate::split_morning::report;
 use certificate::Cert;
+use fixtures::morning_of;
 use head_splits::{Cuts, Side};
 use report_grafts::{export, pins};
 use rota_cost::legal_rows;
@@ -35,7 +36,7 @@ fn exported(
 #[test]
 fn the_second_part_of_a_split_is_exported(rt: HostRuntime) -> Result<(), Fail> {
     let alloc = rt.alloc();
-    let cuts = exported(alloc, &morning(alloc)?, &report(alloc)?, 2)?;
+    let cuts = exported(alloc, &morning_of(alloc, "2")?, &report(alloc)?, 2)?;
     assert!(rt; cuts.as_slice() == [(Side::AtLeast, 2)].as_slice());
     Ok(())
 }
@@ -54,7 +55,7 @@ fn pinned(alloc: Global, instance: &Instance, whole: &Cert) -> Result<Vec<(Side,
 #[test]
 fn heads_are_pinned(rt: HostRuntime) -> Result<(), Fail> {
     let alloc = rt.alloc();
-    let cuts = pinned(alloc, &morning(alloc)?, &report(alloc)?)?;
+    let cuts = pinned(alloc, &morning_of(alloc, "2")?, &report(alloc)?)?;
     assert!(rt; cuts.as_slice() == [(Side::AtMost, 1), (Side::AtLeast, 1)].as_slice());
     Ok(())
 }

@@ -1,8 +1,9 @@
 //! A run of one step that is grafted into the report.
 ghost use Rattle.std.specs.Prelude.{◌≡◌, ◌≤◌, ◌^◌, length, IfOk};
 
-use crate::fixtures::{morning, one_step, prices, report};
+use crate::split_morning::{one_step, prices, report};
 use certificate::Cert;
+use fixtures::morning_of;
 use report_grafts::{SubRun, export, graft};
 use shift_instance::Instance;
 use std::alloc::Global;
@@ -42,7 +43,7 @@ fn grafted(
 #[test]
 fn a_run_is_grafted(rt: HostRuntime) -> Result<(), Fail> {
     let alloc = rt.alloc();
-    let (instance, whole) = (morning(alloc)?, report(alloc)?);
+    let (instance, whole) = (morning_of(alloc, "2")?, report(alloc)?);
     let run = run_below(alloc, &instance, &whole)?;
     assert!(rt; grafted(alloc, &instance, &whole, &run)? == (Some(3), 0, 3));
     Ok(())

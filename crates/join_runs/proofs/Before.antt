@@ -15,11 +15,11 @@ use Rattle.report_grafts.specs.Run.{divisions}
 use Rattle.report_joins.specs.declared.fault.PartFault.{PartFault}
 use Rattle.report_joins.specs.declared.fault.PartFault.TheVariants.{Refused as IsRefusedPart, OtherLines, NothingFurther, NoEnd, OtherNode, OtherPlan, SameNode, TooMany, NoMemory as NoMemoryLeft}
 use Rattle.report_joins.specs.Faults.{Departs, IsPartFault, LeavesNode}
-use Rattle.report_joins.specs.Joined.{alone, AreJoined, IsJoinedCert, Joined, JoinsPart}
+use Rattle.report_joins.specs.Joined.{alone, AreJoined, IsJoinedCert, Joined}
 use Rattle.report_joins.specs.Joined.AreJoined.{none, one_more}
 use Rattle.join_runs.specs.declared.status.JoinStatus.{JoinStatus}
 use Rattle.join_runs.specs.Running.{AreAllJoined, IsAllJoined, IsPartEnd, IsUnjoined, JoinsReport}
-use Rattle.join_runs.specs.Runs.{AreReportsOf, IsJoinedText}
+use Rattle.join_runs.specs.Runs.{IsJoinedText}
 use Rattle.join_runs.specs.Texts.{HasPlace}
 use Rattle.join_runs.proofs.Endings.{joined_more, joined_no_more, joined_none}
 use Rattle.join_runs.proofs.Texts.{accepted_text}

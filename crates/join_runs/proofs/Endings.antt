@@ -1,6 +1,6 @@
 -- From how a run ends over an instance to what its status says.
-use Rattle.std.proofs.Common.{◌≡◌, ◌⊎◌, inl, inr, ℕ, suc, zero, ◌+◌, ◌<◌, ◌≤◌, ◌^◌, refl, sym, subst, ap, ◌∙◌, List, [], ◌∷◌, ◌++◌, length, map, take, get_or, arith, Option, Some, None}
-use Rattle.std.specs.Prelude.{slice_get, IsSome, IfSome}
+use Rattle.std.proofs.Common.{◌≡◌, inl, inr, ℕ, suc, zero, ◌+◌, refl, sym, subst, ap, ◌∙◌, List, [], ◌∷◌, ◌++◌, take, arith, Option, Some, None}
+use Rattle.std.specs.Prelude.{slice_get, IsSome}
 use Rattle.std.specs.Option.{option_map}
 use Rattle.std.specs.Io.KnownBytes.{Appends}
 use Rattle.shift_instance.specs.Problem.{Problem}
@@ -10,15 +10,14 @@ use Rattle.certificate.specs.LineText.{line_text}
 use Rattle.cert_check.specs.declared.judged.Refused.{Refused as Refusal}
 use Rattle.cert_check.specs.Judged.{cause_of}
 use Rattle.check_runs.specs.Check.{IsReportOf, SinkMet, SourceMet}
-use Rattle.report_joins.specs.Joined.{alone, AreJoined, Joined, JoinsPart}
+use Rattle.report_joins.specs.Joined.{alone, Joined}
 use Rattle.report_joins.specs.Joined.AreJoined.{none, one_more}
-use Rattle.join_runs.specs.declared.reading.Unreported.{Unreported}
 use Rattle.join_runs.specs.declared.status.JoinStatus.{JoinStatus}
 use Rattle.join_runs.specs.declared.status.JoinStatus.TheVariants.{Written, Refused, NoPart, Usage, Input, Bundle, ReadFault, WriteFault, NoMemory}
 use Rattle.join_runs.specs.declared.status.PartCause.{PartCause}
 use Rattle.join_runs.specs.Running.{AreAllJoined, IsPartEnd, IsUnjoined, JoinsReport, Told}
 use Rattle.join_runs.specs.Runs.Says.{joins, refuses, has_no_part}
-use Rattle.join_runs.specs.Runs.{AreReportsOf, Ends, EndsOver, EndsWith, Explains, HasCommand, IsJoinedText, IsNoPart, Met, PartsMet, Says, SomeRose}
+use Rattle.join_runs.specs.Runs.{AreReportsOf, EndsOver, EndsWith, Explains, HasCommand, IsJoinedText, IsNoPart, Met, PartsMet}
 use Rattle.join_runs.specs.Status.{EndsBeforeParts}
 use Rattle.join_runs.specs.Texts.{part_text, refused_text, IsNamed, IsNamedRefusal}
 use Rattle.join_runs.specs.Words.{Asked, join_of}

@@ -4,3 +4,4 @@ pub mod Texts
 pub mod Reading
 pub mod Runs
 pub mod Running
+pub mod Complete

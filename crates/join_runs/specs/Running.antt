@@ -1,5 +1,5 @@
 -- How a run of `graft_run join` comes to its end.
-use Rattle.std.specs.Prelude.{◌≡◌, ◌⊎◌, ⊤, ℕ, ◌+◌, List, Option, Some}
+use Rattle.std.specs.Prelude.{◌≡◌, ◌⊎◌, ⊤, ℕ, List, Option, Some}
 use Rattle.std.specs.Io.KnownBytes.{Appends}
 use Rattle.plan_base.specs.Causes.{Rose}
 use Rattle.plan_base.specs.Streams.{AppendsPart}

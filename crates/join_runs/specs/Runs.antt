@@ -18,7 +18,7 @@ use Rattle.join_runs.specs.declared.status.JoinStatus.{JoinStatus}
 use Rattle.join_runs.specs.declared.status.JoinStatus.TheVariants.{Written, Refused, NoPart, Usage, Input, Bundle, ReadFault, WriteFault, NoMemory}
 use Rattle.join_runs.specs.declared.status.PartCause.{PartCause}
 use Rattle.join_runs.specs.declared.status.PartCause.TheVariants.{NoReport, Fault}
-use Rattle.join_runs.specs.Texts.{part_text, refused_text, HasPlaces, IsNamed, IsNamedRefusal}
+use Rattle.join_runs.specs.Texts.{part_text, refused_text, IsNamed, IsNamedRefusal}
 use Rattle.join_runs.specs.Words.{join_of}
 
 -- what shows of the sources of the parts, in their order: what each has left before the run (none where it doesn't tell), and its counts of faults before

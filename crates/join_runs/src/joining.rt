@@ -1,5 +1,6 @@
 //! The run of `graft_run join`.
-ghost use Rattle.std.specs.Prelude.{◌≡◌, ◌<◌, ◌≤◌, ◌^◌, IfErr, IfOk, length, map, string_bytes};
+ghost use Rattle.std.specs.Prelude.{◌≡◌, ◌⊎◌, ◌<◌, ◌≤◌, ◌^◌, IfErr, IfOk, length, map, string_bytes};
+ghost use Rattle.join_runs.specs.Complete.{CanJoin};
 ghost use Rattle.join_runs.specs.Running.{IsUnjoined, Told};
 ghost use Rattle.join_runs.specs.Runs.{EndsOver, EndsWith, Explains, IsJoinedText};
 ghost use Rattle.join_runs.specs.Status.{EndsBeforeParts, EndsEarly, EndsUnwritten};
@@ -129,6 +130,16 @@ pub fn join_top<S: Source, T: Source, P: Source, K: Sink>(
           sink = record { held = K.held out.old; held_after = K.held out.new; faults = (K.faults out.old, K.faults out.new) };
         })
         result }
+    // What can be joined is written.
+    ensures complete { CanJoin
+        (record {
+          words = map string_bytes words.now;
+          document = record { left = S.left instance.old; faults = (S.faults instance.old, S.faults instance.new) };
+          report = record { left = T.left bundle.old; faults = (T.faults bundle.old, T.faults bundle.new) };
+          parts = record { left = map P.left parts.old; faults = (map P.faults parts.old, map P.faults parts.new) };
+          sink = record { held = K.held out.old; held_after = K.held out.new; faults = (K.faults out.old, K.faults out.new) };
+        })
+        → (result ≡ JoinStatus.Written) ⊎ (result ≡ JoinStatus.NoMemory) }
     ensures unread { result ≡ JoinStatus.Usage → instance.new ≡ instance.old }
     ensures untouched { EndsEarly result → bundle.new ≡ bundle.old }
     ensures parts_untouched { EndsBeforeParts result → parts.new ≡ parts.old }

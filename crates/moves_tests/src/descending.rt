@@ -1,9 +1,10 @@
 //! Plans that no move makes cheaper, worked out by hand.
 ghost use Rattle.std.specs.Prelude.{◌≡◌};
 
-use crate::fixtures::{DAY, NIGHT, early, instance_of};
+use crate::drafts_of_days::{DAY, early};
 use break_rules::NoMemory;
 use descents::{Descent, descend, descended};
+use fixtures::{NIGHT, instance_of};
 use local_moves::Draft;
 use rota_cost::cost_rows;
 use shift_instance::{Instance, Rows};

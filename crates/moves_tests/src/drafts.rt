@@ -1,7 +1,8 @@
 //! Moves on plans that were worked out by hand.
 ghost use Rattle.std.specs.Prelude.{◌≡◌};
 
-use crate::fixtures::{DAY, LONGER, Step, early, empty, instance_of, move_of, take};
+use crate::drafts_of_days::{DAY, LONGER, Step, early, empty, move_of, take};
+use fixtures::instance_of;
 use local_moves::{Draft, MoveFault};
 use shift_instance::Instance;
 use std::alloc::Global;

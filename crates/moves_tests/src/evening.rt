@@ -1,7 +1,8 @@
 //! Breaks of nights that are made even, worked out by hand.
-use crate::fixtures::{BANDED_NIGHT, NIGHT, instance_of};
+use crate::drafts_of_days::BANDED_NIGHT;
 use break_rules::NoMemory;
 use descents::{even_out, unevenness};
+use fixtures::{NIGHT, instance_of};
 use greedy::greedy_plan;
 use local_moves::Draft;
 use shift_instance::{Instance, Rows};

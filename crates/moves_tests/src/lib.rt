@@ -1,11 +1,13 @@
-//! Tests of plans that change move by move, of descents, and of plans made more even, each worked out by hand.
+//! Tests of plans that change move by move, of descents, of plans made more even, and of what advisers tell of a small day, each worked out by hand.
 #![tactic(auto)]
 
+#[cfg(test)]
+mod advised;
 #[cfg(test)]
 mod descending;
 #[cfg(test)]
 mod drafts;
 #[cfg(test)]
-mod evening;
+mod drafts_of_days;
 #[cfg(test)]
-mod fixtures;
+mod evening;

@@ -1,5 +1,5 @@
 //! The lines of text for the plan.
-use crate::fixtures::{instance, judge, rows};
+use crate::two_days::{instance, judge, rows};
 use plan_tables::{Summary, duties_table, summary_text};
 use std::process::Abort;
 use std::test::Fail;

@@ -1,5 +1,5 @@
 //! The page of the plan.
-use crate::fixtures::{banded, instance, judge, rows};
+use crate::two_days::{banded, instance, judge, rows};
 use plan_page::{PageTexts, Section, plan_page};
 use std::alloc::{AllocError, Global};
 use std::process::Abort;

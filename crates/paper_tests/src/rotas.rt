@@ -1,5 +1,5 @@
 //! The rota of the plan.
-use crate::fixtures::{instance, judge, rows};
+use crate::two_days::{instance, judge, rows};
 use rota_table::rota_csv;
 use std::test::Fail;
 

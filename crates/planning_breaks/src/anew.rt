@@ -1,13 +1,13 @@
 //! A plan with other breaks.
 
-ghost use Rattle.std.specs.Prelude.{◌≡◌, ◌≤◌, ◌^◌, IfOk, IfSome, IsTrue, MatchOption, None, Some};
+ghost use Rattle.std.specs.Prelude.{◌≡◌, ◌⊎◌, ◌≤◌, ◌^◌, IfOk, IfSome, IsTrue, MatchOption, None, Some, true};
 ghost use Rattle.shift_instance.specs.Rota.{are_legal_rows};
-ghost use Rattle.planning_breaks.specs.Anew.{BoundsBreaks, IsRebroken, cert_after};
+ghost use Rattle.planning_breaks.specs.Anew.{cert_after, AreEnough, BoundsBreaks, CostsItsFloor, IsFound, IsRebroken};
 
 use advice::{Adviser, Stop};
 use break_plans::{Anew, planned_anew};
 use break_rules::NoMemory;
-use planning_runs::{Plan, with_rows};
+use planning_runs::{JudgedPlan, with_rows};
 use shift_instance::Rows;
 use std::alloc::Global;
 
@@ -15,7 +15,7 @@ use std::alloc::Global;
 #[derive(Drop)]
 pub struct Rebroken {
     /// The plan: with cheaper breaks where some were found, and else as it was.
-    pub plan: Plan,
+    pub plan: JudgedPlan,
     /// The rows before.
     pub before: Rows,
     /// What they cost.
@@ -25,7 +25,7 @@ pub struct Rebroken {
 }
 
 /// The rows of a plan with what they cost, once more; none where its report has none.
-fn rows_in(plan: &Plan) -> Result<Option<(u64, Rows)>, NoMemory>
+fn rows_in(plan: &JudgedPlan) -> Result<Option<(u64, Rows)>, NoMemory>
     ensures rows { IfOk result (λ found. found ≡ plan.now.cert.plan) }
 {
     match &plan.cert.plan {
@@ -35,7 +35,11 @@ fn rows_in(plan: &Plan) -> Result<Option<(u64, Rows)>, NoMemory>
 }
 
 /// A plan with cheaper rows, where there are some, and else as it is.
-fn with_cheaper(alloc: Global, plan: Plan, cheaper: Option<Rows>) -> Result<Plan, NoMemory>
+fn with_cheaper(
+    alloc: Global,
+    plan: JudgedPlan,
+    cheaper: Option<Rows>,
+) -> Result<JudgedPlan, NoMemory>
     requires legal { IfSome cheaper (λ rows. IsTrue (are_legal_rows plan.instance rows)) }
     ensures instance { IfOk result (λ new. new.instance ≡ plan.instance) }
     ensures cert { IfOk result (λ new. new.cert ≡ cert_after plan.instance plan.cert cheaper) }
@@ -50,14 +54,17 @@ fn with_cheaper(alloc: Global, plan: Plan, cheaper: Option<Rows>) -> Result<Plan
 /// its report has no rows. `NoMemory` is the only refusal.
 pub fn with_breaks<A: Adviser, S: Stop>(
     alloc: Global,
-    plan: Plan,
+    plan: JudgedPlan,
     steps: u64,
     adviser: &mut A,
     stop: &S,
 ) -> Result<Option<Rebroken>, NoMemory>
     requires steps { steps ≤ 10 ^ 9 }
     ensures rebroken { IfOk result (λ found. MatchOption found (plan.cert.plan ≡ None) (IsRebroken plan)) }
+    ensures found { IfOk result (λ found. IfSome found (IsFound plan steps (S.can_ask stop.now))) }
     ensures floor { IfOk result (λ found. IfSome found (BoundsBreaks plan)) }
+    // So many steps find the cheapest breaks, whatever is advised.
+    ensures enough { AreEnough plan steps → IfOk result (λ found. IfSome found (λ r. CostsItsFloor r ⊎ (S.can_ask stop.now ≡ true))) }
 {
     let Some((cost_before, before)) = rows_in(&plan)? else {
         return Ok(None);

@@ -4,11 +4,8 @@ ghost use Rattle.std.specs.Prelude.{◌≤◌, ◌^◌};
 
 use crate::anew::{Rebroken, with_breaks};
 use break_search::Rebreaking;
-use planning_ends::{begun, enter_ends, shown_on};
-use planning_progress::{Limits, Progress, Shown, Until, Watched};
-use planning_refusals::{Cause, Refusal};
-use planning_runs::Plan;
-use planning_words::BreaksWords;
+use planning_runs::{Cause, JudgedPlan, PlanRefusal, begun, enter_ends, shown_on};
+use planning_words::{BreaksWords, Progress, Shown, TimeLimits, Until, Watched};
 use shift_instance::{Instance, Rows};
 use std::alloc::{AllocError, Global};
 use std::sync::Arc;
@@ -54,15 +51,19 @@ fn rebreaker(
 }
 
 /// The refusal where a report has no plan.
-fn no_plan(alloc: Global, report: &str) -> Refusal {
-    Refusal::said(
+fn no_plan(alloc: Global, report: &str) -> PlanRefusal {
+    PlanRefusal::said(
         Cause::Report,
         format!(in alloc; "the report `{report}` has no plan whose breaks could be planned anew"),
     )
 }
 
 /// Refuses a plan whose report has no rows.
-pub fn refuse_without_rows(alloc: Global, words: &BreaksWords, plan: &Plan) -> Result<(), Refusal> {
+pub fn refuse_without_rows(
+    alloc: Global,
+    words: &BreaksWords,
+    plan: &JudgedPlan,
+) -> Result<(), PlanRefusal> {
     match &plan.cert.plan {
         Some(_) => Ok(()),
         None => Err(no_plan(alloc, words.report)),
@@ -73,9 +74,9 @@ pub fn refuse_without_rows(alloc: Global, words: &BreaksWords, plan: &Plan) -> R
 fn adviser_of(
     alloc: Global,
     words: &BreaksWords,
-    plan: &Plan,
+    plan: &JudgedPlan,
     until: &Ends,
-) -> Result<Rebreaker, Refusal> {
+) -> Result<Rebreaker, PlanRefusal> {
     match &plan.cert.plan {
         Some((_cost, rows)) => Ok(rebreaker(alloc, words, &plan.instance, rows, until)?),
         None => Err(no_plan(alloc, words.report)),
@@ -101,10 +102,10 @@ pub fn breaks_as_asked<R: Threads>(
     host: HostRuntime,
     rt: &R,
     words: &BreaksWords,
-    plan: Plan,
-) -> Result<Rebroken, Refusal> {
+    plan: JudgedPlan,
+) -> Result<Rebroken, PlanRefusal> {
     let alloc = host.alloc();
-    let limits = Limits {
+    let limits = TimeLimits {
         whole: u64::from(words.seconds) * SECOND,
         quiet: None,
     };

@@ -11,7 +11,7 @@ use Rattle.certificate.specs.Departing.{IsFaultOf, Spells}
 use Rattle.cert_check.specs.Judged.{IsRefused}
 use Rattle.search_book.specs.Search.{SearchView}
 use Rattle.solve_runs.specs.Report.{cert_of}
-use Rattle.planning_runs.specs.declared.plan.Plan.{Plan}
+use Rattle.planning_runs.specs.declared.plan.JudgedPlan.{JudgedPlan}
 use Rattle.planning_runs.specs.declared.judging.Unshown.{Unshown}
 use Rattle.planning_runs.specs.declared.judging.Unshown.TheVariants.{Document, Report, Refused}
 
@@ -23,7 +23,7 @@ IsUnshown document report (Report why) = IsFaultOf report why
 IsUnshown document report (Refused why) = (i : Problem) × (c : Cert) × (reading_of document ≡ Ok i) × Spells report c × IsRefused i c why
 
 -- a plan is the one of an instance that a book's certificate shows
-pub record IsOfBook {D : Type 0} (i : Problem) (book : SearchView D) (plan : Plan) : Type 0 where
+pub record IsOfBook {D : Type 0} (i : Problem) (book : SearchView D) (plan : JudgedPlan) : Type 0 where
   pub instance : plan.instance ≡ i
   pub cert : plan.cert ≡ cert_of book.log.history book.log.book
 

@@ -8,7 +8,7 @@ ghost use Rattle.certificate.specs.Departing.{Spells};
 ghost use Rattle.cert_check.specs.Judged.{IsRefused};
 ghost use Rattle.planning_runs.specs.Reports.{IsOfBook, IsUnshown};
 
-use crate::plan::Plan;
+use crate::plan::JudgedPlan;
 use break_rules::NoMemory;
 use cert_check::{Refused, check, check_by};
 use certificate::{Cert, CertText};
@@ -33,7 +33,12 @@ pub enum Unshown {
 }
 
 /// The plan of an instance that a certificate shows, if it is accepted.
-fn judged(alloc: Global, instance: Instance, cert: Cert, report: Vec<u8>) -> Result<Plan, Refused>
+fn judged(
+    alloc: Global,
+    instance: Instance,
+    cert: Cert,
+    report: Vec<u8>,
+) -> Result<JudgedPlan, Refused>
     requires spelled { Spells report.items cert }
     ensures instance { IfOk result (λ plan. plan.instance ≡ instance) }
     ensures cert { IfOk result (λ plan. plan.cert ≡ cert) }
@@ -41,7 +46,7 @@ fn judged(alloc: Global, instance: Instance, cert: Cert, report: Vec<u8>) -> Res
     ensures refused { IfErr result (IsRefused instance cert) }
 {
     check(alloc, &instance, &cert)?;
-    Ok(Plan {
+    Ok(JudgedPlan {
         instance,
         cert,
         report,
@@ -56,7 +61,7 @@ fn judged_by<R: Threads + Sync>(
     cert: Cert,
     report: Vec<u8>,
     workers: u32,
-) -> Result<Plan, Refused>
+) -> Result<JudgedPlan, Refused>
     requires some { 1 ≤ workers }
     requires spelled { Spells report.items cert }
     ensures instance { IfOk result (λ plan. plan.instance ≡ instance) }
@@ -65,7 +70,7 @@ fn judged_by<R: Threads + Sync>(
     ensures refused { IfErr result (IsRefused instance cert) }
 {
     check_by(rt, alloc, &instance, &cert, workers)?;
-    Ok(Plan {
+    Ok(JudgedPlan {
         instance,
         cert,
         report,
@@ -73,7 +78,7 @@ fn judged_by<R: Threads + Sync>(
 }
 
 /// Judges a report for the instance of a document as `shift_check check` does. [`Unshown`] says why it shows no plan.
-pub fn judged_plan(alloc: Global, document: &[u8], report: Vec<u8>) -> Result<Plan, Unshown>
+pub fn judged_plan(alloc: Global, document: &[u8], report: Vec<u8>) -> Result<JudgedPlan, Unshown>
     ensures instance { IfOk result (λ plan. reading_of document.now ≡ Ok plan.instance) }
     ensures cert { IfOk result (λ plan. Spells report.items plan.cert) }
     ensures report { IfOk result (λ plan. plan.report ≡ report) }
@@ -111,7 +116,7 @@ pub(crate) fn plan_of<D: Disk, R: Threads + Sync>(
     instance: Instance,
     book: &Book<D>,
     workers: u32,
-) -> Result<Plan, NoMemory>
+) -> Result<JudgedPlan, NoMemory>
     requires some { 1 ≤ workers }
     requires same { book.now.log.instance ≡ instance }
     ensures { IfOk result (IsOfBook instance book.now) }

@@ -4,7 +4,7 @@ ghost use Rattle.std.specs.Prelude.{◌≡◌, IfOk, IsTrue};
 ghost use Rattle.shift_instance.specs.Rota.{are_legal_rows};
 ghost use Rattle.planning_runs.specs.Reports.{status_beside, with_rows};
 
-use crate::plan::Plan;
+use crate::plan::JudgedPlan;
 use break_rules::NoMemory;
 use certificate::{Cert, CertStatus};
 use rota_cost::recount;
@@ -25,12 +25,12 @@ fn status_beside(bound: u64, cost: u64) -> CertStatus
 
 /// A plan with other legal rows, at what they cost, and with the bound and the proof that it has. Its report is written anew; it is accepted as
 /// the one before was. `NoMemory` is the only refusal.
-pub fn with_rows(alloc: Global, plan: Plan, rows: Rows) -> Result<Plan, NoMemory>
+pub fn with_rows(alloc: Global, plan: JudgedPlan, rows: Rows) -> Result<JudgedPlan, NoMemory>
     requires legal { IsTrue (are_legal_rows plan.instance rows) }
     ensures instance { IfOk result (λ new. new.instance ≡ plan.instance) }
     ensures cert { IfOk result (λ new. new.cert ≡ with_rows plan.instance plan.cert rows) }
 {
-    let Plan { instance, cert, .. } = plan;
+    let JudgedPlan { instance, cert, .. } = plan;
     // an instance is valid
     let _heads = instance.heads();
     let cost = recount(&instance, &rows);
@@ -42,7 +42,7 @@ pub fn with_rows(alloc: Global, plan: Plan, rows: Rows) -> Result<Plan, NoMemory
         lines,
     };
     let text = report(alloc, &cert)?;
-    Ok(Plan {
+    Ok(JudgedPlan {
         instance,
         cert,
         report: text,

@@ -11,7 +11,7 @@ use shift_instance::Instance;
 
 /// A report that was judged and accepted, with what it says: what is shown of a plan is what was checked.
 #[derive(Drop)]
-pub struct Plan {
+pub struct JudgedPlan {
     /// The instance.
     pub instance: Instance,
     /// What the report says.

@@ -5,7 +5,7 @@ ghost use Rattle.solve_runs.specs.Searching.{SearchEnds};
 ghost use Rattle.planning_runs.specs.Reports.{IsOfBook};
 
 use crate::judging::plan_of;
-use crate::plan::Plan;
+use crate::plan::JudgedPlan;
 use advice::{Adviser, Stop};
 use plan_base::Disk;
 use shift_instance::Instance;
@@ -21,7 +21,7 @@ pub struct Planned<D: Disk> {
     /// How the search ended, and its book or, where none was opened, its disk.
     pub searched: Searched<D>,
     /// The plan of the book; none where no book was opened, or where there was no memory for it.
-    pub plan: Option<Plan>,
+    pub plan: Option<JudgedPlan>,
 }
 
 /// Searches for a plan of an instance over the journal on a disk until the search is finished, its steps are taken, it is asked to stop or

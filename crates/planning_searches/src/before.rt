@@ -6,10 +6,8 @@ use crate::reading::copy_of;
 use advice::{Adviser, Never};
 use break_rules::NoMemory;
 use plan_base::FileDisk;
-use planning_files::LockedJournal;
-use planning_refusals::Refusal;
-use planning_runs::{Plan, Planned, search_plan};
-use planning_words::PlanWords;
+use planning_runs::{JudgedPlan, PlanRefusal, Planned, search_plan};
+use planning_words::{LockedJournal, PlanWords};
 use search_book::OpenFault;
 use shift_instance::{Instance, Rows};
 use solve_runs::{Request, SearchEnd};
@@ -38,7 +36,7 @@ pub(crate) enum Taken {
 }
 
 /// The best plan of a plan's report, where that has duties.
-fn best_of(plan: &Plan) -> Result<Taken, NoMemory> {
+fn best_of(plan: &JudgedPlan) -> Result<Taken, NoMemory> {
     match &plan.cert.plan {
         Some((cost, rows)) if !rows.is_empty() => Ok(Taken::Plan(Before {
             cost: *cost,
@@ -72,7 +70,7 @@ fn unsearched<R: Threads + Wait + Sync>(
     instance: &Instance,
     journal: &LockedJournal<HostRuntime>,
     advisers: Vec<Box<dyn Adviser + Send>>,
-) -> Result<Planned<FileDisk<HostRuntime>>, Refusal>
+) -> Result<Planned<FileDisk<HostRuntime>>, PlanRefusal>
     requires some { 0 < words.now.workers }
 {
     let instance = copy_of(host.alloc(), instance)?;
@@ -102,7 +100,7 @@ pub(crate) fn taken_from<R: Threads + Wait + Sync>(
     words: &PlanWords,
     instance: &Instance,
     journal: &LockedJournal<HostRuntime>,
-) -> Result<Taken, Refusal>
+) -> Result<Taken, PlanRefusal>
     requires some { 0 < words.now.workers }
 {
     let alloc = host.alloc();

@@ -4,9 +4,10 @@ ghost use Rattle.std.specs.Prelude.{◌<◌};
 
 use crate::before::{Before, Taken, taken_from};
 use instance_json::INSTANCE_MAX;
-use planning_files::{LockedJournal, set_aside};
-use planning_refusals::{Cause, Refusal};
-use planning_words::{PlanWords, document_beside, is_same_file, journal_beside};
+use planning_runs::{Cause, PlanRefusal};
+use planning_words::{
+    LockedJournal, PlanWords, document_beside, is_same_file, journal_beside, set_aside,
+};
 use refusal_texts::Role;
 use shift_instance::Instance;
 use std::alloc::{AllocError, Global};
@@ -76,11 +77,11 @@ pub struct Journals {
 }
 
 /// Locks the journal of a path for this run.
-fn locked(rt: HostRuntime, path: &str) -> Result<LockedJournal<HostRuntime>, Refusal> {
+fn locked(rt: HostRuntime, path: &str) -> Result<LockedJournal<HostRuntime>, PlanRefusal> {
     let alloc = rt.alloc();
     match LockedJournal::lock(rt, String::from_str(alloc, path)?) {
         Ok(journal) => Ok(journal),
-        Err(why) => Err(Refusal::locked(alloc, path, &why)),
+        Err(why) => Err(PlanRefusal::locked(alloc, path, &why)),
     }
 }
 
@@ -93,8 +94,8 @@ fn has_bytes(rt: HostRuntime, path: &str) -> bool {
 }
 
 /// The refusal of words that ask for the plan of a search that there isn't.
-fn no_search(alloc: Global, path: &str) -> Refusal {
-    Refusal::said(
+fn no_search(alloc: Global, path: &str) -> PlanRefusal {
+    PlanRefusal::said(
         Cause::Words,
         format!(in alloc;
             "--seconds 0 writes the plan of the search that a journal holds, and `{path}` would hold none: give more seconds"
@@ -113,9 +114,9 @@ fn has_namesake(rt: HostRuntime, words: &PlanWords) -> Result<bool, AllocError> 
 }
 
 /// The refusal of words whose journal and folder are those of another document.
-fn of_namesake(alloc: Global, words: &PlanWords) -> Refusal {
+fn of_namesake(alloc: Global, words: &PlanWords) -> PlanRefusal {
     let instance = words.instance;
-    Refusal::said(
+    PlanRefusal::said(
         Cause::Words,
         format!(in alloc;
             "`{instance}` and the document of that name with the ending .json beside it would have one journal and one folder: name others with --journal and --out"
@@ -124,8 +125,8 @@ fn of_namesake(alloc: Global, words: &PlanWords) -> Refusal {
 }
 
 /// The refusal of words whose journal is the instance itself.
-fn of_instance(alloc: Global, path: &str) -> Refusal {
-    Refusal::said(
+fn of_instance(alloc: Global, path: &str) -> PlanRefusal {
+    PlanRefusal::said(
         Cause::Words,
         format!(in alloc;
             "the instance and the journal would be the same file, {path}: name another journal with --journal"
@@ -134,7 +135,7 @@ fn of_instance(alloc: Global, path: &str) -> Refusal {
 }
 
 /// The refusal of words whose journal of that path isn't to be locked, if it isn't.
-fn unfit(rt: HostRuntime, words: &PlanWords, path: &str) -> Option<Refusal> {
+fn unfit(rt: HostRuntime, words: &PlanWords, path: &str) -> Option<PlanRefusal> {
     if is_same_file(path, words.instance) {
         return Some(of_instance(rt.alloc(), path));
     }
@@ -145,14 +146,14 @@ fn unfit(rt: HostRuntime, words: &PlanWords, path: &str) -> Option<Refusal> {
 }
 
 /// Gives the journal of a path another name, and locks a new one in its place.
-fn begun_again(rt: HostRuntime, path: &str) -> Result<LockedJournal<HostRuntime>, Refusal> {
+fn begun_again(rt: HostRuntime, path: &str) -> Result<LockedJournal<HostRuntime>, PlanRefusal> {
     let alloc = rt.alloc();
     match set_aside(&rt, alloc, path) {
         Ok(name) => {
             let _ = eprintln!(rt; "shift_plan: begins again; the old journal is {name}");
             locked(rt, path)
         }
-        Err(why) => Err(Refusal::unwritten(alloc, Role::Journal, path, why.kind())),
+        Err(why) => Err(PlanRefusal::unwritten(alloc, Role::Journal, path, why.kind())),
     }
 }
 
@@ -182,7 +183,7 @@ fn renewed<R: Threads + Wait + Sync>(
     instance: &Instance,
     path: &str,
     old: LockedJournal<HostRuntime>,
-) -> Result<Journals, Refusal>
+) -> Result<Journals, PlanRefusal>
     requires some { 0 < words.now.workers }
 {
     let taken = match words.like {
@@ -208,7 +209,7 @@ fn locked_at<R: Threads + Wait + Sync>(
     words: &PlanWords,
     instance: &Instance,
     path: &str,
-) -> Result<Journals, Refusal>
+) -> Result<Journals, PlanRefusal>
     requires some { 0 < words.now.workers }
 {
     if let Some(why) = unfit(host, words, path) {
@@ -232,7 +233,7 @@ pub fn locked_journal<R: Threads + Wait + Sync>(
     rt: &R,
     words: &PlanWords,
     instance: &Instance,
-) -> Result<Journals, Refusal>
+) -> Result<Journals, PlanRefusal>
     requires some { 0 < words.now.workers }
 {
     if has_namesake(host, words)? {

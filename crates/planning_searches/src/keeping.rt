@@ -10,8 +10,7 @@ use comparison_texts::left_lines;
 use descents::{descended, evened};
 use kept_duties::least_changed;
 use plan_comparison::kept_duties;
-use planning_refusals::{Cause, Refusal};
-use planning_runs::{Plan, with_rows};
+use planning_runs::{Cause, JudgedPlan, PlanRefusal, with_rows};
 use planning_words::LikeWords;
 use rota_cost::cost_rows;
 use shift_instance::{Instance, Rows};
@@ -35,7 +34,7 @@ pub struct Older {
 }
 
 /// The rows of a plan, where its report has one.
-pub fn rows_in(plan: &Plan) -> Option<&Rows>
+pub fn rows_in(plan: &JudgedPlan) -> Option<&Rows>
     ensures { IfSome result (λ rows. IsTrue (are_legal_rows plan.now.instance rows.now)) }
 {
     match &plan.cert.plan {
@@ -54,7 +53,12 @@ fn duties(rows: &Rows) -> u64 {
 }
 
 /// Says which rows of an older plan can't be kept, and why.
-fn tell_left(rt: HostRuntime, old: &Instance, new: &Instance, rows: &Rows) -> Result<(), Refusal> {
+fn tell_left(
+    rt: HostRuntime,
+    old: &Instance,
+    new: &Instance,
+    rows: &Rows,
+) -> Result<(), PlanRefusal> {
     for line in &left_lines(rt.alloc(), old, new, rows)? {
         let _ = eprintln!(rt; "shift_plan: not kept: {line}");
     }
@@ -62,16 +66,16 @@ fn tell_left(rt: HostRuntime, old: &Instance, new: &Instance, rows: &Rows) -> Re
 }
 
 /// The refusal where a report has no plan to keep.
-fn no_plan(alloc: Global, report: &str) -> Refusal {
-    Refusal::said(
+fn no_plan(alloc: Global, report: &str) -> PlanRefusal {
+    PlanRefusal::said(
         Cause::Report,
         format!(in alloc; "the report `{report}` has no plan to keep"),
     )
 }
 
 /// The refusal where no duty of the plan in a report can be kept.
-fn none_kept(alloc: Global, report: &str) -> Refusal {
-    Refusal::said(
+fn none_kept(alloc: Global, report: &str) -> PlanRefusal {
+    PlanRefusal::said(
         Cause::Words,
         format!(in alloc;
             "no duty of the plan in `{report}` can be kept: leave --like and --of out to begin without it"
@@ -86,7 +90,7 @@ fn carried(
     old: &Instance,
     rows: &Rows,
     instance: &Instance,
-) -> Result<Rows, Refusal> {
+) -> Result<Rows, PlanRefusal> {
     let kept = carried_rows(rt.alloc(), old, instance, rows)?;
     tell_left(rt, old, instance, rows)?;
     if kept.is_empty() {
@@ -104,9 +108,9 @@ fn carried(
 fn rows_of(
     rt: HostRuntime,
     report: &str,
-    old: &Plan,
+    old: &JudgedPlan,
     instance: &Instance,
-) -> Result<Rows, Refusal> {
+) -> Result<Rows, PlanRefusal> {
     match rows_in(old) {
         Some(rows) => carried(rt, report, &old.instance, rows, instance),
         None => Err(no_plan(rt.alloc(), report)),
@@ -114,7 +118,11 @@ fn rows_of(
 }
 
 /// The rows that the words name, as far as a search of an instance can keep them.
-fn wanted_rows(rt: HostRuntime, words: &LikeWords, instance: &Instance) -> Result<Rows, Refusal> {
+fn wanted_rows(
+    rt: HostRuntime,
+    words: &LikeWords,
+    instance: &Instance,
+) -> Result<Rows, PlanRefusal> {
     let old = plan_in(rt, words.of, words.report)?;
     rows_of(rt, words.report, &old, instance)
 }
@@ -167,7 +175,7 @@ pub fn older_plan(
     rt: HostRuntime,
     like: Option<LikeWords>,
     instance: &Instance,
-) -> Result<Older, Refusal> {
+) -> Result<Older, PlanRefusal> {
     let Some(words) = like else {
         return Ok(Older::none(rt.alloc()));
     };
@@ -211,7 +219,7 @@ fn least_rows(
 
 /// The plan of a search with other rows: those of the plan that costs least with what the duties count that it doesn't keep, as far as such a
 /// plan is found. Where no older plan is named, it stays as it is.
-fn plan_with_kept(alloc: Global, plan: Plan, older: &Older) -> Result<Plan, NoMemory> {
+fn plan_with_kept(alloc: Global, plan: JudgedPlan, older: &Older) -> Result<JudgedPlan, NoMemory> {
     if older.wanted.is_empty() {
         return Ok(plan);
     }
@@ -230,7 +238,7 @@ struct KeptAndCost {
 }
 
 /// How many of the duties that were to be kept a plan has, and what it costs; none where it has no rows.
-fn kept_and_cost(plan: &Plan, wanted: &Rows) -> Option<KeptAndCost> {
+fn kept_and_cost(plan: &JudgedPlan, wanted: &Rows) -> Option<KeptAndCost> {
     match &plan.cert.plan {
         Some((cost, rows)) => Some(KeptAndCost {
             kept: kept_duties(wanted, rows),
@@ -278,7 +286,11 @@ fn tell_kept(
 }
 
 /// The plan that is written in the place of the one that a search found: it keeps what it can of the older plan, which is said.
-pub(crate) fn kept(rt: HostRuntime, found: Plan, older: &Older) -> Result<Plan, Refusal> {
+pub(crate) fn kept(
+    rt: HostRuntime,
+    found: JudgedPlan,
+    older: &Older,
+) -> Result<JudgedPlan, PlanRefusal> {
     let wanted = &older.wanted;
     let before = kept_and_cost(&found, wanted);
     let plan = plan_with_kept(rt.alloc(), found, older)?;

@@ -10,12 +10,8 @@ use crate::telling::{Beginning, tell_end};
 use advice::Adviser;
 use gated_journal::JOURNAL_MAX;
 use plan_base::FileDisk;
-use planning_ends::{begun, enter_ends, shown_on};
-use planning_files::LockedJournal;
-use planning_progress::{Limits, Progress};
-use planning_refusals::Refusal;
-use planning_runs::{Plan, Planned, search_plan};
-use planning_words::PlanWords;
+use planning_runs::{JudgedPlan, PlanRefusal, Planned, begun, enter_ends, search_plan, shown_on};
+use planning_words::{LockedJournal, PlanWords, Progress, TimeLimits};
 use shift_instance::Instance;
 use solve_runs::Request;
 use std::alloc::AllocError;
@@ -30,8 +26,8 @@ const SECOND: u64 = 1_000;
 const STEPS_MOST: u64 = 1 << 62;
 
 /// How long a search as the words say may last.
-fn limits_of(words: &PlanWords) -> Limits {
-    Limits {
+fn limits_of(words: &PlanWords) -> TimeLimits {
+    TimeLimits {
         whole: u64::from(words.seconds) * SECOND,
         quiet: words.until_quiet.map(|quiet| u64::from(quiet) * SECOND),
     }
@@ -56,7 +52,7 @@ fn budget_of(words: &PlanWords, journal: &LockedJournal<HostRuntime>) -> Budget 
 }
 
 /// The plan of a search that has ended.
-fn ended(team: &Team, planned: Planned<FileDisk<HostRuntime>>) -> Result<Plan, Refusal> {
+fn ended(team: &Team, planned: Planned<FileDisk<HostRuntime>>) -> Result<JudgedPlan, PlanRefusal> {
     let Planned { searched, plan } = planned;
     match plan {
         Some(plan) => {
@@ -103,7 +99,7 @@ fn search_by<R: Threads + Wait + Sync>(
     team: &Team,
     instance: Instance,
     journal: &LockedJournal<HostRuntime>,
-) -> Result<Plan, Refusal>
+) -> Result<JudgedPlan, PlanRefusal>
     requires some { 0 < team.now.words.now.workers }
 {
     let alloc = team.host.alloc();
@@ -136,7 +132,7 @@ pub fn search_as_asked<R: Threads + Wait + Sync>(
     instance: Instance,
     older: &Older,
     journals: &Journals,
-) -> Result<Plan, Refusal>
+) -> Result<JudgedPlan, PlanRefusal>
     requires some { 0 < words.now.workers }
 {
     let progress = begun(host, limits_of(words), words.workers)?;

@@ -1,14 +1,11 @@
 //! What is said of a search on standard error.
 
 use crate::reading::Read;
-use document_faults::repeated_names;
 use instance_warnings::{Told, warnings};
-use journal_texts::full_sentence;
 use plan_tables::Hours;
-use planning_ends::shown_on;
-use planning_progress::{Progress, Shown};
-use planning_refusals::Refusal;
-use planning_words::PlanWords;
+use planning_runs::{PlanRefusal, shown_on};
+use planning_words::{PlanWords, Progress, Shown};
+use refusal_texts::{full_sentence, repeated_names};
 use rule_sentences::rules_text;
 use shift_instance::{Instance, Shift};
 use solve_runs::SearchEnd;
@@ -200,7 +197,7 @@ fn tell_stopped(rt: HostRuntime, progress: &Progress) {
 
 /// Says why a search was cut off, if it was.
 fn tell_cut_off(rt: HostRuntime, end: &SearchEnd) {
-    if let Some(why) = Refusal::of_end(rt.alloc(), end) {
+    if let Some(why) = PlanRefusal::of_end(rt.alloc(), end) {
         let _ = eprintln!(rt; "shift_plan: the search ends early: {why}");
     }
 }

@@ -1,1 +1,3 @@
 pub mod Wanted
+pub mod Folder
+pub mod Progress

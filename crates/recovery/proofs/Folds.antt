@@ -1,10 +1,9 @@
 -- Records that were read, folded one after another.
-use Rattle.std.proofs.Common.{◌≡◌, ℕ, zero, suc, ◌+◌, ◌<◌, List, [], ◌∷◌, ◌++◌, length, map, take, get_or, refl, sym, ap, ◌∙◌, subst, append_assoc, arith, Option, Some, Vec, Global}
+use Rattle.std.proofs.Common.{◌≡◌, ℕ, zero, suc, ◌+◌, ◌<◌, ◌≤◌, List, [], ◌∷◌, ◌++◌, length, map, take, drop, get_or, refl, sym, ap, ◌∙◌, subst, append_assoc, arith, Option, Some, Vec, Global}
 use Rattle.std.specs.Prelude.{slice_get, IfErr, IfOk, IsSomeAnd, MatchResult, Result, Ok, Err}
 use Rattle.std.specs.List.{AllZip}
-use Rattle.std.proofs.lemmas.List.{length-append}
+use Rattle.std.proofs.lemmas.List.{append-nil, length-append, take_all}
 use Rattle.std.proofs.lemmas.Option.{get_or_from_slice_get, slice_get_read}
-use Rattle.std.proofs.lemmas.Slice.Zip.{AllZip-long}
 use Rattle.shift_instance.specs.Problem.{Problem}
 use Rattle.shift_instance.proofs.Shifts.{get_or_some}
 use Rattle.head_splits.specs.declared.Cut.{Cut}
@@ -13,7 +12,8 @@ use Rattle.post_codec.specs.declared.post.Post.{Post}
 use Rattle.post_codec.specs.Fields.{IsFaultOf}
 use Rattle.post_codec.specs.Spelling.{SpellsBy}
 use Rattle.post_codec.proofs.Formats.{one_list_by}
-use Rattle.search_core.specs.Book.{Book}
+use Rattle.post_codec.proofs.Batches.{none_spelled}
+use Rattle.search_core.specs.Book.{Book, opening}
 use Rattle.search_core.specs.State.{StateView}
 use Rattle.search_core.specs.Taking.{Takes}
 use Rattle.recovery.specs.declared.fault.Why.{Why}
@@ -49,6 +49,20 @@ seam_zip R [] ws x (y ∷ ys) z = (y, refl, z.0)
 seam_zip R (w ∷ xs) ws x [] z = absurd z
 seam_zip R (w ∷ xs) ws x (y ∷ ys) z = seam_zip R xs ws x ys z.1
 
+-- what stands at a place of a part of a list
+pub get_within : {X : Type 0} (n : ℕ) (xs : List X) (k : ℕ) (x : X) → slice_get (take n xs) k ≡ Some x → slice_get xs k ≡ Some x
+get_within zero xs k x e = absurd (cc)
+get_within (suc n) [] k x e = absurd (cc)
+get_within (suc n) (y ∷ xs) zero x e = e
+get_within (suc n) (y ∷ xs) (suc k) x e = get_within n xs k x e
+
+pub get_behind : {X : Type 0} (n : ℕ) (xs : List X) (k : ℕ) (x : X) → slice_get (drop n xs) k ≡ Some x → slice_get xs (n + k) ≡ Some x
+get_behind zero xs k x e = ap (λ m. slice_get xs m) (omega arith) ∙ e
+get_behind (suc n) [] k x e = absurd (cc)
+get_behind {X} (suc n) (y ∷ xs) k x e =
+    let next : suc n + k ≡ suc (n + k) = omega arith in
+    ap (λ m. slice_get (y ∷ xs) m) next ∙ get_behind n xs k x e
+
 pub all_posts-append : (xs ys : List Outcome) → all_posts (xs ++ ys) ≡ all_posts xs ++ all_posts ys
 all_posts-append [] ys = refl
 all_posts-append (x ∷ xs) ys = ap (λ (l : List Post). posts_in x ++ l) (all_posts-append xs ys) ∙ sym (append_assoc (posts_in x) (all_posts xs) (all_posts ys))
@@ -60,71 +74,91 @@ module _ (w : PriceWidth) where
   record_taken (Ok posts) old new bytes spells takes = (record { posts = posts.items; spells = spells; takes = takes }, takes.grows)
   record_taken (Err fault) old new bytes spells takes = absurd takes
 
-  -- a state made of the first of some records, as they were read, with others left
-  pub record Folding (i : Problem) (records : List (Vec ℕ Global)) (all passed left : List Outcome) (number : ℕ) (now : StateView) : Type 0 where
-    pub rebuilt : Rebuilt w i (map (λ (r : Vec ℕ Global). r.items) (take number records)) now
-    pub history : now.history ≡ all_posts passed
+  -- a state made of the records before a part of them, by the number of the part's first, and of the first of the part, as they were read, with others left
+  pub record Folding (i : Problem) (records : List (Vec ℕ Global)) (from : ℕ) (first : List Post) (all passed left : List Outcome) (number : ℕ) (now : StateView) : Type 0 where
+    pub rebuilt : Rebuilt w i (map (λ (r : Vec ℕ Global). r.items) (take (from + number) records)) now
+    pub history : now.history ≡ first ++ all_posts passed
     pub split : passed ++ left ≡ all
     pub count : number ≡ length passed
 
-  pub folding_starts : (i : Problem) (records : List (Vec ℕ Global)) (all : List Outcome) (now : StateView) → Rebuilt w i [] now → now.history ≡ [] → Folding i records all [] all 0 now
-  folding_starts i records all now r e = record { rebuilt = r; history = e; split = refl; count = refl }
+  pub folding_starts : (i : Problem) (records : List (Vec ℕ Global)) (from : ℕ) (all left : List Outcome) (now : StateView) → left ≡ all → now.instance ≡ i → MakeBookBy w i (map (λ (r : Vec ℕ Global). r.items) (take from records)) now.history now.book
+      → Folding i records from now.history all [] left 0 now
+  folding_starts i records from all left now whole same made = record {
+    rebuilt = subst (λ n. Rebuilt w i (map (λ (r : Vec ℕ Global). r.items) (take n records)) now) (omega arith) (record { same = same; made = made });
+    history = sym (append-nil now.history);
+    split = whole;
+    count = refl;
+  }
+
+  -- the part of the records that was read so
+  abbrev pub ReadsFrom : List (Vec ℕ Global) → ℕ → List Outcome → Type 0
+  ReadsFrom records from all = AreReads w (take (length all) (drop from records)) all
+
+  -- a part was read so where each of its records was
+  pub reads_of : (records part left : List (Vec ℕ Global)) (from n : ℕ) (all : List Outcome)
+      → left ≡ drop from records → part ≡ take n left → length part ≡ n → length all ≡ length part → ((k : ℕ) (o : Outcome) → slice_get all k ≡ Some o → IsSomeAnd (slice_get part k) (λ r. IsReadOf w r.items o)) → ReadsFrom records from all
+  reads_of records part left from n all behind front long count each =
+      let same : part ≡ take (length all) (drop from records) = front ∙ ap (λ m. take m left) (sym (count ∙ long)) ∙ ap (λ (l : List (Vec ℕ Global)). take (length all) l) behind in
+      subst (λ (l : List (Vec ℕ Global)). AreReads w l all) same (zip_of (λ (r : Vec ℕ Global) (o : Outcome). IsReadOf w r.items o) part all count each)
 
   -- the record at which a fold is, and how it was read
-  pub folding_at : (i : Problem) (records : List (Vec ℕ Global)) (all passed left next : List Outcome) (number : ℕ) (now : StateView) (outcome : Outcome)
-      → AreReads w records all → Folding i records all passed left number now → left ≡ outcome ∷ next → (r : Vec ℕ Global) × (number < length records) × (r ≡ get_or records number r) × IsReadOf w r.items outcome
-  folding_at i records all passed left next number now outcome reads f e =
+  pub folding_at : (i : Problem) (records : List (Vec ℕ Global)) (from : ℕ) (first : List Post) (all passed left next : List Outcome) (number : ℕ) (now : StateView) (outcome : Outcome)
+      → ReadsFrom records from all → Folding i records from first all passed left number now → left ≡ outcome ∷ next → (r : Vec ℕ Global) × (from + number < length records) × (r ≡ get_or records (from + number) r) × IsReadOf w r.items outcome
+  folding_at i records from first all passed left next number now outcome reads f e =
+      let part : List (Vec ℕ Global) = take (length all) (drop from records) in
       let whole : passed ++ outcome ∷ next ≡ all = ap (λ (l : List Outcome). passed ++ l) (sym e) ∙ f.split in
-      let z = zip_seam (λ (r : Vec ℕ Global) (o : Outcome). IsReadOf w r.items o) records passed next outcome (subst (λ (l : List Outcome). AreReads w records l) (sym whole) reads) in
-      let there : slice_get records number ≡ Some z.0 = ap (λ n. slice_get records n) f.count ∙ z.1 in
-      let g = get_or_some records number z.0 z.0 there in
+      let z = zip_seam (λ (r : Vec ℕ Global) (o : Outcome). IsReadOf w r.items o) part passed next outcome (subst (λ (l : List Outcome). AreReads w part l) (sym whole) reads) in
+      let there : slice_get part number ≡ Some z.0 = ap (λ n. slice_get part n) f.count ∙ z.1 in
+      let g = get_or_some records (from + number) z.0 z.0 (get_behind from records number z.0 (get_within (length all) (drop from records) number z.0 there)) in
       (z.0, g.0, sym g.1, z.2)
 
-  pub folding_more : (i : Problem) (records : List (Vec ℕ Global)) (all passed left next : List Outcome) (number : ℕ) (mid new : StateView) (outcome : Outcome)
-      → AreReads w records all → Folding i records all passed left number mid → left ≡ outcome ∷ next → MatchResult outcome (λ posts. Takes mid posts.items new) (λ _. ⊥)
-      → Folding i records all (passed ++ outcome ∷ []) next (number + 1) new
-  folding_more i records all passed left next number mid new outcome reads f e takes =
-      let r = folding_at i records all passed left next number mid outcome reads f e in
+  pub folding_more : (i : Problem) (records : List (Vec ℕ Global)) (from : ℕ) (first : List Post) (all passed left next : List Outcome) (number : ℕ) (mid new : StateView) (outcome : Outcome)
+      → ReadsFrom records from all → Folding i records from first all passed left number mid → left ≡ outcome ∷ next → MatchResult outcome (λ posts. Takes mid posts.items new) (λ _. ⊥)
+      → Folding i records from first all (passed ++ outcome ∷ []) next (number + 1) new
+  folding_more i records from first all passed left next number mid new outcome reads f e takes =
+      let r = folding_at i records from first all passed left next number mid outcome reads f e in
       let t = record_taken outcome mid new (r.0).items r.3 takes in
+      let further : (from + number) + 1 ≡ from + (number + 1) = omega arith in
       record {
-        rebuilt = rebuilt_more w (λ (v : Vec ℕ Global). v.items) i records number r.0 mid new r.1 r.2 f.rebuilt t.0;
+        rebuilt =
+            subst (λ n. Rebuilt w i (map (λ (v : Vec ℕ Global). v.items) (take n records)) new) further
+            (rebuilt_more w (λ (v : Vec ℕ Global). v.items) i records (from + number) r.0 mid new r.1 r.2 f.rebuilt t.0);
         history =
             t.1
             ∙ ap (λ (l : List Post). l ++ posts_in outcome) f.history
-            ∙ sym (all_posts-append passed (outcome ∷ []) ∙ ap (λ (l : List Post). all_posts passed ++ l) (append_none (posts_in outcome)));
+            ∙ append_assoc first (all_posts passed) (posts_in outcome)
+            ∙ ap (λ (l : List Post). first ++ l) (sym (all_posts-append passed (outcome ∷ []) ∙ ap (λ (l : List Post). all_posts passed ++ l) (append-nil (posts_in outcome))));
         split = append_assoc passed (outcome ∷ []) next ∙ ap (λ (l : List Outcome). passed ++ l) (sym e) ∙ f.split;
         count = omega (arith, f.count, length-append passed (outcome ∷ []));
       }
-    where
-      append_none : {X : Type 0} (xs : List X) → xs ++ [] ≡ xs
-      append_none [] = refl
-      append_none (x ∷ xs) = ap (λ (l : List _). x ∷ l) (append_none xs)
 
-  pub folding_stops : (i : Problem) (records : List (Vec ℕ Global)) (all passed left next : List Outcome) (number : ℕ) (mid : StateView) (outcome : Outcome) (why : Why)
-      → AreReads w records all → Folding i records all passed left number mid → left ≡ outcome ∷ next → ((bytes : List ℕ) → IsReadOf w bytes outcome → RecordStops w i mid.book bytes why)
-      → RefusesBy w i (map (λ (r : Vec ℕ Global). r.items) records) (fault_at number why)
-  folding_stops i records all passed left next number mid outcome why reads f e stops =
-      let r = folding_at i records all passed left next number mid outcome reads f e in
-      rebuilt_stops w (λ (v : Vec ℕ Global). v.items) i records number r.0 mid why r.1 r.2 f.rebuilt (stops (r.0).items r.3)
+  pub folding_stops : (i : Problem) (records : List (Vec ℕ Global)) (from : ℕ) (first : List Post) (all passed left next : List Outcome) (number : ℕ) (mid : StateView) (outcome : Outcome) (why : Why)
+      → ReadsFrom records from all → Folding i records from first all passed left number mid → left ≡ outcome ∷ next → ((bytes : List ℕ) → IsReadOf w bytes outcome → RecordStops w i mid.book bytes why)
+      → RefusesBy w i (map (λ (r : Vec ℕ Global). r.items) records) (fault_at (from + number) why)
+  folding_stops i records from first all passed left next number mid outcome why reads f e stops =
+      let r = folding_at i records from first all passed left next number mid outcome reads f e in
+      rebuilt_stops w (λ (v : Vec ℕ Global). v.items) i records (from + number) r.0 mid why r.1 r.2 f.rebuilt (stops (r.0).items r.3)
 
   -- ---- what is known of the record at which a fold is
 
-  pub folding_found : (i : Problem) (records : List (Vec ℕ Global)) (nodes : List (List Cut)) (all passed left next : List Outcome) (number : ℕ) (now : StateView) (outcome : Outcome) (bounds : List (Vec (Option ℕ) Global))
-      → AreAllFound i nodes all bounds → Folding i records all passed left number now → left ≡ outcome ∷ next → (found : Vec (Option ℕ) Global) × (slice_get bounds number ≡ Some found) × AreFoundIn i nodes (posts_in outcome) found.items
-  folding_found i records nodes all passed left next number now outcome bounds are f e =
+  pub folding_found : (i : Problem) (records : List (Vec ℕ Global)) (from : ℕ) (first : List Post) (nodes : List (List Cut)) (all passed left next : List Outcome) (number : ℕ) (now : StateView) (outcome : Outcome) (bounds : List (Vec (Option ℕ) Global))
+      → AreAllFound i nodes all bounds → Folding i records from first all passed left number now → left ≡ outcome ∷ next → (found : Vec (Option ℕ) Global) × (slice_get bounds number ≡ Some found) × AreFoundIn i nodes (posts_in outcome) found.items
+  folding_found i records from first nodes all passed left next number now outcome bounds are f e =
       let whole : passed ++ outcome ∷ next ≡ all = ap (λ (l : List Outcome). passed ++ l) (sym e) ∙ f.split in
       let z = seam_zip (λ (o : Outcome) (found : Vec (Option ℕ) Global). AreFoundIn i nodes (posts_in o) found.items) passed next outcome bounds (subst (λ (l : List Outcome). AreAllFound i nodes l bounds) (sym whole) are) in
       (z.0, ap (λ n. slice_get bounds n) f.count ∙ z.1, z.2)
 
-  pub folding_tree : (i : Problem) (records : List (Vec ℕ Global)) (nodes : List (List Cut)) (all passed left next : List Outcome) (number : ℕ) (now : StateView) (outcome : Outcome)
-      → nodes ≡ nodes_of (all_posts all) → Folding i records all passed left number now → left ≡ outcome ∷ next → (rest : List Post) × (nodes ≡ nodes_of ((now.history ++ posts_in outcome) ++ rest))
-  folding_tree i records nodes all passed left next number now outcome tree f e =
-      let whole : passed ++ outcome ∷ next ≡ all = ap (λ (l : List Outcome). passed ++ l) (sym e) ∙ f.split in (
+  pub folding_tree : (i : Problem) (records : List (Vec ℕ Global)) (from : ℕ) (first : List Post) (nodes : List (List Cut)) (all passed left next : List Outcome) (number : ℕ) (now : StateView) (outcome : Outcome)
+      → nodes ≡ nodes_of (first ++ all_posts all) → Folding i records from first all passed left number now → left ≡ outcome ∷ next → (rest : List Post) × (nodes ≡ nodes_of ((now.history ++ posts_in outcome) ++ rest))
+  folding_tree i records from first nodes all passed left next number now outcome tree f e =
+      let whole : passed ++ outcome ∷ next ≡ all = ap (λ (l : List Outcome). passed ++ l) (sym e) ∙ f.split in
+      let behind : List Post = posts_in outcome ++ all_posts next in (
         all_posts next,
         tree
-            ∙ ap (λ (l : List Outcome). nodes_of (all_posts l)) (sym whole)
-            ∙ ap nodes_of (all_posts-append passed (outcome ∷ next))
-            ∙ ap (λ (l : List Post). nodes_of (l ++ (posts_in outcome ++ all_posts next))) (sym f.history)
+            ∙ ap (λ (l : List Outcome). nodes_of (first ++ all_posts l)) (sym whole)
+            ∙ ap (λ (l : List Post). nodes_of (first ++ l)) (all_posts-append passed (outcome ∷ next))
+            ∙ ap nodes_of (sym (append_assoc first (all_posts passed) behind))
+            ∙ ap (λ (l : List Post). nodes_of (l ++ behind)) (sym f.history)
             ∙ ap nodes_of (sym (append_assoc now.history (posts_in outcome) (all_posts next))),
       )
 
@@ -145,28 +179,37 @@ module _ (w : PriceWidth) where
   tree_here nodes history (Ok posts) h = h
   tree_here nodes history (Err fault) h = tt
 
-  -- ---- all records
+  -- ---- all records of a part
 
-  pub folding_ends : (i : Problem) (records : List (Vec ℕ Global)) (all passed : List Outcome) (number : ℕ) (now : StateView) → AreReads w records all → Folding i records all passed [] number now → Rebuilt w i (map (λ (r : Vec ℕ Global). r.items) records) now
-  folding_ends i records all passed number now reads f =
-      let long = AllZip-long (λ (r : Vec ℕ Global) (o : Outcome). IsReadOf w r.items o) records all reads in
-      let done : length passed ≡ length all = ap length (sym (append_nothing passed) ∙ f.split) in
-      subst (λ (l : List (Vec ℕ Global)). Rebuilt w i (map (λ (r : Vec ℕ Global). r.items) l) now) (take_whole number records (omega (arith, long, done, f.count))) f.rebuilt
-    where
-      append_nothing : (xs : List Outcome) → xs ++ [] ≡ xs
-      append_nothing [] = refl
-      append_nothing (x ∷ xs) = ap (λ (l : List Outcome). x ∷ l) (append_nothing xs)
+  pub folding_done : (i : Problem) (records : List (Vec ℕ Global)) (from : ℕ) (first : List Post) (all passed left : List Outcome) (number : ℕ) (now : StateView)
+      → Folding i records from first all passed left number now → length left ≡ 0 → (passed ≡ all) × Rebuilt w i (map (λ (r : Vec ℕ Global). r.items) (take (from + length all) records)) now
+  folding_done i records from first all passed [] number now f none =
+      let done : passed ≡ all = sym (append-nil passed) ∙ f.split in
+      (done, subst (λ n. Rebuilt w i (map (λ (r : Vec ℕ Global). r.items) (take (from + n) records)) now) (f.count ∙ ap length done) f.rebuilt)
+  folding_done i records from first all passed (outcome ∷ left) number now f none = absurd (omega (arith, none))
 
-      take_whole : (n : ℕ) (xs : List (Vec ℕ Global)) → n ≡ length xs → take n xs ≡ xs
-      take_whole zero [] e = refl
-      take_whole zero (x ∷ xs) e = absurd (omega (arith, e))
-      take_whole (suc n) [] e = absurd (omega (arith, e))
-      take_whole (suc n) (x ∷ xs) e = ap (λ (l : List (Vec ℕ Global)). x ∷ l) (take_whole n xs (omega (arith, e)))
+  -- the posts of a part behind those before it
+  pub folding_grown : (i : Problem) (records : List (Vec ℕ Global)) (from : ℕ) (first : List Post) (all passed left : List Outcome) (number : ℕ) (now : StateView)
+      → Folding i records from first all passed left number now → length left ≡ 0 → now.history ≡ first ++ all_posts all
+  folding_grown i records from first all passed left number now f none =
+      let done = folding_done i records from first all passed left number now f none in
+      f.history ∙ ap (λ (l : List Outcome). first ++ all_posts l) done.0
 
-  pub folding_done : (i : Problem) (records : List (Vec ℕ Global)) (all passed left : List Outcome) (number : ℕ) (now : StateView)
-      → AreReads w records all → Folding i records all passed left number now → length left ≡ 0 → Rebuilt w i (map (λ (r : Vec ℕ Global). r.items) records) now
-  folding_done i records all passed [] number now reads f none = folding_ends i records all passed number now reads f
-  folding_done i records all passed (outcome ∷ left) number now reads f none = absurd (omega (arith, none))
+  -- all records are taken once as many are as there are
+  pub all_made : (i : Problem) (records : List (Vec ℕ Global)) (to : ℕ) (posts : List Post) (b : Book) → length records ≤ to → MakeBookBy w i (map (λ (r : Vec ℕ Global). r.items) (take to records)) posts b
+      → MakeBookBy w i (map (λ (r : Vec ℕ Global). r.items) records) posts b
+  all_made i records to posts b all made = subst (λ (l : List (Vec ℕ Global)). MakeBookBy w i (map (λ (r : Vec ℕ Global). r.items) l) posts b) (take_all to records all) made
+
+  -- what the records up to a number make: a state, and a tree of its posts' nodes
+  abbrev pub FrontMade : Problem → List (Vec ℕ Global) → ℕ → StateView → List (List Cut) → Type 0
+  FrontMade i records to now tree =
+      (now.instance ≡ i)
+      × (to ≤ length records)
+      × MakeBookBy w i (map (λ (r : Vec ℕ Global). r.items) (take to records)) now.history now.book
+      × (tree ≡ nodes_of now.history)
+
+  pub front_starts : (i : Problem) (records : List (Vec ℕ Global)) (now : StateView) (tree : List (List Cut)) → now ≡ record { instance = i; history = []; book = opening i; spare = 0 } → tree ≡ [] ∷ [] → FrontMade i records 0 now tree
+  front_starts i records now tree e t = subst (λ (v : StateView). FrontMade i records 0 v tree) (sym e) (refl, omega arith, record { spell = none_spelled; make = refl }, t)
 
   -- ---- what is read
 

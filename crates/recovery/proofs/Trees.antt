@@ -18,12 +18,16 @@ post_more nodes new first posts k post less is e n =
     ∙ ap (λ (l : List Post). fold nodes_after first l) (sym (take_more posts k post less ∙ ap (λ (p : Post). take k posts ++ p ∷ []) (sym is)))
 
 -- one record more
-pub record_more : (nodes new : List (List Cut)) (outcomes : List Outcome) (k : ℕ) (outcome : Outcome)
-    → k < length outcomes → outcome ≡ get_or outcomes k outcome → nodes ≡ nodes_of (all_posts (take k outcomes)) → new ≡ fold nodes_after nodes (posts_in outcome)
-    → new ≡ nodes_of (all_posts (take (k + 1) outcomes))
-record_more nodes new outcomes k outcome less is e n =
+pub record_more : (nodes new first : List (List Cut)) (outcomes : List Outcome) (k : ℕ) (outcome : Outcome)
+    → k < length outcomes → outcome ≡ get_or outcomes k outcome → nodes ≡ fold nodes_after first (all_posts (take k outcomes)) → new ≡ fold nodes_after nodes (posts_in outcome)
+    → new ≡ fold nodes_after first (all_posts (take (k + 1) outcomes))
+record_more nodes new first outcomes k outcome less is e n =
     n
     ∙ ap (λ (l : List (List Cut)). fold nodes_after l (posts_in outcome)) e
-    ∙ sym (fold-append nodes_after ([] ∷ []) (all_posts (take k outcomes)) (posts_in outcome))
-    ∙ ap nodes_of (sym (all_posts-append (take k outcomes) (outcome ∷ []) ∙ ap (λ (l : List Post). all_posts (take k outcomes) ++ l) (append-nil (posts_in outcome))))
-    ∙ ap (λ (l : List Outcome). nodes_of (all_posts l)) (sym (take_more outcomes k outcome less ∙ ap (λ (o : Outcome). take k outcomes ++ o ∷ []) (sym is)))
+    ∙ sym (fold-append nodes_after first (all_posts (take k outcomes)) (posts_in outcome))
+    ∙ ap (fold nodes_after first) (sym (all_posts-append (take k outcomes) (outcome ∷ []) ∙ ap (λ (l : List Post). all_posts (take k outcomes) ++ l) (append-nil (posts_in outcome))))
+    ∙ ap (λ (l : List Outcome). fold nodes_after first (all_posts l)) (sym (take_more outcomes k outcome less ∙ ap (λ (o : Outcome). take k outcomes ++ o ∷ []) (sym is)))
+
+-- the nodes of posts and of further ones
+pub more_nodes : (nodes new : List (List Cut)) (posts more : List Post) → nodes ≡ nodes_of posts → new ≡ fold nodes_after nodes more → new ≡ nodes_of (posts ++ more)
+more_nodes nodes new posts more e n = n ∙ ap (λ (l : List (List Cut)). fold nodes_after l more) e ∙ sym (fold-append nodes_after ([] ∷ []) posts more)

@@ -1,5 +1,5 @@
-//! The state that the posts of records make, read and judged by several workers at the same time.
-ghost use Rattle.std.specs.Prelude.{◌≡◌, ◌≤◌, fold, map, List, IfOk, IfErr, OnOk};
+//! The state that the posts of records make, read and judged by several workers at the same time, a part of the records after another.
+ghost use Rattle.std.specs.Prelude.{◌≡◌, ◌+◌, ◌^◌, ◌<◌, ◌≤◌, ◌++◌, drop, fold, length, map, take, List, IfOk, IfErr, OnOk};
 ghost use Rattle.post_codec.specs.declared.post.Post.{Post as APost};
 ghost use Rattle.search_core.specs.Book.{Book};
 ghost use Rattle.recovery.specs.NodeCuts.{nodes_after, nodes_of};
@@ -20,6 +20,9 @@ use search_core::{State, StepFault};
 use shift_instance::Instance;
 use std::alloc::Global;
 use std::thread::Threads;
+
+/// How many records are read and judged before their posts are added: what is read of more isn't kept beside the state.
+const AT_ONCE: usize = 16_384;
 
 /// Why the records stop at one, by its number, that isn't taken for a reason.
 fn fault_at(at_record: u64, why: Why) -> RebuildFault
@@ -70,45 +73,108 @@ fn add_nodes_of(tree: &mut CutTree, outcome: &Outcome) -> Result<(), NoMemory>
     }
 }
 
-/// The nodes that the posts of all records make.
-fn tree_of(alloc: Global, outcomes: &[Outcome]) -> Result<CutTree, NoMemory>
-    ensures { IfOk result (λ tree. tree ≡ nodes_of (all_posts outcomes.now)) }
+/// Adds the nodes that the posts of records make to a tree.
+fn add_all_nodes(tree: &mut CutTree, outcomes: &[Outcome]) -> Result<(), NoMemory>
+    ensures { OnOk result (tree.new ≡ fold nodes_after tree.old (all_posts outcomes.now)) }
 {
-    let mut tree = CutTree::root(alloc);
     for outcome in outcomes {
-        add_nodes_of(&mut tree, outcome)?;
+        add_nodes_of(tree, outcome)?;
     }
-    Ok(tree)
+    Ok(())
 }
 
-/// The state that the posts of records make, one record after another, with what was found of them below the cuts that a
-/// tree has for their nodes.
+/// Adds the posts of a part of records, as they were read, to the state that the records before it make, one record after another,
+/// with what was found of them below the cuts that a tree has for their nodes. The part begins at the record of the number `from`.
 fn fold_records(
+    state: &mut State,
+    instance: &Instance,
+    _width: PriceWidth,
+    _records: &[Vec<u8>],
+    from: usize,
+    tree: &CutTree,
+    outcomes: Vec<Outcome>,
+    findings: &[Vec<Option<u64>>],
+) -> Result<(), RebuildFault>
+    requires instance { state.old.instance ≡ instance.now }
+    requires before { MakeBookBy _width instance.now (map (λ r. r.items) (take from _records.now)) state.old.history state.old.book }
+    requires reads { AreReads _width (take (length outcomes.items) (drop from _records.now)) outcomes.items }
+    requires numbers { length _records.now < 2 ^ 64 }
+    requires tree { tree.now ≡ nodes_of (state.old.history ++ all_posts outcomes.items) }
+    requires found { AreAllFound instance.now tree.now outcomes.items findings.now }
+    ensures instance { OnOk result (state.new.instance ≡ instance.now) }
+    ensures grown { OnOk result (state.new.history ≡ state.old.history ++ all_posts outcomes.items) }
+    ensures history { OnOk result (MakeBookBy _width instance.now (map (λ r. r.items) (take (from + length outcomes.items) _records.now)) state.new.history state.new.book) }
+    ensures refused { IfErr result (RefusesBy _width instance.now (map (λ r. r.items) _records.now)) }
+{
+    let mut at = 0;
+    for outcome in outcomes {
+        let found = &findings[at];
+        if let Err(why) = add_record(state, instance, tree, outcome, found) {
+            return Err(fault_at((from + at) as u64, why));
+        }
+        at += 1;
+    }
+    Ok(())
+}
+
+/// What the records up to some number make: the state of their posts, and the nodes of these.
+#[derive(Drop)]
+struct Front {
+    state: State,
+    tree: CutTree,
+}
+
+/// Adds the posts of the records from a number on, [`AT_ONCE`] of them or those that are left, to what the records before it make,
+/// and answers the number of the record behind them.
+fn add_part<R: Threads + Sync>(
+    rt: &R,
     alloc: Global,
     instance: &Instance,
     width: PriceWidth,
     records: &[Vec<u8>],
-    tree: &CutTree,
-    outcomes: Vec<Outcome>,
-    findings: &[Vec<Option<u64>>],
-) -> Result<State, RebuildFault>
-    requires reads { AreReads width records.now outcomes.items }
-    requires tree { tree.now ≡ nodes_of (all_posts outcomes.items) }
-    requires found { AreAllFound instance.now tree.now outcomes.items findings.now }
-    ensures instance { IfOk result (λ s. s.instance ≡ instance.now) }
-    ensures history { IfOk result (λ s. MakeBookBy width instance.now (map (λ r. r.items) records.now) s.history s.book) }
+    from: usize,
+    front: &mut Front,
+    workers: usize,
+) -> Result<usize, RebuildFault>
+    requires workers { 0 < workers }
+    requires from { from < length records.now }
+    requires numbers { length records.now < 2 ^ 64 }
+    requires instance { front.old.state.instance ≡ instance.now }
+    requires before { MakeBookBy width instance.now (map (λ r. r.items) (take from records.now)) front.old.state.history front.old.state.book }
+    requires tree { front.old.tree ≡ nodes_of front.old.state.history }
+    ensures further { IfOk result (λ to. (from < to) × (to ≤ length records.now)) }
+    ensures instance { OnOk result (front.new.state.instance ≡ instance.now) }
+    ensures made { IfOk result (λ to. MakeBookBy width instance.now (map (λ r. r.items) (take to records.now)) front.new.state.history front.new.state.book) }
+    ensures tree { OnOk result (front.new.tree ≡ nodes_of front.new.state.history) }
     ensures refused { IfErr result (RefusesBy width instance.now (map (λ r. r.items) records.now)) }
 {
-    let mut state = State::new(alloc, instance)?;
-    let mut at = 0;
-    for outcome in outcomes {
-        let found = &findings[at];
-        if let Err(why) = add_record(&mut state, instance, tree, outcome, found) {
-            return Err(fault_at(at as u64, why));
-        }
-        at += 1;
-    }
-    Ok(state)
+    let (_before, left) = records.split_at(from);
+    let (part, _behind) = left.split_at(left.len().min(AT_ONCE));
+    let outcomes = do_all(
+        rt,
+        alloc,
+        &Records {
+            width,
+            records: part,
+        },
+        workers,
+    )?;
+    add_all_nodes(&mut front.tree, &outcomes)?;
+    let findings = do_all(
+        rt,
+        alloc,
+        &JudgedRecords {
+            instance,
+            tree: &front.tree,
+            outcomes: &outcomes,
+        },
+        workers,
+    )?;
+    let Front { state, tree } = front;
+    fold_records(
+        state, instance, width, records, from, tree, outcomes, &findings,
+    )?;
+    Ok(from + part.len())
 }
 
 /// The state whose history is the posts of the records, as [`rebuild`] makes it of records with prices of that width.
@@ -128,20 +194,24 @@ pub(crate) fn rebuild_by<R: Threads + Sync>(
     // Where the records spell posts that make a book, none is rejected.
     ensures only { (posts : List APost) (book : Book) → MakeBookBy width instance.now (map (λ r. r.items) records.now) posts book → IfErr result (λ fault. fault ≡ RebuildFault.NoMemory) }
 {
-    let workers = workers as usize;
-    let outcomes = do_all(rt, alloc, &Records { width, records }, workers)?;
-    let tree = tree_of(alloc, &outcomes)?;
-    let findings = do_all(
-        rt,
-        alloc,
-        &JudgedRecords {
+    let mut front = Front {
+        state: State::new(alloc, instance)?,
+        tree: CutTree::root(alloc),
+    };
+    let mut from = 0;
+    'parts: while from < records.len() {
+        from = add_part(
+            rt,
+            alloc,
             instance,
-            tree: &tree,
-            outcomes: &outcomes,
-        },
-        workers,
-    )?;
-    fold_records(alloc, instance, width, records, &tree, outcomes, &findings)
+            width,
+            records,
+            from,
+            &mut front,
+            workers as usize,
+        )?;
+    }
+    Ok(front.state)
 }
 
 /// The state whose history is the posts of the records, in their order. Up to `workers` workers, 1 to 16, read the records, and find

@@ -3,8 +3,8 @@ ghost use Rattle.std.specs.Prelude.{◌≡◌, ◌++◌, ℕ, List, codes, IfOk,
 ghost use Rattle.instance_json.specs.RefusalText.{refusal_text};
 ghost use Rattle.refusal_texts.specs.Places.{refusal_place};
 
+use crate::faults::what_is_wrong;
 use crate::places::refusal_place;
-use document_faults::what_is_wrong;
 use instance_json::ReadRefusal;
 use std::alloc::{AllocError, Global};
 

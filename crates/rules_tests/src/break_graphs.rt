@@ -1,7 +1,7 @@
 //! A graph that was worked out by hand.
 ghost use Rattle.break_rules.specs.Ranges.{IsRule};
 
-use crate::fixtures::{eighth, judge, short};
+use crate::small_rules::{eighth, judge, short};
 use break_graph::{Edge, Graph};
 use break_rules::{NoMemory, Rule};
 use std::alloc::Global;

@@ -1,7 +1,7 @@
 //! Which lists of breaks lead on to a legal one, and which is the least, worked out by hand.
 ghost use Rattle.break_rules.specs.Ranges.{IsRule};
 
-use crate::fixtures::{eighth, judge, short, window};
+use crate::small_rules::{eighth, judge, short, window};
 use break_rules::{Break, LiveSpots, Lunches, NoMemory, Rule, Spot, least, live};
 use std::alloc::Global;
 use std::process::Abort;

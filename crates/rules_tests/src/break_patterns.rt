@@ -1,7 +1,7 @@
 //! In which slots a duty works, and numbers of prefixes of lists.
 ghost use Rattle.std.specs.Prelude.{◌≡◌};
 
-use crate::fixtures::short;
+use crate::small_rules::short;
 use break_rules::{Break, Breaks, NoMemory, Rule};
 use patterns::{Pattern, Trie, works};
 use std::alloc::Global;

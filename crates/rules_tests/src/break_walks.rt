@@ -4,8 +4,8 @@ ghost use Rattle.std.specs.Prelude.{◌<◌, length};
 ghost use Rattle.break_rules.specs.Ranges.{IsRule};
 ghost use Rattle.shift_instance.specs.Problem.{shift_list};
 
-use crate::fixtures::{eighth, judge, short};
 use crate::instances::day_instance;
+use crate::small_rules::{eighth, judge, short};
 use break_layers::LayerValues;
 use break_rules::{NoMemory, Rule, Spot};
 use list_walks::{ListWalks, Way};

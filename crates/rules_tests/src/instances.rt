@@ -3,7 +3,7 @@
 ghost use Rattle.std.specs.Prelude.{◌<◌, length};
 ghost use Rattle.shift_instance.specs.Problem.{shift_list};
 
-use crate::fixtures::{eighth, short};
+use crate::small_rules::{eighth, short};
 use break_rules::{Break, NoMemory, Rule};
 use shift_instance::{Instance, Parts, TypeParts};
 use std::alloc::Global;

@@ -1,4 +1,4 @@
-//! Tests of what the rules, their graphs and patterns, and instances give to callers.
+//! Tests of what the rules, their graphs and patterns, values by layers, and instances give to callers.
 #![tactic(auto)]
 
 #[cfg(test)]
@@ -10,6 +10,8 @@ mod break_patterns;
 #[cfg(test)]
 mod break_walks;
 #[cfg(test)]
-mod fixtures;
-#[cfg(test)]
 mod instances;
+#[cfg(test)]
+mod layer_values;
+#[cfg(test)]
+mod small_rules;

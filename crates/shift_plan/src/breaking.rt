@@ -2,10 +2,10 @@
 
 use crate::planning::folder_of;
 use planning_breaks::{Rebroken, breaks_as_asked, breaks_sentence, refuse_without_rows};
-use planning_refusals::{Refusal, read_document};
-use planning_runs::Plan;
+use planning_runs::{
+    Beside, JudgedPlan, PlanRefusal, finish_folder, read_document, ready_folder, say, show_plan,
+};
 use planning_searches::{notes_of, plan_for};
-use planning_sheets::{Beside, finish_folder, ready_folder, say, show_plan};
 use planning_words::BreaksWords;
 use std::alloc::{AllocError, Global};
 use std::thread::Threads;
@@ -32,7 +32,7 @@ fn show_rebroken(
     document: &[u8],
     folder: &str,
     rebroken: &Rebroken,
-) -> Result<(), Refusal> {
+) -> Result<(), PlanRefusal> {
     let sentence = breaks_sentence(rt.alloc(), rebroken)?;
     let notes = notes_with(rt.alloc(), document, rebroken, sentence.as_str())?;
     let beside = Beside {
@@ -54,8 +54,8 @@ fn rebreak<R: Threads>(
     words: &BreaksWords,
     document: &[u8],
     folder: &str,
-    plan: Plan,
-) -> Result<(), Refusal> {
+    plan: JudgedPlan,
+) -> Result<(), PlanRefusal> {
     refuse_without_rows(host.alloc(), words, &plan)?;
     ready_folder(host, folder)?;
     let rebroken = breaks_as_asked(host, rt, words, plan)?;
@@ -67,7 +67,7 @@ pub(crate) fn breaks<R: Threads>(
     host: HostRuntime,
     rt: &R,
     words: &BreaksWords,
-) -> Result<(), Refusal> {
+) -> Result<(), PlanRefusal> {
     let document = read_document(host, words.instance)?;
     let folder = folder_of(host.alloc(), words.out, words.instance)?;
     finish_folder(host, folder.as_str())?;

@@ -1,9 +1,7 @@
 //! A report that stands, judged.
 
-use planning_refusals::{Refusal, read_report};
-use planning_runs::Plan;
+use planning_runs::{JudgedPlan, PlanRefusal, read_report, say, standing};
 use planning_searches::{hours_wanted, judged, read_instance};
-use planning_sheets::{say, standing};
 use planning_words::CheckWords;
 use shift_instance::Instance;
 use std::alloc::{AllocError, Global};
@@ -25,7 +23,12 @@ fn document_text(
 }
 
 /// What is said of a report that is accepted, whose plan has that cost.
-fn plan_text(alloc: Global, report: &str, plan: &Plan, cost: u64) -> Result<String, AllocError> {
+fn plan_text(
+    alloc: Global,
+    report: &str,
+    plan: &JudgedPlan,
+    cost: u64,
+) -> Result<String, AllocError> {
     let stands = standing(alloc, &plan.cert, cost)?;
     format!(in alloc;
         "The report {report} is accepted: each duty of its plan is legal. {}\n",
@@ -34,7 +37,11 @@ fn plan_text(alloc: Global, report: &str, plan: &Plan, cost: u64) -> Result<Stri
 }
 
 /// What is said of a report that is accepted.
-fn accepted_text(alloc: Global, words: &CheckWords, plan: &Plan) -> Result<String, AllocError> {
+fn accepted_text(
+    alloc: Global,
+    words: &CheckWords,
+    plan: &JudgedPlan,
+) -> Result<String, AllocError> {
     let report = words.report;
     match &plan.cert.plan {
         Some((cost, _)) => plan_text(alloc, report, plan, *cost),
@@ -53,7 +60,7 @@ fn judge(
     words: &CheckWords,
     document: &[u8],
     report: Vec<u8>,
-) -> Result<(), Refusal> {
+) -> Result<(), PlanRefusal> {
     let plan = judged(rt.alloc(), document, report)?;
     let text = accepted_text(rt.alloc(), words, &plan)?;
     say(rt, text.as_str());
@@ -61,7 +68,7 @@ fn judge(
 }
 
 /// Judges the report that the words name, and says what came of it.
-pub(crate) fn check(rt: HostRuntime, words: &CheckWords) -> Result<(), Refusal> {
+pub(crate) fn check(rt: HostRuntime, words: &CheckWords) -> Result<(), PlanRefusal> {
     let read = read_instance(rt, words.instance)?;
     let report = read_report(rt, words.report)?;
     let text = document_text(rt.alloc(), words, &read.instance)?;

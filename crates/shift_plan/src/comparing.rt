@@ -7,10 +7,8 @@ use break_rules::NoMemory;
 use comparison_texts::{changes_table, side_by_side};
 use plan_comparison::changes;
 use plan_tables::{Summary, summary_text};
-use planning_refusals::{Cause, Refusal};
-use planning_runs::Plan;
+use planning_runs::{Cause, JudgedPlan, PlanRefusal, say};
 use planning_searches::{plan_in, rows_in};
-use planning_sheets::say;
 use planning_words::CompareWords;
 use shift_instance::{Instance, Rows};
 use std::alloc::Global;
@@ -71,7 +69,7 @@ fn compared(
 }
 
 /// The plan that a report shows for the instance of a document. A refusal says which of the reports it is about.
-fn plan_of(rt: HostRuntime, instance: &str, report: &str) -> Result<Plan, Refusal> {
+fn plan_of(rt: HostRuntime, instance: &str, report: &str) -> Result<JudgedPlan, PlanRefusal> {
     match plan_in(rt, instance, report) {
         Ok(plan) => Ok(plan),
         Err(why) => Err(why.about_report(rt.alloc(), report, instance)),
@@ -79,12 +77,12 @@ fn plan_of(rt: HostRuntime, instance: &str, report: &str) -> Result<Plan, Refusa
 }
 
 /// The rows of a plan, which its report has to have.
-fn rows_of<'p>(alloc: Global, report: &str, plan: &'p Plan) -> Result<&'p Rows, Refusal>
+fn rows_of<'p>(alloc: Global, report: &str, plan: &'p JudgedPlan) -> Result<&'p Rows, PlanRefusal>
     ensures { IfOk result (λ rows. IsTrue (are_legal_rows plan.now.instance rows.now)) }
 {
     match rows_in(plan) {
         Some(rows) => Ok(rows),
-        None => Err(Refusal::said(
+        None => Err(PlanRefusal::said(
             Cause::Report,
             format!(in alloc; "the report `{report}` has no plan to compare"),
         )),
@@ -95,16 +93,16 @@ fn rows_of<'p>(alloc: Global, report: &str, plan: &'p Plan) -> Result<&'p Rows, 
 fn compared_plans(
     alloc: Global,
     words: &CompareWords,
-    old: &Plan,
-    new: &Plan,
-) -> Result<String, Refusal> {
+    old: &JudgedPlan,
+    new: &JudgedPlan,
+) -> Result<String, PlanRefusal> {
     let before = rows_of(alloc, words.report, old)?;
     let after = rows_of(alloc, words.other_report, new)?;
     Ok(compared(alloc, words, &old.instance, before, &new.instance, after)?)
 }
 
 /// Says which duties two plans have in common, and what each costs.
-pub(crate) fn compare(rt: HostRuntime, words: &CompareWords) -> Result<(), Refusal> {
+pub(crate) fn compare(rt: HostRuntime, words: &CompareWords) -> Result<(), PlanRefusal> {
     let old = plan_of(rt, words.instance, words.report)?;
     let new = plan_of(rt, words.other_instance, words.other_report)?;
     let text = compared_plans(rt.alloc(), words, &old, &new)?;

@@ -15,7 +15,7 @@ mod ruling;
 mod showing;
 mod tables;
 
-use planning_refusals::{Cause, Refusal};
+use planning_runs::{Cause, PlanRefusal};
 use planning_words::{Unasked, Wanted, wanted_by};
 use std::alloc::AllocError;
 use std::process::ExitCode;
@@ -24,25 +24,29 @@ use std::thread::Threads;
 use std::{env, io};
 
 /// The words of the command line, the program's name first among them.
-fn command_words(rt: &HostRuntime) -> Result<Vec<String>, Refusal> {
+fn command_words(rt: &HostRuntime) -> Result<Vec<String>, PlanRefusal> {
     let args = match env::args(rt) {
         Ok(args) => args,
         Err(fault) if fault.kind() == io::ErrorKind::OutOfMemory => {
-            return Err(Refusal::from(AllocError));
+            return Err(PlanRefusal::from(AllocError));
         }
         Err(_) => {
             let sentence = String::from_str(
                 rt.alloc(),
                 "the words of the command line aren't UTF-8",
             );
-            return Err(Refusal::said(Cause::Words, sentence));
+            return Err(PlanRefusal::said(Cause::Words, sentence));
         }
     };
     Ok(args.collect(rt.alloc())?)
 }
 
 /// Does what the words ask for.
-fn done<R: Threads + Wait + Sync>(host: HostRuntime, rt: &R, wanted: &Wanted) -> Result<(), Refusal>
+fn done<R: Threads + Wait + Sync>(
+    host: HostRuntime,
+    rt: &R,
+    wanted: &Wanted,
+) -> Result<(), PlanRefusal>
     requires within { IsWithin wanted.now }
 {
     match wanted {
@@ -58,9 +62,9 @@ fn done<R: Threads + Wait + Sync>(host: HostRuntime, rt: &R, wanted: &Wanted) ->
 }
 
 /// Says what is said of words that ask for nothing, and answers the number with which the program ends.
-fn tell_unasked(host: HostRuntime, why: Unasked) -> Result<u8, Refusal> {
+fn tell_unasked(host: HostRuntime, why: Unasked) -> Result<u8, PlanRefusal> {
     match why {
-        Unasked::NoMemory => Err(Refusal::from(AllocError)),
+        Unasked::NoMemory => Err(PlanRefusal::from(AllocError)),
         Unasked::Said(error) => {
             let _ = error.print(&host);
             Ok(u8::try_from(error.exit_code()).unwrap_or(2))
@@ -73,7 +77,7 @@ fn answer<R: Threads + Wait + Sync>(
     host: HostRuntime,
     rt: &R,
     words: &[String],
-) -> Result<u8, Refusal> {
+) -> Result<u8, PlanRefusal> {
     match wanted_by(host.alloc(), words) {
         Ok(wanted) => {
             done(host, rt, &wanted)?;

@@ -2,11 +2,10 @@
 
 ghost use Rattle.std.specs.Prelude.{◌<◌};
 
-use planning_refusals::Refusal;
+use planning_runs::{Beside, PlanRefusal, finish_folder, ready_folder, show_plan};
 use planning_searches::{
     Before, Read, locked_journal, older_plan, read_instance, say_rules, search_as_asked, tell_notes,
 };
-use planning_sheets::{Beside, finish_folder, ready_folder, show_plan};
 use planning_words::{PlanWords, folder_beside};
 use shift_instance::Instance;
 use std::alloc::{AllocError, Global};
@@ -49,7 +48,7 @@ fn plan_to<R: Threads + Wait + Sync>(
     folder: &str,
     document: &[u8],
     notes: &mut Vec<String>,
-) -> Result<(), Refusal>
+) -> Result<(), PlanRefusal>
     requires some { 0 < words.now.workers }
 {
     let older = older_plan(host, words.like, &instance)?;
@@ -73,7 +72,7 @@ fn plan_for<R: Threads + Wait + Sync>(
     words: &PlanWords,
     read: Read,
     folder: &str,
-) -> Result<(), Refusal>
+) -> Result<(), PlanRefusal>
     requires some { 0 < words.now.workers }
 {
     say_rules(host, &read.instance)?;
@@ -96,7 +95,7 @@ pub(crate) fn plan<R: Threads + Wait + Sync>(
     host: HostRuntime,
     rt: &R,
     words: &PlanWords,
-) -> Result<(), Refusal>
+) -> Result<(), PlanRefusal>
     requires some { 0 < words.now.workers }
 {
     let folder = folder_of(host.alloc(), words.out, words.instance)?;

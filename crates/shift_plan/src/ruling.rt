@@ -1,6 +1,6 @@
 //! The rules of an instance, said back.
 
-use planning_refusals::{Cause, Refusal};
+use planning_runs::{Cause, PlanRefusal};
 use planning_searches::{read_instance, tell_notes};
 use planning_words::RulesWords;
 use rule_sentences::rules_text;
@@ -15,11 +15,11 @@ fn say(rt: HostRuntime, text: &str) -> io::Result<()> {
 }
 
 /// Says the rules of an instance on standard output.
-fn say_rules(rt: HostRuntime, instance: &Instance) -> Result<(), Refusal> {
+fn say_rules(rt: HostRuntime, instance: &Instance) -> Result<(), PlanRefusal> {
     let text = rules_text(rt.alloc(), instance)?;
     match say(rt, text.as_str()) {
         Ok(()) => Ok(()),
-        Err(_) => Err(Refusal::said(
+        Err(_) => Err(PlanRefusal::said(
             Cause::Unwritten,
             String::from_str(rt.alloc(), "standard output takes no more"),
         )),
@@ -27,7 +27,7 @@ fn say_rules(rt: HostRuntime, instance: &Instance) -> Result<(), Refusal> {
 }
 
 /// Says the rules of the instance that the words name on standard output, and on standard error what a planner should know of it.
-pub(crate) fn rules(rt: HostRuntime, words: &RulesWords) -> Result<(), Refusal> {
+pub(crate) fn rules(rt: HostRuntime, words: &RulesWords) -> Result<(), PlanRefusal> {
     let read = read_instance(rt, words.instance)?;
     say_rules(rt, &read.instance)?;
     let _notes = tell_notes(rt, &read)?;

@@ -1,10 +1,10 @@
 //! A report that stands, shown once more.
 
 use crate::planning::folder_of;
-use planning_refusals::{Refusal, read_document};
-use planning_runs::Plan;
+use planning_runs::{
+    Beside, JudgedPlan, PlanRefusal, finish_folder, read_document, ready_folder, show_plan,
+};
 use planning_searches::{notes_of, plan_for};
-use planning_sheets::{Beside, finish_folder, ready_folder, show_plan};
 use planning_words::ShowWords;
 
 /// Writes the plan of a report that is accepted.
@@ -13,8 +13,8 @@ fn show_judged(
     words: &ShowWords,
     document: &[u8],
     folder: &str,
-    plan: &Plan,
-) -> Result<(), Refusal> {
+    plan: &JudgedPlan,
+) -> Result<(), PlanRefusal> {
     ready_folder(rt, folder)?;
     let notes = notes_of(rt.alloc(), document, &plan.instance)?;
     let beside = Beside {
@@ -32,14 +32,14 @@ fn show_for(
     words: &ShowWords,
     document: &[u8],
     folder: &str,
-) -> Result<(), Refusal> {
+) -> Result<(), PlanRefusal> {
     finish_folder(rt, folder)?;
     let plan = plan_for(rt, document, words.report)?;
     show_judged(rt, words, document, folder, &plan)
 }
 
 /// Judges the report that the words name and, where it is accepted, writes its plan.
-pub(crate) fn show(rt: HostRuntime, words: &ShowWords) -> Result<(), Refusal> {
+pub(crate) fn show(rt: HostRuntime, words: &ShowWords) -> Result<(), PlanRefusal> {
     let document = read_document(rt, words.instance)?;
     let folder = folder_of(rt.alloc(), words.out, words.instance)?;
     show_for(rt, words, document.as_slice(), folder.as_str())

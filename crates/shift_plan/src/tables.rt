@@ -1,11 +1,9 @@
 //! Tables that are read as a document, and the tables of a document.
 
 use instance_tables::{Table, TableTexts, Tables, exported, imported};
-use planning_files::{make_folder, write_kept};
-use planning_refusals::{Refusal, read_table};
+use planning_runs::{PlanRefusal, read_table, say};
 use planning_searches::{hours_wanted, read_instance};
-use planning_sheets::say;
-use planning_words::TableWords;
+use planning_words::{TableWords, make_folder, write_kept};
 use refusal_texts::Role;
 use shift_instance::Instance;
 use std::alloc::{AllocError, Global};
@@ -19,13 +17,13 @@ fn path_in(alloc: Global, folder: &str, table: Table) -> Result<String, AllocErr
 }
 
 /// The bytes of a table in a folder.
-fn table_in(rt: HostRuntime, folder: &str, table: Table) -> Result<Vec<u8>, Refusal> {
+fn table_in(rt: HostRuntime, folder: &str, table: Table) -> Result<Vec<u8>, PlanRefusal> {
     let path = path_in(rt.alloc(), folder, table)?;
     read_table(rt, path.as_str())
 }
 
 /// The bytes of the table of break rules in a folder, where it is there.
-fn rules_in(rt: HostRuntime, folder: &str) -> Result<Option<Vec<u8>>, Refusal> {
+fn rules_in(rt: HostRuntime, folder: &str) -> Result<Option<Vec<u8>>, PlanRefusal> {
     let path = path_in(rt.alloc(), folder, Table::Rules)?;
     match fs::exists(&rt, path.as_str()) {
         Ok(false) => Ok(None),
@@ -43,7 +41,7 @@ struct TableFiles {
 }
 
 /// The bytes of the tables in a folder.
-fn tables_in(rt: HostRuntime, folder: &str) -> Result<TableFiles, Refusal> {
+fn tables_in(rt: HostRuntime, folder: &str) -> Result<TableFiles, PlanRefusal> {
     let settings = table_in(rt, folder, Table::Settings)?;
     let need = table_in(rt, folder, Table::Need)?;
     let types = table_in(rt, folder, Table::Types)?;
@@ -57,7 +55,7 @@ fn tables_in(rt: HostRuntime, folder: &str) -> Result<TableFiles, Refusal> {
 }
 
 /// The instance of tables.
-fn instance_of(alloc: Global, files: &TableFiles) -> Result<Instance, Refusal> {
+fn instance_of(alloc: Global, files: &TableFiles) -> Result<Instance, PlanRefusal> {
     let tables = Tables {
         settings: files.settings.as_slice(),
         need: files.need.as_slice(),
@@ -66,12 +64,12 @@ fn instance_of(alloc: Global, files: &TableFiles) -> Result<Instance, Refusal> {
     };
     match imported(alloc, &tables) {
         Ok(instance) => Ok(instance),
-        Err(why) => Err(Refusal::tables(alloc, &why)),
+        Err(why) => Err(PlanRefusal::tables(alloc, &why)),
     }
 }
 
 /// The instance of the tables in a folder.
-fn instance_of_folder(rt: HostRuntime, folder: &str) -> Result<Instance, Refusal> {
+fn instance_of_folder(rt: HostRuntime, folder: &str) -> Result<Instance, PlanRefusal> {
     let files = tables_in(rt, folder)?;
     instance_of(rt.alloc(), &files)
 }
@@ -83,10 +81,10 @@ fn tell_kept(rt: HostRuntime, name: &str, kept: &str) {
 }
 
 /// The refusal where a file of a folder can't be written.
-fn unwritten(alloc: Global, role: Role, folder: &str, name: &str, why: ErrorKind) -> Refusal {
+fn unwritten(alloc: Global, role: Role, folder: &str, name: &str, why: ErrorKind) -> PlanRefusal {
     match format!(in alloc; "{folder}/{name}") {
-        Ok(path) => Refusal::unwritten(alloc, role, path.as_str(), why),
-        Err(none) => Refusal::from(none),
+        Ok(path) => PlanRefusal::unwritten(alloc, role, path.as_str(), why),
+        Err(none) => PlanRefusal::from(none),
     }
 }
 
@@ -97,7 +95,7 @@ fn write_file(
     folder: &str,
     name: &str,
     bytes: &[u8],
-) -> Result<(), Refusal> {
+) -> Result<(), PlanRefusal> {
     match write_kept(rt, folder, name, bytes) {
         Ok(None) => Ok(()),
         Ok(Some(kept)) => {
@@ -137,14 +135,18 @@ fn written_text(
 }
 
 /// Writes the document of an instance as the words say.
-fn write_document(rt: HostRuntime, words: &TableWords, instance: &Instance) -> Result<(), Refusal> {
+fn write_document(
+    rt: HostRuntime,
+    words: &TableWords,
+    instance: &Instance,
+) -> Result<(), PlanRefusal> {
     let document = instance_json::canonical(rt.alloc(), instance)?;
     let (folder, name) = folder_and_name(words.instance);
     write_file(rt, Role::Instance, folder, name, document.as_slice())
 }
 
 /// Reads the tables in a folder and writes their document.
-pub(crate) fn import(rt: HostRuntime, words: &TableWords) -> Result<(), Refusal> {
+pub(crate) fn import(rt: HostRuntime, words: &TableWords) -> Result<(), PlanRefusal> {
     let instance = instance_of_folder(rt, words.folder)?;
     write_document(rt, words, &instance)?;
     let text = written_text(rt.alloc(), words, &instance)?;
@@ -153,20 +155,25 @@ pub(crate) fn import(rt: HostRuntime, words: &TableWords) -> Result<(), Refusal>
 }
 
 /// Makes the folder of the tables, where it isn't there.
-fn ready_folder(rt: HostRuntime, folder: &str) -> Result<(), Refusal> {
+fn ready_folder(rt: HostRuntime, folder: &str) -> Result<(), PlanRefusal> {
     match make_folder(&rt, folder) {
         Ok(()) => Ok(()),
-        Err(why) => Err(Refusal::unwritten(rt.alloc(), Role::TableFolder, folder, why.kind())),
+        Err(why) => Err(PlanRefusal::unwritten(rt.alloc(), Role::TableFolder, folder, why.kind())),
     }
 }
 
 /// Writes a table to a folder.
-fn write_table(rt: HostRuntime, folder: &str, table: Table, text: &Vec<u8>) -> Result<(), Refusal> {
+fn write_table(
+    rt: HostRuntime,
+    folder: &str,
+    table: Table,
+    text: &Vec<u8>,
+) -> Result<(), PlanRefusal> {
     write_file(rt, Role::Table, folder, table.file_name(), text.as_slice())
 }
 
 /// Writes all tables to a folder.
-fn write_tables(rt: HostRuntime, folder: &str, texts: &TableTexts) -> Result<(), Refusal> {
+fn write_tables(rt: HostRuntime, folder: &str, texts: &TableTexts) -> Result<(), PlanRefusal> {
     write_table(rt, folder, Table::Settings, &texts.settings)?;
     write_table(rt, folder, Table::Need, &texts.need)?;
     write_table(rt, folder, Table::Types, &texts.types)?;
@@ -174,13 +181,13 @@ fn write_tables(rt: HostRuntime, folder: &str, texts: &TableTexts) -> Result<(),
 }
 
 /// The tables of the instance of a document in a file.
-fn tables_of(rt: HostRuntime, instance: &str) -> Result<TableTexts, Refusal> {
+fn tables_of(rt: HostRuntime, instance: &str) -> Result<TableTexts, PlanRefusal> {
     let read = read_instance(rt, instance)?;
     Ok(exported(rt.alloc(), &read.instance)?)
 }
 
 /// Writes the tables of a document to a folder.
-pub(crate) fn export(rt: HostRuntime, words: &TableWords) -> Result<(), Refusal> {
+pub(crate) fn export(rt: HostRuntime, words: &TableWords) -> Result<(), PlanRefusal> {
     let folder = words.folder;
     let texts = tables_of(rt, words.instance)?;
     ready_folder(rt, folder)?;

@@ -2,7 +2,7 @@
 ghost use Rattle.std.specs.Prelude.{◌≡◌, ◌≤◌, All, length, vec_len};
 ghost use Rattle.instance_json.specs.Canonical.{canonical_text};
 
-use crate::fixtures::{LIMIT, morning, parted, quiet_morning};
+use crate::seats::{LIMIT, morning, parted, quiet_morning};
 use crate::side_by_side::{Meeting, two_seats};
 use advice::Never;
 use advisers::Greedy;
@@ -35,8 +35,9 @@ fn run_two<G: Gate + Sync, R: Threads + Wait + Sync>(
     let disk = MemDisk::new(alloc, bytes, Vec::new(alloc));
     match Book::open(rt, alloc, instance, disk, steps, LIMIT, 2) {
         Ok(book) => {
-            let (book, _seats, passes, end) =
-                run_turns(rt, alloc, instance, book, seats, gate, &Never);
+            let (book, _seats, passes, end) = run_turns(
+                rt, alloc, instance, book, seats, gate, &Never,
+            );
             Ok((end, passes, book.history().len() as u64))
         }
         Err(_) => Err("it isn't opened")?,
@@ -56,12 +57,14 @@ fn follow(passes: &[Pass], from: u64, to: u64) -> bool {
 
 /// How a run of two workers by turns ends who go on from the first step, how many entered the gate, how many missed each other there, and whether the
 /// passes follow one another from the posts of that step on.
-fn meet<R: Threads + Wait + Sync>(rt: &R, alloc: Global) -> Result<(RunEnd, (u64, u64), bool), Fail> {
+fn meet<R: Threads + Wait + Sync>(
+    rt: &R,
+    alloc: Global,
+) -> Result<(RunEnd, (u64, u64), bool), Fail> {
     let instance = morning(alloc, "2")?;
     let bytes = parted(rt, alloc, &instance, Box::new(alloc, Greedy::new(alloc))?)?;
     let gate = Meeting::new();
-    let (end, passes, posts) =
-        run_two(rt, alloc, &instance, bytes, 100, two_seats(alloc)?, &gate)?;
+    let (end, passes, posts) = run_two(rt, alloc, &instance, bytes, 100, two_seats(alloc)?, &gate)?;
     // the first step posted a plan, its prices and a split
     let whole = passes.len() == 2 && follow(passes.as_slice(), 3, posts);
     Ok((end, gate.told(), whole))
@@ -88,8 +91,15 @@ fn from_nothing<R: Threads + Wait + Sync>(
     requires steps { steps ≤ 100 }
 {
     let bytes = Vec::new(alloc);
-    let (end, passes, posts) =
-        run_two(rt, alloc, instance, bytes, steps, two_seats(alloc)?, &Open)?;
+    let (end, passes, posts) = run_two(
+        rt,
+        alloc,
+        instance,
+        bytes,
+        steps,
+        two_seats(alloc)?,
+        &Open,
+    )?;
     Ok((end, !passes.is_empty(), posts))
 }
 
@@ -115,8 +125,7 @@ fn nothing_to_do_makes_no_pass(rt: HostRuntime) -> Result<(), Fail> {
 fn whole_run<R: Threads + Wait + Sync>(rt: &R, alloc: Global) -> Result<(RunEnd, bool), Fail> {
     let instance = morning(alloc, "2")?;
     let bytes = Vec::new(alloc);
-    let (end, passes, posts) =
-        run_two(rt, alloc, &instance, bytes, 100, two_seats(alloc)?, &Open)?;
+    let (end, passes, posts) = run_two(rt, alloc, &instance, bytes, 100, two_seats(alloc)?, &Open)?;
     Ok((end, posts > 3 && follow(passes.as_slice(), 0, posts)))
 }
 

@@ -1,7 +1,7 @@
 //! A worker that reads, between its take and its advice, the best cost that another one's commit told.
 ghost use Rattle.std.specs.Prelude.{◌≡◌, All, IfOk, vec_len};
 
-use crate::fixtures::{add_seat, morning, parted, run_two};
+use crate::seats::{add_seat, morning, parted, run_two};
 use advice::{Advice, Adviser, Ask, Told};
 use advisers::Fixed;
 use break_rules::{Breaks, NoMemory};

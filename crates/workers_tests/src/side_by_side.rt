@@ -1,7 +1,7 @@
 //! Two workers that work at the same time: a gate holds each until the other has entered it.
 ghost use Rattle.std.specs.Prelude.{◌≡◌, All, IfOk, vec_len};
 
-use crate::fixtures::{add_seat, morning, parted, run_two};
+use crate::seats::{add_seat, morning, parted, run_two};
 use advisers::Greedy;
 use std::alloc::Global;
 use std::sync::Wait;

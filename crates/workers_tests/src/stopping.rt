@@ -2,7 +2,7 @@
 ghost use Rattle.std.specs.Prelude.{◌≡◌, length, true};
 ghost use Rattle.instance_json.specs.Canonical.{canonical_text};
 
-use crate::fixtures::{LIMIT, add_seat, morning, seat_with};
+use crate::seats::{LIMIT, add_seat, morning, seat_with};
 use advice::{Never, Stop};
 use advisers::Greedy;
 use plan_base::MemDisk;

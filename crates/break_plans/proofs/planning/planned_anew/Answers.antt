@@ -1,5 +1,10 @@
-use Rattle.break_plans.proofs.Planned.{ok_cheaper, ok_cost, ok_floor}
+use Rattle.break_plans.proofs.Planned.{ok_cheaper, ok_cost, ok_floor, ok_searched}
 use Rattle.break_plans.proofs.planning.planned_anew.Goals as goal
+
+pub returns-clause-searched : goal.returns-clause-searched
+returns-clause-searched g c =
+    ok_searched c.args.instance.now c.args.rows.now c.recount-before.result c.args.steps c.in_ok-base.base c.in_ok-run.run' c.anew_of.result
+    c.recount-before.ensures.cost c.in_ok-base.ensures.pins c.in_ok-run.ensures.searched c.anew_of.ensures.cheaper c.anew_of.ensures.cost c.anew_of.ensures.floor c.anew_of.ensures.steps
 
 pub returns-clause-cheaper : goal.returns-clause-cheaper
 returns-clause-cheaper g c =

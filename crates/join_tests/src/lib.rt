@@ -1,9 +1,0 @@
-//! Tests of parts that are joined into a report, over sources and sinks in memory of which a call fails.
-#![tactic(auto)]
-
-#[cfg(test)]
-mod causes;
-#[cfg(test)]
-mod joins;
-#[cfg(test)]
-mod runs;
