@@ -1,4 +1,4 @@
-use Rattle.std.proofs.Common.{◌≡◌, subst, sym}
+use Rattle.std.proofs.Common.{subst, sym}
 use Rattle.board_lock.specs.declared.roots.BoardRoot.{BoardRoot}
 use Rattle.worker_gate.specs.Turned.{HasBadge}
 use Rattle.worker_gate.specs.Workers.{KnowsBoard}

@@ -1,4 +1,4 @@
-use Rattle.std.proofs.Common.{◌≡◌, ◌∙◌, arith, ap, length, refl}
+use Rattle.std.proofs.Common.{◌∙◌, arith, ap, length, refl}
 use Rattle.worker_gate.proofs.Moved.{written}
 use Rattle.worker_gate.proofs.Telling.{first_then}
 use Rattle.board_lock.specs.Roots.{root_at}

@@ -1,4 +1,3 @@
-use Rattle.std.proofs.Common.{◌≡◌, Some, refl}
 use Rattle.board_lock.specs.Turns.AreTurns.{none}
 use Rattle.worker_gate.proofs.running.tellings.Goals as goal
 

@@ -1,4 +1,4 @@
-use Rattle.std.proofs.Common.{◌≡◌, ◌<◌, arith, length, slice_index_or, subst, sym}
+use Rattle.std.proofs.Common.{◌<◌, arith, length, slice_index_or, subst, sym}
 use Rattle.board_lock.specs.declared.roots.BoardRoot.{BoardRoot}
 use Rattle.worker_gate.specs.Turned.{HasTurns}
 use Rattle.worker_gate.specs.Workers.{KnowsBoard}

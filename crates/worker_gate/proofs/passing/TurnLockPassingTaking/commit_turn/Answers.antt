@@ -1,5 +1,3 @@
-use Rattle.std.proofs.Common.{subst, sym}
-use Rattle.turn_lock.specs.Passes.{AddsAtMostOne}
 use Rattle.worker_gate.proofs.passing.TurnLockPassingTaking.commit_turn.Goals as goal
 
 pub end_turn-requires-clause-passes : goal.end_turn-requires-clause-passes
