@@ -186,14 +186,14 @@ def owner_of(kind, head):
     parts = [re.sub(r"[^\w].*", "", it.split("::")[-1].strip(), flags=re.S) for it in without_groups(head).split(" for ")]
     if kind == "trait":
         return re.match(r"\s*(\w+)", head)[1]
-    return "".join([*reversed(parts), arguments_of(head, own)])
+    of_trait, of_type = re.match(r"\s*[\w:]+\s*<(.*)>\s+for\b", head, re.S), re.search(r"\sfor\s+[\w:]+\s*<(.*)>\s*\Z", head, re.S)
+    return "".join([parts[-1], arguments_of(of_type, own), *parts[:-1], arguments_of(of_trait, own)])
 
 
-def arguments_of(head, own):
-    """Returns how a check names the types that an impl gives its trait, by the impl's head and the names of its own parameters, which are left
-    out: `OutcomeUnit` for `<Outcome, ()>`."""
-    of_trait = re.match(r"\s*[\w:]+\s*<(.*)>\s+for\b", head, re.S)
-    names = [it for it in re.findall(r"\w+|\(\)", of_trait[1]) if it not in own] if of_trait else []
+def arguments_of(found, own):
+    """Returns how a check names the types that an impl gives its trait, or the type that it is for, where they were found in its head. The names of its own
+    parameters are left out: `OutcomeUnit` for `<Outcome, ()>`, and `Desk` for `<Desk<B, L>>`."""
+    names = [it for it in re.findall(r"\w+|\(\)", re.sub(r"'\w+", "", found[1])) if it not in own] if found else []
     return "".join("Unit" if it == "()" else it[0].upper() + it[1:] for it in names)
 
 
