@@ -1,26 +1,8 @@
 -- The solution that prices choose, found shift by shift and day by day.
-use Rattle.std.proofs.Common.{◌≡◌, ℕ, ◌+◌, ◌*◌, ℤ, pos, Bool, true, false, cond, ◌||◌, List, [], ◌∷◌, ◌++◌, length, map, replicate, append-nil, Option, Some, None, refl, sym, ap, ◌∙◌, subst}
-use Rattle.std.specs.Prelude.{int_lt}
-use Rattle.std.specs.Option.{option_map_or}
-use Rattle.std.specs.List.{find, flat_map}
-use Rattle.std.proofs.lemmas.Bool.{false≢true}
-use Rattle.std.proofs.lemmas.Grind.{flat_map-append}
-use Rattle.break_rules.specs.declared.Break.{Break}
-use Rattle.break_rules.specs.Sums.{greatest, int_sum_by}
-use Rattle.shift_instance.specs.declared.Duty.{Duty}
-use Rattle.shift_instance.specs.declared.Row.{Row}
-use Rattle.shift_instance.specs.Problem.{Problem, shift_list, below}
-use Rattle.shift_instance.specs.Rota.{duty_of, lists_of, rota_of}
-use Rattle.head_splits.specs.declared.Cut.{Cut}
-use Rattle.head_splits.specs.declared.Prices.{Prices}
-use Rattle.head_splits.specs.Cuts.{low, high, whole_class}
-use Rattle.head_splits.specs.Bound.{are_prices, best_value, free_day_value, is_forced, is_nil, reduced}
+use Rattle.advisers.proofs.Common.{◌≡◌, ℕ, ◌+◌, ◌*◌, ℤ, pos, Bool, true, false, cond, ◌||◌, List, [], ◌∷◌, ◌++◌, length, map, replicate, append-nil, Option, Some, None, refl, sym, ap, ◌∙◌, subst, int_lt, option_map_or, find, flat_map, false≢true, flat_map-append, Break, greatest, int_sum_by, Duty, Row, Problem, shift_list, below, duty_of, lists_of, rota_of, Cut, Prices, low, high, whole_class, are_prices, best_value, free_day_value, is_forced, is_nil, reduced, Pricing, best_list, is_greatest, IsBestOn, duties_of, duties_on, is_chosen, number_of, number_on, solution}
 use Rattle.bound_sums.specs.Values.{IsValue}
 use Rattle.greedy.specs.Greedy.{duty}
-use Rattle.dual_bound.specs.Pricer.{Pricing}
-use Rattle.dual_bound.specs.BestLists.{best_list, is_greatest, IsBestOn}
 use Rattle.advisers.specs.Chosen.{IsFor}
-use Rattle.advisers.specs.Solutions.{duties_of, duties_on, is_chosen, number_of, number_on, solution}
 use Rattle.advisers.proofs.Forcing.{flat_more_alone}
 
 -- ---- rows
@@ -69,10 +51,6 @@ nil_is : {X : Type 0} (xs : List X) → is_nil xs ≡ true → xs ≡ []
 nil_is [] h = refl
 nil_is (x ∷ xs) h = absurd (false≢true h)
 
-none_flat : {X Y : Type 0} (f : X → List Y) (xs : List X) → ((x : X) → f x ≡ []) → flat_map f xs ≡ []
-none_flat f [] h = refl
-none_flat f (x ∷ xs) h = ap (λ l. l ++ flat_map f xs) (h x) ∙ none_flat f xs h
-
 pub duties_on_none : (i : Problem) (cuts : List Cut) (prices : Prices) (s day : ℕ) → is_nil (lists_of i s) ≡ true → duties_on i cuts prices s day ≡ []
 unfolding duties_on best_list
 duties_on_none i cuts prices s day e =
@@ -103,11 +81,6 @@ shifts_more i cuts prices s rows more so_far are =
 pub solution_is : (i : Problem) (cuts : List Cut) (prices : Prices) (n : ℕ) (rota : List Duty) → rota ≡ flat_map (duties_of i cuts prices) (below n) → n ≡ length (shift_list i) → rota ≡ solution i cuts prices
 unfolding solution
 solution_is i cuts prices n rota are all = are ∙ ap (λ (k : ℕ). flat_map (duties_of i cuts prices) (below k)) all
-
--- the greatest reduced value of a day without a legal list
-pub none_valued : (i : Problem) (cuts : List Cut) (prices : Prices) (s day : ℕ) → is_nil (lists_of i s) ≡ true → pos 0 ≡ best_value i cuts prices s day
-none_valued i cuts prices s day e =
-    sym (ap (λ (lists : List (List Break)). greatest (map (λ list. reduced i cuts prices (record { shift = s; day = day; breaks = list })) lists)) (nil_is (lists_of i s) e))
 
 -- the prices of a pricer are a price set for its cuts
 pub passes_of : (p : Pricing) (i : Problem) (cuts : List Cut) → IsFor p i cuts → are_prices p.instance p.cuts p.prices ≡ true → are_prices i cuts p.prices ≡ true

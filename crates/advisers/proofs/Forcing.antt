@@ -1,15 +1,7 @@
 -- Lists that grow with a number.
-use Rattle.std.proofs.Common.{◌≡◌, ℕ, ◌+◌, ℤ, List, [], ◌∷◌, ◌++◌, length, map, sym, ap, ◌∙◌, arith}
-use Rattle.std.specs.List.{flat_map}
-use Rattle.std.proofs.lemmas.List.FromFn.{map-range_with_len_more}
-use Rattle.std.proofs.lemmas.Grind.{flat_map-append}
+use Rattle.advisers.proofs.Common.{◌≡◌, ℕ, ◌+◌, ℤ, List, [], ◌∷◌, ◌++◌, length, map, sym, ap, ◌∙◌, arith, flat_map, map-range_with_len_more, flat_map-append, Duty, Problem, shift_list, slots, below, cover, Cut, balance_price, forced_of, forced_prices, forced_rota}
 use Rattle.std.proofs.lemmas.List.{append-nil, append_assoc}
 use Rattle.head_splits.proofs.WholeWalk.{below_next}
-use Rattle.shift_instance.specs.declared.Duty.{Duty}
-use Rattle.shift_instance.specs.Problem.{Problem, shift_list, slots, below}
-use Rattle.shift_instance.specs.Rota.{cover}
-use Rattle.head_splits.specs.declared.Cut.{Cut}
-use Rattle.advisers.specs.Forced.{balance_price, forced_of, forced_prices, forced_rota}
 
 flat_next : {X : Type 0} (f : ℕ → List X) (n : ℕ) → flat_map f (below n) ++ f n ≡ flat_map f (below (n + 1))
 flat_next f n = sym (ap (flat_map f) (below_next n) ∙ flat_map-append f (below n) (n ∷ []) ∙ ap (λ l. flat_map f (below n) ++ l) (append-nil (f n)))

@@ -1,3 +1,4 @@
+pub mod Common
 pub mod Forcing
 pub mod PriceSizes
 pub mod Searching

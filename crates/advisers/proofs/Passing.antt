@@ -1,27 +1,9 @@
 -- The first prices, and those after a step, keep to their ranges.
-use Rattle.std.proofs.Common.{◌≡◌, ℕ, ◌*◌, ◌≤◌, ℤ, pos, neg_ℤ, ◌+ℤ◌, ◌-ℤ◌, ◌*ℤ◌, ◌≤ℤ◌, Bool, true, false, cond, not, ◌&&◌, ◌||◌, ◌==◌, nat_lt, nat_le, List, [], ◌∷◌, map, length, replicate, min, refl, ap, ◌∙◌, subst, arith, eq-eqb}
-use Rattle.std.specs.Prelude.{int_le}
-use Rattle.std.specs.List.{list_all, zip}
-use Rattle.std.proofs.lemmas.Int.{ints, clamps}
-use Rattle.std.proofs.lemmas.Bool.{and_from, and_parts}
-use Rattle.std.proofs.lemmas.List.{length-map, length-replicate}
-use Rattle.std.proofs.lemmas.List.FromFn.{length-range_with_len}
+use Rattle.advisers.proofs.Common.{◌≡◌, ℕ, ◌*◌, ◌≤◌, ℤ, pos, neg_ℤ, ◌+ℤ◌, ◌-ℤ◌, ◌*ℤ◌, ◌≤ℤ◌, Bool, true, false, cond, not, ◌&&◌, ◌||◌, ◌==◌, nat_lt, nat_le, List, [], ◌∷◌, map, length, replicate, min, refl, ap, ◌∙◌, subst, arith, eq-eqb, int_le, list_all, zip, ints, clamps, and_from, and_parts, length-map, length-replicate, length-range_with_len, all_from, from_map, Duty, Problem, slots, need_at, need_max_at, below, cover, price_of, Cut, Prices, class_count, are_prices, is_cut_price, is_nil, is_slot_price, balance_price, forced_prices, forced_rota, solution, brought_into, first_prices, next_cut_price, next_prices, next_slot_price, stepped, target_at}
 use Rattle.break_rules.specs.Lists.{Has}
-use Rattle.break_rules.proofs.Lists.{all_from, from_map}
-use Rattle.shift_instance.specs.declared.Duty.{Duty}
-use Rattle.shift_instance.specs.Problem.{Problem, slots, need_at, need_max_at, below}
-use Rattle.shift_instance.specs.Rota.{cover}
-use Rattle.shift_instance.specs.Worth.{price_of}
 use Rattle.head_splits.specs.declared.TheConstants.{CUT_PRICE_MAX}
-use Rattle.head_splits.specs.declared.Cut.{Cut}
-use Rattle.head_splits.specs.declared.Prices.{Prices}
-use Rattle.head_splits.specs.Cuts.{class_count}
-use Rattle.head_splits.specs.Bound.{are_prices, is_cut_price, is_nil, is_slot_price}
 use Rattle.head_splits.proofs.Priced.{priced}
 use Rattle.advisers.proofs.PriceSizes.{neg_times}
-use Rattle.advisers.specs.Forced.{balance_price, forced_prices, forced_rota}
-use Rattle.advisers.specs.Solutions.{solution}
-use Rattle.advisers.specs.Subgradient.{brought_into, first_prices, next_cut_price, next_prices, next_slot_price, stepped, target_at}
 
 le_test : (a b : ℤ) → a ≤ℤ b → int_le a b ≡ true
 le_test a b h = grind (arith, ints)

@@ -1,13 +1,8 @@
 -- Prices that are worked out in 64 bits are the numbers that they stand for.
-use Rattle.std.proofs.Common.{◌≡◌, ℕ, zero, suc, ◌+◌, ◌*◌, ◌^◌, ◌<◌, ◌≤◌, ℤ, pos, neg_ℤ, ◌+ℤ◌, ◌-ℤ◌, ◌*ℤ◌, List, [], ◌∷◌, length, get_or, FitsSigned, to_z, of_z, refl, sym, ap, ◌∙◌, subst, arith}
-use Rattle.std.specs.Int.{int_max, int_min}
-use Rattle.std.specs.Int.RustNames.{unsigned_abs}
+use Rattle.advisers.proofs.Common.{◌≡◌, ℕ, zero, suc, ◌+◌, ◌*◌, ◌^◌, ◌<◌, ◌≤◌, ℤ, pos, neg_ℤ, ◌+ℤ◌, ◌-ℤ◌, ◌*ℤ◌, List, [], ◌∷◌, length, get_or, FitsSigned, to_z, of_z, refl, sym, ap, ◌∙◌, subst, arith, int_max, int_min, unsigned_abs, ints, clamps, fits_signed_from_abs, to_z-of_z, unsigned_abs-mul, w64, brought_into}
 use Rattle.std.proofs.Math.IntN.{pos-*ℤ-pos, negsuc-*ℤ-pos}
 use Rattle.std.proofs.Math.Nat.{mul-le-mul, le-mul_of_pos_right}
-use Rattle.std.proofs.lemmas.Int.{ints, clamps, fits_signed_from_abs, to_z-of_z, unsigned_abs-mul}
-use mir.Syntax.{w64}
 use Rattle.break_rules.proofs.Sizes.{abs_add, abs_within}
-use Rattle.advisers.specs.Subgradient.{brought_into}
 
 -- a small number, written and read back
 narrow : (z y : ℤ) (n : ℕ) → z ≡ y → unsigned_abs y ≤ n → n < 2 ^ 63 → to_z w64 (of_z w64 z) ≡ y

@@ -1,25 +1,8 @@
 -- Prices after a step, slot by slot and cut by cut.
-use Rattle.std.proofs.Common.{◌≡◌, ℕ, zero, suc, ◌+◌, ◌<◌, ◌≤◌, ℤ, pos, ◌*ℤ◌, Bool, true, false, cond, List, [], ◌∷◌, ◌++◌, length, map, take, get_or, replicate, append_assoc, refl, sym, ap, ◌∙◌, subst, arith, sum_by}
-use Rattle.std.specs.List.{zip}
-use Rattle.std.specs.Int.RustNames.{unsigned_abs}
+use Rattle.advisers.proofs.Common.{◌≡◌, ℕ, zero, suc, ◌+◌, ◌<◌, ◌≤◌, ℤ, pos, ◌*ℤ◌, Bool, true, false, cond, List, [], ◌∷◌, ◌++◌, length, map, take, get_or, replicate, append_assoc, refl, sym, ap, ◌∙◌, subst, arith, sum_by, zip, unsigned_abs, map-append, take_all, take_more, map-range_with_len_more, Duty, Row, Problem, slots, below, cover, duty_of, rota_of, works, price_of, working, Cut, Prices, pairs_from, pairs_next, slot_small, forced_prices, solution, first_prices, next_cut_price, next_prices, next_slot_price}
 use Rattle.std.proofs.lemmas.List.Sums.{sum_by_more}
-use Rattle.std.proofs.lemmas.List.{map-append, take_all, take_more}
-use Rattle.std.proofs.lemmas.List.FromFn.{map-range_with_len_more}
-use Rattle.shift_instance.specs.declared.Duty.{Duty}
-use Rattle.shift_instance.specs.declared.Row.{Row}
-use Rattle.shift_instance.specs.Problem.{Problem, slots, below}
-use Rattle.shift_instance.specs.Rota.{cover, duty_of, rota_of, works}
 use Rattle.shift_instance.specs.Valid.{IsValid}
-use Rattle.shift_instance.specs.Worth.{price_of}
 use Rattle.shift_instance.proofs.RowCounts.{cover_rows}
-use Rattle.rota_cost.specs.Working.{working}
-use Rattle.head_splits.specs.declared.Cut.{Cut}
-use Rattle.head_splits.specs.declared.Prices.{Prices}
-use Rattle.bound_sums.proofs.Pairs.{pairs_from, pairs_next}
-use Rattle.bound_sums.proofs.Priced.{slot_small}
-use Rattle.advisers.specs.Forced.{forced_prices}
-use Rattle.advisers.specs.Solutions.{solution}
-use Rattle.advisers.specs.Subgradient.{first_prices, next_cut_price, next_prices, next_slot_price}
 use Rattle.advisers.proofs.Passing.{first_passes}
 
 -- ---- counts

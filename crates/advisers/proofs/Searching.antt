@@ -1,19 +1,6 @@
 -- The best of the rounds, found one after another.
-use Rattle.std.proofs.Common.{◌≡◌, inl, inr, ℕ, zero, suc, ◌+◌, ◌<◌, ◌≤◌, Bool, true, false, cond, not, List, Option, Some, refl, sym, ap, ◌∙◌, subst, arith, nat_lt, nat_le}
-use Rattle.std.specs.Prelude.{unwrap_or}
-use Rattle.std.specs.Option.{option_map_or}
-use Rattle.std.specs.List.{list_any, find, range_with_len}
-use Rattle.std.proofs.lemmas.Bool.{cases_Bool, cases_eq, lt-ltb, ltb-true, leb-true}
-use Rattle.break_rules.proofs.Lists.{Has-below, from_below, any_at, any_some}
-use Rattle.shift_instance.specs.Problem.{Problem, below}
-use Rattle.head_splits.specs.declared.Cut.{Cut}
+use Rattle.advisers.proofs.Common.{◌≡◌, inl, inr, ℕ, zero, suc, ◌+◌, ◌<◌, ◌≤◌, Bool, true, false, cond, not, List, Option, Some, refl, sym, ap, ◌∙◌, subst, arith, nat_lt, nat_le, unwrap_or, option_map_or, list_any, find, range_with_len, cases_Bool, cases_eq, lt-ltb, ltb-true, leb-true, Has-below, from_below, any_at, any_some, Problem, below, Cut, Valued, best_prices, first_prices, greatest_round, next_prices, prices_in, rounds_made, step_in, value_in, IsRound, IsSearched, Leads, better, pricing_in, valued_of}
 use Rattle.greedy.proofs.Leading.{find_none}
-use Rattle.advisers.specs.declared.rounds.Valued.{Valued}
-use Rattle.advisers.specs.Subgradient.{best_prices, first_prices, greatest_round, next_prices, prices_in, rounds_made, step_in, value_in}
-use Rattle.advisers.specs.Rounds.{IsRound, IsSearched, Leads, better, pricing_in, valued_of}
-
-not_less : (a b : ℕ) → b ≤ a → nat_lt a b ≡ false
-not_less a b h = grind arith
 
 not_most : (a b : ℕ) → b < a → nat_le a b ≡ false
 not_most a b h = grind arith

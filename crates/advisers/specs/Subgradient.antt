@@ -22,7 +22,7 @@ use Rattle.advisers.specs.Advised.{plan_with_cost, plan_of}
 use Rattle.advisers.specs.Forced.{forced_prices}
 use Rattle.advisers.specs.Solutions.{solution}
 
--- the step of a round at a scale: the scale shared among the rounds so far, and at least 1
+-- the step size of a round at a scale: the scale shared among the rounds so far, and at least 1
 abbrev pub step_in : ℕ → ℕ → ℕ
 step_in q round = max 1 (q / (round + 1))
 
@@ -38,13 +38,13 @@ target_at i t price working =
     else if is_negative price then need_max_at i t
     else min (max working (need_at i t)) (need_max_at i t)
 
--- the next price of a slot: it grows by the step for each employee too few that the solution leaves, falls by the step for each one too many, and is
+-- the next price of a slot: it grows by the step size for each employee too few that the solution leaves, falls by it for each one too many, and is
 -- brought into its range
 abbrev pub next_slot_price : Problem → ℕ → ℕ → List Duty → ℕ → ℤ → ℤ
 next_slot_price i q step rota t price =
     brought_into (neg_ℤ (pos (q * i.excess))) (pos (q * i.shortage)) (price +ℤ pos step *ℤ (pos (target_at i t price (cover i rota t)) -ℤ pos (cover i rota t)))
 
--- a price that grows by the step for each duty by which the solution departs from a cut, and falls by it for each one in the other direction, but not
+-- a price that grows by the step size for each duty by which the solution departs from a cut, and falls by it for each one in the other direction, but not
 -- below 0
 abbrev pub stepped : Side → ℕ → ℕ → ℕ → ℕ → ℕ
 stepped AtLeast step m count price = (price + step * m) - step * count
@@ -56,7 +56,7 @@ next_cut_price step rota c =
     if is_nil c.0.class.prefix then c.1
     else min CUT_PRICE_MAX (stepped c.0.side step c.0.m (class_count rota c.0.class) c.1)
 
--- the prices after a step
+-- the prices changed by a step size
 unfoldable pub next_prices : Problem → List Cut → ℕ → Prices → Prices
 next_prices i cuts step prices = record {
   q = prices.q;

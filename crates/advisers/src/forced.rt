@@ -1,5 +1,5 @@
 //! The duties that cuts force, and the prices of slots for them.
-ghost use Rattle.std.specs.Prelude.{◌≡◌, ◌<◌, ◌≤◌, ◌++◌, ◌+◌, ◌^◌, IfOk, OnOk, Some, length, replicate, slice_get};
+ghost use Rattle.std.specs.Prelude.{◌≡◌, ◌<◌, ◌≤◌, ◌++◌, ◌+◌, ◌^◌, IfOk, OnOk, Some, length, slice_get};
 ghost use Rattle.shift_instance.specs.Problem.{shift_list, slots};
 ghost use Rattle.shift_instance.specs.Rota.{cover, lists_of};
 ghost use Rattle.greedy.specs.Greedy.{duty};
@@ -19,20 +19,6 @@ fn least_of(alloc: Global, instance: &Instance, shift: u16) -> Result<Option<Bre
     match instance.graph(shift) {
         Some(kept) => kept.least(alloc),
         None => least(alloc, instance.rule_of(shift), instance.shift(shift).len),
-    }
-}
-
-/// Adds a duty that often.
-fn add_often(instance: &Instance, cover: &mut Cover, duty: &Duty, often: u16)
-    requires instance { cover.old.instance ≡ instance.now }
-    requires shift { duty.now.shift < length (shift_list instance.now) }
-    requires day { duty.now.day < instance.now.days }
-    requires room { length cover.old.duties + often ≤ 2 ^ 31 }
-    ensures instance { cover.new.instance ≡ cover.old.instance }
-    ensures duties { cover.new.duties ≡ cover.old.duties ++ replicate often duty.now }
-{
-    for _ in 0..often {
-        cover.add(instance, duty);
     }
 }
 
@@ -59,7 +45,7 @@ fn add_day(
     }
     if let Some(breaks) = least_of(alloc, instance, shift)? {
         let duty = Duty { shift, day, breaks };
-        add_often(instance, cover, &duty, often);
+        cover.add_often(instance, &duty, often);
     }
     Ok(())
 }

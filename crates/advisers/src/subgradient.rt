@@ -93,10 +93,10 @@ impl Adviser for Subgradient {
 
     /// Advises the prices of greatest value of at most 40 rounds, the earliest among equals, and the adviser's plan where it
     /// has a duty. The first round's prices are the greedy adviser's, times the scale. Each further round's are those of
-    /// the round before after a step: the price of a slot grows where the solution that the prices choose leaves too few
-    /// employees and falls where it leaves too many, that of a cut grows where the solution doesn't keep to the cut and
-    /// falls where it more than does, and each is brought into its range. No round is made after the first whose value
-    /// reaches the cost of the best rota or of the plan. It advises no split.
+    /// the round before, changed by its step size: the price of a slot grows where the solution that the prices choose
+    /// leaves too few employees and falls where it leaves too many, that of a cut grows where the solution doesn't keep to
+    /// the cut and falls where it more than does, and each is brought into its range. No round is made after the first
+    /// whose value reaches the cost of the best rota or of the plan. It advises no split.
     fn advise(&mut self, instance: &Instance, ask: &Ask) -> Result<Advice, NoMemory>
         requires { length ask.now.cuts ≤ 2 ^ 33 }
         ensures advice { IfOk result (λ advice. advice ≡ subgradient_advice_with (own_plan self.old.kept instance.now) instance.now self.old.q ask.now) }

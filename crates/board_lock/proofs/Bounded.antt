@@ -1,41 +1,20 @@
 -- How many commits turns make: each has posted prices or a plan, or another worker's plan had closed its node in the hand.
-use Rattle.std.proofs.Common.{◌≡◌, ◌≢◌, ◌⊎◌, inl, inr, ℕ, zero, suc, ◌+◌, ◌-◌, ◌*◌, ◌<◌, ◌≤◌, Bool, true, false, cond, ◌&&◌, ◌==◌, not, List, [], ◌∷◌, ◌++◌, length, drop, get_or, set, refl, sym, ap, ◌∙◌, subst, arith, nat_lt, Option, Some, None}
+use Rattle.board_lock.proofs.Common.{◌≡◌, ◌≢◌, ◌⊎◌, inl, inr, ℕ, zero, suc, ◌+◌, ◌-◌, ◌*◌, ◌<◌, ◌≤◌, Bool, true, false, cond, ◌&&◌, ◌==◌, not, List, [], ◌∷◌, ◌++◌, length, drop, get_or, set, refl, sym, ap, ◌∙◌, subst, arith, nat_lt, Option, Some, None, and_parts, cases_Bool, eqb-true, false≢true, append-nil, append_assoc, Problem, Post, Plan, Priced, Split, Settled, StepPosts, Kept, Taken, Closed, Finished, Halted, Spent, Idle, CommitFault, DiskFault, Full, NotHeld, Shut, NotClosing, OtherCuts, NoMemory, book_at, posts_at, yields, BoardView, Commits, CommitRefuses, IsSoundBoard, TakeMakes, book_after, book_of, divided, is_node_and, is_open, priced, settled, step, Book, full_hands, IsCall, IsFresh, a_commit, a_refusal, a_take, a_yield, hand, is_node, is_of, HoldsApart, book_then, close_posts, followed_by, plan_of, plan_posts, posts_of, where_open, book_is, front_folds, hand_set, hand_some, slice_get_front, slice_get_other, at_node_some, bind_some, cond_some, is_plan, is_prices, plans_since, prices_since, AreEmptyFrom, AreTurns, none, one_more}
+use Rattle.search_core.specs.declared.board.Taken.TheVariants.{Node as TakenNode}
 use Rattle.std.specs.Prelude.{slice_get, count_by}
 use Rattle.std.specs.Option.{is_some, option_map_or, option_and_then}
 use Rattle.std.specs.List.{list_all, list_any}
-use Rattle.std.proofs.lemmas.Bool.{and_parts, cases_Bool, eqb-true, false≢true}
-use Rattle.std.proofs.lemmas.List.{append-nil, append_assoc}
 use Rattle.std.proofs.lemmas.List.Sums.{sum_by-cons}
 use Rattle.std.proofs.lemmas.Option.{slice_get-get_or}
 use Rattle.std.proofs.Math.Nat.{mul-add, mul-one}
 use Rattle.break_rules.proofs.Counts.{count_by-append}
-use Rattle.shift_instance.specs.Problem.{Problem}
 use Rattle.rota_cost.specs.Costed.{Costing}
 use Rattle.head_splits.specs.declared.Prices.{Prices}
 use Rattle.head_splits.specs.Nodes.{Node}
-use Rattle.post_codec.specs.declared.post.Post.{Post}
-use Rattle.post_codec.specs.declared.post.Post.TheVariants.{Plan, Priced, Split, Settled}
-use Rattle.search_core.specs.declared.step_posts.StepPosts.{StepPosts}
-use Rattle.search_core.specs.declared.board.Kept.{Kept}
-use Rattle.search_core.specs.declared.board.Taken.{Taken}
-use Rattle.search_core.specs.declared.board.Taken.TheVariants.{Closed, Finished, Halted, Spent, Node as TakenNode, Idle}
-use Rattle.search_core.specs.declared.board.CommitFault.{CommitFault}
-use Rattle.search_core.specs.declared.board.CommitFault.TheVariants.{DiskFault, Full, NotHeld, Shut, NotClosing, OtherCuts, NoMemory}
-use Rattle.search_core.specs.Board.{book_at, posts_at, yields, BoardView, Commits, CommitRefuses, IsSoundBoard, TakeMakes}
-use Rattle.search_core.specs.Book.{book_after, book_of, divided, is_node_and, is_open, priced, settled, step, Book}
-use Rattle.search_core.specs.Calls.{full_hands, IsCall, IsFresh}
-use Rattle.search_core.specs.Calls.IsCall.{a_commit, a_refusal, a_take, a_yield}
-use Rattle.search_core.specs.Core.{hand, is_node, is_of, HoldsApart}
 use Rattle.search_core.specs.State.{book_or_opening}
-use Rattle.search_core.specs.Steps.{book_then, close_posts, followed_by, plan_of, plan_posts, posts_of, where_open}
 use Rattle.search_core.proofs.Boards.{step_of_worker}
 use Rattle.search_core.proofs.Closed.{some_node}
 use Rattle.search_core.proofs.FewNodes.{sum_set}
-use Rattle.search_core.proofs.Outlines.{book_is}
-use Rattle.search_core.proofs.Runs.{front_folds, hand_set, hand_some, slice_get_front, slice_get_other}
-use Rattle.search_core.proofs.Sound.{at_node_some, bind_some, cond_some}
-use Rattle.board_lock.specs.Turns.{is_plan, is_prices, plans_since, prices_since, AreEmptyFrom, AreTurns}
-use Rattle.board_lock.specs.Turns.AreTurns.{none, one_more}
 use Rattle.board_lock.proofs.Turned.{clear_of}
 
 -- what a test counts for

@@ -1,23 +1,6 @@
 -- What the best rota costs, before and after a call.
-use Rattle.std.proofs.Common.{◌≡◌, ℕ, ◌+◌, ◌<◌, ◌≤◌, ◌&&◌, ◌==◌, List, [], ◌∷◌, ◌++◌, length, ap, ◌∙◌, refl, subst, arith, nat_lt, Option, Some}
-use Rattle.std.proofs.lemmas.Bool.{and_parts, ltb-true}
-use Rattle.std.proofs.lemmas.List.{length-append}
-use Rattle.shift_instance.specs.Problem.{Problem}
+use Rattle.board_lock.proofs.Common.{◌≡◌, ℕ, ◌+◌, ◌<◌, ◌≤◌, ◌&&◌, ◌==◌, List, [], ◌∷◌, ◌++◌, length, ap, ◌∙◌, refl, subst, arith, nat_lt, Option, Some, and_parts, ltb-true, length-append, Problem, Post, Plan, Priced, Split, Settled, StepPosts, Kept, Taken, Closed, Finished, Halted, Spent, Node, Idle, CommitFault, DiskFault, Full, NotHeld, Shut, NotClosing, OtherCuts, NoMemory, book_at, posts_at, BoardView, Commits, CommitRefuses, IsSoundBoard, TakeMakes, book_after, book_of, divided, is_better, priced, settled, step, Book, book_is, front_folds, at_node_some, bind_some, cond_some, last_behind, last_of, Follows}
 use Rattle.shift_instance.specs.Rota.{are_legal_rows, cost, rota_of}
-use Rattle.post_codec.specs.declared.post.Post.{Post}
-use Rattle.post_codec.specs.declared.post.Post.TheVariants.{Plan, Priced, Split, Settled}
-use Rattle.search_core.specs.declared.step_posts.StepPosts.{StepPosts}
-use Rattle.search_core.specs.declared.board.Kept.{Kept}
-use Rattle.search_core.specs.declared.board.Taken.{Taken}
-use Rattle.search_core.specs.declared.board.Taken.TheVariants.{Closed, Finished, Halted, Spent, Node, Idle}
-use Rattle.search_core.specs.declared.board.CommitFault.{CommitFault}
-use Rattle.search_core.specs.declared.board.CommitFault.TheVariants.{DiskFault, Full, NotHeld, Shut, NotClosing, OtherCuts, NoMemory}
-use Rattle.search_core.specs.Board.{book_at, posts_at, BoardView, Commits, CommitRefuses, IsSoundBoard, TakeMakes}
-use Rattle.search_core.specs.Book.{book_after, book_of, divided, is_better, priced, settled, step, Book}
-use Rattle.search_core.proofs.Outlines.{book_is}
-use Rattle.search_core.proofs.Runs.{front_folds}
-use Rattle.search_core.proofs.Sound.{at_node_some, bind_some, cond_some}
-use Rattle.best_cell.specs.Told.{last_behind, last_of, Follows}
 use Rattle.board_lock.specs.Best.{best_of}
 
 -- no post raises the cost of the best rota
@@ -54,24 +37,6 @@ best_follows w step kept old new s m =
     let less : s.book.cost ≤ f.0.cost = after_cost i f.0 s.book posts f.2 in
     let long : length new.history ≡ length old.history + length posts = ap (λ (h : List Post). length h) history ∙ length-append old.history posts in
     (omega arith, omega arith)
-
--- no other call changes either
-pub take_best : (answer : Taken) (w : ℕ) (old new : BoardView) → TakeMakes answer w old new → best_of new ≡ best_of old
-take_best Closed w old new m = ap best_of m.1
-take_best Finished w old new m = ap best_of m.2
-take_best Halted w old new m = ap best_of m.3
-take_best Spent w old new m = ap best_of m.4
-take_best (Node k floor best) w old new m = ap best_of m.4
-take_best Idle w old new m = ap best_of m.2
-
-pub refusal_best : (fault : CommitFault) (w : ℕ) (step : StepPosts) (old new : BoardView) → CommitRefuses w step old new fault → best_of new ≡ best_of old
-refusal_best DiskFault w step old new m = ap best_of m.1
-refusal_best (Full end limit) w step old new m = ap best_of m.4
-refusal_best (NotHeld held) w step old new m = ap best_of m.3
-refusal_best Shut w step old new m = ap best_of m.1
-refusal_best (NotClosing floor best back) w step old new m = ap best_of m.6
-refusal_best (OtherCuts place) w step old new m = ap best_of m.3
-refusal_best NoMemory w step old new m = ap best_of m
 
 -- ---- the pair that was told last
 

@@ -1,12 +1,12 @@
 -- Each step of the lock keeps its rule.
-use Rattle.std.proofs.Common.{◌≡◌, ◌≢◌, ℕ, zero, suc, eqb, List, [], ◌∷◌, ◌++◌, length, get_or, set, sym, refl, ap, ◌∙◌, subst, inl, inr, ⊎_elim, arith, Option, Some, None, length-set, get_or-set_same}
+use Rattle.board_lock.proofs.Common.{◌≡◌, ◌≢◌, ℕ, zero, suc, eqb, List, [], ◌∷◌, ◌++◌, length, get_or, set, sym, refl, ap, ◌∙◌, subst, inl, inr, ⊎_elim, arith, Option, Some, None, length-set, get_or-set_same, State, Me, Act, keeps, takes, gives, Valid, carried_after, stepped, opening, Allows, Splits, Seen, Final}
 use mathlib.Core.Logic.{dite}
 use mathlib.Core.Option.{some, none, some-injective, some-ne-none}
 use native.Mathlib.Decide.{ℕ_discrete}
 use lib.ListN.{get_elem?}
 use lib.Seq.{set-get_or}
 use prog.Atomic.{either}
-use Rattle.atomic_table.specs.Table.{State, Me, Act, keeps, takes, gives, Valid, carried_after, stepped, opening, Allows, Splits, Seen, Final, step}
+use Rattle.atomic_table.specs.Table.{step}
 use Rattle.atomic_table.proofs.Lists.{at_set, at_snoc, set_again, set_here, at_longer, exchanged}
 use Rattle.board_lock.specs.declared.view.View.{View}
 use Rattle.board_lock.specs.Locking.{outside, inside, retired, AllOutside, OneAt, Guarded, IsFree, IsTaken, IsRetired, Tried}

@@ -1,24 +1,8 @@
 -- What turns leave: only the hands of the workers hold a node, and instance, budget, origin and the first posts stay.
-use Rattle.std.proofs.Common.{◌≡◌, ◌⊎◌, inl, inr, ℕ, ◌+◌, ◌<◌, ◌≤◌, List, [], ◌++◌, set, refl, sym, ap, ◌∙◌, subst, arith, Option, Some, None}
-use Rattle.std.proofs.Math.Logic.{∥∥₁_elim}
+use Rattle.board_lock.proofs.Common.{◌≡◌, ◌⊎◌, inl, inr, ℕ, ◌+◌, ◌<◌, ◌≤◌, List, [], ◌++◌, set, refl, sym, ap, ◌∙◌, subst, arith, Option, Some, None, ∥∥₁_elim, append-nil, append_assoc, Post, StepPosts, Kept, Taken, Closed, Finished, Halted, Spent, Node, Idle, CommitFault, DiskFault, Full, NotHeld, Shut, NotClosing, OtherCuts, NoMemory, BoardView, posts_at, yields, Commits, CommitRefuses, IsSoundBoard, TakeMakes, full_hands, AreCalls, IsCall, IsFresh, a_commit, a_refusal, a_take, a_yield, empty_hands, hand, IsFront, hand_set, no_hand, AreEmptyFrom, AreTurns, none, one_more}
 use Rattle.std.proofs.Props.{props}
-use Rattle.std.proofs.lemmas.List.{append-nil, append_assoc}
-use Rattle.post_codec.specs.declared.post.Post.{Post}
-use Rattle.search_core.specs.declared.step_posts.StepPosts.{StepPosts}
-use Rattle.search_core.specs.declared.board.Kept.{Kept}
-use Rattle.search_core.specs.declared.board.Taken.{Taken}
-use Rattle.search_core.specs.declared.board.Taken.TheVariants.{Closed, Finished, Halted, Spent, Node, Idle}
-use Rattle.search_core.specs.declared.board.CommitFault.{CommitFault}
-use Rattle.search_core.specs.declared.board.CommitFault.TheVariants.{DiskFault, Full, NotHeld, Shut, NotClosing, OtherCuts, NoMemory}
-use Rattle.search_core.specs.Board.{BoardView, posts_at, yields, Commits, CommitRefuses, IsSoundBoard, TakeMakes}
-use Rattle.search_core.specs.Calls.{full_hands, AreCalls, IsCall, IsFresh}
 use Rattle.search_core.specs.Calls.AreCalls.{none as no_calls, one_more as call_more}
-use Rattle.search_core.specs.Calls.IsCall.{a_commit, a_refusal, a_take, a_yield}
-use Rattle.search_core.specs.Core.{empty_hands, hand, IsFront}
 use Rattle.search_core.proofs.Counted.{calls_within}
-use Rattle.search_core.proofs.Runs.{hand_set, no_hand}
-use Rattle.board_lock.specs.Turns.{AreEmptyFrom, AreTurns}
-use Rattle.board_lock.specs.Turns.AreTurns.{none, one_more}
 
 -- ---- hands from a number on
 

@@ -1,28 +1,9 @@
 -- What is known of shifts, from one price set to the next.
-use Rattle.std.proofs.Common.{◌≡◌, ◌⊎◌, inl, inr, ℕ, ◌+◌, ◌*◌, ◌<◌, ◌≤◌, ℤ, pos, ◌≤ℤ◌, Bool, true, false, cond, List, [], ◌∷◌, length, set, get_or, refl, sym, ◌∙◌, subst, arith, Option, Some, None}
-use Rattle.std.specs.Prelude.{slice_get, MatchOption, is_some}
+use Rattle.bound_sums.proofs.Common.{◌≡◌, ◌⊎◌, inl, inr, ℕ, ◌+◌, ◌*◌, ◌<◌, ◌≤◌, ℤ, pos, ◌≤ℤ◌, Bool, true, false, cond, List, [], ◌∷◌, length, set, get_or, refl, sym, ◌∙◌, subst, arith, Option, Some, None, slice_get, MatchOption, is_some, unsigned_abs, false≢true, cases_eq, cases_lt, Decides-int_eq, ints, All-from_get_or, Rule, Shift, Problem, day_slots, shift_list, slot_of, slots, lists_of, IsValid, price_of, sum_at, AreSmallPrices, sums_on, AreSumsByDay, Cut, Prices, is_nil, has_prefix_cut, IsKept, mark, AreMarks, AreValues}
 use Rattle.std.specs.Ordering.{int_eq}
-use Rattle.std.specs.Int.RustNames.{unsigned_abs}
-use Rattle.std.proofs.lemmas.Bool.{false≢true, cases_eq, cases_lt}
-use Rattle.std.proofs.lemmas.Bool.Decides.{Decides-int_eq}
-use Rattle.std.proofs.lemmas.Int.{ints}
 use Rattle.std.proofs.lemmas.Nat.{mod_below}
 use Rattle.std.proofs.lemmas.Option.{slice_get-get_or}
 use Rattle.std.proofs.lemmas.List.{get_or_past, get_or-set_same, get_or-set_other}
-use Rattle.std.proofs.lemmas.List.Elements.{All-from_get_or}
-use Rattle.break_rules.specs.declared.Rule.{Rule}
-use Rattle.shift_instance.specs.declared.Shift.{Shift}
-use Rattle.shift_instance.specs.Problem.{Problem, day_slots, shift_list, slot_of, slots}
-use Rattle.shift_instance.specs.Rota.{lists_of}
-use Rattle.shift_instance.specs.Valid.{IsValid}
-use Rattle.shift_instance.specs.Worth.{price_of}
-use Rattle.price_sums.specs.Along.{sum_at, AreSmallPrices}
-use Rattle.price_sums.specs.Days.{sums_on, AreSumsByDay}
-use Rattle.head_splits.specs.declared.Cut.{Cut}
-use Rattle.head_splits.specs.declared.Prices.{Prices}
-use Rattle.head_splits.specs.Bound.{is_nil}
-use Rattle.bound_sums.specs.Kept.{has_prefix_cut, IsKept, mark, AreMarks}
-use Rattle.bound_sums.specs.Values.{AreValues}
 use Rattle.bound_sums.proofs.Unseen.{level, values_alone, values_with, values_unseen}
 
 -- what is known of a shift, and what is found

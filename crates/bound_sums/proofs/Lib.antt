@@ -1,3 +1,4 @@
+pub mod Common
 pub mod Sizes
 pub mod Pairs
 pub mod Priced

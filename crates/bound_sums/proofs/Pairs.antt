@@ -1,12 +1,6 @@
 -- Cuts with their prices, from some place on.
-use Rattle.std.proofs.Common.{◌≡◌, ℕ, suc, ◌+◌, List, ◌∷◌, length, drop, get_or, sym, ap, ◌∙◌, arith}
+use Rattle.bound_sums.proofs.Common.{◌≡◌, ℕ, suc, ◌+◌, List, ◌∷◌, length, drop, get_or, sym, ap, ◌∙◌, arith, ◌<◌, ℤ, ◌+ℤ◌, zip, ints, int_sum_by, int_sum_by-cons, Cut}
 use Rattle.std.proofs.Math.Seq.{drop-cons}
-use Rattle.std.proofs.Common.{◌<◌, ℤ, ◌+ℤ◌}
-use Rattle.std.specs.List.{zip}
-use Rattle.std.proofs.lemmas.Int.{ints}
-use Rattle.break_rules.specs.Sums.{int_sum_by}
-use Rattle.break_rules.proofs.Sums.{int_sum_by-cons}
-use Rattle.head_splits.specs.declared.Cut.{Cut}
 
 -- the cuts from a place on, each with its price
 abbrev pub pairs_from : List Cut → List ℕ → ℕ → List (Cut × ℕ)

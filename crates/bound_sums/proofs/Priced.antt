@@ -1,23 +1,8 @@
 -- The sizes of the prices of a price set.
-use Rattle.std.proofs.Common.{◌≡◌, ℕ, zero, suc, ◌*◌, ◌≤◌, ℤ, pos, neg_ℤ, ◌≤ℤ◌, Bool, true, not, ◌||◌, ◌==◌, nat_le, List, [], ◌∷◌, length, get_or, All, arith}
-use Rattle.std.specs.Prelude.{int_le}
-use Rattle.std.specs.Int.RustNames.{unsigned_abs}
-use Rattle.std.specs.List.{list_all, zip}
-use Rattle.std.proofs.Math.Nat.{mul-le-mul}
-use Rattle.std.proofs.lemmas.Bool.{and_parts, leb-true}
-use Rattle.std.proofs.lemmas.Int.{ints}
-use Rattle.std.proofs.lemmas.List.Elements.{All-from_get_or}
-use Rattle.shift_instance.specs.Problem.{Problem}
-use Rattle.shift_instance.specs.Worth.{price_of}
-use Rattle.shift_instance.specs.Valid.{IsValid}
+use Rattle.bound_sums.proofs.Common.{◌≡◌, ℕ, zero, suc, ◌*◌, ◌≤◌, ℤ, pos, neg_ℤ, ◌≤ℤ◌, Bool, true, not, ◌||◌, ◌==◌, nat_le, List, [], ◌∷◌, length, get_or, All, arith, int_le, unsigned_abs, list_all, zip, mul-le-mul, and_parts, leb-true, ints, All-from_get_or, Problem, price_of, IsValid, Cut, Prices, is_nil, signed_price, is_slot_price, is_cut_price, are_prices, le_from_test, priced, abs_within}
 use Rattle.head_splits.specs.declared.Side.{Side}
 use Rattle.head_splits.specs.declared.Side.TheVariants.{AtMost, AtLeast}
-use Rattle.head_splits.specs.declared.Cut.{Cut}
-use Rattle.head_splits.specs.declared.Prices.{Prices}
 use Rattle.head_splits.specs.declared.TheConstants.{CUT_PRICE_MAX}
-use Rattle.head_splits.specs.Bound.{is_nil, signed_price, is_slot_price, is_cut_price, are_prices}
-use Rattle.head_splits.proofs.Priced.{le_from_test, priced}
-use Rattle.break_rules.proofs.Sizes.{abs_within}
 
 slot_range : (i : Problem) (q : ℕ) (p : ℤ) → IsValid i → q ≤ 10000 → is_slot_price i q p ≡ true → unsigned_abs p ≤ 10000000000
 slot_range i q p valid limit h =

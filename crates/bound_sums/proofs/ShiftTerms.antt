@@ -1,14 +1,5 @@
 -- The term of a shift by the values of its days.
-use Rattle.std.proofs.Common.{◌≡◌, ℕ, ◌*◌, ℤ, pos, ◌-ℤ◌, ◌*ℤ◌, Bool, false, cond, List, sym, ap, ◌∙◌}
-use Rattle.std.specs.Int.{int_max, int_min}
-use Rattle.break_rules.specs.Sums.{int_sum_by}
-use Rattle.shift_instance.specs.Problem.{Problem, below}
-use Rattle.shift_instance.specs.Rota.{lists_of}
-use Rattle.head_splits.specs.declared.Cut.{Cut}
-use Rattle.head_splits.specs.declared.Prices.{Prices}
-use Rattle.head_splits.specs.Cuts.{low, high, whole_class}
-use Rattle.head_splits.specs.Bound.{is_nil, is_forced, day_value, free_day_value, term}
-use Rattle.bound_sums.specs.Values.{IsValue}
+use Rattle.bound_sums.proofs.Common.{◌≡◌, ℕ, ◌*◌, ℤ, pos, ◌-ℤ◌, ◌*ℤ◌, Bool, false, cond, List, sym, ap, ◌∙◌, int_max, int_min, int_sum_by, Problem, below, lists_of, Cut, Prices, low, high, whole_class, is_nil, is_forced, day_value, free_day_value, term, IsValue}
 
 module _ (i : Problem) (cuts : List Cut) (prices : Prices) (s day : ℕ) (v : ℤ) (lo hi : ℕ) (value : IsValue i cuts prices s day v) (is_low : lo ≡ low cuts (whole_class s day)) (is_high : hi ≡ high i cuts (whole_class s day)) where
   pub day_worth : int_max (v *ℤ pos lo) (v *ℤ pos hi) ≡ day_value i cuts prices s day

@@ -1,12 +1,6 @@
 -- Sizes of integers and of their sums.
-use Rattle.std.proofs.Common.{◌≡◌, inl, inr, ℕ, ◌+◌, ◌*◌, ◌^◌, ◌<◌, ◌≤◌, ℤ, ◌+ℤ◌, List, [], ◌∷◌, length, refl, sym, ap, ◌∙◌, subst, arith, FitsSigned, to_z, of_z}
-use mir.Syntax.{w128}
-use Rattle.std.specs.Int.RustNames.{unsigned_abs}
-use Rattle.std.proofs.lemmas.Int.{fits_signed_from_abs, to_z-of_z}
-use Rattle.break_rules.specs.Sums.{int_sum_by}
+use Rattle.bound_sums.proofs.Common.{◌≡◌, inl, inr, ℕ, ◌+◌, ◌*◌, ◌^◌, ◌<◌, ◌≤◌, ℤ, ◌+ℤ◌, List, [], ◌∷◌, length, refl, sym, ap, ◌∙◌, subst, arith, FitsSigned, to_z, of_z, w128, unsigned_abs, fits_signed_from_abs, to_z-of_z, int_sum_by, abs_add, int_sum_by-cons}
 use Rattle.break_rules.specs.Lists.{Has}
-use Rattle.break_rules.proofs.Sizes.{abs_add}
-use Rattle.break_rules.proofs.Sums.{int_sum_by-cons}
 
 -- a small number fits
 pub fits : (z : ℤ) (n : ℕ) → unsigned_abs z ≤ n → n < 2 ^ 127 → FitsSigned w128 z

@@ -1,11 +1,5 @@
 -- The range of the duties of a shift that no cut bounds.
-use Rattle.std.proofs.Common.{◌≡◌, ◌==◌, ◌∙◌, refl, ℕ, Bool, true, false, cond, ◌&&◌, ◌||◌, List, [], ◌∷◌, fold, ap, sym}
-use Rattle.std.proofs.lemmas.Bool.{false≢true}
-use Rattle.std.specs.List.{list_any}
-use Rattle.break_rules.specs.Breaks.{same_list}
-use Rattle.shift_instance.specs.Problem.{Problem}
-use Rattle.head_splits.specs.declared.Cut.{Cut}
-use Rattle.head_splits.specs.Cuts.{raised, lowered, low, high, least_high, same_class, whole_class}
+use Rattle.bound_sums.proofs.Common.{◌≡◌, ◌==◌, ◌∙◌, refl, ℕ, Bool, true, false, cond, ◌&&◌, ◌||◌, List, [], ◌∷◌, fold, ap, sym, false≢true, list_any, same_list, Problem, Cut, raised, lowered, low, high, least_high, same_class, whole_class}
 
 parts : (a b : Bool) → (a || b) ≡ false → (a ≡ false) × (b ≡ false)
 parts true b h = absurd (false≢true (sym h))

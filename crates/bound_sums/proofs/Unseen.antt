@@ -1,27 +1,9 @@
 -- The values of duties at prices that are the same wherever the duties may work.
-use Rattle.std.proofs.Common.{◌≡◌, ℕ, zero, suc, ◌+◌, ◌-◌, ◌<◌, ℤ, pos, ◌-ℤ◌, ◌+ℤ◌, ◌≤ℤ◌, Bool, true, false, cond, not, ◌&&◌, ◌==◌, List, [], ◌∷◌, map, refl, sym, ap, ◌∙◌, subst, arith, Some}
-use Rattle.std.specs.Prelude.{slice_get}
+use Rattle.bound_sums.proofs.Common.{◌≡◌, ℕ, zero, suc, ◌+◌, ◌-◌, ◌<◌, ℤ, pos, ◌-ℤ◌, ◌+ℤ◌, ◌≤ℤ◌, Bool, true, false, cond, not, ◌&&◌, ◌==◌, List, [], ◌∷◌, map, refl, sym, ap, ◌∙◌, subst, arith, Some, slice_get, list_any, zip, false≢true, and_parts, or_parts, eqb-true, ints, Rule, works_at, begins_with, int_sum_by, greatest, int_sum_by-same, int_sum_by-cons, Shift, Problem, slots, shift_list, slot_of, below, lists_of, works, price_of, earned, sum_at, price_in, Cut, Prices, is_nil, signed_price, bonus, reduced, has_prefix_cut, of_slots, AreValues}
 use Rattle.std.specs.Option.{option_map_or}
-use Rattle.std.specs.List.{list_any, zip}
-use Rattle.std.proofs.lemmas.Bool.{false≢true, and_parts, or_parts, eqb-true}
-use Rattle.std.proofs.lemmas.Int.{ints}
 use Rattle.break_rules.specs.declared.Break.{Break}
-use Rattle.break_rules.specs.declared.Rule.{Rule}
-use Rattle.break_rules.specs.Breaks.{works_at, begins_with}
-use Rattle.break_rules.specs.Sums.{int_sum_by, greatest}
 use Rattle.break_rules.proofs.Lists.{any_some, from_below}
-use Rattle.break_rules.proofs.Sums.{int_sum_by-same, int_sum_by-cons}
-use Rattle.shift_instance.specs.declared.Shift.{Shift}
 use Rattle.shift_instance.specs.declared.Duty.{Duty}
-use Rattle.shift_instance.specs.Problem.{Problem, slots, shift_list, slot_of, below}
-use Rattle.shift_instance.specs.Rota.{lists_of, works}
-use Rattle.shift_instance.specs.Worth.{price_of, earned}
-use Rattle.price_sums.specs.Along.{sum_at, price_in}
-use Rattle.head_splits.specs.declared.Cut.{Cut}
-use Rattle.head_splits.specs.declared.Prices.{Prices}
-use Rattle.head_splits.specs.Bound.{is_nil, signed_price, bonus, reduced}
-use Rattle.bound_sums.specs.Kept.{has_prefix_cut, of_slots}
-use Rattle.bound_sums.specs.Values.{AreValues}
 
 -- sums of numbers that aren't negative never fall
 climb : (sums : List ℤ) (a n : ℕ) → ((o : ℕ) → o < a + n → pos 0 ≤ℤ price_in sums o) → sum_at sums a ≤ℤ sum_at sums (a + n)

@@ -10,7 +10,7 @@ use head_splits::{Cut, CutPrices, Cuts, Prices, SlotPrices};
 use instance_json::generate;
 use price_climb::{Climb, Limits, Ranges};
 use shift_instance::Instance;
-use shift_tables::Tables;
+use shift_tables::ShiftTables;
 use std::alloc::Global;
 use std::num::{nearest_u64_to_f64, saturating_f64_to_i64, saturating_f64_to_u64};
 use std::test::Fail;
@@ -44,7 +44,7 @@ fn whole(alloc: Global, hours: usize, prices: &[f64]) -> Result<Prices, NoMemory
 /// A climb of some rounds below some cuts, from the greatest price of each hour on: the value, and the best prices.
 fn climb_in(
     alloc: Global,
-    tables: &Tables,
+    tables: &ShiftTables,
     cuts: &[Cut],
     rounds: u32,
 ) -> Result<(f64, Vec<f64>), NoMemory> {
@@ -68,7 +68,7 @@ fn prices_of(
     cuts: &[Cut],
     rounds: u32,
 ) -> Result<(f64, Prices), NoMemory> {
-    let tables = Tables::new(alloc, instance)?;
+    let tables = ShiftTables::new(alloc, instance)?;
     let (value, best) = climb_in(alloc, &tables, cuts, rounds)?;
     Ok((value, whole(alloc, tables.slots, &best)?))
 }

@@ -1,16 +1,5 @@
 -- Each graph of a rule and a length has the nodes that are made for it, in their order, with as many edges.
-use Rattle.std.proofs.Common.{◌≡◌, ◌≢◌, inl, inr, ℕ, zero, suc, ◌+◌, ◌<◌, ◌≤◌, true, List, [], length, map, take, sum_by, sym, ap, ◌∙◌, subst, arith, Option}
-use Rattle.std.proofs.lemmas.Bool.{false≢true, cases_lt}
-use Rattle.std.proofs.lemmas.List.{length-map, take_all, take-take}
-use Rattle.std.proofs.lemmas.List.Sums.{sum_by_more, sum_by-take-le}
-use Rattle.break_rules.specs.declared.Break.{Break}
-use Rattle.break_rules.specs.declared.Rule.{Rule}
-use Rattle.break_rules.specs.Breaks.{is_live}
-use Rattle.break_rules.specs.Live.{place_of}
-use Rattle.break_graph.specs.declared.Edge.{Edge}
-use Rattle.break_graph.specs.declared.Node.{Node}
-use Rattle.break_graph.specs.Graph.{node_at, StandsAt, IsGraph}
-use Rattle.break_graph.specs.Building.{AreDrafted}
+use Rattle.break_graph.proofs.Common.{◌≡◌, ◌≢◌, inl, inr, ℕ, zero, suc, ◌+◌, ◌<◌, ◌≤◌, true, List, [], length, map, take, sum_by, sym, ap, ◌∙◌, subst, arith, Option, false≢true, cases_lt, length-map, take_all, take-take, sum_by_more, sum_by-take-le, Break, Rule, is_live, place_of, Edge, Node, node_at, StandsAt, IsGraph, AreDrafted}
 use Rattle.break_graph.proofs.Fronts.{live_front, edge_on, stands_on}
 
 -- the number of the edges of all nodes

@@ -1,15 +1,7 @@
 -- The nodes of a graph by number, and one node more, where their edges lie in one list.
-use Rattle.std.proofs.Common.{◌≡◌, ℕ, zero, suc, ◌+◌, ◌-◌, ◌<◌, ◌≤◌, List, [], ◌∷◌, ◌++◌, length, map, take, drop, get_or, sum_by, refl, sym, ap, ◌∙◌, subst, arith}
-use Rattle.std.specs.List.{between}
-use Rattle.std.proofs.lemmas.List.{length-append, get_or-map, take-append-le, take_all, drop_at}
+use Rattle.break_graph.proofs.Common.{◌≡◌, ℕ, zero, suc, ◌+◌, ◌-◌, ◌<◌, ◌≤◌, List, [], ◌∷◌, ◌++◌, length, map, take, drop, get_or, sum_by, refl, sym, ap, ◌∙◌, subst, arith, between, length-append, get_or-map, take-append-le, take_all, drop_at, sum_by-cons, Edge, FlatNode, Node, node_at, nodes_from, AreFlat, begin_at}
 use Rattle.std.proofs.lemmas.List.Edits.{length-between}
-use Rattle.std.proofs.lemmas.List.Sums.{sum_by-cons}
 use Rattle.std.proofs.lemmas.Slice.{between_is}
-use Rattle.break_graph.specs.declared.Edge.{Edge}
-use Rattle.break_graph.specs.declared.FlatNode.{FlatNode}
-use Rattle.break_graph.specs.declared.Node.{Node}
-use Rattle.break_graph.specs.Graph.{node_at}
-use Rattle.break_graph.specs.Flat.{nodes_from, AreFlat, begin_at}
 
 -- ---- by number
 
@@ -32,12 +24,6 @@ lies_within : (begin : ℕ) (ns : List FlatNode) (edges : List Edge) (k : ℕ) (
 lies_within begin [] edges k d f h = absurd (omega arith)
 lies_within begin (n ∷ ns) edges zero d f h = (f.0, begins_within n.end ns edges f.1)
 lies_within begin (n ∷ ns) edges (suc k) d f h = lies_within n.end ns edges k d f.1 (omega arith)
-
--- the edges of a node begin where those of the node before it end
-pub begin_behind : (ns : List FlatNode) (j k : ℕ) (d : FlatNode) → j + 1 ≡ k → k < length ns → (get_or ns j d).end ≡ begin_at ns k
-begin_behind ns j k d e h =
-    let next : suc j ≡ k = omega arith in
-    sym (get_or-map (λ (n : FlatNode). n.end) ns j d 0 (omega arith)) ∙ ap (begin_at ns) next
 
 module _ (ns : List FlatNode) (edges : List Edge) (k : ℕ) (n : FlatNode) (h : k < length ns) (is : n ≡ get_or ns k n) where
   pub spot_flat : n.spot ≡ (node_at (nodes_from 0 ns edges) k).spot

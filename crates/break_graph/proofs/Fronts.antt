@@ -1,18 +1,5 @@
 -- The node where some breaks stand, one break after another.
-use Rattle.std.proofs.Common.{◌≡◌, inl, inr, ℕ, ◌+◌, ◌<◌, true, false, List, [], ◌∷◌, ◌++◌, length, map, take, drop, get_or, sym, ap, ◌∙◌, subst, append_assoc}
-use Rattle.std.proofs.lemmas.List.{take_more, take-append-drop}
-use Rattle.std.proofs.lemmas.Bool.{false≢true, cases_Bool}
-use Rattle.break_rules.specs.declared.Break.{Break}
-use Rattle.break_rules.specs.declared.Rule.{Rule}
-use Rattle.break_rules.specs.Breaks.{is_legal, is_live}
-use Rattle.break_rules.specs.Walk.{nexts_of, spot_of}
-use Rattle.break_rules.specs.Lists.{Has}
-use Rattle.break_rules.proofs.Lists.{from_map, Has-filter}
-use Rattle.break_rules.proofs.LegalLists.{live_rest, live_from}
-use Rattle.break_rules.proofs.Reaching.{rest_first}
-use Rattle.break_graph.specs.declared.Edge.{Edge}
-use Rattle.break_graph.specs.declared.Node.{Node}
-use Rattle.break_graph.specs.Graph.{IsGraph, StandsAt, node_at}
+use Rattle.break_graph.proofs.Common.{◌≡◌, inl, inr, ℕ, ◌+◌, ◌<◌, true, false, List, [], ◌∷◌, ◌++◌, length, map, take, drop, get_or, sym, ap, ◌∙◌, subst, append_assoc, take_more, take-append-drop, false≢true, cases_Bool, Break, Rule, is_legal, is_live, nexts_of, spot_of, Has, from_map, Has-filter, live_rest, live_from, rest_first, Edge, Node, IsGraph, StandsAt, node_at}
 use Rattle.break_graph.proofs.Elements.{has_place}
 
 -- some legal list begins with the first of some breaks with which some legal list begins

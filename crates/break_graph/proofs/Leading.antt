@@ -1,16 +1,5 @@
 -- The first legal list, along the first edges of a graph.
-use Rattle.std.proofs.Common.{◌≡◌, ◌≢◌, inl, inr, ℕ, ◌==◌, ◌+◌, ◌-◌, ◌<◌, ◌≤◌, arith, Bool, true, cond, List, [], ◌∷◌, ◌++◌, length, map, filter, refl, sym, ap, ◌∙◌, subst, append-nil, Some, None, Option, slice_get}
-use Rattle.std.specs.List.{find}
-use Rattle.std.proofs.lemmas.Bool.{cases_Bool}
-use Rattle.break_rules.specs.declared.Break.{Break}
-use Rattle.break_rules.specs.declared.Rule.{Rule}
-use Rattle.break_rules.specs.Breaks.{is_legal, is_live, legal_lists}
-use Rattle.break_rules.specs.Walk.{nexts_of, spot_of}
-use Rattle.break_rules.proofs.FirstList.{first_legal, first_step}
-use Rattle.break_rules.proofs.LegalLists.{no_longer_list}
-use Rattle.break_graph.specs.declared.Edge.{Edge}
-use Rattle.break_graph.specs.declared.Node.{Node}
-use Rattle.break_graph.specs.Graph.{IsGraph, StandsAt, node_at}
+use Rattle.break_graph.proofs.Common.{◌≡◌, ◌≢◌, inl, inr, ℕ, ◌==◌, ◌+◌, ◌-◌, ◌<◌, ◌≤◌, arith, Bool, true, cond, List, [], ◌∷◌, ◌++◌, length, map, filter, refl, sym, ap, ◌∙◌, subst, append-nil, Some, None, Option, slice_get, find, cases_Bool, Break, Rule, is_legal, is_live, legal_lists, nexts_of, spot_of, first_legal, first_step, no_longer_list, Edge, Node, IsGraph, StandsAt, node_at}
 
 -- what passes a test first
 found_first : {X : Type 0} (p : X → Bool) (xs : List X) (x : X) (rest : List X) → filter p xs ≡ x ∷ rest → find p xs ≡ Some x

@@ -1,16 +1,5 @@
 -- The marks of a walk's spots, from the opening spot on.
-use Rattle.std.proofs.Common.{◌≡◌, ◌⊎◌, inl, inr, ℕ, zero, suc, ◌+◌, ◌*◌, ◌<◌, ◌≤◌, Bool, true, false, List, [], ◌∷◌, ◌++◌, refl, sym, ap, ◌∙◌, subst, arith, slice_index_or, sum_by}
-use Rattle.std.specs.List.{AllClonesOf}
-use Rattle.std.proofs.lemmas.Bool.{and_parts, cases_lt}
-use Rattle.break_rules.specs.declared.Break.{Break}
-use Rattle.break_rules.specs.declared.Rule.{Rule}
-use Rattle.break_rules.specs.Ranges.{IsRule}
-use Rattle.break_rules.specs.Live.{place_of}
-use Rattle.break_rules.specs.Walk.{end_of_all, may_follow, nexts_of, spot_of, is_walk}
-use Rattle.break_rules.specs.Lists.{Has}
-use Rattle.break_rules.proofs.Steps.{has_next}
-use Rattle.break_rules.proofs.Reaching.{is_walk-more, later_place, walk_small}
-use Rattle.break_graph.specs.Building.{IsMarked, AreMarked}
+use Rattle.break_graph.proofs.Common.{◌≡◌, ◌⊎◌, inl, inr, ℕ, zero, suc, ◌+◌, ◌*◌, ◌<◌, ◌≤◌, Bool, true, false, List, [], ◌∷◌, ◌++◌, refl, sym, ap, ◌∙◌, subst, arith, slice_index_or, sum_by, AllClonesOf, and_parts, cases_lt, Break, Rule, IsRule, place_of, end_of_all, may_follow, nexts_of, spot_of, is_walk, Has, has_next, is_walk-more, later_place, walk_small, IsMarked, AreMarked}
 
 -- a table of copies of `false` has no mark
 pub none_marked : (clones : Bool → Bool → Type 0) (table : List Bool) → ((y : Bool) → clones false y → y ≡ false) → AllClonesOf clones false table → (place : ℕ) → slice_index_or table place false ≡ false

@@ -1,25 +1,9 @@
 -- One node more: its edges lead to the live lists with a break more, and those made so far stay.
-use Rattle.std.proofs.Common.{◌≡◌, ◌≢◌, ◌⊎◌, inl, inr, ℕ, ◌+◌, ◌-◌, ◌*◌, ◌<◌, ◌≤◌, Bool, true, false, ◌==◌, List, [], ◌∷◌, ◌++◌, length, map, filter, refl, sym, ap, ◌∙◌, subst, arith, slice_get, append_assoc, Option, Some, None, MatchOption, if◌then◌else◌}
-use Rattle.std.specs.List.{filter_map, cons_option, list_any}
-use Rattle.std.proofs.lemmas.Bool.{false≢true, cases_Bool, cases_lt, cond_both, ne_eqb}
-use Rattle.std.proofs.lemmas.List.{length-append, get_or_past, nil_from_length}
+use Rattle.break_graph.proofs.Common.{◌≡◌, ◌≢◌, ◌⊎◌, inl, inr, ℕ, ◌+◌, ◌-◌, ◌*◌, ◌<◌, ◌≤◌, Bool, true, false, ◌==◌, List, [], ◌∷◌, ◌++◌, length, map, filter, refl, sym, ap, ◌∙◌, subst, arith, slice_get, append_assoc, Option, Some, None, MatchOption, if◌then◌else◌, filter_map, cons_option, list_any, false≢true, cases_Bool, cases_lt, cond_both, ne_eqb, length-append, get_or_past, nil_from_length, Break, Rule, is_legal, is_live, is_lunch, IsRule, place_of, nexts_of, spot_of, is_walk, bits_of, Has, live_rest, no_longer_list, walk_on, later_place, live_cases, live_back, live_legal, Edge, Node, node_at, live_nexts, StandsAt, IsGraph, number_at, AreBelow, LeadBelow, edge_to, edges_by, node_if, node_by, IsNodeOf, AreDrafted}
 use Rattle.std.proofs.Math.ListN.{get_or-append}
 use Rattle.std.proofs.Math.Seq.{get_or-append_seam}
-use Rattle.break_rules.specs.declared.Break.{Break}
 use Rattle.break_rules.specs.declared.Lunch.{Lunch}
-use Rattle.break_rules.specs.declared.Rule.{Rule}
 use Rattle.break_rules.specs.declared.Spot.{Spot}
-use Rattle.break_rules.specs.Breaks.{is_legal, is_live, is_lunch}
-use Rattle.break_rules.specs.Ranges.{IsRule}
-use Rattle.break_rules.specs.Live.{place_of}
-use Rattle.break_rules.specs.Walk.{nexts_of, spot_of, is_walk, bits_of}
-use Rattle.break_rules.specs.Lists.{Has}
-use Rattle.break_rules.proofs.LegalLists.{live_rest, no_longer_list}
-use Rattle.break_rules.proofs.Reaching.{walk_on, later_place, live_cases, live_back, live_legal}
-use Rattle.break_graph.specs.declared.Edge.{Edge}
-use Rattle.break_graph.specs.declared.Node.{Node}
-use Rattle.break_graph.specs.Graph.{node_at, live_nexts, StandsAt, IsGraph}
-use Rattle.break_graph.specs.Building.{number_at, AreBelow, LeadBelow, edge_to, edges_by, node_if, node_by, IsNodeOf, AreDrafted}
 use Rattle.break_graph.proofs.Elements.{Has-get}
 use Rattle.break_graph.proofs.Fronts.{live_front}
 

@@ -1,28 +1,5 @@
 -- What the best rest of a list earns: nothing more where the list is legal, and else what the breaks reach that may come next.
-use Rattle.std.proofs.Common.{◌≡◌, ◌≢◌, inl, inr, ℕ, ◌+◌, ◌-◌, ◌*◌, ◌<◌, ◌≤◌, ℤ, ◌+ℤ◌, ◌-ℤ◌, ◌≤ℤ◌, true, false, List, [], ◌∷◌, ◌++◌, sym, ap, ◌∙◌, subst, arith, append-nil, FitsSigned, length}
-use Rattle.std.specs.Int.{w64}
-use Rattle.std.specs.Int.RustNames.{unsigned_abs}
-use Rattle.std.proofs.lemmas.Int.{ints, fits_signed_from_abs}
-use Rattle.std.proofs.lemmas.Bool.{false≢true, false_from_ne_true, cases_lt}
-use Rattle.std.proofs.Math.Nat.{mul-le-mul_right}
-use Rattle.std.proofs.Math.ListN.{get_or-append}
-use Rattle.std.proofs.Math.Seq.{get_or-append_seam}
-use Rattle.break_rules.specs.declared.Break.{Break}
-use Rattle.break_rules.specs.declared.Rule.{Rule}
-use Rattle.break_rules.specs.declared.Spot.{Spot}
-use Rattle.break_rules.specs.Breaks.{is_legal, is_live, total_of}
-use Rattle.break_rules.specs.Ranges.{IsRule}
-use Rattle.break_rules.specs.Walk.{end_of_all, is_walk, spot_of}
-use Rattle.break_rules.proofs.LegalLists.{live_rest, no_longer_list}
-use Rattle.break_rules.proofs.Reaching.{walk_small}
-use Rattle.break_rules.proofs.Sizes.{abs_sub}
-use Rattle.price_sums.specs.Along.{sum_at, AreSums, resumes, Completes}
-use Rattle.price_sums.proofs.Stretches.{earned_end, spaced_rest}
-use Rattle.break_layers.specs.declared.windows.TheConstants.{NOTHING}
-use Rattle.break_layers.specs.declared.layers.Layer.{Layer}
-use Rattle.break_layers.specs.Rests.{IsMost, rest_worth}
-use Rattle.break_layers.specs.Windows.{number_in}
-use Rattle.break_layers.specs.Layered.{IsValueOrNothing, AreLayersBefore, AreLayers, layer_number, layer_count, layer_of, layer_place, reach_worth, CompletesWith, IsReachOfAll}
+use Rattle.break_layers.proofs.Common.{◌≡◌, ◌≢◌, inl, inr, ℕ, ◌+◌, ◌-◌, ◌*◌, ◌<◌, ◌≤◌, ℤ, ◌+ℤ◌, ◌-ℤ◌, ◌≤ℤ◌, true, false, List, [], ◌∷◌, ◌++◌, sym, ap, ◌∙◌, subst, arith, append-nil, FitsSigned, length, w64, unsigned_abs, ints, fits_signed_from_abs, false≢true, false_from_ne_true, cases_lt, mul-le-mul_right, get_or-append, get_or-append_seam, Break, Rule, Spot, is_legal, is_live, total_of, IsRule, end_of_all, is_walk, spot_of, live_rest, no_longer_list, walk_small, abs_sub, sum_at, AreSums, resumes, Completes, earned_end, spaced_rest, NOTHING, Layer, IsMost, rest_worth, number_in, IsValueOrNothing, AreLayersBefore, AreLayers, layer_number, layer_count, layer_of, layer_place, reach_worth, CompletesWith, IsReachOfAll}
 use Rattle.break_layers.proofs.Reach.{above_nothing, not_above, same_or, some_worth, worth_size}
 use Rattle.break_layers.proofs.Table.{earlier_layer, same_layer, walk_used}
 

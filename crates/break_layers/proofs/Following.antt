@@ -1,25 +1,6 @@
 -- The first break that reaches as much as a best rest begins the least of the best rests.
-use Rattle.std.proofs.Common.{◌≡◌, inl, inr, ℕ, ◌*◌, ◌≤◌, ℤ, ◌+ℤ◌, ◌-ℤ◌, ◌≤ℤ◌, true, false, ◌&&◌, List, [], ◌∷◌, ◌++◌, refl, sym, ap, ◌∙◌, subst, arith, append-nil, FitsSigned}
-use Rattle.std.specs.Int.{w64}
-use Rattle.std.specs.Int.RustNames.{unsigned_abs}
-use Rattle.std.proofs.lemmas.Int.{ints, fits_signed_from_abs}
-use Rattle.std.proofs.lemmas.Bool.{and_parts, or_cases, or_left, false≢true, false_from_ne_true, cases_Bool}
-use Rattle.break_rules.specs.declared.Break.{Break}
-use Rattle.break_rules.specs.declared.Rule.{Rule}
-use Rattle.break_rules.specs.Breaks.{is_legal, is_live, is_less_break, is_less_list, same_break}
-use Rattle.break_rules.specs.Ranges.{IsRule}
-use Rattle.break_rules.specs.Walk.{end_of_all, nexts_of, spot_of}
-use Rattle.break_rules.specs.Lists.{Has, Sorted}
-use Rattle.break_rules.proofs.Lists.{Has-append_cases}
-use Rattle.break_rules.proofs.LegalLists.{live_from, no_longer_list}
+use Rattle.break_layers.proofs.Common.{◌≡◌, inl, inr, ℕ, ◌*◌, ◌≤◌, ℤ, ◌+ℤ◌, ◌-ℤ◌, ◌≤ℤ◌, true, false, ◌&&◌, List, [], ◌∷◌, ◌++◌, refl, sym, ap, ◌∙◌, subst, arith, append-nil, FitsSigned, w64, unsigned_abs, ints, fits_signed_from_abs, and_parts, or_cases, or_left, false≢true, false_from_ne_true, cases_Bool, Break, Rule, is_legal, is_live, is_less_break, is_less_list, same_break, IsRule, end_of_all, nexts_of, spot_of, Has, Sorted, Has-append_cases, live_from, no_longer_list, rest_first, has_middle, abs_add, sum_at, AreSums, resumes, Completes, earned_end, spaced_rest, NOTHING, IsMostEarned, IsBestRest, IsBestTail, IsBestFrom, IsBestList, LeadsOn, rest_worth, IsReachBy, CompletesWith, reach_worth}
 use Rattle.break_rules.proofs.Ordered.{Sorted-filter, Sorted-breaks, IsLessBreak, less_apart}
-use Rattle.break_rules.proofs.Reaching.{rest_first, has_middle}
-use Rattle.break_rules.proofs.Sizes.{abs_add}
-use Rattle.price_sums.specs.Along.{sum_at, AreSums, resumes, Completes}
-use Rattle.price_sums.proofs.Stretches.{earned_end, spaced_rest}
-use Rattle.break_layers.specs.declared.windows.TheConstants.{NOTHING}
-use Rattle.break_layers.specs.Rests.{IsMostEarned, IsBestRest, IsBestTail, IsBestFrom, IsBestList, LeadsOn, rest_worth}
-use Rattle.break_layers.specs.Layered.{IsReachBy, CompletesWith, reach_worth}
 use Rattle.break_layers.proofs.Reach.{longer, not_above, reach_more, some_reach, worth_size}
 
 -- each of some breaks reaches some other number

@@ -1,17 +1,8 @@
 -- The ways on from a spot, one break after another.
-use Rattle.std.proofs.Common.{◌≡◌, ℕ, ℤ, Bool, true, false, cond, Option, Some, None, List, [], ◌∷◌, ◌++◌, map, filter, refl, sym, ap, subst, ◌∙◌, append-nil}
-use Rattle.std.specs.Prelude.{MatchOption, is_some, slice_get}
+use Rattle.break_layers.proofs.Common.{◌≡◌, ℕ, ℤ, Bool, true, false, cond, Option, Some, None, List, [], ◌∷◌, ◌++◌, map, filter, refl, sym, ap, subst, ◌∙◌, append-nil, MatchOption, is_some, slice_get, map-append, Break, Rule, is_live, spot_of, Way, IsMostEarned, way_by}
 use Rattle.std.specs.Option.{option_map}
 use Rattle.std.proofs.lemmas.Option.{slice_get-map}
-use Rattle.std.proofs.lemmas.List.{map-append}
 use Rattle.std.proofs.lemmas.List.Elements.{filter-append}
-use Rattle.break_rules.specs.declared.Break.{Break}
-use Rattle.break_rules.specs.declared.Rule.{Rule}
-use Rattle.break_rules.specs.Breaks.{is_live}
-use Rattle.break_rules.specs.Walk.{spot_of}
-use Rattle.break_layers.specs.declared.ways.Way.{Way}
-use Rattle.break_layers.specs.Rests.{IsMostEarned}
-use Rattle.break_layers.specs.Ways.{way_by}
 use Rattle.break_layers.proofs.Following.{most_live}
 
 -- the walks with a value are those with which some legal list begins

@@ -1,14 +1,5 @@
 -- The break time that lunches take.
-use Rattle.std.proofs.Common.{◌≡◌, inl, inr, ℕ, zero, suc, ◌+◌, ◌*◌, ◌<◌, ◌≤◌, Bool, false, eq-eqb, if◌then◌else◌, ◌&&◌, ◌==◌, true, List, [], ◌∷◌, length, get_or, refl, sym, ap, ◌∙◌, arith, nat_le, sum_by}
-use Rattle.std.specs.List.{list_any}
-use Rattle.std.proofs.lemmas.Bool.{and_left, and_parts, cases_Bool, eqb-true, false≢true, ne_eqb, or_right}
-use Rattle.std.proofs.lemmas.List.Sums.{sum_by-cons}
-use Rattle.break_rules.specs.declared.Break.{Break}
-use Rattle.break_rules.specs.declared.Lunch.{Lunch}
-use Rattle.break_rules.specs.Breaks.{end_of, is_lunch}
-use Rattle.break_rules.specs.Walk.{bits_of}
-use Rattle.break_rules.specs.Lists.{Has}
-use Rattle.break_rules.proofs.Lists.{any_none, any_some}
+use Rattle.break_layers.proofs.Common.{◌≡◌, inl, inr, ℕ, zero, suc, ◌+◌, ◌*◌, ◌<◌, ◌≤◌, Bool, false, eq-eqb, if◌then◌else◌, ◌&&◌, ◌==◌, true, List, [], ◌∷◌, length, get_or, refl, sym, ap, ◌∙◌, arith, nat_le, sum_by, list_any, and_left, and_parts, cases_Bool, eqb-true, false≢true, ne_eqb, or_right, sum_by-cons, Break, Lunch, end_of, is_lunch, bits_of, Has, any_none, any_some}
 
 pub has_at : {X : Type 0} (xs : List X) (i : ℕ) (d : X) → i < length xs → Has xs (get_or xs i d)
 has_at [] i d h = absurd (omega arith)

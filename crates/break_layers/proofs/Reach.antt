@@ -1,29 +1,9 @@
 -- What the rests of a list earn that begin with some break, by what is earned behind it.
-use Rattle.std.proofs.Common.{◌≡◌, ◌≢◌, ◌⊎◌, inl, inr, ℕ, ◌+◌, ◌-◌, ◌*◌, ◌<◌, ◌≤◌, ℤ, ◌+ℤ◌, ◌-ℤ◌, ◌≤ℤ◌, ◌<ℤ◌, Bool, true, false, List, [], ◌∷◌, ◌++◌, nat_le, refl, sym, ap, ◌∙◌, subst, arith, append_assoc, min, cond, FitsSigned}
+use Rattle.break_layers.proofs.Common.{◌≡◌, ◌≢◌, ◌⊎◌, inl, inr, ℕ, ◌+◌, ◌-◌, ◌*◌, ◌<◌, ◌≤◌, ℤ, ◌+ℤ◌, ◌-ℤ◌, ◌≤ℤ◌, ◌<ℤ◌, Bool, true, false, List, [], ◌∷◌, ◌++◌, nat_le, refl, sym, ap, ◌∙◌, subst, arith, append_assoc, min, cond, FitsSigned, w64, int_max, unsigned_abs, ints, fits_signed_from_abs, fold-append, false≢true, cases_Bool, and_from, or_cases, or_left, or_right, cases_lt, le-leb, lt-ltb, leb-true, Break, Rule, end_of, is_legal, is_rested, keeps_ends, IsRule, end_of_all, may_follow, spot_of, rest_first, abs_add, Bounds, bounds, from_next, sum_at, price_in, AreSums, resumes, earned_from, Completes, earned_more, earned_small, spaced_rest, resumes_behind, NOTHING, Layer, rest_worth, number_in, IsMostIn, IsMostOrNothing, IsValueOrNothing, layer_of, longest_work_of, size_limit_of, IsSizeIn, AreSizesIn, IsInWindow, reach_worth, behind_worth, CompletesWith, IsBehindBy, IsBehindAt, IsReachBy, IsReachAt, IsReachOfSizes, IsReachOfAll}
 use Rattle.std.specs.Ordering.{int_eq}
-use Rattle.std.specs.Int.{w64, int_max}
-use Rattle.std.specs.Int.RustNames.{unsigned_abs}
-use Rattle.std.proofs.lemmas.Int.{ints, fits_signed_from_abs}
-use Rattle.std.proofs.lemmas.List.Sums.{fold-append}
-use Rattle.std.proofs.lemmas.Bool.{false≢true, cases_Bool, and_from, or_cases, or_left, or_right, cases_lt, le-leb, lt-ltb, leb-true}
 use Rattle.std.proofs.lemmas.Bool.Decides.{Decides-int_eq}
-use Rattle.break_rules.specs.declared.Break.{Break}
-use Rattle.break_rules.specs.declared.Rule.{Rule}
-use Rattle.break_rules.specs.Breaks.{end_of, is_legal, is_rested, keeps_ends}
-use Rattle.break_rules.specs.Ranges.{IsRule}
-use Rattle.break_rules.specs.Walk.{end_of_all, may_follow, spot_of}
-use Rattle.break_rules.proofs.Reaching.{rest_first}
-use Rattle.break_rules.proofs.Sizes.{abs_add}
-use Rattle.break_rules.proofs.Steps.{Bounds, bounds, from_next}
 use Rattle.break_rules.proofs.Walk.{follows_from, follows_parts}
-use Rattle.price_sums.specs.Along.{sum_at, price_in, AreSums, resumes, earned_from, Completes}
-use Rattle.price_sums.proofs.Stretches.{earned_more, earned_small, spaced_rest, resumes_behind}
-use Rattle.break_layers.specs.declared.windows.TheConstants.{NOTHING}
-use Rattle.break_layers.specs.declared.layers.Layer.{Layer}
 use Rattle.break_layers.specs.declared.sizes.Sizes.{Sizes}
-use Rattle.break_layers.specs.Rests.{rest_worth}
-use Rattle.break_layers.specs.Windows.{number_in, IsMostIn}
-use Rattle.break_layers.specs.Layered.{IsMostOrNothing, IsValueOrNothing, layer_of, longest_work_of, size_limit_of, IsSizeIn, AreSizesIn, IsInWindow, reach_worth, behind_worth, CompletesWith, IsBehindBy, IsBehindAt, IsReachBy, IsReachAt, IsReachOfSizes, IsReachOfAll}
 use Rattle.break_layers.proofs.Sliding.{max_above, max_cases, below_left, below_right}
 
 pub longer : (rule : Rule) (len : ℕ) (list : List Break) (b : Break) (bs : List Break) → is_legal rule len ((list ++ b ∷ []) ++ bs) ≡ is_legal rule len (list ++ b ∷ bs)

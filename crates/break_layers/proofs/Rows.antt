@@ -1,11 +1,5 @@
 -- The numbers of one day, of rows with a number for each of some days.
-use Rattle.std.proofs.Common.{◌≡◌, inl, inr, ℕ, ◌+◌, ◌<◌, ◌≤◌, ℤ, pos, List, length, get_or, map, sym, ap, ◌∙◌, subst, arith}
-use Rattle.std.proofs.Math.ListN.{set}
-use Rattle.std.proofs.lemmas.Bool.{cases_lt}
-use Rattle.std.proofs.lemmas.List.{get_or-map, get_or-set_same, get_or-set_other, get_or_past, length-map, map-set}
-use Rattle.break_layers.specs.declared.windows.TheConstants.{NOTHING}
-use Rattle.break_layers.specs.Windows.{number_in}
-use Rattle.price_sums.specs.Along.{sum_at}
+use Rattle.break_layers.proofs.Common.{◌≡◌, inl, inr, ℕ, ◌+◌, ◌<◌, ◌≤◌, ℤ, pos, List, length, get_or, map, sym, ap, ◌∙◌, subst, arith, set, cases_lt, get_or-map, get_or-set_same, get_or-set_other, get_or_past, length-map, map-set, NOTHING, number_in, sum_at}
 
 -- the number of a day within a row
 pub number_of_day : {N : Type 0} (on : N → ℤ) (row : List N) (k : ℕ) (d : N) → k < length row → number_in (map on row) k ≡ on (get_or row k d)

@@ -1,10 +1,5 @@
 -- The greatest numbers of windows that overlap.
-use Rattle.std.proofs.Common.{◌≡◌, ◌⊎◌, inl, inr, ℕ, ◌+◌, ◌≤◌, ℤ, ◌≤ℤ◌, List, refl, sym, ap, ◌∙◌, arith}
-use Rattle.std.specs.Prelude.{int_lt}
-use Rattle.std.specs.Int.{int_max}
-use Rattle.std.proofs.lemmas.Int.{ints}
-use Rattle.std.proofs.lemmas.Bool.{cond_both, cases_lt}
-use Rattle.break_layers.specs.Windows.{number_in, IsMostIn}
+use Rattle.break_layers.proofs.Common.{◌≡◌, ◌⊎◌, inl, inr, ℕ, ◌+◌, ◌≤◌, ℤ, ◌≤ℤ◌, List, refl, sym, ap, ◌∙◌, arith, int_lt, int_max, ints, cond_both, cases_lt, number_in, IsMostIn}
 
 pub max_cases : (x y : ℤ) → (int_max x y ≡ x) ⊎ (int_max x y ≡ y)
 max_cases x y = cond_both (int_lt y x) x y (λ z. (z ≡ x) ⊎ (z ≡ y)) (λ t. inl refl) (λ f. inr refl)

@@ -1,19 +1,5 @@
 -- The places of spots in a table of layers.
-use Rattle.std.proofs.Common.{◌≡◌, inl, inr, ℕ, take, drop, ◌+◌, ◌-◌, ◌*◌, ◌<◌, ◌≤◌, true, List, [], ◌∷◌, ◌++◌, refl, ap, ◌∙◌, arith, length, bit_or, sum_by}
-use Rattle.std.proofs.Math.Nat.{mul-le-mul_right}
-use Rattle.std.proofs.lemmas.Bool.{and_parts, cases_lt}
-use Rattle.std.proofs.lemmas.List.Sums.{sum_by-cons}
-use Rattle.std.proofs.Math.Seq.{take-append_seam}
-use Rattle.break_rules.specs.declared.Break.{Break}
-use Rattle.break_rules.specs.declared.Rule.{Rule}
-use Rattle.break_rules.specs.declared.Spot.{Spot}
-use Rattle.break_rules.specs.Breaks.{end_of, is_lunch, total_of}
-use Rattle.break_rules.specs.Ranges.{IsRule}
-use Rattle.break_rules.specs.Walk.{bits_of, is_walk, is_walk_from, may_follow, spot_of}
-use Rattle.break_rules.proofs.Reaching.{walk_small}
-use Rattle.break_rules.proofs.Steps.{bounds, spot_more, spot_with}
-use Rattle.break_layers.specs.declared.layers.Layer.{Layer}
-use Rattle.break_layers.specs.Layered.{layer_of, layer_number, layer_place}
+use Rattle.break_layers.proofs.Common.{◌≡◌, inl, inr, ℕ, take, drop, ◌+◌, ◌-◌, ◌*◌, ◌<◌, ◌≤◌, true, List, [], ◌∷◌, ◌++◌, refl, ap, ◌∙◌, arith, length, bit_or, sum_by, mul-le-mul_right, and_parts, cases_lt, sum_by-cons, take-append_seam, Break, Rule, Spot, end_of, is_lunch, total_of, IsRule, bits_of, is_walk, is_walk_from, may_follow, spot_of, walk_small, bounds, spot_more, spot_with, Layer, layer_of, layer_number, layer_place}
 
 -- a place in an earlier layer
 pub earlier_layer : (one two offset len : ℕ) → one < two → offset ≤ len → one * (len + 1) + offset < two * (len + 1)

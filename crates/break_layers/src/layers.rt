@@ -13,9 +13,9 @@ ghost use Rattle.break_layers.specs.Layered.{layer_of, layer_number, layer_count
 
 use crate::numbers::Number;
 use crate::reaching::best_reaches;
-use crate::sizes::{has_time, total_among};
+use crate::sizes::has_time;
 use crate::windows::{NOTHING, number_at, sums_at};
-use break_rules::{NoMemory, Rule, Spot, ends};
+use break_rules::{NoMemory, Rule, Spot, ends, total_among};
 use price_sums::resumption;
 use std::alloc::Global;
 

@@ -10,9 +10,9 @@ ghost use Rattle.break_layers.specs.Layered.{layer_of, AreLayersBefore, layer_nu
 
 use crate::layers::{Layer, place_at, time_left};
 use crate::numbers::Number;
-use crate::sizes::{Sizes, layer_sizes, longest_work, lunches_met, lunches_of};
+use crate::sizes::{Sizes, layer_sizes, longest_work, lunches_of};
 use crate::windows::{add_sums, clear, number_at, raise_between, raise_to_row, raise_to_windows};
-use break_rules::{Break, Rule};
+use break_rules::{Break, Rule, lunches_met};
 
 /// Raises numbers by start to what is earned behind the breaks of a layer that have a length.
 fn raise_by_size<N: Number>(
@@ -41,7 +41,7 @@ fn raise_by_size<N: Number>(
             start: start as u16,
             len: size,
         };
-        let lunches = layer.lunches | lunches_met(entries, stop);
+        let lunches = layer.lunches | lunches_met(entries, &stop);
         let behind = place_at(left, len, lunches, start + usize::from(size));
         let most = number_at(table, behind);
         row[start].raise(&most);

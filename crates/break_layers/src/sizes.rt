@@ -4,14 +4,14 @@ ghost use Rattle.std.specs.Prelude.{◌≡◌, ◌==◌, ◌<◌, ◌≤◌, Boo
 ghost use Rattle.std.specs.List.{list_any};
 ghost use Rattle.break_rules.specs.declared.Break.{Break};
 ghost use Rattle.break_rules.specs.declared.Lunch.{Lunch};
-ghost use Rattle.break_rules.specs.Breaks.{total_in, is_lunch};
+ghost use Rattle.break_rules.specs.Breaks.{is_lunch};
 ghost use Rattle.break_rules.specs.Ranges.{IsRule};
 ghost use Rattle.break_rules.specs.Walk.{bits_of};
 ghost use Rattle.break_rules.specs.Lists.{Has};
 ghost use Rattle.break_layers.specs.Layered.{layer_of, longest_work_of, size_limit_of, AreSizesIn};
 
 use crate::layers::Layer;
-use break_rules::{Break, Lunch, Rule};
+use break_rules::{Lunch, Rule, total_among};
 
 /// A range of lengths of breaks.
 #[derive(Clone, Copy, Drop)]
@@ -20,19 +20,6 @@ pub(crate) struct Sizes {
     pub(crate) from: u16,
     /// One more than the greatest.
     pub(crate) to: u16,
-}
-
-/// The total that a table has for a length.
-pub(crate) fn total_among(totals: &[(u16, u16)], len: u16) -> u16
-    ensures { result ≡ total_in totals.now len }
-{
-    let mut total = 0;
-    for entry in totals {
-        if entry.0 <= len {
-            total = entry.1;
-        }
-    }
-    total
 }
 
 /// Whether a layer has no lunches but those of some entries, and break time for each of them.
@@ -87,31 +74,6 @@ pub(crate) fn layer_sizes(rule: &Rule, len: u16, layer: Layer) -> (Sizes, Sizes)
     let to = from.max(longest(rule, len, layer) + 1);
     let split = from.max(to.min(rule.long_rest));
     (Sizes { from, to: split }, Sizes { from: split, to })
-}
-
-/// Whether a break meets a lunch entry.
-fn meets(entry: &Lunch, stop: Break) -> bool
-    ensures { result ≡ is_lunch entry.now stop }
-{
-    stop.len == entry.size
-        && entry.first <= stop.start
-        && u32::from(stop.start) + u32::from(stop.len) <= u32::from(entry.last)
-}
-
-/// The bits of the lunch entries that a break meets.
-pub(crate) fn lunches_met(entries: &[Lunch], stop: Break) -> u8
-    requires { length entries.now ≤ 2 }
-    ensures { result ≡ bits_of (λ e. is_lunch e stop) entries.now }
-{
-    let mut bits = 0;
-    let mut bit = 1;
-    for entry in entries {
-        if meets(entry, stop) {
-            bits += bit;
-        }
-        bit *= 2;
-    }
-    bits
 }
 
 /// Whether some lunch entry has a length.

@@ -1,11 +1,5 @@
 -- The legal lists are those that are legal, in rising order.
-use Rattle.std.proofs.Common.{◌≡◌, inl, ℕ, true, List, [], ◌∷◌, drop, refl, sym, subst}
-use Rattle.std.specs.List.{list_all, list_any, zip}
-use Rattle.std.proofs.lemmas.Bool.{and_from}
-use Rattle.break_rules.specs.declared.Break.{Break}
-use Rattle.break_rules.specs.declared.Rule.{Rule}
-use Rattle.break_rules.specs.Breaks.{same_list, is_less_list, is_legal, legal_lists}
-use Rattle.break_rules.specs.Lists.{Has, Sorted}
+use Rattle.break_rules.proofs.Common.{◌≡◌, inl, ℕ, true, List, [], ◌∷◌, drop, refl, sym, subst, list_all, list_any, zip, and_from, Break, Rule, same_list, is_less_list, is_legal, legal_lists, Has, Sorted}
 use Rattle.break_rules.proofs.Lists.{any_at, any_some, same_tests}
 use Rattle.break_rules.proofs.LegalLists.{Has-legal_lists, from_legal_lists, same_list_decides}
 use Rattle.break_rules.proofs.Ordered.{Sorted-legal_lists, IsLess}

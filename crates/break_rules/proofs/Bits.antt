@@ -1,7 +1,5 @@
 -- The bits of the lunch entries that are met.
-use Rattle.std.proofs.Common.{◌≡◌, ℕ, suc, ◌+◌, ◌*◌, ◌/◌, ◌%◌, ◌<◌, ◌≤◌, ◌^◌, get_or, take, zero, Bool, true, false, ◌||◌, List, [], ◌∷◌, length, refl, ap, ◌∙◌, arith, bit_or, if◌then◌else◌}
-use Rattle.break_rules.specs.declared.Lunch.{Lunch}
-use Rattle.break_rules.specs.Walk.{bits_of}
+use Rattle.break_rules.proofs.Common.{◌≡◌, ℕ, suc, ◌+◌, ◌*◌, ◌/◌, ◌%◌, ◌<◌, ◌≤◌, ◌^◌, get_or, take, zero, Bool, true, false, ◌||◌, List, [], ◌∷◌, length, refl, ap, ◌∙◌, arith, bit_or, if◌then◌else◌, Lunch, bits_of}
 
 -- where no entry is met no bit is set
 pub bits_none : (es : List Lunch) → bits_of (λ e. false) es ≡ 0

@@ -1,15 +1,5 @@
 -- The first legal list, break by break.
-use Rattle.std.proofs.Common.{◌≡◌, ◌⊎◌, inl, inr, ℕ, ◌-◌, ◌<◌, arith, Bool, true, false, ◌&&◌, List, [], ◌∷◌, ◌++◌, refl, sym, ap, ◌∙◌, subst, append_assoc, append-nil, Option, Some, None, MatchOption, slice_get}
-use Rattle.std.specs.List.{find}
-use Rattle.std.proofs.lemmas.List.Sums.{fold-append}
-use Rattle.std.proofs.lemmas.Bool.{and_from, false≢true, or_left, or_right, cond_both, cases_Bool}
-use Rattle.break_rules.specs.declared.Break.{Break}
-use Rattle.break_rules.specs.declared.Rule.{Rule}
-use Rattle.break_rules.specs.declared.Spot.{Spot}
-use Rattle.break_rules.specs.Breaks.{same_break, is_less_break, is_less_list, is_legal, is_live, legal_lists, breaks_between, end_of}
-use Rattle.break_rules.specs.Walk.{may_follow, nexts_of, spot_of, is_walk, end_of_all}
-use Rattle.break_rules.specs.Live.{IsLeastLegal}
-use Rattle.break_rules.specs.Lists.{Has, Sorted}
+use Rattle.break_rules.proofs.Common.{◌≡◌, ◌⊎◌, inl, inr, ℕ, ◌-◌, ◌<◌, arith, Bool, true, false, ◌&&◌, List, [], ◌∷◌, ◌++◌, refl, sym, ap, ◌∙◌, subst, append_assoc, append-nil, Option, Some, None, MatchOption, slice_get, find, fold-append, and_from, false≢true, or_left, or_right, cond_both, cases_Bool, Break, Rule, Spot, same_break, is_less_break, is_less_list, is_legal, is_live, legal_lists, breaks_between, end_of, may_follow, nexts_of, spot_of, is_walk, end_of_all, IsLeastLegal, Has, Sorted}
 use Rattle.break_rules.proofs.LegalLists.{live_rest, live_from, no_longer_list, same_break_decides, from_legal_lists, Has-legal_lists}
 use Rattle.break_rules.proofs.Ordered.{Sorted-filter, Sorted-breaks, IsLessBreak, least_legal}
 use Rattle.break_rules.proofs.Steps.{bounds, from_next}

@@ -1,10 +1,5 @@
 -- The breaks that are left, one step on.
-use Rattle.std.proofs.Common.{◌≡◌, inl, inr, ℕ, zero, suc, ◌+◌, ◌-◌, ◌<◌, ◌≤◌, Bool, true, false, [], ◌∷◌, ◌++◌, map, filter, sym, ap, ◌∙◌, arith}
-use Rattle.std.specs.List.{flat_map, range_with_len}
-use Rattle.std.proofs.lemmas.Bool.{cases_lt, cond-true, cond-false}
-use Rattle.break_rules.specs.declared.Break.{Break}
-use Rattle.break_rules.specs.Breaks.{breaks_between}
-use Rattle.break_rules.specs.Walk.{breaks_left}
+use Rattle.break_rules.proofs.Common.{◌≡◌, inl, inr, ℕ, zero, suc, ◌+◌, ◌-◌, ◌<◌, ◌≤◌, Bool, true, false, [], ◌∷◌, ◌++◌, map, filter, sym, ap, ◌∙◌, arith, flat_map, range_with_len, cases_lt, cond-true, cond-false, Break, breaks_between, breaks_left}
 
 -- a range that isn't empty
 range_more : (a n m : ℕ) → n ≡ suc m → range_with_len a n ≡ a ∷ range_with_len (a + 1) m
@@ -37,11 +32,6 @@ pub left_next : (start size len : ℕ) → len < start + size → breaks_left st
 left_next start size len h =
     ap (λ n. map (at_start start) (range_with_len size n) ++ breaks_between (start + 1) len) (let e : len + 1 - (start + size) ≡ zero = omega arith in e)
     ∙ between_first (start + 1) len
-
-pub left_none : (start size len : ℕ) → len ≤ start → 1 ≤ size → breaks_left start size len ≡ []
-left_none start size len h s =
-    ap (λ n. map (at_start start) (range_with_len size n) ++ breaks_between (start + 1) len) (let e : len + 1 - (start + size) ≡ zero = omega arith in e)
-    ∙ ap (λ n. flat_map (λ start. map (at_start start) (range_with_len 1 (len - start))) (range_with_len (start + 1) n)) (let e : len - (start + 1) ≡ zero = omega arith in e)
 
 pub filter_left_yes : (p : Break → Bool) (start size len : ℕ) → start + size ≤ len → p (at_start start size) ≡ true → filter p (breaks_left start size len) ≡ at_start start size ∷ filter p (breaks_left start (size + 1) len)
 filter_left_yes p start size len h e = ap (filter p) (left_more start size len h) ∙ cond-true (p (at_start start size)) _ _ e

@@ -1,9 +1,5 @@
 -- Break lists in their order, break by break.
-use Rattle.std.proofs.Common.{◌≡◌, inl, inr, ℕ, ◌+◌, ◌-◌, ◌<◌, ◌≤◌, true, false, ◌&&◌, ◌==◌, List, [], ◌∷◌, length, drop, get_or, refl, sym, ap, ◌∙◌, arith, nat_lt}
-use Rattle.std.proofs.lemmas.Bool.{and_parts, le-ltb, ltb-true, lt-ltb, eqb-true, or_cases, or_from, and_left, and_right, ne_eqb, cases_lt}
-use Rattle.std.proofs.lemmas.List.{at_drop_more, drop_all, length-drop}
-use Rattle.break_rules.specs.declared.Break.{Break}
-use Rattle.break_rules.specs.Breaks.{same_break, is_less_break, is_less_list}
+use Rattle.break_rules.proofs.Common.{◌≡◌, inl, inr, ℕ, ◌+◌, ◌-◌, ◌<◌, ◌≤◌, true, false, ◌&&◌, ◌==◌, List, [], ◌∷◌, length, drop, get_or, refl, sym, ap, ◌∙◌, arith, nat_lt, and_parts, le-ltb, ltb-true, lt-ltb, eqb-true, or_cases, or_from, and_left, and_right, ne_eqb, cases_lt, at_drop_more, drop_all, length-drop, Break, same_break, is_less_break, is_less_list}
 
 pub less_once : (x y : Break) → is_less_break y x ≡ true → (is_less_break x y ≡ false) × (same_break x y ≡ false)
 less_once x y h =

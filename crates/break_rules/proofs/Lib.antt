@@ -1,3 +1,4 @@
+pub mod Common
 pub mod Causes
 pub mod Counts
 pub mod Examples

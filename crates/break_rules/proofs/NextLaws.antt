@@ -1,13 +1,5 @@
 -- What the breaks that may come next are, and in which order.
-use Rattle.std.proofs.Common.{◌≡◌, inl, ℕ, true, ◌&&◌, List, [], ◌∷◌, ◌++◌, drop, refl, sym, ap, ◌∙◌, subst}
-use Rattle.std.specs.List.{list_all, list_any, zip}
-use Rattle.std.proofs.lemmas.Bool.{and_from}
-use Rattle.break_rules.specs.declared.Break.{Break}
-use Rattle.break_rules.specs.declared.Rule.{Rule}
-use Rattle.break_rules.specs.declared.Spot.{Spot}
-use Rattle.break_rules.specs.Breaks.{same_break, is_less_break, breaks_between}
-use Rattle.break_rules.specs.Walk.{may_follow, nexts_of, spot_of, is_walk}
-use Rattle.break_rules.specs.Lists.{Has, Sorted}
+use Rattle.break_rules.proofs.Common.{◌≡◌, inl, ℕ, true, ◌&&◌, List, [], ◌∷◌, ◌++◌, drop, refl, sym, ap, ◌∙◌, subst, list_all, list_any, zip, and_from, Break, Rule, Spot, same_break, is_less_break, breaks_between, may_follow, nexts_of, spot_of, is_walk, Has, Sorted}
 use Rattle.break_rules.proofs.Lists.{any_at, any_some, same_tests}
 use Rattle.break_rules.proofs.LegalLists.{same_break_decides}
 use Rattle.break_rules.proofs.Ordered.{Sorted-filter, Sorted-breaks, IsLessBreak}

@@ -1,13 +1,5 @@
 -- The plain rule's only legal list is the empty one.
-use Rattle.std.proofs.Common.{◌≡◌, inl, inr, ℕ, ◌+◌, ◌-◌, ◌≤◌, true, cond, ◌&&◌, List, [], ◌∷◌, refl, ap, ◌∙◌, arith, nat_le}
-use Rattle.std.specs.List.{count_by}
-use Rattle.std.specs.Cmp.Lexicographic.{pointwise}
-use Rattle.std.proofs.lemmas.Bool.{and_from, le-leb}
-use Rattle.std.proofs.lemmas.List.Sums.{sum_by-cons}
-use Rattle.break_rules.specs.declared.Break.{Break}
-use Rattle.break_rules.specs.Breaks.{same_break, is_legal, legal_lists}
-use Rattle.break_rules.specs.Plain.{plain_rule}
-use Rattle.break_rules.specs.Lists.{Has}
+use Rattle.break_rules.proofs.Common.{◌≡◌, inl, inr, ℕ, ◌+◌, ◌-◌, ◌≤◌, true, cond, ◌&&◌, List, [], ◌∷◌, refl, ap, ◌∙◌, arith, nat_le, count_by, pointwise, and_from, le-leb, sum_by-cons, Break, same_break, is_legal, legal_lists, plain_rule, Has}
 use Rattle.break_rules.proofs.LegalLists.{legal_from, legal_parts, legal_in_order, no_rest, from_legal_lists}
 use Rattle.break_rules.proofs.Once.{once_legal}
 

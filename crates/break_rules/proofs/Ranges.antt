@@ -1,14 +1,5 @@
 -- A rule without a fault is within the ranges.
-use Rattle.std.proofs.Common.{◌≡◌, ℕ, ◌+◌, ◌≤◌, true, false, ◌&&◌, ◌||◌, List, [], ◌∷◌, length, drop, nat_le, nat_lt, None}
-use Rattle.std.specs.Prelude.{All}
-use Rattle.std.specs.List.{list_all, list_any, zip}
-use Rattle.std.proofs.lemmas.Bool.{and_parts, or_parts, leb-true, ltb-true, ltb-false, not-false}
-use Rattle.std.proofs.lemmas.List.Elements.{All-nil, All-cons}
-use Rattle.break_rules.specs.declared.Lunch.{Lunch}
-use Rattle.break_rules.specs.declared.Rule.{Rule}
-use Rattle.break_rules.specs.Causes.{first_cause}
-use Rattle.break_rules.specs.RuleFaults.{rule_causes, is_range, has_room, is_large_total, is_large_lunch}
-use Rattle.break_rules.specs.Ranges.{IsTotal, IsLunch, IsRule}
+use Rattle.break_rules.proofs.Common.{◌≡◌, ℕ, ◌+◌, ◌≤◌, true, false, ◌&&◌, ◌||◌, List, [], ◌∷◌, length, drop, nat_le, nat_lt, None, All, list_all, list_any, zip, and_parts, or_parts, leb-true, ltb-true, ltb-false, not-false, All-nil, All-cons, Lunch, Rule, first_cause, rule_causes, is_range, has_room, is_large_total, is_large_lunch, IsTotal, IsLunch, IsRule}
 use Rattle.break_rules.proofs.Causes.{no_cause}
 
 record IsRange (low high limit : ℕ) : Type 0 where

@@ -1,19 +1,7 @@
 -- The walk one break on: which lists it reaches, and from where some legal list is reached.
-use Rattle.std.proofs.Common.{◌≡◌, ◌⊎◌, inl, inr, ℕ, ◌+◌, ◌<◌, ◌≤◌, Bool, true, false, ◌&&◌, List, [], ◌∷◌, ◌++◌, length, refl, sym, ap, slice_index_or, ◌∙◌, subst, arith, sum_by, fold, append_assoc, append-nil, take, drop, get_or, Option, Some, None, is_some, if◌then◌else◌}
-use Rattle.std.specs.List.{list_any, find}
-use Rattle.std.proofs.lemmas.List.Sums.{sum_by-cons, fold-append}
-use Rattle.std.proofs.lemmas.Bool.{and_parts, and_from, cases_Bool, false≢true, cond_both, cases_lt}
+use Rattle.break_rules.proofs.Common.{◌≡◌, ◌⊎◌, inl, inr, ℕ, ◌+◌, ◌<◌, ◌≤◌, Bool, true, false, ◌&&◌, List, [], ◌∷◌, ◌++◌, length, refl, sym, ap, slice_index_or, ◌∙◌, subst, arith, sum_by, fold, append_assoc, append-nil, take, drop, get_or, Option, Some, None, is_some, if◌then◌else◌, list_any, find, sum_by-cons, fold-append, and_parts, and_from, cases_Bool, false≢true, cond_both, cases_lt, take_more, drop_more, take-append-drop, Break, Rule, Spot, end_of, is_legal, is_live, total_of, is_lunch, IsRule, end_of_all, may_follow, is_walk, is_walk_from, may_end, nexts_of, spot_of, place_of, AreKnown, AreLive, Has}
 use Rattle.std.proofs.Math.ListN.{get_or-append}
 use Rattle.std.proofs.Math.Seq.{get_or-append_seam}
-use Rattle.std.proofs.lemmas.List.{take_more, drop_more, take-append-drop}
-use Rattle.break_rules.specs.declared.Break.{Break}
-use Rattle.break_rules.specs.declared.Rule.{Rule}
-use Rattle.break_rules.specs.declared.Spot.{Spot}
-use Rattle.break_rules.specs.Breaks.{end_of, is_legal, is_live, total_of, is_lunch}
-use Rattle.break_rules.specs.Ranges.{IsRule}
-use Rattle.break_rules.specs.Walk.{end_of_all, may_follow, is_walk, is_walk_from, may_end, nexts_of, spot_of}
-use Rattle.break_rules.specs.Live.{place_of, AreKnown, AreLive}
-use Rattle.break_rules.specs.Lists.{Has}
 use Rattle.break_rules.proofs.Lists.{same_tests}
 use Rattle.break_rules.proofs.Walk.{legal_is_walk}
 use Rattle.break_rules.proofs.LegalLists.{live_rest, live_from}

@@ -1,7 +1,6 @@
 -- Sizes of integers, of their sums and of their differences.
-use Rattle.std.proofs.Common.{ℕ, ◌+◌, ◌≤◌, ℤ, pos, negsuc, ◌+ℤ◌, ◌-ℤ◌, ◌≤ℤ◌, arith}
+use Rattle.break_rules.proofs.Common.{ℕ, ◌+◌, ◌≤◌, ℤ, pos, negsuc, ◌+ℤ◌, ◌-ℤ◌, ◌≤ℤ◌, arith, ints}
 use Rattle.std.specs.Int.RustNames.{unsigned_abs}
-use Rattle.std.proofs.lemmas.Int.{ints}
 
 abs_bounds : (z : ℤ) (n : ℕ) → unsigned_abs z ≤ n → (z ≤ℤ pos n) × ((pos 0 -ℤ pos n) ≤ℤ z)
 abs_bounds (pos a) n h = (omega (arith, ints), omega (arith, ints))

@@ -1,20 +1,8 @@
 -- One break more: what may follow, and the spot behind it.
 use Rattle.break_rules.proofs.Left.{skip_rest, skip_starts, from_size}
-use Rattle.std.proofs.Common.{◌≡◌, refl, ◌⊎◌, inl, inr, ℕ, max, min, ◌+◌, ◌-◌, ◌<◌, ◌≤◌, Bool, true, false, ◌&&◌, ◌||◌, List, [], ◌∷◌, ◌++◌, length, sym, ap, ◌∙◌, arith, nat_le, ◌==◌, bit_or, sum_by, fold, if◌then◌else◌, ◌^◌, filter}
-use Rattle.std.specs.List.{list_any, list_all, range_with_len, AllByRecursion}
-use Rattle.std.proofs.lemmas.Bool.{and_parts, cases_Bool, leb-true, ltb-true, le-leb, lt-ltb, or_left, or_right, or_cases, and_from, false≢true}
+use Rattle.break_rules.proofs.Common.{◌≡◌, refl, ◌⊎◌, inl, inr, ℕ, max, min, ◌+◌, ◌-◌, ◌<◌, ◌≤◌, Bool, true, false, ◌&&◌, ◌||◌, List, [], ◌∷◌, ◌++◌, length, sym, ap, ◌∙◌, arith, nat_le, ◌==◌, bit_or, sum_by, fold, if◌then◌else◌, ◌^◌, filter, list_any, list_all, range_with_len, AllByRecursion, and_parts, cases_Bool, leb-true, ltb-true, le-leb, lt-ltb, or_left, or_right, or_cases, and_from, false≢true, sum_by-cons, sum_by-append, fold-append, recursion_from_All, Break, Rule, Spot, end_of, has_work, is_lunch, is_lunched, is_legal, total_of, breaks_between, is_rested, IsRule, IsTotal, IsAt, shortest_of, breaks_left, may_follow, nexts_of, spot_of, end_of_all, bits_of, is_walk, Has}
 use Rattle.std.proofs.Math.Bool.{or-false}
-use Rattle.std.proofs.lemmas.List.Sums.{sum_by-cons, sum_by-append, fold-append}
 use Rattle.std.proofs.lemmas.List.Folds.{list_any-append}
-use Rattle.std.proofs.lemmas.List.Elements.{recursion_from_All}
-use Rattle.break_rules.specs.declared.Break.{Break}
-use Rattle.break_rules.specs.declared.Rule.{Rule}
-use Rattle.break_rules.specs.declared.Spot.{Spot}
-use Rattle.break_rules.specs.Breaks.{end_of, has_work, is_lunch, is_lunched, is_legal, total_of, breaks_between, is_rested}
-use Rattle.break_rules.specs.Ranges.{IsRule, IsTotal}
-use Rattle.break_rules.specs.Next.{IsAt, shortest_of}
-use Rattle.break_rules.specs.Walk.{breaks_left, may_follow, nexts_of, spot_of, end_of_all, bits_of, is_walk}
-use Rattle.break_rules.specs.Lists.{Has}
 use Rattle.break_rules.proofs.Lists.{Has-flat_map, Has-map, Has-filter, Has-range, from_filter}
 use Rattle.break_rules.proofs.Walk.{follows_parts, legal_by_end, follows_from}
 use Rattle.break_rules.proofs.Bits.{bits_same, bits_or}
@@ -178,31 +166,6 @@ at_next rule len offset used stop latest longest start size at before =
       lead = omega (arith, at.lead);
       first_work = omega (arith, at.first_work);
       near = omega (arith, at.early, at.short);
-      least = omega arith;
-      size_limit = omega arith;
-    }
-
--- the first place
-pub at_first : (rule : Rule) (len : ℕ) (spot : Spot) (stop latest longest start : ℕ) → IsRule rule → spot.offset < 2 ^ 16 → latest < 2 ^ 16
-    → latest ≡ len - rule.tail → longest ≡ min rule.size_max (total_of rule len - spot.used) → start ≡ max rule.lead (spot.offset + rule.work_min)
-    → (longest < rule.size_min × (stop ≡ 0)) ⊎ (stop ≡ min latest (spot.offset + rule.work_max + 1))
-    → IsAt rule len spot.offset spot.used stop latest longest start (shortest_of rule spot.offset start)
-at_first rule len spot stop latest longest start r at short end most from stops =
-    let small = shortest_small rule spot.offset start (omega (arith, r.sizes, r.size_limit)) r.long_rest in
-    record {
-      some_size = r.some_size;
-      small_size = omega (arith, r.sizes, r.size_limit);
-      small_rest = r.long_rest;
-      stops = λ b later. not_next rule len spot.offset spot.used b (λ f. elim stops [ inl l ↦ let a = l.0 in omega arith | inr l ↦ omega arith ]);
-      early = elim stops [ inl l ↦ let a = l.1 in omega arith | inr l ↦ omega arith ];
-      last_work = elim stops [ inl l ↦ let a = l.1 in omega arith | inr l ↦ omega arith ];
-      end = end;
-      short = short;
-      most = most;
-      small_longest = omega (arith, r.size_limit);
-      lead = omega arith;
-      first_work = omega arith;
-      near = omega (arith, r.lead, r.work, r.work_limit);
       least = omega arith;
       size_limit = omega arith;
     }

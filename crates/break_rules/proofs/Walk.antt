@@ -1,12 +1,5 @@
 -- A list is legal exactly where it is a walk that may end.
-use Rattle.std.proofs.Common.{◌≡◌, ℕ, ◌+◌, true, false, ◌&&◌, ◌==◌, List, [], ◌∷◌, refl, ap, ◌∙◌, arith, sum_by, nat_le, nat_lt, fold, eq-eqb}
-use Rattle.std.specs.List.{list_all, zip}
-use Rattle.std.proofs.lemmas.Bool.{and_parts, and_from, le-leb, eqb-true}
-use Rattle.std.proofs.lemmas.List.Sums.{sum_by-cons}
-use Rattle.break_rules.specs.declared.Break.{Break}
-use Rattle.break_rules.specs.declared.Rule.{Rule}
-use Rattle.break_rules.specs.Breaks.{end_of, work_periods_from, keeps_ends, has_work, has_size, is_rested, is_lunched, is_legal, total_of}
-use Rattle.break_rules.specs.Walk.{end_of_all, may_follow, is_walk_from, may_end}
+use Rattle.break_rules.proofs.Common.{◌≡◌, ℕ, ◌+◌, true, false, ◌&&◌, ◌==◌, List, [], ◌∷◌, refl, ap, ◌∙◌, arith, sum_by, nat_le, nat_lt, fold, eq-eqb, list_all, zip, and_parts, and_from, le-leb, eqb-true, sum_by-cons, Break, Rule, end_of, work_periods_from, keeps_ends, has_work, has_size, is_rested, is_lunched, is_legal, total_of, end_of_all, may_follow, is_walk_from, may_end}
 use Rattle.break_rules.proofs.Lists.{same_tests}
 use Rattle.break_rules.proofs.LegalLists.{legal_parts, legal_from}
 

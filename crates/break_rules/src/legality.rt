@@ -15,9 +15,10 @@ fn end(b: &Break) -> u32
     u32::from(b.start) + u32::from(b.len)
 }
 
-/// The total that a table has for a length.
-fn total_among(totals: &[(u16, u16)], len: u16) -> u16
-    ensures { result ≡ total_in totals.now len }
+/// The break time that a table of totals has for a length: that of the last entry from a length on that it reaches, and
+/// else 0. It takes no memory.
+pub fn total_among(totals: &[(u16, u16)], len: u16) -> u16
+    ensures total { result ≡ total_in totals.now len }
 {
     let mut total = 0;
     for entry in totals {

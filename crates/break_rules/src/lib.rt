@@ -20,7 +20,7 @@ ghost use Rattle.break_rules.specs.Breaks.{legal_lists};
 ghost use Rattle.break_rules.specs.Plain.{plain_rule, IsPlainTimes};
 ghost use Rattle.break_rules.specs.Walk.{spot_of};
 
-pub use legality::legal;
+pub use legality::{legal, total_among};
 pub use living::{LiveSpots, least, live};
 pub use order::is_less_list;
 pub use places::{place, spot_at};
@@ -28,7 +28,7 @@ pub use sequence::{Breaks, Sequence};
 use std::alloc::{AllocError, Global};
 use std::error::Error;
 use std::fmt;
-pub use walking::{NextBreaks, after, ends, nexts};
+pub use walking::{NextBreaks, after, ends, lunches_met, nexts};
 
 /// The refusal of a call that found no memory.
 pub type NoMemory = AllocError;

@@ -119,10 +119,10 @@ impl<'a> Iterator for NextBreaks<'a> {
     }
 }
 
-/// The bits of the lunch entries that a break meets.
-fn lunches_met(entries: &[Lunch], b: &Break) -> u8
+/// The bits of the lunch entries that a break meets, the lowest for the first entry. It takes no memory.
+pub fn lunches_met(entries: &[Lunch], b: &Break) -> u8
     requires few { length entries.now ≤ 2 }
-    ensures { result ≡ bits_of (λ e. is_lunch e b.now) entries.now }
+    ensures bits { result ≡ bits_of (λ e. is_lunch e b.now) entries.now }
 {
     let mut bits = 0;
     let mut bit = 1;

@@ -6,7 +6,7 @@ use advice::Stop;
 use break_rules::NoMemory;
 use kept_duties::{placed_of, plan_of, rows_of};
 use shift_instance::{Instance, Rows};
-use shift_tables::{Pauses, Tables};
+use shift_tables::{Pauses, ShiftTables};
 use std::alloc::Global;
 use working_plan::{Placed, Plan};
 
@@ -23,7 +23,7 @@ pub(crate) struct Taken {
 #[derive(Drop)]
 pub(crate) struct BreakSearch<S: Stop + Drop> {
     alloc: Global,
-    pub(crate) tables: Tables,
+    pub(crate) tables: ShiftTables,
     pub(crate) chance: Chance,
     pub(crate) walk: Walk,
     /// The plan that changes.
@@ -46,7 +46,7 @@ pub(crate) struct BreakSearch<S: Stop + Drop> {
 }
 
 /// The work of a change of each duty: the edges of its graph, and its slots some times.
-fn round_of(tables: &Tables, duties: &[Placed]) -> u64 {
+fn round_of(tables: &ShiftTables, duties: &[Placed]) -> u64 {
     let mut work = 0u64;
     for placed in duties {
         work = work.saturating_add(work_of(tables, placed.shift));
@@ -55,7 +55,7 @@ fn round_of(tables: &Tables, duties: &[Placed]) -> u64 {
 }
 
 /// The work of a change of a duty of a shift.
-fn work_of(tables: &Tables, shift: u16) -> u64 {
+fn work_of(tables: &ShiftTables, shift: u16) -> u64 {
     let edges = match tables.graph(shift) {
         Some(graph) => graph.edge_count(),
         None => 0,
@@ -75,7 +75,7 @@ impl<S: Stop + Drop> BreakSearch<S> {
         let Some(duties) = placed_of(alloc, rows)? else {
             return Ok(None);
         };
-        let tables = Tables::new(alloc, instance)?;
+        let tables = ShiftTables::new(alloc, instance)?;
         let plan = plan_of(alloc, &tables, duties.as_slice())?;
         let mut chance = Chance::new(seed);
         let walk = Walk::new(alloc, &tables, &mut chance)?;

@@ -2,7 +2,7 @@
 
 use crate::chance::Chance;
 use break_rules::NoMemory;
-use shift_tables::{Pauses, Tables};
+use shift_tables::{Pauses, ShiftTables};
 use std::alloc::Global;
 use working_plan::{FREE, FULL, Levels};
 
@@ -34,7 +34,7 @@ fn noise(alloc: Global, chance: &mut Chance) -> Result<Vec<f64>, NoMemory> {
 }
 
 /// What one employee more gains in a slot, by its byte.
-fn price_of(tables: &Tables, byte: u8) -> f64 {
+fn price_of(tables: &ShiftTables, byte: u8) -> f64 {
     if byte == FULL {
         -tables.excess
     } else if byte == FREE {
@@ -45,7 +45,7 @@ fn price_of(tables: &Tables, byte: u8) -> f64 {
 }
 
 /// Lays the sums of the prices of a window, by its bytes.
-fn lay_sums(sums: &mut [f64], tables: &Tables, bytes: &[u8], noise: &[f64]) {
+fn lay_sums(sums: &mut [f64], tables: &ShiftTables, bytes: &[u8], noise: &[f64]) {
     let mut sum = 0.0;
     for ((place, byte), extra) in sums.iter_mut().skip(1).zip(bytes).zip(noise) {
         sum += price_of(tables, *byte) + *extra;
@@ -57,7 +57,7 @@ impl Walk {
     /// What walks along the graphs of an instance need.
     pub(crate) fn new(
         alloc: Global,
-        tables: &Tables,
+        tables: &ShiftTables,
         chance: &mut Chance,
     ) -> Result<Walk, NoMemory> {
         Ok(Walk {
@@ -71,7 +71,7 @@ impl Walk {
     /// kept.
     pub(crate) fn best_list(
         &mut self,
-        tables: &Tables,
+        tables: &ShiftTables,
         levels: &Levels,
         chance: &mut Chance,
         shift: u16,

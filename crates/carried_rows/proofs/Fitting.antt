@@ -1,18 +1,7 @@
 -- What is known of carried rows: where they come from, their order, and how many duties they have.
-use Rattle.std.proofs.Common.{◌≡◌, inl, inr, ℕ, zero, suc, ◌+◌, ◌-◌, ◌<◌, ◌≤◌, true, false, ◌&&◌, ◌||◌, ◌==◌, List, [], ◌∷◌, ◌++◌, min, filter, refl, sym, ◌∙◌, subst, arith, eqb-true, eq-eqb, nat_lt, sum_by, Option, Some, None}
-use Rattle.std.specs.Option.{option_map_or}
-use Rattle.std.specs.List.{flat_map, range_with_len, list_all}
-use Rattle.std.proofs.lemmas.Bool.{and_parts, and_from, or_left, or_right, cases_lt, cases_eq, cond_both, false≢true, lt-ltb, ltb-true}
+use Rattle.carried_rows.proofs.Common.{◌≡◌, inl, inr, ℕ, zero, suc, ◌+◌, ◌-◌, ◌<◌, ◌≤◌, true, false, ◌&&◌, ◌||◌, ◌==◌, List, [], ◌∷◌, ◌++◌, min, filter, refl, sym, ◌∙◌, subst, arith, eqb-true, eq-eqb, nat_lt, sum_by, Option, Some, None, option_map_or, flat_map, range_with_len, list_all, and_parts, and_from, or_left, or_right, cases_lt, cases_eq, cond_both, false≢true, lt-ltb, ltb-true, is_less_list, Has, Sorted, from_flat_map, from_filter, from_below, all_at, Sorted-flat_map, Sorted-filter, Sorted-range, Row, Problem, below, is_list_of, is_before, like_of, goes_to, moved, fitted, carried_on, carried_to, carried_of}
 use Rattle.std.proofs.lemmas.List.Sums.{sum_by-append, sum_by-cons}
-use Rattle.break_rules.specs.Breaks.{is_less_list}
-use Rattle.break_rules.specs.Lists.{Has, Sorted}
-use Rattle.break_rules.proofs.Lists.{from_flat_map, from_filter, from_below, all_at}
-use Rattle.break_rules.proofs.Ordered.{Sorted-flat_map, Sorted-filter, Sorted-range}
-use Rattle.shift_instance.specs.declared.Row.{Row}
-use Rattle.shift_instance.specs.Problem.{Problem, below}
-use Rattle.shift_instance.specs.Rota.{is_list_of, is_before}
 use Rattle.carried_rows.proofs.RowOrder.{IsBefore, before_parts}
-use Rattle.carried_rows.specs.Carrying.{like_of, goes_to, moved, fitted, carried_on, carried_to, carried_of}
 
 -- ---- the order of rows
 

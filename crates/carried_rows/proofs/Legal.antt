@@ -1,19 +1,8 @@
 -- Carried rows are legal.
-use Rattle.std.proofs.Common.{◌≡◌, ℕ, ◌<◌, ◌≤◌, true, cond, ◌&&◌, ◌==◌, List, [], length, filter, drop, refl, sym, ◌∙◌, subst, arith, eqb-true, nat_lt, nat_le, sum_by, Option, Some, None}
-use Rattle.std.specs.Option.{option_map_or}
-use Rattle.std.specs.List.{list_all, zip}
-use Rattle.std.proofs.lemmas.Bool.{and_parts, and_from, cond_both, le-leb, lt-ltb}
-use Rattle.break_rules.specs.Lists.{Has, Sorted}
-use Rattle.break_rules.proofs.Lists.{from_flat_map, all_from}
-use Rattle.break_rules.proofs.Ordered.{Sorted-flat_map, Sorted-range}
-use Rattle.shift_instance.specs.declared.Row.{Row}
-use Rattle.shift_instance.specs.Problem.{Problem, shift_list, below}
-use Rattle.shift_instance.specs.Rota.{is_list_of, is_legal_duty, is_legal_rota, is_on, heads_on, duty_of, rota_of, is_before, are_legal_rows}
+use Rattle.carried_rows.proofs.Common.{◌≡◌, ℕ, ◌<◌, ◌≤◌, true, cond, ◌&&◌, ◌==◌, List, [], length, filter, drop, refl, sym, ◌∙◌, subst, arith, eqb-true, nat_lt, nat_le, sum_by, Option, Some, None, option_map_or, list_all, zip, and_parts, and_from, cond_both, le-leb, lt-ltb, Has, Sorted, from_flat_map, all_from, Sorted-flat_map, Sorted-range, Row, Problem, shift_list, below, is_list_of, is_legal_duty, is_legal_rota, is_on, heads_on, duty_of, rota_of, is_before, are_legal_rows, legal_rows_parts, like_of, goes_to, carried_on, carried_to, carried_of, carried}
 use Rattle.shift_instance.proofs.AllDuties.{adjacent}
 use Rattle.shift_instance.proofs.RowCounts.{all_rows, heads_rows}
-use Rattle.rota_cost.proofs.Counting.{legal_rows_parts}
 use Rattle.carried_rows.proofs.RowOrder.{IsBefore, legal_sorted}
-use Rattle.carried_rows.specs.Carrying.{like_of, goes_to, carried_on, carried_to, carried_of, carried}
 use Rattle.carried_rows.proofs.Fitting.{before_shift, IsCarriedTo, shift_carried, shift_sorted, on_carried, fitted_few, one_block, zero_sum}
 
 -- what a row adds to the duties of a shift on a day

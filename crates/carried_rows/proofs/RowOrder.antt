@@ -1,15 +1,7 @@
 -- The order of rows, and that legal rows stand in it.
-use Rattle.std.proofs.Common.{◌≡◌, ◌⊎◌, inl, inr, ◌<◌, true, ◌&&◌, ◌||◌, ◌==◌, List, [], ◌∷◌, drop, refl, sym, subst, arith, eqb-true, eq-eqb, nat_lt}
-use Rattle.std.specs.List.{list_all, zip}
-use Rattle.std.proofs.lemmas.Bool.{or_cases, or_left, or_right, and_parts, and_from, ltb-true, lt-ltb, false≢true}
+use Rattle.carried_rows.proofs.Common.{◌≡◌, ◌⊎◌, inl, inr, ◌<◌, true, ◌&&◌, ◌||◌, ◌==◌, List, [], ◌∷◌, drop, refl, sym, subst, arith, eqb-true, eq-eqb, nat_lt, list_all, zip, or_cases, or_left, or_right, and_parts, and_from, ltb-true, lt-ltb, false≢true, same_break, is_less_break, is_less_list, Sorted, Row, Problem, is_before, are_legal_rows, legal_rows_parts}
 use Rattle.break_rules.specs.declared.Break.{Break}
-use Rattle.break_rules.specs.Breaks.{same_break, is_less_break, is_less_list}
 use Rattle.break_rules.proofs.LegalLists.{same_break_decides}
-use Rattle.break_rules.specs.Lists.{Sorted}
-use Rattle.shift_instance.specs.declared.Row.{Row}
-use Rattle.shift_instance.specs.Problem.{Problem}
-use Rattle.shift_instance.specs.Rota.{is_before, are_legal_rows}
-use Rattle.rota_cost.proofs.Counting.{legal_rows_parts}
 
 -- a row that comes before another
 abbrev pub IsBefore : Row → Row → Type 0

@@ -1,28 +1,11 @@
 -- One step of a walk: along numbers, and along rows that fit.
-use Rattle.std.proofs.Common.{◌≡◌, ℕ, suc, ◌+◌, ◌-◌, ◌<◌, Bool, true, false, cond, ◌==◌, List, [], ◌∷◌, filter, drop, length, slice_index_or, refl, sym, ap, ◌∙◌, arith, Some}
-use Rattle.std.proofs.lemmas.List.{drop_more}
-use Rattle.std.specs.List.{find, range_with_len}
-use Rattle.shift_instance.specs.declared.Row.{Row}
-use Rattle.carried_rows.specs.Carrying.{moved, fitted}
+use Rattle.carried_rows.proofs.Common.{◌≡◌, ℕ, suc, ◌+◌, ◌-◌, ◌<◌, Bool, true, false, cond, ◌==◌, List, [], ◌∷◌, filter, drop, length, slice_index_or, refl, sym, ap, ◌∙◌, arith, Some, drop_more, find, range_with_len, Row, moved, fitted}
 
 -- a number that doesn't do isn't the first that does
 pub find_past : (p : ℕ → Bool) (a n : ℕ) → a < n → p a ≡ false → find p (range_with_len a (n - a)) ≡ find p (range_with_len (a + 1) (n - (a + 1)))
 find_past p a n l h =
     let e : n - a ≡ suc (n - (a + 1)) = omega arith in
     ap (λ (k : ℕ). find p (range_with_len a k)) e ∙ ap (λ (b : Bool). cond b (Some a) (find p (range_with_len (a + 1) (n - (a + 1))))) h
-
--- a row that goes there, where there is room
-pub fit_more : (t room : ℕ) (p : Row → Bool) (rows rest : List Row) (r : Row) → rows ≡ r ∷ rest → p r ≡ true → (room == 0) ≡ false → fitted t room (filter p rows) ≡ moved t room r ∷ fitted t (room - r.count) (filter p rest)
-fit_more t room p rows rest r e h some =
-    ap (λ (rs : List Row). fitted t room (filter p rs)) e
-    ∙ ap (λ (b : Bool). fitted t room (cond b (r ∷ filter p rest) (filter p rest))) h
-    ∙ ap (λ (b : Bool). cond b [] (moved t room r ∷ fitted t (room - r.count) (filter p rest))) some
-
--- a row that doesn't go there
-pub fit_past : (t room : ℕ) (p : Row → Bool) (rows rest : List Row) (r : Row) → rows ≡ r ∷ rest → p r ≡ false → fitted t room (filter p rows) ≡ fitted t room (filter p rest)
-fit_past t room p rows rest r e h =
-    ap (λ (rs : List Row). fitted t room (filter p rs)) e
-    ∙ ap (λ (b : Bool). fitted t room (cond b (r ∷ filter p rest) (filter p rest))) h
 
 -- no room
 none_fit : (t : ℕ) (rows : List Row) → fitted t 0 rows ≡ []

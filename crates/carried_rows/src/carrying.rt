@@ -149,7 +149,7 @@ fn carry_of(
 }
 
 /// The rows of a plan of the old instance that stand in a plan of the new one: those of a type of the same name, with the same start,
-/// length, day and breaks, where these are legal there, each with as many duties as the new instance's greatest heads leave room for. Of a
+/// length, day and breaks, where these are legal there, each with as many duties as the new instance's `max_heads` leaves room for. Of a
 /// legal plan they are a legal plan.
 pub fn carried_rows(
     alloc: Global,

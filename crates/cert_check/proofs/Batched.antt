@@ -1,23 +1,14 @@
 -- Lines of a batch, judged one after another.
-use Rattle.std.proofs.Common.{◌≡◌, ℕ, ◌+◌, ◌-◌, ◌≤◌, List, [], ◌∷◌, ◌++◌, length, refl, sym, ap, subst, ◌∙◌, Option, Some, None, arith}
-use Rattle.std.proofs.lemmas.List.{length-append}
-use Rattle.shift_instance.specs.Problem.{Problem}
-use Rattle.head_splits.specs.Nodes.{Node, new_node}
-use Rattle.certificate.specs.declared.proof_lines.Line.{Line}
-use Rattle.certificate.specs.declared.proof_lines.Line.TheVariants.{Split, Priced, Settled}
-use Rattle.certificate.specs.Accepted.{nodes_after, nodes_of}
-use Rattle.cert_check.specs.Judged.{bad_line, line_cause}
+use Rattle.cert_check.proofs.Common.{◌≡◌, ℕ, ◌+◌, ◌-◌, ◌≤◌, List, [], ◌∷◌, ◌++◌, length, refl, sym, ap, subst, ◌∙◌, Option, Some, None, arith, length-append, Problem, Node, new_node, Line, Split, Settled, nodes_after, nodes_of, bad_line, line_cause}
+use Rattle.certificate.specs.declared.proof_lines.Line.TheVariants.{Priced}
 use Rattle.cert_check.specs.Batches.{GoesOn, StopsIn}
-use Rattle.cert_check.proofs.Causes.{bad_is, good_cause, good_nodes}
+use Rattle.cert_check.proofs.Causes.{good_cause, good_nodes}
 
 -- some lines are left of a batch behind others: what those make of the nodes before it leaves the judgement on these as it is
 pub record Judging (i : Problem) (old : List Node) (before : ℕ) (lines : List Line) (now : List Node) (number : ℕ) (left : List Line) : Type 0 where
   pub nodes : (rest : List Line) → nodes_after i old (lines ++ rest) ≡ nodes_after i now (left ++ rest)
   pub cause : (rest : List Line) → line_cause i old (before + 1) (lines ++ rest) ≡ line_cause i now (number + 1) (left ++ rest)
   pub count : number + length left ≡ before + length lines
-
-pub judging_starts : (i : Problem) (old : List Node) (before : ℕ) (lines : List Line) → Judging i old before lines old before lines
-judging_starts i old before lines = record { nodes = λ rest. refl; cause = λ rest. refl; count = refl }
 
 -- a good line
 pub judging_more : (i : Problem) (old now next : List Node) (before number more : ℕ) (lines left rest : List Line) (line : Line)
@@ -32,31 +23,12 @@ judging_more i old now next before number more lines left rest line j e m good =
   count = omega (arith, j.count, ap length e, m);
 }
 
--- the last line was good
-pub judging_ends : (i : Problem) (old now : List Node) (before number : ℕ) (lines left : List Line) → Judging i old before lines now number left → left ≡ [] → GoesOn i old before lines now
-judging_ends i old now before number lines left j e = record {
-  nodes = λ rest. j.nodes rest ∙ ap (λ (l : List Line). nodes_after i now (l ++ rest)) e;
-  cause = λ rest.
-      j.cause rest
-      ∙ ap (λ (l : List Line). line_cause i now (number + 1) (l ++ rest)) e
-      ∙ ap (λ n. line_cause i now (n + 1) rest) (omega (arith, j.count, ap length e));
-}
-
 -- a line that isn't good, by its kind
 stops : (i : Problem) (old : List Node) (before : ℕ) (lines : List Line) (line : Line) (number : ℕ)
     → ((rest : List Line) → line_cause i old (before + 1) (lines ++ rest) ≡ Some (bad_line line number)) → StopsIn i old before lines (bad_line line number)
 stops i old before lines (Split k class m) number s = s
 stops i old before lines (Priced k prices) number s = s
 stops i old before lines (Settled k) number s = s
-
-pub judging_stops : (i : Problem) (old now : List Node) (before number more : ℕ) (lines left rest : List Line) (line : Line)
-    → Judging i old before lines now number left → left ≡ line ∷ rest → more ≡ number + 1 → nodes_after i now (line ∷ []) ≡ None → StopsIn i old before lines (bad_line line more)
-judging_stops i old now before number more lines left rest line j e m bad =
-    stops i old before lines line more (λ behind.
-    j.cause behind
-    ∙ ap (λ (l : List Line). line_cause i now (number + 1) (l ++ behind)) e
-    ∙ ap (λ n. line_cause i now n (line ∷ rest ++ behind)) (sym m)
-    ∙ bad_is i now more line (rest ++ behind) bad)
 
 -- ---- batches
 

@@ -1,28 +1,12 @@
 -- What a line makes, and the first cause.
-use Rattle.std.proofs.Common.{◌≡◌, ◌⊎◌, inl, inr, ℕ, ◌+◌, ◌≤◌, Bool, true, false, cond, ◌&&◌, ◌==◌, not, nat_le, max, List, [], ◌∷◌, refl, sym, ap, subst, ◌∙◌, Option, Some, None}
-use Rattle.std.specs.Prelude.{slice_get, IsSomeAnd}
-use Rattle.std.specs.Option.{option_map, option_map_or, option_and_then, option_or}
-use Rattle.std.proofs.lemmas.Bool.{not-true, false≢true, and_from, and_parts, le-leb}
-use Rattle.shift_instance.specs.declared.Row.{Row}
-use Rattle.shift_instance.specs.Problem.{Problem}
-use Rattle.shift_instance.specs.Rota.{cost, rota_of, are_legal_rows}
-use Rattle.shift_instance.proofs.Shifts.{is_some_and_at}
+use Rattle.cert_check.proofs.Common.{◌≡◌, ◌⊎◌, inl, inr, ℕ, ◌+◌, ◌≤◌, Bool, true, false, cond, ◌&&◌, ◌==◌, not, nat_le, max, List, [], ◌∷◌, refl, sym, ap, subst, ◌∙◌, Option, Some, None, slice_get, IsSomeAnd, option_map, option_map_or, option_and_then, option_or, not-true, false≢true, and_from, and_parts, le-leb, Row, Problem, cost, rota_of, are_legal_rows, is_some_and_at, Class, Cut, Prices, are_prices, bound_of, is_settled, Node, new_node, with_floor, with_split, settled_floor, Line, Split, Settled, is_split, node_line, node_of, nodes_after, nodes_of, least_floor, is_plan, is_accepted, bad_line, line_cause, bound_cause, cost_cause, plan_cause, cause_of, IsRefused, IsFirstBad}
 use Rattle.rota_cost.specs.declared.RowFault.{RowFault}
 use Rattle.rota_cost.specs.RowFaults.{row_fault, row_of}
 use Rattle.rota_cost.proofs.RowLaw.{legal_from_none, none_from_legal}
-use Rattle.head_splits.specs.declared.Class.{Class}
-use Rattle.head_splits.specs.declared.Cut.{Cut}
-use Rattle.head_splits.specs.declared.Prices.{Prices}
-use Rattle.head_splits.specs.Bound.{are_prices, bound_of}
-use Rattle.head_splits.specs.Settled.{is_settled}
-use Rattle.head_splits.specs.Nodes.{Node, new_node, with_floor, with_split, settled_floor}
 use Rattle.certificate.specs.declared.Cert.{Cert}
-use Rattle.certificate.specs.declared.proof_lines.Line.{Line}
-use Rattle.certificate.specs.declared.proof_lines.Line.TheVariants.{Split, Priced, Settled}
-use Rattle.certificate.specs.Accepted.{is_split, node_line, node_of, nodes_after, nodes_of, least_floor, is_plan, is_accepted}
+use Rattle.certificate.specs.declared.proof_lines.Line.TheVariants.{Priced}
 use Rattle.cert_check.specs.declared.judged.Refused.{Refused}
 use Rattle.cert_check.specs.declared.judged.Refused.TheVariants.{BadSplit, BadPrice, NotSettled, BoundTooHigh, BadPlan, WrongCost, NoMemory}
-use Rattle.cert_check.specs.Judged.{bad_line, line_cause, bound_cause, cost_cause, plan_cause, cause_of, IsRefused, IsFirstBad}
 
 -- ---- one line
 
@@ -60,27 +44,6 @@ at_node i nodes line n e = one_line i nodes line ∙ ap (option_and_then (λ n. 
 -- a line for an unsplit node, by what else it asks
 asked : {X : Type 0} (n : Node) (b c : Bool) (o : Option X) → n.split ≡ false → b ≡ c → cond (not n.split && b) o None ≡ cond c o None
 asked n b c o h e = ap (λ s. cond (not s && b) o None) h ∙ ap (λ b. cond b o None) e
-
-pub split_bad : (i : Problem) (nodes : List Node) (k : ℕ) (class : Class) (m : ℕ) → option_map_or (λ (n : Node). not n.split) (slice_get nodes k) false ≡ true → is_split i class m ≡ false
-    → nodes_after i nodes (Split k class m ∷ []) ≡ None
-split_bad i nodes k class m u h =
-    let n = unsplit_node nodes k u in
-    at_node i nodes (Split k class m) n.0 n.1 ∙ asked n.0 (is_split i class m) false (Some (with_split nodes k n.0 class m)) n.2 h
-
-pub split_good : (i : Problem) (nodes new : List Node) (k : ℕ) (class : Class) (m : ℕ) → option_map_or (λ (n : Node). not n.split) (slice_get nodes k) false ≡ true → is_split i class m ≡ true
-    → IsSomeAnd (slice_get nodes k) (λ (n : Node). new ≡ with_split nodes k n class m) → nodes_after i nodes (Split k class m ∷ []) ≡ Some new
-split_good i nodes new k class m u h s =
-    let n = unsplit_node nodes k u in
-    at_node i nodes (Split k class m) n.0 n.1 ∙ asked n.0 (is_split i class m) true (Some (with_split nodes k n.0 class m)) n.2 h
-    ∙ ap Some (sym (is_some_and_at (slice_get nodes k) (λ (n : Node). new ≡ with_split nodes k n class m) n.0 n.1 s))
-
-pub price_bad : (i : Problem) (nodes : List Node) (k : ℕ) (prices : Prices) (cuts : List Cut) → option_map_or (λ (n : Node). not n.split) (slice_get nodes k) false ≡ true
-    → IsSomeAnd (slice_get nodes k) (λ (n : Node). cuts ≡ n.cuts) → are_prices i cuts prices ≡ false → nodes_after i nodes (Priced k prices ∷ []) ≡ None
-price_bad i nodes k prices cuts u c h =
-    let n = unsplit_node nodes k u in
-    let same : cuts ≡ n.0.cuts = is_some_and_at (slice_get nodes k) (λ (n : Node). cuts ≡ n.cuts) n.0 n.1 c in
-    at_node i nodes (Priced k prices) n.0 n.1
-    ∙ asked n.0 (are_prices i n.0.cuts prices) false (Some (with_floor nodes k n.0 (max n.0.floor (bound_of i n.0.cuts prices)))) n.2 (ap (λ (cuts : List Cut). are_prices i cuts prices) (sym same) ∙ h)
 
 pub price_good : (i : Problem) (nodes new : List Node) (k : ℕ) (prices : Prices) (cuts : List Cut) (bound : ℕ) → option_map_or (λ (n : Node). not n.split) (slice_get nodes k) false ≡ true
     → IsSomeAnd (slice_get nodes k) (λ (n : Node). cuts ≡ n.cuts) → are_prices i cuts prices ≡ true → bound ≡ bound_of i cuts prices
@@ -127,9 +90,6 @@ settle_good i nodes new k cuts found floor u c f h s =
 line_step : (i : Problem) (nodes : List Node) (line : Line) (lines : List Line) (o : Option (List Node)) → nodes_after i nodes (line ∷ []) ≡ o → nodes_after i nodes (line ∷ lines) ≡ option_and_then (λ next. nodes_after i next lines) o
 line_step i nodes line lines o e = ap (option_and_then (λ next. nodes_after i next lines)) (sym (one_line i nodes line) ∙ e)
 
-pub bad_is : (i : Problem) (nodes : List Node) (number : ℕ) (line : Line) (lines : List Line) → nodes_after i nodes (line ∷ []) ≡ None → line_cause i nodes number (line ∷ lines) ≡ Some (bad_line line number)
-bad_is i nodes number line lines e = ap (λ (o : Option (List Node)). option_map_or (λ next. line_cause i next (number + 1) lines) o (Some (bad_line line number))) e
-
 pub good_cause : (i : Problem) (nodes next : List Node) (number : ℕ) (line : Line) (lines : List Line) → nodes_after i nodes (line ∷ []) ≡ Some next → line_cause i nodes number (line ∷ lines) ≡ line_cause i next (number + 1) lines
 good_cause i nodes next number line lines e = ap (λ (o : Option (List Node)). option_map_or (λ next. line_cause i next (number + 1) lines) o (Some (bad_line line number))) e
 
@@ -174,12 +134,6 @@ line_refused i c (BadPlan row) e = by_line i c (BadPlan row) e
 line_refused i c (WrongCost claimed found) e = by_line i c (WrongCost claimed found) e
 line_refused i c NoMemory e = tt
 
--- the first bad line, by its kind
-pub first_bad : (i : Problem) (lines : List Line) (line : Line) (number : ℕ) → line_cause i (new_node [] ∷ []) 1 lines ≡ Some (bad_line line number) → IsFirstBad i lines (bad_line line number)
-first_bad i lines (Split k class m) number e = e
-first_bad i lines (Priced k prices) number e = e
-first_bad i lines (Settled k) number e = e
-
 -- the cause of good lines, by whether the bound keeps to what they find
 cause_behind : (i : Problem) (c : Cert) (nodes : List Node) (b : Bool) → line_cause i (new_node [] ∷ []) 1 c.lines ≡ None → nodes_of i c.lines ≡ Some nodes → nat_le c.bound (least_floor nodes) ≡ b
     → cause_of i c ≡ option_or (cond b None (Some (BoundTooHigh c.bound (least_floor nodes)))) (plan_cause i c.plan)
@@ -192,10 +146,6 @@ accepted_behind : (i : Problem) (c : Cert) (nodes : List Node) (b : Bool) → no
 accepted_behind i c nodes b n h =
     ap (λ (o : Option (List Node)). option_map_or (λ nodes. nat_le c.bound (least_floor nodes)) o false && is_plan i c.plan) n
     ∙ ap (λ b. b && is_plan i c.plan) h
-
-pub bound_refused : (i : Problem) (c : Cert) (nodes : List Node) → line_cause i (new_node [] ∷ []) 1 c.lines ≡ None → nodes_of i c.lines ≡ Some nodes → nat_le c.bound (least_floor nodes) ≡ false
-    → IsRefused i c (BoundTooHigh c.bound (least_floor nodes))
-bound_refused i c nodes e n h = (cause_behind i c nodes false e n h, accepted_behind i c nodes false n h)
 
 -- a plan is legal at its cost exactly where there is no cause
 option_or_none : {X : Type 0} (o p : Option X) → option_or o p ≡ None → (o ≡ None) × (p ≡ None)

@@ -1,17 +1,5 @@
 -- The greatest worth of a rest, one first break after another.
-use Rattle.std.proofs.Common.{◌≡◌, ◌⊎◌, inl, inr, ℤ, ◌+ℤ◌, ◌≤ℤ◌, true, List, [], ◌∷◌, ◌++◌, refl, sym, ap, ◌∙◌, subst, arith, append_assoc, append-nil, ℕ, Option, Some, None}
-use Rattle.std.specs.Int.{int_max}
-use Rattle.std.proofs.lemmas.Int.{ints, clamps}
-use Rattle.break_rules.specs.declared.Break.{Break}
-use Rattle.break_rules.specs.declared.Rule.{Rule}
-use Rattle.break_rules.specs.Breaks.{is_legal, is_live}
-use Rattle.break_rules.specs.Walk.{nexts_of, spot_of}
-use Rattle.break_rules.proofs.Lists.{Has-append_cases, Has-append_left, Has-append_right, Has-filter}
-use Rattle.break_rules.proofs.LegalLists.{live_rest, no_longer_list}
-use Rattle.break_rules.proofs.Reaching.{rest_first}
-use Rattle.break_graph.specs.Graph.{live_nexts}
-use Rattle.price_sums.specs.Along.{Completes}
-use Rattle.cert_check.specs.Rests.{Through, IsGreatest, IsGreatestOf, greater_of}
+use Rattle.cert_check.proofs.Common.{◌≡◌, ◌⊎◌, inl, inr, ℤ, ◌+ℤ◌, ◌≤ℤ◌, true, List, [], ◌∷◌, ◌++◌, refl, sym, ap, ◌∙◌, subst, arith, append_assoc, append-nil, ℕ, Option, Some, None, int_max, ints, clamps, Break, Rule, is_legal, is_live, nexts_of, spot_of, Has-append_cases, Has-append_left, Has-append_right, Has-filter, live_rest, no_longer_list, rest_first, live_nexts, Completes, Through, IsGreatest, IsGreatestOf, greater_of}
 
 max_cases : (x y : ℤ) → ((int_max x y ≡ x) × (y ≤ℤ x)) ⊎ ((int_max x y ≡ y) × (x ≤ℤ y))
 max_cases x y = grind (arith, ints, clamps)

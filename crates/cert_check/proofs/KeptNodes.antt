@@ -1,24 +1,10 @@
 -- The nodes that are kept: one by one, after a write, and after further ones.
-use Rattle.std.proofs.Common.{max, not, ◌≡◌, ◌⊎◌, inl, inr, ℕ, zero, suc, ◌+◌, ◌<◌, ◌≤◌, min, cond, true, false, List, [], ◌∷◌, ◌++◌, length, set, fold, refl, sym, ap, ◌∙◌, subst, append_assoc, arith, Option, Some, None}
-use Rattle.std.specs.Prelude.{slice_get, IsSomeAnd}
-use Rattle.std.specs.Option.{option_map, option_map_or}
-use Rattle.std.proofs.lemmas.List.{length-append, append-nil, set-append_left}
-use Rattle.std.proofs.lemmas.List.Sums.{fold-append}
-use Rattle.std.proofs.lemmas.Option.{slice_get_within, slice_get_past}
-use Rattle.std.proofs.Math.Seq.{set-append_seam}
-use Rattle.shift_instance.specs.declared.TheConstants.{TOP}
-use Rattle.shift_instance.proofs.Shifts.{is_some_and_at, is_some_and_from}
-use Rattle.head_splits.specs.declared.Class.{Class}
-use Rattle.head_splits.specs.declared.Cut.{Cut}
+use Rattle.cert_check.proofs.Common.{max, not, ◌≡◌, ◌⊎◌, inl, inr, ℕ, zero, suc, ◌+◌, ◌<◌, ◌≤◌, min, cond, true, false, List, [], ◌∷◌, ◌++◌, length, set, fold, refl, sym, ap, ◌∙◌, subst, append_assoc, arith, Option, Some, None, slice_get, IsSomeAnd, option_map, option_map_or, length-append, set-append_left, fold-append, slice_get_within, slice_get_past, set-append_seam, TOP, is_some_and_at, is_some_and_from, Class, Cut, Node, child, with_floor, with_split, least_floor, KeptNode, Part, cuts_at, cuts_with, node_with, nodes_in, ArePartsOlder, IsCutAbove}
+use Rattle.std.proofs.lemmas.List.{append-nil}
 use Rattle.head_splits.specs.declared.Side.TheVariants.{AtMost, AtLeast}
-use Rattle.head_splits.specs.Nodes.{Node, child, with_floor, with_split}
-use Rattle.certificate.specs.Accepted.{least_floor}
-use Rattle.cert_check.specs.declared.tree.Kept.{Kept}
-use Rattle.cert_check.specs.declared.tree.Part.{Part}
-use Rattle.cert_check.specs.Tree.{cuts_at, cuts_with, node_with, nodes_in, ArePartsOlder, IsCutAbove}
 
 -- the nodes after one more
-abbrev more : List Node → Kept → List Node
+abbrev more : List Node → KeptNode → List Node
 more nodes n = nodes ++ node_with nodes n ∷ []
 
 -- the node above is one of so many
@@ -70,21 +56,21 @@ with_set : (xs : List Node) (k : ℕ) (n y : Node) → slice_get xs k ≡ Some n
 with_set xs k n y e c None = refl
 with_set xs k n y e c (Some p) = ap (λ (cuts : List Cut). cuts ++ p.cut ∷ []) (cuts_set xs k n y e c p.above)
 
-same_cuts : (n : Kept) (one other : List Cut) → one ≡ other → ◌≡◌ {A = Node} (record { cuts = one; floor = n.floor; split = n.split }) (record { cuts = other; floor = n.floor; split = n.split })
+same_cuts : (n : KeptNode) (one other : List Cut) → one ≡ other → ◌≡◌ {A = Node} (record { cuts = one; floor = n.floor; split = n.split }) (record { cuts = other; floor = n.floor; split = n.split })
 same_cuts n one other e = ap (λ (cuts : List Cut). record { cuts = cuts; floor = n.floor; split = n.split }) e
 
 -- ---- the nodes one by one
 
-grown : (base : List Node) (kept : List Kept) → (rest : List Node) × (fold more base kept ≡ base ++ rest) × (length rest ≡ length kept)
+grown : (base : List Node) (kept : List KeptNode) → (rest : List Node) × (fold more base kept ≡ base ++ rest) × (length rest ≡ length kept)
 grown base [] = ([], sym (append-nil base), refl)
 grown base (n ∷ kept) =
     let r = grown (more base n) kept in
     (node_with base n ∷ r.0, r.1 ∙ append_assoc base (node_with base n ∷ []) r.0, ap suc r.2)
 
-pub count_is : (kept : List Kept) → length (nodes_in kept) ≡ length kept
+pub count_is : (kept : List KeptNode) → length (nodes_in kept) ≡ length kept
 count_is kept = let r = grown [] kept in ap length r.1 ∙ r.2
 
-get_is : (base : List Node) (kept : List Kept) (k : ℕ) (n : Kept) → slice_get kept k ≡ Some n → IsWithin n.part (length base + k)
+get_is : (base : List Node) (kept : List KeptNode) (k : ℕ) (n : KeptNode) → slice_get kept k ≡ Some n → IsWithin n.part (length base + k)
     → slice_get (fold more base kept) (length base + k) ≡ Some (node_with (fold more base kept) n)
 get_is base [] k n e h = absurd (cc)
 get_is base (x ∷ kept) zero n e h =
@@ -95,26 +81,26 @@ get_is base (x ∷ kept) zero n e h =
     let at : length base + 0 ≡ length base = omega arith in
     let cuts : cuts_with (base ++ ys) n.part ≡ cuts_with base n.part = with_front base ys n.part (λ p q. let less = h p q in omega arith) in
     subst (λ (nodes : List Node). slice_get nodes (length base + 0) ≡ Some (node_with nodes n)) (sym all)
-    (ap (slice_get (base ++ ys)) at ∙ last_get base (node_with base x) r.0 ∙ ap (λ (m : Kept). Some (node_with base m)) same ∙ ap Some (same_cuts n (cuts_with base n.part) (cuts_with (base ++ ys) n.part) (sym cuts)))
+    (ap (slice_get (base ++ ys)) at ∙ last_get base (node_with base x) r.0 ∙ ap (λ (m : KeptNode). Some (node_with base m)) same ∙ ap Some (same_cuts n (cuts_with base n.part) (cuts_with (base ++ ys) n.part) (sym cuts)))
 get_is base (x ∷ kept) (suc k) n e h =
     let len : length (more base x) ≡ length base + 1 = length-append base (node_with base x ∷ []) in
     let at : length (more base x) + k ≡ length base + suc k = omega (arith, len) in
     subst (λ j. slice_get (fold more (more base x) kept) j ≡ Some (node_with (fold more (more base x) kept) n)) at
     (get_is (more base x) kept k n e (λ p q. subst (λ j. p.above < j) (sym at) (h p q)))
 
-pub node_is : (kept : List Kept) (k : ℕ) (n : Kept) → ArePartsOlder kept → slice_get kept k ≡ Some n → slice_get (nodes_in kept) k ≡ Some (node_with (nodes_in kept) n)
+pub node_is : (kept : List KeptNode) (k : ℕ) (n : KeptNode) → ArePartsOlder kept → slice_get kept k ≡ Some n → slice_get (nodes_in kept) k ≡ Some (node_with (nodes_in kept) n)
 node_is kept k n older e =
     let at : 0 + k ≡ k = omega arith in
     subst (λ j. slice_get (nodes_in kept) j ≡ Some (node_with (nodes_in kept) n)) at (get_is [] kept k n e (λ p q. subst (λ j. p.above < j) (sym at) (older k n p e q)))
 
 -- the cut of a node beside those of the node above
-above_with : (kept : List Kept) (k : ℕ) (n : Kept) (part : Option Part) → ArePartsOlder kept → slice_get kept k ≡ Some n → n.part ≡ part → IsCutAbove (nodes_in kept) k (option_map (λ (p : Part). (p.above, p.cut)) part)
+above_with : (kept : List KeptNode) (k : ℕ) (n : KeptNode) (part : Option Part) → ArePartsOlder kept → slice_get kept k ≡ Some n → n.part ≡ part → IsCutAbove (nodes_in kept) k (option_map (λ (p : Part). (p.above, p.cut)) part)
 above_with kept k n None older e q =
     ap (λ (o : Option Node). option_map_or (λ (n : Node). n.cuts) o []) (node_is kept k n older e) ∙ ap (cuts_with (nodes_in kept)) q
 above_with kept k n (Some p) older e q =
     (older k n p e q, ap (λ (o : Option Node). option_map_or (λ (n : Node). n.cuts) o []) (node_is kept k n older e) ∙ ap (cuts_with (nodes_in kept)) q)
 
-pub above_is : (kept : List Kept) (nodes : List Node) (k : ℕ) (n : Kept) (above : Option (ℕ × Cut)) → ArePartsOlder kept → nodes_in kept ≡ nodes → slice_get kept k ≡ Some n
+pub above_is : (kept : List KeptNode) (nodes : List Node) (k : ℕ) (n : KeptNode) (above : Option (ℕ × Cut)) → ArePartsOlder kept → nodes_in kept ≡ nodes → slice_get kept k ≡ Some n
     → above ≡ option_map (λ (p : Part). (p.above, p.cut)) n.part → IsCutAbove nodes k above
 above_is kept nodes k n above older v e q =
     subst (λ (ns : List Node). IsCutAbove ns k above) v (subst (IsCutAbove (nodes_in kept) k) (sym q) (above_with kept k n n.part older e refl))
@@ -124,7 +110,7 @@ same_some x y e = cc
 
 -- ---- a write
 
-fold_set : (xs : List Node) (k : ℕ) (n y : Node) (kept : List Kept) → slice_get xs k ≡ Some n → y.cuts ≡ n.cuts → fold more (set xs k y) kept ≡ set (fold more xs kept) k y
+fold_set : (xs : List Node) (k : ℕ) (n y : Node) (kept : List KeptNode) → slice_get xs k ≡ Some n → y.cuts ≡ n.cuts → fold more (set xs k y) kept ≡ set (fold more xs kept) k y
 fold_set xs k n y [] e c = refl
 fold_set xs k n y (x ∷ kept) e c =
     let within = slice_get_within xs k n e in
@@ -133,7 +119,7 @@ fold_set xs k n y (x ∷ kept) e c =
     ∙ sym (set-append_left xs (node_with xs x ∷ []) k y within) in
     ap (λ (nodes : List Node). fold more nodes kept) one ∙ fold_set (more xs x) k n y kept (front_get xs (node_with xs x ∷ []) k within ∙ e) c
 
-set_from : (base : List Node) (kept : List Kept) (k : ℕ) (x y : Kept) (n : Node) → slice_get kept k ≡ Some x → y.part ≡ x.part → slice_get (fold more base kept) (length base + k) ≡ Some n
+set_from : (base : List Node) (kept : List KeptNode) (k : ℕ) (x y : KeptNode) (n : Node) → slice_get kept k ≡ Some x → y.part ≡ x.part → slice_get (fold more base kept) (length base + k) ≡ Some n
     → fold more base (set kept k y) ≡ set (fold more base kept) (length base + k) (record n { floor = y.floor; split = y.split })
 set_from base [] k x y n e q g = absurd (cc)
 set_from base (z ∷ kept) zero x y n e q g =
@@ -145,7 +131,7 @@ set_from base (z ∷ kept) zero x y n e q g =
     ap (λ (nodes : List Node). slice_get nodes (length base + 0)) all ∙ ap (slice_get (base ++ node_with base z ∷ r.0)) at ∙ last_get base (node_with base z) r.0 in
     let is : Some (node_with base z) ≡ Some n = sym here ∙ g in
     let node : node_with base z ≡ n = cc in
-    let parts : cuts_with base y.part ≡ cuts_with base z.part = ap (cuts_with base) (q ∙ ap (λ (m : Kept). m.part) (sym same)) in
+    let parts : cuts_with base y.part ≡ cuts_with base z.part = ap (cuts_with base) (q ∙ ap (λ (m : KeptNode). m.part) (sym same)) in
     let cuts : cuts_with base y.part ≡ n.cuts = parts ∙ ap (λ (m : Node). m.cuts) node in
     ap (λ (nodes : List Node). fold more nodes kept) (sym (set-append_seam base (node_with base z) [] (node_with base y)))
     ∙ fold_set (more base z) (length base) (node_with base z) (node_with base y) kept (last_get base (node_with base z) []) parts
@@ -157,49 +143,49 @@ set_from base (z ∷ kept) (suc k) x y n e q g =
     let there : slice_get (fold more (more base z) kept) (length (more base z) + k) ≡ Some n = ap (slice_get (fold more (more base z) kept)) at ∙ g in
     set_from (more base z) kept k x y n e q there ∙ ap (λ j. set (fold more (more base z) kept) j (record n { floor = y.floor; split = y.split })) at
 
-pub set_is : (kept : List Kept) (k : ℕ) (x y : Kept) (n : Node) → slice_get kept k ≡ Some x → y.part ≡ x.part → slice_get (nodes_in kept) k ≡ Some n
+pub set_is : (kept : List KeptNode) (k : ℕ) (x y : KeptNode) (n : Node) → slice_get kept k ≡ Some x → y.part ≡ x.part → slice_get (nodes_in kept) k ≡ Some n
     → nodes_in (set kept k y) ≡ set (nodes_in kept) k (record n { floor = y.floor; split = y.split })
 set_is kept k x y n e q g =
     let at : 0 + k ≡ k = omega arith in
     subst (λ j. nodes_in (set kept k y) ≡ set (nodes_in kept) j (record n { floor = y.floor; split = y.split })) at (set_from [] kept k x y n e q (ap (slice_get (nodes_in kept)) at ∙ g))
 
-pub older_set : (kept : List Kept) (k : ℕ) (x y : Kept) → ArePartsOlder kept → slice_get kept k ≡ Some x → y.part ≡ x.part → ArePartsOlder (set kept k y)
+pub older_set : (kept : List KeptNode) (k : ℕ) (x y : KeptNode) → ArePartsOlder kept → slice_get kept k ≡ Some x → y.part ≡ x.part → ArePartsOlder (set kept k y)
 older_set kept k x y older e q j n p f r =
     elim (get_set kept k y j n f) [
-      | inl s ↦ subst (λ i. p.above < i) (sym s.1) (older k x p e (sym q ∙ ap (λ (m : Kept). m.part) s.0 ∙ r))
+      | inl s ↦ subst (λ i. p.above < i) (sym s.1) (older k x p e (sym q ∙ ap (λ (m : KeptNode). m.part) s.0 ∙ r))
       | inr there ↦ older j n p there r
     ]
 
-pub within_kept : (kept : List Kept) (nodes : List Node) (k n : ℕ) → nodes_in kept ≡ nodes → n ≡ length kept → k < length nodes → k < n
+pub within_kept : (kept : List KeptNode) (nodes : List Node) (k n : ℕ) → nodes_in kept ≡ nodes → n ≡ length kept → k < length nodes → k < n
 within_kept kept nodes k n e len h =
     let a = count_is kept in
     let b : length (nodes_in kept) ≡ length nodes = ap length e in
     omega (arith, a, b, len, h)
 
-pub not_within : (kept : List Kept) (nodes : List Node) (k n : ℕ) → nodes_in kept ≡ nodes → n ≡ length kept → n ≤ k → option_map_or (λ (n : Node). not n.split) (slice_get nodes k) false ≡ false
+pub not_within : (kept : List KeptNode) (nodes : List Node) (k n : ℕ) → nodes_in kept ≡ nodes → n ≡ length kept → n ≤ k → option_map_or (λ (n : Node). not n.split) (slice_get nodes k) false ≡ false
 not_within kept nodes k n e len h =
     let a = count_is kept in
     let b : length (nodes_in kept) ≡ length nodes = ap length e in
     ap (λ (o : Option Node). option_map_or (λ (n : Node). not n.split) o false) (slice_get_past nodes k (omega (arith, a, b, len, h)))
 
 -- whether a node is split
-pub unsplit_is : (kept : List Kept) (nodes : List Node) (k : ℕ) (x : Kept) → ArePartsOlder kept → nodes_in kept ≡ nodes → slice_get kept k ≡ Some x → option_map_or (λ (n : Node). not n.split) (slice_get nodes k) false ≡ not x.split
+pub unsplit_is : (kept : List KeptNode) (nodes : List Node) (k : ℕ) (x : KeptNode) → ArePartsOlder kept → nodes_in kept ≡ nodes → slice_get kept k ≡ Some x → option_map_or (λ (n : Node). not n.split) (slice_get nodes k) false ≡ not x.split
 unsplit_is kept nodes k x older e g =
     ap (λ (ns : List Node). option_map_or (λ (n : Node). not n.split) (slice_get ns k) false) (sym e)
     ∙ ap (λ (o : Option Node). option_map_or (λ (n : Node). not n.split) o false) (node_is kept k x older g)
 
 -- a new floor
-pub floor_set : (kept : List Kept) (nodes : List Node) (k : ℕ) (x : Kept) (floor : ℕ) → ArePartsOlder kept → nodes_in kept ≡ nodes → slice_get kept k ≡ Some x
+pub floor_set : (kept : List KeptNode) (nodes : List Node) (k : ℕ) (x : KeptNode) (floor : ℕ) → ArePartsOlder kept → nodes_in kept ≡ nodes → slice_get kept k ≡ Some x
     → IsSomeAnd (slice_get nodes k) (λ (n : Node). nodes_in (set kept k (record { part = x.part; floor = floor; split = x.split })) ≡ with_floor nodes k n floor)
 floor_set kept nodes k x floor older e g =
-    let y : Kept = record { part = x.part; floor = floor; split = x.split } in
+    let y : KeptNode = record { part = x.part; floor = floor; split = x.split } in
     let n = node_with (nodes_in kept) x in
     let at = node_is kept k x older g in
     subst (λ (ns : List Node). IsSomeAnd (slice_get ns k) (λ (n : Node). nodes_in (set kept k y) ≡ with_floor ns k n floor)) e
     (is_some_and_from (slice_get (nodes_in kept) k) (λ (n : Node). nodes_in (set kept k y) ≡ with_floor (nodes_in kept) k n floor) n at (set_is kept k x y n g refl at))
 
 -- a floor that is raised
-pub floor_raised : (kept : List Kept) (nodes new : List Node) (k : ℕ) (x : Kept) (floor greater : ℕ) → ArePartsOlder kept → nodes_in kept ≡ nodes → slice_get kept k ≡ Some x → greater ≡ max x.floor floor
+pub floor_raised : (kept : List KeptNode) (nodes new : List Node) (k : ℕ) (x : KeptNode) (floor greater : ℕ) → ArePartsOlder kept → nodes_in kept ≡ nodes → slice_get kept k ≡ Some x → greater ≡ max x.floor floor
     → IsSomeAnd (slice_get nodes k) (λ (n : Node). new ≡ with_floor nodes k n greater) → IsSomeAnd (slice_get nodes k) (λ (n : Node). new ≡ with_floor nodes k n (max n.floor floor))
 floor_raised kept nodes new k x floor greater older e g m s =
     let n = node_with (nodes_in kept) x in
@@ -209,17 +195,17 @@ floor_raised kept nodes new k x floor greater older e g m s =
 
 -- ---- further nodes
 
-more_is : (kept : List Kept) (n : Kept) → nodes_in (kept ++ n ∷ []) ≡ more (nodes_in kept) n
+more_is : (kept : List KeptNode) (n : KeptNode) → nodes_in (kept ++ n ∷ []) ≡ more (nodes_in kept) n
 more_is kept n = fold-append more [] kept (n ∷ [])
 
-older_more : (kept : List Kept) (y : Kept) → ArePartsOlder kept → IsWithin y.part (length kept) → ArePartsOlder (kept ++ y ∷ [])
+older_more : (kept : List KeptNode) (y : KeptNode) → ArePartsOlder kept → IsWithin y.part (length kept) → ArePartsOlder (kept ++ y ∷ [])
 older_more kept y older h j n p f r =
     elim (get_more kept y j n f) [
-      | inl s ↦ subst (λ i. p.above < i) (sym s.1) (h p (ap (λ (m : Kept). m.part) s.0 ∙ r))
+      | inl s ↦ subst (λ i. p.above < i) (sym s.1) (h p (ap (λ (m : KeptNode). m.part) s.0 ∙ r))
       | inr there ↦ older j n p there r
     ]
 
-abbrev pub part_at : ℕ → Cut → ℕ → Kept
+abbrev pub part_at : ℕ → Cut → ℕ → KeptNode
 part_at k cut floor = record { part = Some (record { above = k; cut = cut }); floor = floor; split = false }
 
 part_within : (k : ℕ) (cut : Cut) (n : ℕ) → k < n → IsWithin (Some (record { above = k; cut = cut })) n
@@ -231,13 +217,13 @@ set_within (z ∷ xs) zero n y e = omega arith
 set_within (z ∷ xs) (suc k) n y e = let rest = set_within xs k n y e in omega (arith, rest)
 
 -- a split node and its two parts
-pub split_is : (kept : List Kept) (k : ℕ) (x : Kept) (n : Node) (class : Class) (m : ℕ) → slice_get kept k ≡ Some x → slice_get (nodes_in kept) k ≡ Some n → x.floor ≡ n.floor
+pub split_is : (kept : List KeptNode) (k : ℕ) (x : KeptNode) (n : Node) (class : Class) (m : ℕ) → slice_get kept k ≡ Some x → slice_get (nodes_in kept) k ≡ Some n → x.floor ≡ n.floor
     → nodes_in ((set kept k (record x { split = true }) ++ part_at k (record { class = class; side = AtMost; m = m }) x.floor ∷ []) ++ part_at k (record { class = class; side = AtLeast; m = m + 1 }) x.floor ∷ [])
     ≡ with_split (nodes_in kept) k n class m
 split_is kept k x n class m e g f =
     let a = part_at k (record { class = class; side = AtMost; m = m }) x.floor in
     let b = part_at k (record { class = class; side = AtLeast; m = m + 1 }) x.floor in
-    let y : Kept = record x { split = true } in
+    let y : KeptNode = record x { split = true } in
     let s : Node = record n { split = true } in
     let nodes = nodes_in kept in
     let new = set nodes k s in
@@ -257,18 +243,18 @@ split_is kept k x n class m e g f =
     ∙ append_assoc new (child n class AtMost m ∷ []) (child n class AtLeast (m + 1) ∷ [])
 
 -- a node that is split, as it is kept
-pub split_kept : (kept last : List Kept) (nodes : List Node) (k : ℕ) (x a b : Kept) (class : Class) (m floor : ℕ) → ArePartsOlder kept → nodes_in kept ≡ nodes → slice_get kept k ≡ Some x → floor ≡ x.floor
+pub split_kept : (kept last : List KeptNode) (nodes : List Node) (k : ℕ) (x a b : KeptNode) (class : Class) (m floor : ℕ) → ArePartsOlder kept → nodes_in kept ≡ nodes → slice_get kept k ≡ Some x → floor ≡ x.floor
     → a ≡ part_at k (record { class = class; side = AtMost; m = m }) floor → b ≡ part_at k (record { class = class; side = AtLeast; m = m + 1 }) floor
     → last ≡ (set kept k (record { part = x.part; floor = x.floor; split = true }) ++ a ∷ []) ++ b ∷ []
     → ArePartsOlder last × IsSomeAnd (slice_get nodes k) (λ (n : Node). nodes_in last ≡ with_split nodes k n class m)
 split_kept kept last nodes k x a b class m floor older v e f p q l =
     let one : Cut = record { class = class; side = AtMost; m = m } in
     let other : Cut = record { class = class; side = AtLeast; m = m + 1 } in
-    let y : Kept = record { part = x.part; floor = x.floor; split = true } in
+    let y : KeptNode = record { part = x.part; floor = x.floor; split = true } in
     let first : a ≡ part_at k one x.floor = p ∙ ap (part_at k one) f in
     let second : b ≡ part_at k other x.floor = q ∙ ap (part_at k other) f in
     let is : last ≡ (set kept k y ++ part_at k one x.floor ∷ []) ++ part_at k other x.floor ∷ [] =
-    l ∙ ap (λ (z : Kept). (set kept k y ++ z ∷ []) ++ b ∷ []) first ∙ ap (λ (z : Kept). (set kept k y ++ part_at k one x.floor ∷ []) ++ z ∷ []) second in
+    l ∙ ap (λ (z : KeptNode). (set kept k y ++ z ∷ []) ++ b ∷ []) first ∙ ap (λ (z : KeptNode). (set kept k y ++ part_at k one x.floor ∷ []) ++ z ∷ []) second in
     let n = node_with (nodes_in kept) x in
     let at = node_is kept k x older e in
     let within : k < length (set kept k y) = set_within kept k x y e in
@@ -284,11 +270,11 @@ split_kept kept last nodes k x a b class m floor older v e f p q l =
 
 -- ---- the least floor
 
-least_from : (f : ℕ) (base : List Node) (kept : List Kept) → fold (λ f (n : Node). cond n.split f (min f n.floor)) f (fold more base kept) ≡ fold (λ f (n : Kept). cond n.split f (min f n.floor)) (fold (λ f (n : Node). cond n.split f (min f n.floor)) f base) kept
+least_from : (f : ℕ) (base : List Node) (kept : List KeptNode) → fold (λ f (n : Node). cond n.split f (min f n.floor)) f (fold more base kept) ≡ fold (λ f (n : KeptNode). cond n.split f (min f n.floor)) (fold (λ f (n : Node). cond n.split f (min f n.floor)) f base) kept
 least_from f base [] = refl
 least_from f base (n ∷ kept) =
     least_from f (more base n) kept
-    ∙ ap (λ z. fold (λ f (n : Kept). cond n.split f (min f n.floor)) z kept) (fold-append (λ f (n : Node). cond n.split f (min f n.floor)) f base (node_with base n ∷ []))
+    ∙ ap (λ z. fold (λ f (n : KeptNode). cond n.split f (min f n.floor)) z kept) (fold-append (λ f (n : Node). cond n.split f (min f n.floor)) f base (node_with base n ∷ []))
 
-pub least_is : (kept : List Kept) → least_floor (nodes_in kept) ≡ fold (λ f (n : Kept). cond n.split f (min f n.floor)) TOP kept
+pub least_is : (kept : List KeptNode) → least_floor (nodes_in kept) ≡ fold (λ f (n : KeptNode). cond n.split f (min f n.floor)) TOP kept
 least_is kept = least_from TOP [] kept

@@ -1,3 +1,4 @@
+pub mod Common
 pub mod Greatest
 pub mod Values
 pub mod WaysOn

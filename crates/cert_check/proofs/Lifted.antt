@@ -1,28 +1,14 @@
 -- Lines that give floors, and what is found of lines before they are judged.
-use Rattle.std.proofs.Common.{◌≡◌, ℕ, zero, suc, ◌+◌, cond, length, arith, Bool, true, false, not, max, List, [], ◌∷◌, refl, sym, ap, subst, ◌∙◌, Option, Some, None, Vec, Global, Result, Ok, Err}
-use Rattle.std.specs.Prelude.{slice_get, IfOk, IsSomeAnd, MatchOption}
-use Rattle.std.specs.Option.{option_map_or, option_flatten}
-use Rattle.std.proofs.lemmas.Bool.{false≢true}
-use Rattle.shift_instance.specs.Problem.{Problem}
-use Rattle.head_splits.specs.declared.Cut.{Cut}
-use Rattle.head_splits.specs.Bound.{are_prices, bound_of}
-use Rattle.head_splits.specs.Nodes.{Node, with_floor}
-use Rattle.certificate.specs.declared.proof_lines.Line.{Line}
-use Rattle.certificate.specs.declared.proof_lines.Line.TheVariants.{Split, Priced, Settled}
-use Rattle.certificate.specs.Accepted.{node_of, nodes_after}
+use Rattle.cert_check.proofs.Common.{◌≡◌, ℕ, zero, suc, ◌+◌, cond, length, arith, Bool, true, false, not, max, List, [], ◌∷◌, refl, sym, ap, subst, ◌∙◌, Option, Some, None, Vec, Global, Result, Ok, Err, slice_get, IfOk, IsSomeAnd, MatchOption, option_map_or, option_flatten, false≢true, Problem, Cut, are_prices, bound_of, Node, with_floor, Line, Split, Settled, node_of, nodes_after, line_floor, gives_floor, given_floor, IsFindingOf, AreFindings}
+use Rattle.certificate.specs.declared.proof_lines.Line.TheVariants.{Priced}
 use Rattle.cert_check.specs.declared.findings.Finding.{Finding}
-use Rattle.cert_check.specs.Floors.{line_floor, gives_floor, given_floor, IsFindingOf, AreFindings}
-use Rattle.cert_check.proofs.Causes.{price_bad, price_good, settle_bad, settle_good}
+use Rattle.cert_check.proofs.Causes.{price_good, settle_good}
 
 -- ---- a line that gives a floor
 
 some_of : (b : Bool) (bound floor : ℕ) → cond b (Some bound) None ≡ Some floor → (b ≡ true) × (floor ≡ bound)
 some_of true bound floor e = let same : floor ≡ bound = cc in (refl, same)
 some_of false bound floor e = absurd (cc)
-
-none_of : (b : Bool) (bound : ℕ) → cond b (Some bound) None ≡ None → b ≡ false
-none_of true bound e = absurd (cc)
-none_of false bound e = refl
 
 abbrev IsUnsplit : List Node → ℕ → Type 0
 IsUnsplit nodes k = option_map_or (λ (n : Node). not n.split) (slice_get nodes k) false ≡ true
@@ -33,12 +19,6 @@ HasCuts nodes k cuts = IsSomeAnd (slice_get nodes k) (λ (n : Node). cuts ≡ n.
 abbrev IsLifted : List Node → ℕ → Line → ℕ → List Node → Type 0
 IsLifted nodes k line floor new = IsSomeAnd (slice_get nodes k) (λ (n : Node). new ≡ with_floor nodes k n (given_floor n line floor))
 
-bad_there : (i : Problem) (nodes : List Node) (line : Line) (cuts : List Cut) (found : Option ℕ) → IsUnsplit nodes (node_of line) → HasCuts nodes (node_of line) cuts
-    → gives_floor line ≡ true → found ≡ line_floor i cuts line → found ≡ None → nodes_after i nodes (line ∷ []) ≡ None
-bad_there i nodes (Split k class m) cuts found u c g f h = absurd (false≢true g)
-bad_there i nodes (Priced k prices) cuts found u c g f h = price_bad i nodes k prices cuts u c (none_of (are_prices i cuts prices) (bound_of i cuts prices) (sym f ∙ h))
-bad_there i nodes (Settled k) cuts found u c g f h = settle_bad i nodes k cuts found u c f h
-
 good_there : (i : Problem) (nodes new : List Node) (line : Line) (cuts : List Cut) (found : Option ℕ) (floor : ℕ) → IsUnsplit nodes (node_of line) → HasCuts nodes (node_of line) cuts
     → gives_floor line ≡ true → found ≡ line_floor i cuts line → found ≡ Some floor → IsLifted nodes (node_of line) line floor new → nodes_after i nodes (line ∷ []) ≡ Some new
 good_there i nodes new (Split k class m) cuts found floor u c g f h s = absurd (false≢true g)
@@ -46,10 +26,6 @@ good_there i nodes new (Priced k prices) cuts found floor u c g f h s =
     let is = some_of (are_prices i cuts prices) (bound_of i cuts prices) floor (sym f ∙ h) in
     price_good i nodes new k prices cuts floor u c is.0 is.1 s
 good_there i nodes new (Settled k) cuts found floor u c g f h s = settle_good i nodes new k cuts found floor u c f h s
-
-pub lift_bad : (i : Problem) (nodes : List Node) (line : Line) (k : ℕ) (cuts : List Cut) (found : Option ℕ) → node_of line ≡ k → IsUnsplit nodes k → HasCuts nodes k cuts
-    → gives_floor line ≡ true → found ≡ line_floor i cuts line → found ≡ None → nodes_after i nodes (line ∷ []) ≡ None
-lift_bad i nodes line k cuts found e u c g f h = bad_there i nodes line cuts found (subst (IsUnsplit nodes) (sym e) u) (subst (λ k. HasCuts nodes k cuts) (sym e) c) g f h
 
 pub lift_good : (i : Problem) (nodes new : List Node) (line : Line) (k : ℕ) (cuts : List Cut) (found : Option ℕ) (floor : ℕ) → node_of line ≡ k → IsUnsplit nodes k → HasCuts nodes k cuts
     → gives_floor line ≡ true → found ≡ line_floor i cuts line → found ≡ Some floor → IsLifted nodes k line floor new → nodes_after i nodes (line ∷ []) ≡ Some new

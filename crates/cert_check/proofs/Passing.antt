@@ -1,26 +1,8 @@
 -- Walks over legal duties that say whether cuts fix the number of each.
-use Rattle.std.proofs.Common.{◌≡◌, ◌<◌, ℕ, Bool, true, false, cond, not, ◌&&◌, List, [], ◌∷◌, ◌++◌, refl, sym, ap, ◌∙◌, subst, ◌+◌, nat_lt, Option, Some, None}
-use Rattle.std.specs.Prelude.{is_some, IsOk, Result, Ok, Err, ◌↔◌}
+use Rattle.cert_check.proofs.Common.{◌≡◌, ◌<◌, ℕ, Bool, true, false, cond, not, ◌&&◌, List, [], ◌∷◌, ◌++◌, refl, sym, ap, ◌∙◌, subst, ◌+◌, nat_lt, Option, Some, None, is_some, IsOk, ◌↔◌, flat_map, find, false≢true, and_parts, same_tests, Duty, Row, TOP, Problem, below, cost, rota_of, is_legal_rota, are_legal_rows, Cut, Break, low, high, meets, settled_rows, settled_plan, is_settled, class_of, all_duties, row_of, settled_floor, IsWalked, IsClear, duties_below, is_open, more_walked, stop_walked, whole_walked, duty, next_walked, stopped, settled_where_none, open_where_some, IsPassed}
+use Rattle.std.specs.Prelude.{Result, Ok, Err}
 use Rattle.std.specs.Result.{is_err}
-use Rattle.std.specs.List.{flat_map, find}
-use Rattle.std.proofs.lemmas.Bool.{false≢true, and_parts}
-use Rattle.break_rules.proofs.Lists.{same_tests}
-use Rattle.shift_instance.specs.declared.Duty.{Duty}
-use Rattle.shift_instance.specs.declared.Row.{Row}
-use Rattle.shift_instance.specs.declared.TheConstants.{TOP}
-use Rattle.shift_instance.specs.Problem.{Problem, below}
-use Rattle.shift_instance.specs.Rota.{cost, rota_of, is_legal_rota, are_legal_rows}
-use Rattle.head_splits.specs.declared.Cut.{Cut}
-use Rattle.break_rules.specs.declared.Break.{Break}
-use Rattle.head_splits.specs.Cuts.{low, high, meets}
-use Rattle.head_splits.specs.Settled.{settled_rows, settled_plan, is_settled, class_of}
-use Rattle.shift_instance.specs.AllDuties.{all_duties, row_of}
-use Rattle.head_splits.specs.Nodes.{settled_floor}
-use Rattle.head_splits.specs.Below.{IsWalked, IsClear, duties_below, is_open}
-use Rattle.head_splits.proofs.Walked.{more_walked, stop_walked, whole_walked, duty}
-use Rattle.head_splits.proofs.WholeWalk.{next_walked, stopped, settled_where_none, open_where_some}
 use Rattle.head_splits.proofs.PlanRows.{rota_of-settled_rows, settled_rows_legal}
-use Rattle.cert_check.specs.Passed.{IsPassed}
 
 none_found : {X : Type 0} (o : Option X) (fixed : Bool) → fixed ≡ not (is_some o) → fixed ≡ true → o ≡ None
 none_found None fixed e t = refl

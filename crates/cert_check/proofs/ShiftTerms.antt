@@ -1,38 +1,12 @@
 -- The value of a duty.
-use Rattle.std.proofs.Common.{◌≡◌, inl, inr, ℕ, ◌+◌, ◌-◌, ◌^◌, ◌≤◌, ℤ, pos, ◌+ℤ◌, ◌≤ℤ◌, true, false, cond, List, [], ◌∷◌, length, map, set, refl, sym, ap, ◌∙◌, subst, arith, Option, Some, None}
-use Rattle.std.proofs.lemmas.List.{get_or-set_same, get_or-set_other}
-use Rattle.std.specs.Prelude.{slice_get, IsSomeAnd, ◌<◌}
-use Rattle.std.specs.Int.RustNames.{unsigned_abs}
-use Rattle.std.specs.List.{range_with_len}
-use Rattle.std.specs.Option.{option_map_or}
-use Rattle.std.proofs.lemmas.Int.{ints}
-use Rattle.std.proofs.lemmas.Bool.{false≢true, false_from_ne_true, cases_lt}
-use Rattle.break_rules.specs.declared.Break.{Break}
-use Rattle.break_rules.specs.declared.Rule.{Rule}
-use Rattle.break_rules.specs.Breaks.{is_legal, is_live, legal_lists, works_at}
-use Rattle.break_rules.specs.Sums.{int_sum_by, greatest}
-use Rattle.break_rules.specs.Lists.{Has}
-use Rattle.break_rules.proofs.Lists.{Has-map, from_map, from_below}
-use Rattle.break_rules.proofs.Sums.{int_sum_by-same, greatest_bounds, greatest_reached}
-use Rattle.break_rules.proofs.LegalLists.{from_legal_lists, live_from, live_rest}
-use Rattle.shift_instance.specs.declared.Shift.{Shift}
-use Rattle.shift_instance.specs.Problem.{Problem, slots, shift_list, below}
-use Rattle.shift_instance.specs.Rota.{lists_of, is_list_of}
+use Rattle.cert_check.proofs.Common.{◌≡◌, inl, inr, ℕ, ◌+◌, ◌-◌, ◌^◌, ◌≤◌, ℤ, pos, ◌+ℤ◌, ◌≤ℤ◌, true, false, cond, List, [], ◌∷◌, length, map, set, refl, sym, ap, ◌∙◌, subst, arith, Option, Some, None, get_or-set_same, get_or-set_other, slice_get, IsSomeAnd, unsigned_abs, range_with_len, option_map_or, ints, false≢true, false_from_ne_true, cases_lt, Break, Rule, is_legal, is_live, legal_lists, works_at, int_sum_by, greatest, Has, Has-map, from_map, from_below, int_sum_by-same, greatest_bounds, greatest_reached, from_legal_lists, live_from, live_rest, Shift, Problem, slots, shift_list, below, lists_of, is_list_of, Has_at, shift_short, IsGraph, Cut, Prices, is_nil, reduced, sum_at, price_in, earned_from, AreSums, ArePricesOf, Completes, sums_on, AreSumsByDay, IsGreatest, duty_with, bonuses, whole_worth, IsValue}
+use Rattle.std.specs.Prelude.{◌<◌}
 use Rattle.shift_instance.specs.Worth.{earned}
 use Rattle.shift_instance.proofs.Offsets.{earned_by_offsets}
 use Rattle.shift_instance.proofs.Rotas.{Has-lists_of, from_lists_of}
-use Rattle.shift_instance.proofs.Shifts.{Has_at, shift_short}
 use Rattle.shift_instance.specs.Valid.{IsValid}
 use Rattle.break_graph.specs.declared.Node.{Node}
-use Rattle.break_graph.specs.Graph.{IsGraph}
-use Rattle.head_splits.specs.declared.Cut.{Cut}
-use Rattle.head_splits.specs.declared.Prices.{Prices}
-use Rattle.head_splits.specs.Bound.{is_nil, reduced}
-use Rattle.price_sums.specs.Along.{sum_at, price_in, earned_from, AreSums, ArePricesOf, Completes}
-use Rattle.price_sums.specs.Days.{sums_on, AreSumsByDay}
-use Rattle.cert_check.specs.Rests.{IsGreatest}
-use Rattle.cert_check.specs.Below.{duty_with, bonuses, whole_worth}
-use Rattle.bound_sums.specs.Values.{AreValues, IsValue}
+use Rattle.bound_sums.specs.Values.{AreValues}
 
 not_nil : {X : Type 0} (xs : List X) (x : X) → Has xs x → is_nil xs ≡ false
 not_nil [] x h = absurd h

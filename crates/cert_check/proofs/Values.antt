@@ -1,25 +1,8 @@
 -- The values of the nodes, one after another.
-use Rattle.std.proofs.Common.{◌≡◌, ℕ, zero, suc, ◌+◌, ◌*◌, ◌<◌, ◌≤◌, ℤ, ◌+ℤ◌, ◌-ℤ◌, List, [], ◌∷◌, ◌++◌, length, map, take, refl, sym, ap, ◌∙◌, subst, arith, Some, get_or, FitsSigned}
-use Rattle.std.specs.Prelude.{slice_get}
-use Rattle.std.specs.Int.{w64}
-use Rattle.std.specs.Int.RustNames.{unsigned_abs}
-use Rattle.std.proofs.lemmas.Int.{fits_signed_from_abs}
-use Rattle.std.proofs.lemmas.List.{take_more, get_or_default}
-use Rattle.std.proofs.lemmas.List.Sums.{fold-append}
-use Rattle.break_rules.specs.declared.Break.{Break}
-use Rattle.break_rules.specs.declared.Rule.{Rule}
-use Rattle.break_rules.specs.Breaks.{end_of}
-use Rattle.break_rules.specs.Ranges.{IsRule}
-use Rattle.break_rules.specs.Walk.{end_of_all, spot_of}
-use Rattle.break_rules.proofs.Reaching.{rest_first}
+use Rattle.cert_check.proofs.Common.{◌≡◌, ℕ, zero, suc, ◌+◌, ◌*◌, ◌<◌, ◌≤◌, ℤ, ◌+ℤ◌, ◌-ℤ◌, List, [], ◌∷◌, ◌++◌, length, map, take, refl, sym, ap, ◌∙◌, subst, arith, Some, get_or, FitsSigned, slice_get, w64, unsigned_abs, fits_signed_from_abs, take_more, get_or_default, fold-append, Break, Rule, end_of, IsRule, end_of_all, spot_of, rest_first, Edge, StandsAt, IsGraph, node_at, sum_at, price_in, AreSums, resumes, earned_from, Completes, rest_worth, IsGreatest, abs_sub}
 use Rattle.break_rules.proofs.Steps.{bounds, from_next}
-use Rattle.break_graph.specs.declared.Edge.{Edge}
 use Rattle.break_graph.specs.declared.Node.{Node}
-use Rattle.break_graph.specs.Graph.{StandsAt, IsGraph, node_at}
-use Rattle.price_sums.specs.Along.{sum_at, price_in, AreSums, resumes, earned_from, Completes}
-use Rattle.cert_check.specs.Rests.{rest_worth, IsGreatest}
 use Rattle.price_sums.proofs.Stretches.{earned_more, earned_end, earned_small, spaced_rest, resumes_behind}
-use Rattle.break_rules.proofs.Sizes.{abs_sub}
 use Rattle.cert_check.proofs.Greatest.{longer}
 
 -- what a rest earns is small

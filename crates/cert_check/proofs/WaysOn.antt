@@ -1,29 +1,10 @@
 -- The ways on from a place of a walk.
-use Rattle.std.proofs.Common.{◌≡◌, inl, inr, ℕ, zero, suc, ◌+◌, ◌-◌, ◌<◌, ◌≤◌, ℤ, pos, false, true, List, [], ◌∷◌, ◌++◌, length, map, take, get_or, refl, sym, ap, ◌∙◌, subst, arith, Option, Some, None}
-use Rattle.std.specs.Prelude.{slice_get, IsTrue, MatchOption, is_some}
-use Rattle.std.specs.Option.{unwrap_or}
-use Rattle.std.proofs.lemmas.Bool.{false≢true}
-use Rattle.std.proofs.lemmas.List.{take_more, take_all, map-append, length-map, get_or-map}
-use Rattle.break_rules.specs.declared.Break.{Break}
-use Rattle.break_rules.specs.declared.Rule.{Rule}
-use Rattle.break_rules.specs.declared.Spot.{Spot}
-use Rattle.break_rules.specs.Breaks.{is_live}
-use Rattle.break_rules.specs.Walk.{end_of_all, nexts_of, spot_of, is_walk}
-use Rattle.break_rules.specs.Lists.{Has}
-use Rattle.break_rules.proofs.Lists.{from_filter}
+use Rattle.cert_check.proofs.Common.{◌≡◌, inl, inr, ℕ, zero, suc, ◌+◌, ◌-◌, ◌<◌, ◌≤◌, ℤ, pos, false, true, List, [], ◌∷◌, ◌++◌, length, map, take, get_or, refl, sym, ap, ◌∙◌, subst, arith, Option, Some, None, slice_get, IsTrue, MatchOption, is_some, unwrap_or, false≢true, take_more, take_all, map-append, length-map, get_or-map, Break, Rule, Spot, is_live, end_of_all, nexts_of, spot_of, is_walk, Has, from_filter, walk_on, Edge, StandsAt, IsGraph, node_at, live_nexts, Completes, sums_on, Way, IsMostEarned, rest_worth, AreValues, IsGreatest, AreWays, IsAtNode, IsAtSpot}
 use Rattle.break_rules.proofs.FirstList.{nearer}
-use Rattle.break_rules.proofs.Reaching.{walk_on}
-use Rattle.break_graph.specs.declared.Edge.{Edge}
 use Rattle.break_graph.specs.declared.Node.{Node}
-use Rattle.break_graph.specs.Graph.{StandsAt, IsGraph, node_at, live_nexts}
-use Rattle.price_sums.specs.Along.{Completes}
-use Rattle.price_sums.specs.Days.{sums_on}
-use Rattle.break_layers.specs.declared.ways.Way.{Way}
-use Rattle.break_layers.specs.Rests.{Priced, IsMostEarned}
+use Rattle.break_layers.specs.Rests.{Priced}
 use Rattle.break_layers.specs.Ways.{live_stops}
 use Rattle.break_layers.proofs.Following.{most_live}
-use Rattle.cert_check.specs.Rests.{rest_worth, AreValues, IsGreatest}
-use Rattle.cert_check.specs.Walks.{AreWays, IsAtNode, IsAtSpot}
 use Rattle.cert_check.proofs.Values.{no_edge, edge_behind}
 
 -- what stands at some place of a list is among what it maps to

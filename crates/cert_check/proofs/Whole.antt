@@ -1,28 +1,7 @@
 -- What the duties that begin with some breaks are worth, with what cuts add.
-use Rattle.std.proofs.Common.{◌≡◌, inl, inr, ℕ, zero, suc, ◌+◌, ◌*◌, ◌^◌, ◌≤◌, ℤ, pos, ◌+ℤ◌, ◌≤ℤ◌, Bool, true, false, cond, not, ◌&&◌, ◌==◌, nat_lt, List, [], ◌∷◌, ◌++◌, length, get_or, refl, sym, ap, ◌∙◌, subst, arith, append_assoc, append-nil, Option}
-use Rattle.std.specs.Int.RustNames.{unsigned_abs}
-use Rattle.std.specs.List.{zip}
-use Rattle.std.proofs.lemmas.Int.{ints}
-use Rattle.std.proofs.lemmas.Bool.{and_from, and_parts, and_right, cases_Bool, false≢true, lt-ltb, ltb-true}
-use Rattle.break_rules.specs.declared.Break.{Break}
-use Rattle.break_rules.specs.declared.Rule.{Rule}
-use Rattle.break_rules.specs.Breaks.{begins_with, same_break, is_legal}
-use Rattle.break_rules.specs.Ranges.{IsRule}
-use Rattle.break_rules.specs.Lists.{Has}
-use Rattle.break_rules.proofs.Lists.{any_at, any_none, any_some, same_tests}
-use Rattle.break_rules.proofs.Sums.{int_sum_by-same, int_sum_by_zero}
-use Rattle.break_rules.proofs.LegalLists.{same_break_decides, no_longer_list}
-use Rattle.head_splits.specs.declared.Cut.{Cut}
-use Rattle.head_splits.specs.Bound.{is_nil, bonus, signed_price}
-use Rattle.price_sums.specs.Along.{AreSums, Completes}
-use Rattle.cert_check.specs.Rests.{rest_worth, Through, IsGreatest, IsGreatestOf, greater_of}
-use Rattle.cert_check.specs.Below.{duty_with, bonuses, whole_worth, is_further, goes_further}
-use Rattle.bound_sums.specs.Kept.{has_prefix_cut}
-use Rattle.break_rules.proofs.Sizes.{abs_add}
-use Rattle.bound_sums.proofs.Sizes.{sum_size}
+use Rattle.cert_check.proofs.Common.{◌≡◌, inl, inr, ℕ, zero, suc, ◌+◌, ◌*◌, ◌^◌, ◌≤◌, ℤ, pos, ◌+ℤ◌, ◌≤ℤ◌, Bool, true, false, cond, not, ◌&&◌, ◌==◌, nat_lt, List, [], ◌∷◌, ◌++◌, length, get_or, refl, sym, ap, ◌∙◌, subst, arith, append_assoc, append-nil, Option, unsigned_abs, zip, ints, and_from, and_parts, and_right, cases_Bool, false≢true, lt-ltb, ltb-true, Break, Rule, begins_with, same_break, is_legal, IsRule, Has, any_at, any_none, any_some, same_tests, int_sum_by-same, int_sum_by_zero, same_break_decides, no_longer_list, Cut, is_nil, bonus, signed_price, AreSums, Completes, rest_worth, Through, IsGreatest, IsGreatestOf, greater_of, duty_with, bonuses, whole_worth, is_further, goes_further, has_prefix_cut, abs_add, sum_size, signed_small}
 use Rattle.cert_check.proofs.Greatest.{greatest_more}
 use Rattle.cert_check.proofs.Values.{before_of, worth_more, rest_small}
-use Rattle.bound_sums.proofs.Priced.{signed_small}
 
 -- a list and what follows it begin with a prefix alike, unless the prefix is longer and begins with the list
 begins_alike : (list rest prefix : List Break) → (nat_lt (length list) (length prefix) && begins_with prefix list) ≡ false → begins_with (list ++ rest) prefix ≡ begins_with list prefix

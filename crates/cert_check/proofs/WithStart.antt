@@ -1,22 +1,6 @@
 -- What rests are worth with the sum of the prices before them, one edge of a node after another.
-use Rattle.std.proofs.Common.{◌≡◌, inl, inr, ℕ, zero, suc, ◌+◌, ◌*◌, ◌<◌, ◌≤◌, ℤ, ◌+ℤ◌, ◌-ℤ◌, ◌≤ℤ◌, List, [], ◌∷◌, ◌++◌, length, map, take, get_or, refl, sym, ap, ◌∙◌, subst, arith, Option, None, FitsSigned, pos}
-use Rattle.std.specs.Int.{w64}
-use Rattle.std.specs.Int.RustNames.{unsigned_abs}
-use Rattle.std.proofs.lemmas.Int.{ints, fits_signed_from_abs}
-use Rattle.std.proofs.lemmas.List.{take_all, get_or_default, get_or_append_left}
-use Rattle.std.proofs.lemmas.Bool.{cases_lt}
-use Rattle.std.proofs.Math.Seq.{get_or-append_seam}
-use Rattle.break_rules.specs.declared.Break.{Break}
-use Rattle.break_rules.specs.declared.Rule.{Rule}
-use Rattle.break_rules.specs.Ranges.{IsRule}
-use Rattle.break_rules.specs.Walk.{end_of_all}
-use Rattle.break_rules.specs.Lists.{Has}
-use Rattle.break_rules.proofs.Sizes.{abs_add}
-use Rattle.break_graph.specs.declared.Edge.{Edge}
+use Rattle.cert_check.proofs.Common.{◌≡◌, inl, inr, ℕ, zero, suc, ◌+◌, ◌*◌, ◌<◌, ◌≤◌, ℤ, ◌+ℤ◌, ◌-ℤ◌, ◌≤ℤ◌, List, [], ◌∷◌, ◌++◌, length, map, take, get_or, refl, sym, ap, ◌∙◌, subst, arith, Option, None, FitsSigned, pos, w64, unsigned_abs, ints, fits_signed_from_abs, take_all, get_or_default, get_or_append_left, cases_lt, get_or-append_seam, Break, Rule, IsRule, end_of_all, Has, abs_add, Edge, IsGraph, StandsAt, node_at, live_nexts, sum_at, resumes, AreSums, Completes, rest_worth, worth_with_start, Through, AreValues, IsGreatest, IsGreatestOf, greater_of}
 use Rattle.break_graph.specs.declared.Node.{Node}
-use Rattle.break_graph.specs.Graph.{IsGraph, StandsAt, node_at, live_nexts}
-use Rattle.price_sums.specs.Along.{sum_at, resumes, AreSums, Completes}
-use Rattle.cert_check.specs.Rests.{rest_worth, worth_with_start, Through, AreValues, IsGreatest, IsGreatestOf, greater_of}
 use Rattle.cert_check.proofs.Greatest.{greatest_more, greatest_none, greatest_some, greatest_alone, legal_alone}
 use Rattle.cert_check.proofs.Values.{before_of, no_edge, edge_before, edge_behind, stops_more, worth_more, worth_end, greatest_small}
 

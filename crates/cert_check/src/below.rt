@@ -1,6 +1,6 @@
 //! The most that a duty of a shift on a day is worth at the prices of slots and cuts.
 
-ghost use Rattle.std.specs.Prelude.{◌≡◌, ◌+ℤ◌, ◌<◌, ◌≤◌, ◌+◌, ◌*◌, ◌^◌, ◌++◌, ◌∷◌, [], ℕ, ◌-ℤ◌, List, length, slice_index, IfOk, FitsSigned};
+ghost use Rattle.std.specs.Prelude.{◌≡◌, ◌+ℤ◌, ◌<◌, ◌≤◌, ◌+◌, ◌^◌, ◌++◌, ◌∷◌, [], ℕ, ◌-ℤ◌, length, slice_index, IfOk, FitsSigned};
 ghost use Rattle.std.specs.Int.{w64};
 ghost use Rattle.std.specs.Int.RustNames.{unsigned_abs};
 ghost use Rattle.break_rules.specs.declared.Break.{Break};
@@ -8,7 +8,7 @@ ghost use Rattle.break_rules.specs.Ranges.{IsRule};
 ghost use Rattle.head_splits.specs.Bound.{bonus, signed_price};
 ghost use Rattle.price_sums.specs.Along.{sum_at, AreSums, Completes};
 ghost use Rattle.price_sums.specs.Days.{sums_on};
-ghost use Rattle.cert_check.specs.Rests.{AreValues, IsGreatest, greater_of};
+ghost use Rattle.cert_check.specs.Rests.{IsGreatest, greater_of};
 ghost use Rattle.cert_check.specs.Below.{bonuses, duty_with, goes_further, is_further, whole_worth};
 
 use crate::walks::Walk;
@@ -33,7 +33,7 @@ pub struct Duties<'a> {
 
 /// The shifts of a rule and a length, and the prices of their work.
 #[derive(Drop)]
-pub struct Work<'a> {
+pub struct PricedWork<'a> {
     /// The break rule of the shift.
     pub rule: &'a Rule,
     /// The length of the shift, in slots.
@@ -148,7 +148,7 @@ fn earned_and(earned: i64, other: i128) -> i128
 pub fn best_below<W: Walk>(
     alloc: Global,
     duties: &Duties<'_>,
-    work: &Work<'_>,
+    work: &PricedWork<'_>,
     walk: &W,
     list: &[Break],
     place: W::Place,

@@ -1,7 +1,6 @@
 //! Whether proof lines are good, one after another.
 
-ghost use Rattle.std.specs.Prelude.{◌≡◌, ◌≤◌, ◌<◌, ◌&&◌, ◌∷◌, [], None, Some, true, length, not, slice_get, IfOk, IfErr, IsSomeAnd, OnOk, if◌then◌else◌};
-ghost use Rattle.std.specs.Option.{option_and_then};
+ghost use Rattle.std.specs.Prelude.{◌≡◌, ◌≤◌, ◌<◌, ◌&&◌, ◌∷◌, [], None, Some, true, length, slice_get, IfOk, IfErr, IsSomeAnd, if◌then◌else◌};
 ghost use Rattle.head_splits.specs.Nodes.{new_node, with_floor};
 ghost use Rattle.certificate.specs.declared.proof_lines.Line.TheVariants.{Split};
 ghost use Rattle.certificate.specs.Accepted.{is_split, node_of, nodes_after, nodes_of};

@@ -13,13 +13,13 @@ use std::alloc::Global;
 pub struct ByNodes<'a> {
     /// The graph of the shift's break lists.
     pub graph: &'a Graph,
-    /// For each node, the most that a rest earns behind it, on all days side by side.
+    /// For each graph node, the most that a rest earns behind it, on all days side by side.
     pub values: &'a [Lane],
     /// The day.
     pub day: u8,
 }
 
-/// The breaks of some edges, each with the number of the node behind it.
+/// The breaks of some edges, each with the number of the graph node behind it.
 fn stops_with_nodes(alloc: Global, edges: &[Edge]) -> Result<Vec<(Break, usize)>, NoMemory>
     ensures { IfOk result (λ ways. ways.items ≡ map (λ e. (e.stop, e.next)) edges.now) }
 {

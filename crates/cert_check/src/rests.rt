@@ -23,7 +23,7 @@ fn had_by(sums: &[Lane], values: &[Lane], edge: Edge) -> Lane
     )
 }
 
-/// The most that is had behind a node on each day, with the sum of the prices before it, by the nodes before it.
+/// The most that is had behind a graph node on each day, with the sum of the prices before it, by the graph nodes before it.
 fn most_with_start(
     rule: &Rule,
     len: u16,
@@ -47,7 +47,7 @@ fn most_with_start(
     most
 }
 
-/// The most that a rest earns behind a node on each day, by the nodes before it.
+/// The most that a rest earns behind a graph node on each day, by the graph nodes before it.
 fn rest_lane(rule: &Rule, len: u16, sums: &[Lane], graph: &Graph, k: usize, values: &[Lane]) -> Lane
     requires rule { IsRule rule.now }
     requires graph { IsGraph rule.now len graph.now }
@@ -58,7 +58,7 @@ fn rest_lane(rule: &Rule, len: u16, sums: &[Lane], graph: &Graph, k: usize, valu
     lane_difference(&most, lane_at(sums, resumption(rule, graph.spot(k))))
 }
 
-/// Sets lanes to the most that a rest earns on each day, for each node, with which a list that stands there is legal. The room that
+/// Sets lanes to the most that a rest earns on each day, for each graph node, with which a list that stands there is legal. The room that
 /// the lanes have is used again.
 pub fn set_rest_lanes(
     rule: &Rule,

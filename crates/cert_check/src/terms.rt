@@ -15,7 +15,7 @@ ghost use Rattle.bound_sums.specs.Values.{AreValues};
 ghost use Rattle.cert_check.specs.Rests.{IsGreatest};
 ghost use Rattle.cert_check.specs.Below.{whole_worth};
 
-use crate::below::{Duties, Work, best_below};
+use crate::below::{Duties, PricedWork, best_below};
 use crate::layers::ByLayers;
 use crate::nodes::ByNodes;
 use crate::rests::set_rest_lanes;
@@ -60,7 +60,7 @@ fn values_by_nodes(
     if !has_prefix_cut(cuts, shift) {
         return Ok(Some(values_of_lane(lane_at(lanes, nodes - 1))));
     }
-    let work = Work { rule, len, sums };
+    let work = PricedWork { rule, len, sums };
     let mut values = [0; LANES];
     for day in 0..instance.days() {
         let duties = Duties {
@@ -96,7 +96,7 @@ fn sums_of_day(alloc: Global, lanes: &[Lane], day: u8) -> Result<Vec<i64>, NoMem
 fn layered_value(
     alloc: Global,
     duties: &Duties<'_>,
-    work: &Work<'_>,
+    work: &PricedWork<'_>,
 ) -> Result<Option<i128>, NoMemory>
     requires rule { IsRule work.now.rule.now }
     requires day { duties.now.day < 8 }
@@ -136,7 +136,7 @@ fn values_by_layers(
     requires sums { sums.now ≡ record { instance = instance.now; prices = prices.now.slots } }
     ensures { IfOk result (λ found. MatchOption found (IsTrue (is_nil (lists_of instance.now shift))) (λ values. AreValues instance.now cuts.now prices.now shift instance.now.days values)) }
 {
-    let work = Work {
+    let work = PricedWork {
         rule: instance.rule_of(shift),
         len: instance.shift(shift).len,
         sums: sums.along(instance, shift),

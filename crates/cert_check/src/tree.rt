@@ -24,7 +24,7 @@ pub struct Part {
 
 /// A node, whose cuts are found by its part and those above it.
 #[derive(Drop)]
-pub struct Kept {
+pub struct KeptNode {
     /// The part that the node is, and none for the root.
     pub part: Option<Part>,
     /// What every legal rota below the node's cuts costs at least.
@@ -37,7 +37,7 @@ pub struct Kept {
 #[derive(Drop)]
 pub struct Tree {
     alloc: Global,
-    kept: Vec<Kept>,
+    kept: Vec<KeptNode>,
 }
 
 impl Model for Tree {
@@ -64,10 +64,10 @@ fn part_of(above: usize, class: &Class, side: Side, m: u16) -> Result<Part, NoMe
 }
 
 /// A part that isn't split, with a floor.
-fn new_part(part: Part, floor: u64) -> Kept
+fn new_part(part: Part, floor: u64) -> KeptNode
     ensures { result ≡ record { part = Some part; floor = floor; split = false } }
 {
-    Kept {
+    KeptNode {
         part: Some(part),
         floor,
         split: false,
@@ -75,7 +75,7 @@ fn new_part(part: Part, floor: u64) -> Kept
 }
 
 /// The number of the node of which a node is a part with the cut that it has beside those of that node, and none for the root.
-fn cut_of(node: &Kept) -> Result<Option<(usize, Cut)>, NoMemory>
+fn cut_of(node: &KeptNode) -> Result<Option<(usize, Cut)>, NoMemory>
     ensures { IfOk result (λ above. above ≡ option_map (λ p. (p.above, p.cut)) node.now.part) }
 {
     match &node.part {
@@ -90,7 +90,7 @@ impl Tree {
         ensures { IfOk result (λ tree. tree ≡ new_node [] ∷ []) }
     {
         let mut kept = Vec::new(alloc);
-        kept.push(Kept {
+        kept.push(KeptNode {
             part: None,
             floor: 0,
             split: false,

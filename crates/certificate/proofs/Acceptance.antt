@@ -1,9 +1,6 @@
 -- What acceptance of a certificate implies.
-use Rattle.std.proofs.Common.{◌≡◌, ℕ, ◌≤◌, max, Bool, true, false, cond, ◌&&◌, not, List, [], ◌∷◌, refl, subst, arith, nat_le, Option, Some, None}
-use Rattle.std.specs.Prelude.{slice_get, ◌==◌}
+use Rattle.certificate.proofs.Common.{◌≡◌, ℕ, ◌≤◌, max, Bool, true, false, cond, ◌&&◌, not, List, [], ◌∷◌, refl, subst, arith, nat_le, Option, Some, None, slice_get, ◌==◌, and_parts, leb-true, eqb-true, not-true, false≢true, Row, Split, Priced, Settled}
 use Rattle.std.specs.Option.{option_map_or, option_and_then}
-use Rattle.std.proofs.lemmas.Bool.{and_parts, leb-true, eqb-true, not-true, false≢true}
-use Rattle.shift_instance.specs.declared.Row.{Row}
 use Rattle.shift_instance.specs.declared.TheConstants.{TOP}
 use Rattle.shift_instance.specs.Problem.{Problem}
 use Rattle.shift_instance.specs.Rota.{cost, rota_of, are_legal_rows}
@@ -12,7 +9,6 @@ use Rattle.head_splits.specs.Settled.{is_settled}
 use Rattle.head_splits.specs.Nodes.{Node, new_node, with_floor, with_split, settled_floor}
 use Rattle.head_splits.proofs.Nodes.{NodesSound, root_sound, priced_sound, settled_sound, split_sound, floor_at}
 use Rattle.certificate.specs.declared.proof_lines.Line.{Line}
-use Rattle.certificate.specs.declared.proof_lines.Line.TheVariants.{Split, Priced, Settled}
 use Rattle.certificate.specs.Accepted.{is_split, node_line, node_of, nodes_after, nodes_of, least_floor, is_bound, is_plan, BoundsEachRota, HasTruePlan}
 
 cond_some : {X : Type 0} (c : Bool) (x y : X) → cond c (Some x) None ≡ Some y → (c ≡ true) × (x ≡ y)

@@ -1,13 +1,5 @@
 -- A text is one certificate's alone, and bytes depart from every text at one line only.
-use Rattle.std.proofs.Common.{◌≡◌, ℕ, ◌<◌, List, [], ◌∷◌, ◌++◌, length, refl, sym, ap, subst, ◌∙◌, append_assoc, arith, inl, inr}
-use Rattle.std.specs.Prelude.{All}
-use Rattle.std.proofs.lemmas.Bool.{cases_lt}
-use Rattle.std.proofs.lemmas.List.{append-nil, take_at}
-use Rattle.std.proofs.lemmas.List.Elements.{All-nil, All-head, All-tail, All-append, All-take}
-use Rattle.certificate.specs.declared.Cert.{Cert}
-use Rattle.certificate.specs.Text.{cert_lines, cert_text}
-use Rattle.certificate.specs.LineText.{Line, lines_text}
-use Rattle.certificate.specs.Departing.{IsLine, IsNote, IsText, Begins, DepartBehind, EachIsWritten, EachSpellsOnce, EachBeginsAlike, EachDepartsOnce}
+use Rattle.certificate.proofs.Common.{◌≡◌, ℕ, ◌<◌, List, [], ◌∷◌, ◌++◌, length, refl, sym, ap, subst, ◌∙◌, append_assoc, arith, inl, inr, All, cases_lt, append-nil, take_at, All-nil, All-head, All-tail, All-append, All-take, Cert, cert_lines, cert_text, Line, lines_text, IsLine, IsNote, IsText, Begins, DepartBehind, EachIsWritten, EachSpellsOnce, EachBeginsAlike, EachDepartsOnce}
 use Rattle.certificate.proofs.LineReading.{right, same_ok, text_append}
 use Rattle.certificate.proofs.Certs.{cert_reads}
 use Rattle.certificate.proofs.Whole.{same_line, first_of_text, notes_lines, read_back}

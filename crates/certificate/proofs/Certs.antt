@@ -1,21 +1,8 @@
 -- The lines of a certificate are read exactly where they are spelled so.
-use Rattle.std.proofs.Common.{◌≡◌, ℕ, ◌-◌, ◌^◌, ◌<◌, ◌≤◌, true, false, cond, List, [], ◌∷◌, ◌++◌, length, map, Option, Some, None, option_map, refl, sym, ap, subst, arith, inl, inr, codes}
-use Rattle.std.specs.Prelude.{All, bytes_eq}
-use Rattle.std.specs.List.{AllByRecursion}
-use Rattle.std.specs.Fmt.{decimal}
-use Rattle.std.proofs.lemmas.Bool.{ltb-true, lt-ltb, eqb-true, eq-eqb, cases_Bool}
-use Rattle.std.proofs.lemmas.List.Elements.{All-nil, All-head, All-tail, All-weaker, All-from_recursion, recursion_from_All}
-use Rattle.shift_instance.specs.declared.Row.{Row}
-use Rattle.certificate.specs.declared.Cert.{Cert}
+use Rattle.certificate.proofs.Common.{◌≡◌, ℕ, ◌-◌, ◌^◌, ◌<◌, ◌≤◌, true, false, cond, List, [], ◌∷◌, ◌++◌, length, map, Option, Some, None, option_map, refl, sym, ap, subst, arith, inl, inr, codes, All, bytes_eq, AllByRecursion, decimal, ltb-true, lt-ltb, eqb-true, eq-eqb, cases_Bool, All-nil, All-head, All-tail, All-weaker, All-from_recursion, recursion_from_All, Row, Cert, Settled, proof_lines, status_text, rows_of, cert_lines, AgreesWith, HasText, Line, breaks_text, row_line, proof_line, HasSlot, FitsBreak, FitsRow, FitsLine, IsLine, number_or_dash, status_word_in, status_in, allows_cost, cost_in, allows_bound, bound_in, go_together, count_in, opening_at, limits_at, or_zero, rows_at, proof_at, closing_at, plan_of, to_cert, cert_at, number_in, word_in, line_at}
+use Rattle.certificate.specs.declared.proof_lines.Line.{Line as ProofLine}
 use Rattle.certificate.specs.declared.CertStatus.{CertStatus}
 use Rattle.certificate.specs.declared.CertStatus.TheVariants.{Optimal, Stopped, Bound}
-use Rattle.certificate.specs.declared.proof_lines.Line.{Line as ProofLine}
-use Rattle.certificate.specs.declared.proof_lines.Line.TheVariants.{Settled}
-use Rattle.certificate.specs.Text.{proof_lines, status_text, rows_of, cert_lines, AgreesWith, HasText}
-use Rattle.certificate.specs.LineText.{Line, breaks_text, row_line, proof_line, HasSlot, FitsBreak, FitsRow, FitsLine}
-use Rattle.certificate.specs.Departing.{IsLine}
-use Rattle.certificate.specs.Reading.{number_or_dash, status_word_in, status_in, allows_cost, cost_in, allows_bound, bound_in, go_together, count_in, opening_at, limits_at, or_zero, rows_at, proof_at, closing_at, plan_of, to_cert, cert_at}
-use Rattle.certificate.specs.Words.{number_in, word_in, line_at}
 use Rattle.certificate.proofs.Spelling.{Exact, Lacks, some_of, same_some, chosen, same_text, text_same, text_other, decimal_lacks, mapped_some, kept_exact, led_exact}
 use Rattle.certificate.proofs.Feeds.{plain, joins, word_before}
 use Rattle.certificate.proofs.Spelled.{number_below, breaks_lack, row_exact}

@@ -1,8 +1,5 @@
 -- The first place of a byte.
-use Rattle.std.proofs.Common.{◌≡◌, ℕ, Bool, true, false, eqb, List, length, get_or, Option, Some, None, refl, arith, inl, inr, le_refl}
-use Rattle.std.specs.List.{position, position_or_len}
-use Rattle.std.proofs.lemmas.Bool.{cases_Bool, lt-ltb, le-ltb}
-use Rattle.std.proofs.lemmas.List.Sums.{position_or_len_is}
+use Rattle.certificate.proofs.Common.{◌≡◌, ℕ, Bool, true, false, eqb, List, length, get_or, Option, Some, None, refl, arith, inl, inr, le_refl, position, position_or_len, cases_Bool, lt-ltb, le-ltb, position_or_len_is}
 use Rattle.memchr.specs.Find.{IsFirstByte, is_byte}
 
 is_false : (b : Bool) → (b ≡ true → ⊥) → b ≡ false

@@ -1,13 +1,6 @@
 -- The proof lines of a history, post by post.
-use Rattle.std.proofs.Common.{◌≡◌, ℕ, ◌+◌, ◌<◌, ◌≤◌, List, [], ◌∷◌, ◌++◌, length, take, get_or, map, Option, Some, None, ap, ◌∙◌, arith}
-use Rattle.std.specs.List.{cons_option}
-use Rattle.std.proofs.lemmas.Grind.{flat_map-append}
-use Rattle.std.proofs.lemmas.List.{take_more, map-append}
-use Rattle.std.proofs.lemmas.List.Elements.{filter_map-append}
-use Rattle.post_codec.specs.declared.post.Post.{Post}
+use Rattle.certificate.proofs.Common.{◌≡◌, ℕ, ◌+◌, ◌<◌, ◌≤◌, List, [], ◌∷◌, ◌++◌, length, take, get_or, map, Option, Some, None, ap, ◌∙◌, arith, cons_option, flat_map-append, take_more, map-append, filter_map-append, Post, line_text, lines_text, proof_line, line_of, lines_of}
 use Rattle.certificate.specs.declared.proof_lines.Line.{Line as ProofLine}
-use Rattle.certificate.specs.LineText.{line_text, lines_text, proof_line}
-use Rattle.certificate.specs.History.{line_of, lines_of}
 
 -- one post more adds its lines
 pub one_more : (posts : List Post) (i : ℕ) (post : Post) → i < length posts → lines_of (take (i + 1) posts) ≡ lines_of (take i posts) ++ lines_of (get_or posts i post ∷ [])

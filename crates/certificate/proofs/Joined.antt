@@ -1,13 +1,5 @@
 -- Values with commas between them are read exactly where they are spelled so.
-use Rattle.std.proofs.Common.{◌≡◌, ℕ, ◌<◌, false, eqb, List, [], ◌∷◌, ◌++◌, length, map, Some, refl, sym, ap, subst, ◌∙◌, arith, inl, inr, codes}
-use Rattle.std.specs.Prelude.{All, bytes_eq}
-use Rattle.std.specs.List.{AllByRecursion, flat_map, slice_split, join_with_byte}
-use Rattle.std.proofs.lemmas.Bool.{ne_eqb, cases_Bool}
-use Rattle.std.proofs.lemmas.List.{append-nil}
-use Rattle.std.proofs.lemmas.List.Elements.{All-nil, All-cons, All-append, All-from_recursion, recursion_from_All}
-use Rattle.std.proofs.lemmas.List.Splits.{slice_split_at, slice_split_none, join_with_byte-slice_split, length-slice_split}
-use Rattle.certificate.specs.LineText.{joined, joined_or_dash}
-use Rattle.certificate.specs.Words.{Words, given, each_in, parts_in, parts_or_dash}
+use Rattle.certificate.proofs.Common.{◌≡◌, ℕ, ◌<◌, false, eqb, List, [], ◌∷◌, ◌++◌, length, map, Some, refl, sym, ap, subst, ◌∙◌, arith, inl, inr, codes, All, bytes_eq, AllByRecursion, flat_map, slice_split, join_with_byte, ne_eqb, cases_Bool, append-nil, All-nil, All-cons, All-append, All-from_recursion, recursion_from_All, slice_split_at, slice_split_none, join_with_byte-slice_split, length-slice_split, joined, joined_or_dash, Words, given, each_in, parts_in, parts_or_dash}
 use Rattle.certificate.proofs.Spelling.{Exact, Lacks, some_of, same_some, given_some, same_text, text_other}
 
 each_takes : {A : Type 0} (F : A → Type 0) (s : A → List ℕ) (f : Words A) → Exact F s f → (ws : List (List ℕ)) (l : List A) → each_in f ws ≡ Some l → (ws ≡ map s l) × AllByRecursion F l

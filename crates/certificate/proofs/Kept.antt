@@ -1,15 +1,6 @@
 -- Proof lines that are kept as their text.
-use Rattle.std.proofs.Common.{◌≡◌, ℕ, ◌+◌, ◌-◌, ◌<◌, ◌≤◌, List, [], ◌∷◌, ◌++◌, length, map, Result, Ok, Err, refl, sym, ap, subst, ◌∙◌, arith, take, length-append}
-use Rattle.std.specs.Prelude.{All}
-use Rattle.std.proofs.lemmas.List.{append-nil, take_at}
-use Rattle.std.proofs.lemmas.List.Elements.{All-nil, All-head, All-tail, All-weaker, All-from_recursion, recursion_from_All}
+use Rattle.certificate.proofs.Common.{◌≡◌, ℕ, ◌+◌, ◌-◌, ◌<◌, ◌≤◌, List, [], ◌∷◌, ◌++◌, length, map, Result, Ok, Err, refl, sym, ap, subst, ◌∙◌, arith, take, length-append, All, append-nil, take_at, All-nil, All-head, All-tail, All-weaker, All-from_recursion, recursion_from_All, Settled, line_text, lines_text, proof_line, FitsLine, Stop, Memory, Left, line_at, times, rest_of, any_line_in, proof_line_in, Stops}
 use Rattle.certificate.specs.declared.proof_lines.Line.{Line as ProofLine}
-use Rattle.certificate.specs.declared.proof_lines.Line.TheVariants.{Settled}
-use Rattle.certificate.specs.LineText.{line_text, lines_text, proof_line, FitsLine}
-use Rattle.post_codec.specs.declared.fault.Stop.{Stop}
-use Rattle.post_codec.specs.declared.fault.Stop.TheVariants.{Memory, Left}
-use Rattle.certificate.specs.Words.{line_at, times, rest_of, any_line_in, proof_line_in}
-use Rattle.post_codec.specs.Reading.{Stops}
 use Rattle.certificate.specs.KeptLines.{read_or_none, lines_in, AreLines}
 use Rattle.certificate.proofs.Steps.{any_exact, any_is_line, step_exact, step_is_line, IsStep}
 use Rattle.certificate.proofs.LineReading.{Reads, SoMany, right, same_ok, no_fault, line_reads, times_reads}

@@ -1,15 +1,5 @@
 -- Lines are read as the values that they spell, each value's lines are read, and where nothing is read the fault is where lines depart.
-use Rattle.std.proofs.Common.{◌≡◌, ℕ, zero, suc, false, eqb, List, [], ◌∷◌, ◌++◌, length, map, Option, Some, None, Result, Ok, Err, refl, sym, ap, subst, ◌∙◌, append_assoc, arith}
-use Rattle.std.specs.Prelude.{All}
-use Rattle.std.specs.List.{AllByRecursion}
-use Rattle.std.proofs.lemmas.Grind.{flat_map-append}
-use Rattle.std.proofs.lemmas.Bool.{ne_eqb, eqb-false}
-use Rattle.std.proofs.lemmas.List.{append-nil}
-use Rattle.std.proofs.lemmas.List.Elements.{All-nil, All-cons, All-append, All-weaker}
-use Rattle.certificate.specs.LineText.{Line, line_text, lines_text}
-use Rattle.certificate.specs.Departing.{IsLine}
-use Rattle.certificate.specs.Words.{Words, later, or_fault, on_line, line_at, next, made, times, cut_at}
-use Rattle.post_codec.specs.Reading.{Reader}
+use Rattle.certificate.proofs.Common.{◌≡◌, ℕ, zero, suc, false, eqb, List, [], ◌∷◌, ◌++◌, length, map, Option, Some, None, Result, Ok, Err, refl, sym, ap, subst, ◌∙◌, append_assoc, arith, All, AllByRecursion, flat_map-append, ne_eqb, eqb-false, append-nil, All-nil, All-cons, All-append, All-weaker, Line, line_text, lines_text, IsLine, Words, later, or_fault, on_line, line_at, next, made, times, cut_at, Reader}
 use Rattle.certificate.proofs.Spelling.{Exact, Lacks, cut_again, cut_takes}
 
 -- ---- results

@@ -1,18 +1,5 @@
 -- Reading values one after the other, as loops do.
-use Rattle.std.proofs.Common.{◌≡◌, ℕ, suc, ◌-◌, ◌+◌, ◌≤◌, ◌<◌, List, [], ◌∷◌, ◌++◌, length, Option, Some, None, Result, Ok, Err, eqb, true, false, refl, sym, ap, subst, ◌∙◌, append_assoc, arith, length-append}
-use Rattle.std.specs.Prelude.{All}
-use Rattle.std.specs.List.{slice_split}
-use Rattle.std.proofs.lemmas.List.{append-nil}
-use Rattle.std.proofs.lemmas.List.Elements.{All-nil, All-push, All-tail}
-use Rattle.std.proofs.lemmas.Bool.{eqb-true, eqb-false}
-use Rattle.std.proofs.lemmas.List.Splits.{slice_split_at, slice_split_none}
-use Rattle.post_codec.specs.declared.fault.Stop.{Stop}
-use Rattle.post_codec.specs.declared.fault.Stop.TheVariants.{Memory, Left}
-use Rattle.certificate.specs.LineText.{Line, lines_text}
-use Rattle.certificate.specs.Departing.{IsLine, IsNote}
-use Rattle.certificate.specs.Reading.{begins_note, AreNotes, LeaveNotes, AnswersNotes}
-use Rattle.certificate.specs.Words.{Words, given, later, times, cut_at, each_in, Misses}
-use Rattle.post_codec.specs.Reading.{Reader, Stops}
+use Rattle.certificate.proofs.Common.{◌≡◌, ℕ, suc, ◌-◌, ◌+◌, ◌≤◌, ◌<◌, List, [], ◌∷◌, ◌++◌, length, Option, Some, None, Result, Ok, Err, eqb, true, false, refl, sym, ap, subst, ◌∙◌, append_assoc, arith, length-append, All, slice_split, append-nil, All-nil, All-push, All-tail, eqb-true, eqb-false, slice_split_at, slice_split_none, Stop, Memory, Left, Line, lines_text, IsLine, IsNote, begins_note, AreNotes, LeaveNotes, AnswersNotes, Words, given, later, times, cut_at, each_in, Misses, Reader, Stops}
 use Rattle.certificate.proofs.Spelling.{cut_takes, cut_again, uncut, some_of, same_some}
 use Rattle.certificate.proofs.LineReading.{line_before, text_append, line_lacks, lacks_line}
 
@@ -78,9 +65,6 @@ same_list : {A : Type 0} (o : Option (List A)) → before [] o ≡ o
 same_list (Some l) = refl
 same_list None = refl
 
-pub lists_start : {A : Type 0} (read : Words A) (text : List ℕ) → Lists read text [] text
-lists_start read text = same_list (each_in read (words_of text))
-
 pub next_word : {A : Type 0} (read : Words A) (text : List ℕ) (front : List A) (rest : List ℕ) (p : List ℕ × List ℕ) (a : A) → cut_at 44 rest ≡ Some p → read p.0 ≡ Some a → Lists read text front rest → Lists read text (front ++ a ∷ []) p.1
 next_word read text front rest p a cut got lists =
     let one : before front (each_in read (words_of rest)) ≡ before (front ++ a ∷ []) (each_in read (words_of p.1)) = rw (words_first rest p cut, got) (one_word front a (each_in read (words_of p.1))) in
@@ -135,10 +119,6 @@ pass_note bytes rest p e note h =
       are = All-push IsNote h.notes p.0 h.are note;
       is = h.is ∙ ap (λ (l : List ℕ). lines_text h.notes ++ l) (c.is ∙ sym (line_before p.0 p.1)) ∙ sym (append_assoc (lines_text h.notes) (lines_text (p.0 ∷ [])) p.1) ∙ ap (λ (l : List ℕ). l ++ p.1) (sym (text_append h.notes (p.0 ∷ [])));
     }
-
-pub pass_all : (bytes rest : List ℕ) → length rest ≡ 0 → Passed bytes rest → AreNotes bytes
-pass_all bytes [] e h = record { notes = h.notes; are = h.are; is = h.is ∙ append-nil (lines_text h.notes) }
-pass_all bytes (b ∷ rest) e h = absurd (omega arith)
 
 pub leave : (bytes rest : List ℕ) → 0 < length rest → ((line : Line) (more : List ℕ) → IsLine line → rest ≡ line ++ 10 ∷ more → IsNote line → ⊥) → Passed bytes rest → LeaveNotes bytes (length rest)
 leave bytes rest some none h = record { notes = h.notes; are = h.are; rest = rest; is = h.is; length_left = refl; some = some; no_note = none }

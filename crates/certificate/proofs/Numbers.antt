@@ -1,13 +1,7 @@
 -- A text that begins as a number does is parsed exactly where it is the spelling of a number.
-use Rattle.std.proofs.Common.{◌≡◌, ℕ, ◌+◌, ◌^◌, ◌<◌, ◌≤◌, true, false, eqb, leb, not, List, [], ◌∷◌, length, get_or, Option, Some, None, Result, Ok, Err, refl, sym, ap, subst, ◌∙◌, arith, inl, inr}
+use Rattle.certificate.proofs.Common.{◌≡◌, ℕ, ◌+◌, ◌^◌, ◌<◌, ◌≤◌, true, false, eqb, leb, not, List, [], ◌∷◌, length, get_or, Option, Some, None, Result, Ok, Err, refl, sym, ap, subst, ◌∙◌, arith, inl, inr, decimal, digits_value, AllDigits, IsNumeral, ParsesUnsigned, without_leading_plus, le-leb, leb-true, ne_eqb, eq-eqb, and_parts, and_from, cases_lt, decimal_is_IsNumeral, decimal_digit, first_decimal, decimal-digits_value, parse-decimal, IsAscii-decimal, IsNumeralModel, numerals_by_value, tells_digits, digit_at, without_leading_plus_none, begins_number, plain_number}
 use Rattle.std.specs.Result.{result_ok}
 use Rattle.std.specs.Str.{IsUtf8}
-use Rattle.std.specs.Fmt.{decimal}
-use Rattle.std.specs.Str.Parse.{digits_value, AllDigits, IsNumeral, ParsesUnsigned, without_leading_plus}
-use Rattle.std.proofs.lemmas.Bool.{le-leb, leb-true, ne_eqb, eq-eqb, and_parts, and_from, cases_lt}
-use Rattle.std.proofs.lemmas.Fmt.{decimal_is_IsNumeral, decimal_digit, first_decimal, decimal-digits_value, parse-decimal, IsAscii-decimal}
-use Rattle.std.proofs.lemmas.Str.Parse.{IsNumeralModel, numerals_by_value, tells_digits, digit_at, without_leading_plus_none}
-use Rattle.certificate.specs.Words.{begins_number, plain_number}
 use Rattle.std.specs.Char.{is_ascii_digit as is_digit}
 use Rattle.std.proofs.lemmas.Str.{IsUtf8-from_ascii}
 use Rattle.certificate.proofs.Spelling.{some_of, number}

@@ -1,17 +1,6 @@
 -- Prices of few digits, read in one pass over their text.
-use Rattle.std.proofs.Common.{◌≡◌, ℕ, ℤ, pos, neg_ℤ, zero, suc, ◌+◌, ◌-◌, ◌*◌, ◌/◌, ◌%◌, ◌^◌, ◌<◌, ◌≤◌, List, [], ◌∷◌, ◌++◌, length, get_or, take, drop, Option, Some, refl, sym, ap, ◌∙◌, append_assoc, arith, FitsSigned}
-use Rattle.std.specs.Prelude.{All}
-use Rattle.std.specs.List.{flat_map}
-use Rattle.std.specs.Int.{w64}
-use Rattle.std.specs.Fmt.{decimal, signed_decimal}
-use Rattle.std.proofs.lemmas.Fmt.{decimal_digit, decimal_step}
-use Rattle.std.proofs.lemmas.List.{append-nil, take_all}
+use Rattle.certificate.proofs.Common.{◌≡◌, ℕ, ℤ, pos, neg_ℤ, zero, suc, ◌+◌, ◌-◌, ◌*◌, ◌/◌, ◌%◌, ◌^◌, ◌<◌, ◌≤◌, List, [], ◌∷◌, ◌++◌, length, get_or, take, drop, Option, Some, refl, sym, ap, ◌∙◌, append_assoc, arith, FitsSigned, All, flat_map, w64, decimal, signed_decimal, decimal_digit, decimal_step, append-nil, take_all, All-nil, All-push, joined, Stop, Memory, Left, given, both_sides, slots_in, cuts_in, IsSlotsBefore, Misses}
 use Rattle.std.proofs.lemmas.List.Concat.{flat_map-append}
-use Rattle.std.proofs.lemmas.List.Elements.{All-nil, All-push}
-use Rattle.certificate.specs.LineText.{joined}
-use Rattle.post_codec.specs.declared.fault.Stop.{Stop}
-use Rattle.post_codec.specs.declared.fault.Stop.TheVariants.{Memory, Left}
-use Rattle.certificate.specs.Words.{given, both_sides, slots_in, cuts_in, IsSlotsBefore, Misses}
 use Rattle.certificate.proofs.Spelling.{cut_again}
 use Rattle.certificate.proofs.Steps.{slots_exact, slots_lack}
 
@@ -54,26 +43,10 @@ last_joined s (x ∷ xs) z tail =
     ∙ sym (append_assoc (s x) (44 ∷ joined s (xs ++ z ∷ [])) tail)
     ∙ ap (λ (l : List ℕ). l ++ tail) (joined_more s x xs z)
 
-pub next_behind : {A : Type 0} (s : A → List ℕ) (list : List A) (z : A) (tail : List ℕ) → each_behind s list ++ (s z ++ 44 ∷ tail) ≡ each_behind s (list ++ z ∷ []) ++ tail
-next_behind s list z tail =
-    let more : each_behind s (list ++ z ∷ []) ≡ each_behind s list ++ (s z ++ 44 ∷ []) = flat_map-append (λ next. s next ++ 44 ∷ []) list (z ∷ []) ∙ ap (λ (l : List ℕ). each_behind s list ++ l) (append-nil (s z ++ 44 ∷ [])) in
-    ap (λ (l : List ℕ). each_behind s list ++ l) (sym (append_assoc (s z) (44 ∷ []) tail))
-    ∙ sym (append_assoc (each_behind s list) (s z ++ 44 ∷ []) tail)
-    ∙ ap (λ (l : List ℕ). l ++ tail) (sym more)
-
 -- what a loop keeps: the prices so far, each with a comma behind it, are the text in front
 pub record AreBefore (text : List ℕ) (prices : List ℤ) (rest : List ℕ) : Type 0 where
   pub is : text ≡ each_behind signed_decimal prices ++ rest
   pub fit : All (FitsSigned w64) prices
-
-pub none_before : (text : List ℕ) → AreBefore text [] text
-none_before text = record { is = refl; fit = All-nil (FitsSigned w64) }
-
-pub one_before : (text : List ℕ) (prices : List ℤ) (rest : List ℕ) (z : ℤ) (tail : List ℕ) → rest ≡ signed_decimal z ++ 44 ∷ tail → FitsSigned w64 z → AreBefore text prices rest → AreBefore text (prices ++ z ∷ []) tail
-one_before text prices rest z tail e fits h = record {
-  is = h.is ∙ ap (λ (l : List ℕ). each_behind signed_decimal prices ++ l) e ∙ next_behind signed_decimal prices z tail;
-  fit = All-push (FitsSigned w64) prices z h.fit fits;
-}
 
 pub all_before : (text : List ℕ) (prices : List ℤ) (rest : List ℕ) (z : ℤ) (tail : List ℕ) → rest ≡ signed_decimal z ++ 32 ∷ tail → FitsSigned w64 z → AreBefore text prices rest → IsSlotsBefore text (prices ++ z ∷ []) tail
 all_before text prices rest z tail e fits h = record {

@@ -1,12 +1,6 @@
 -- The words of each line are read exactly where they are spelled so.
-use Rattle.std.proofs.Common.{◌≡◌, ℕ, ◌^◌, ◌<◌, ◌≤◌, false, eqb, List, ◌∷◌, None, refl, sym, ap, ◌∙◌, arith, codes}
-use Rattle.std.specs.Prelude.{All, nat_le}
-use Rattle.std.specs.Fmt.{decimal}
-use Rattle.std.proofs.lemmas.Bool.{leb-true, le-leb, ne_eqb}
-use Rattle.std.proofs.lemmas.List.Elements.{All-cons, All-append, recursion_from_All}
-use Rattle.break_rules.specs.declared.Break.{Break}
-use Rattle.certificate.specs.LineText.{break_text, breaks_text, row_line, FitsBreak, FitsRow}
-use Rattle.certificate.specs.Words.{cut_at, number_in, to_break, break_in, breaks_in, to_row, row_in}
+use Rattle.certificate.proofs.Common.{◌≡◌, ℕ, ◌^◌, ◌<◌, ◌≤◌, false, eqb, List, ◌∷◌, None, refl, sym, ap, ◌∙◌, arith, codes, All, decimal, leb-true, le-leb, ne_eqb, All-cons, All-append, recursion_from_All, Break, break_text, breaks_text, row_line, FitsBreak, FitsRow, cut_at, number_in, to_break, break_in, breaks_in, to_row, row_in}
+use Rattle.std.specs.Prelude.{nat_le}
 use Rattle.certificate.proofs.Spelling.{Exact, Lacks, cut_again, number, decimal_lacks, kept_exact, led_exact, sides_exact, mapped_exact}
 use Rattle.certificate.proofs.Joined.{joined_or_dash_lacks, parts_or_dash_exact}
 

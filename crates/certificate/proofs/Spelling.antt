@@ -1,18 +1,7 @@
 -- A text is read as the value that it spells, and each value's spelling is read.
-use Rattle.std.proofs.Common.{◌≡◌, ℕ, suc, ◌^◌, ◌<◌, ◌≤◌, Bool, true, false, cond, eqb, ltb, ◌&&◌, List, [], ◌∷◌, ◌++◌, length, get_or, take, drop, Option, Some, None, option_map, refl, sym, ap, subst, ◌∙◌, arith, inl, inr, drop-cons}
-use Rattle.std.specs.Prelude.{All, bytes_eq}
-use Rattle.std.specs.List.{position, position_or_len}
-use Rattle.std.specs.Fmt.{decimal}
-use Rattle.std.specs.Str.Parse.{digits_value}
-use Rattle.std.proofs.lemmas.Bool.{ltb-true, ltb-false, lt-ltb, eqb-true, eq-eqb, ne_eqb, and_parts, cases_Bool}
-use Rattle.std.proofs.lemmas.List.{take_at, drop_at, take-append-drop, length-take, get_or-take}
-use Rattle.std.proofs.lemmas.List.Elements.{All-nil, All-cons, All-head, All-tail, All-from_get_or}
+use Rattle.certificate.proofs.Common.{◌≡◌, ℕ, suc, ◌^◌, ◌<◌, ◌≤◌, Bool, true, false, cond, eqb, ltb, ◌&&◌, List, [], ◌∷◌, ◌++◌, length, get_or, take, drop, Option, Some, None, option_map, refl, sym, ap, subst, ◌∙◌, arith, inl, inr, drop-cons, All, bytes_eq, position, position_or_len, decimal, digits_value, ltb-true, ltb-false, lt-ltb, eqb-true, eq-eqb, ne_eqb, and_parts, cases_Bool, take_at, drop_at, take-append-drop, length-take, get_or-take, All-nil, All-cons, All-head, All-tail, All-from_get_or, fails_before_first, decimal_is_IsNumeral, digit_at, Words, given, kept, cut_at, plain_number, behind, led_by, both_sides}
 use Rattle.std.proofs.lemmas.List.Quantifiers.{position-Some}
-use Rattle.std.proofs.lemmas.List.Sums.{fails_before_first}
 use Rattle.std.proofs.lemmas.Slice.Eq.{bytes_eq-Decides}
-use Rattle.std.proofs.lemmas.Fmt.{decimal_is_IsNumeral}
-use Rattle.std.proofs.lemmas.Str.Parse.{digit_at}
-use Rattle.certificate.specs.Words.{Words, given, kept, cut_at, plain_number, behind, led_by, both_sides}
 
 -- a reader of whole texts and a spelling are each other's inverse
 pub record Exact {A : Type 0} (Fits : A → Type 0) (spell : A → List ℕ) (read : Words A) : Type 0 where

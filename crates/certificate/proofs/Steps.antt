@@ -1,18 +1,6 @@
 -- Proof lines are read exactly where they are spelled so.
-use Rattle.std.proofs.Common.{◌≡◌, ℕ, ℤ, pos, negsuc, suc, ◌-◌, ◌^◌, ◌<◌, ◌≤◌, true, false, eqb, List, [], ◌∷◌, ◌++◌, length, Option, Some, None, option_map, refl, sym, ap, subst, ◌∙◌, arith, codes, FitsSigned, length-append}
-use Rattle.std.specs.List.{flat_map}
-use Rattle.std.proofs.lemmas.Fmt.{decimal_nonempty}
-use Rattle.std.specs.Prelude.{All, nat_lt}
-use Rattle.std.specs.Int.{w64}
-use Rattle.std.specs.Fmt.{decimal, signed_decimal}
-use Rattle.std.proofs.lemmas.Bool.{ltb-true, lt-ltb, ne_eqb}
-use Rattle.std.proofs.lemmas.List.Elements.{All-nil, All-cons, All-head, recursion_from_All}
-use Rattle.break_rules.specs.declared.Break.{Break}
+use Rattle.certificate.proofs.Common.{◌≡◌, ℕ, ℤ, pos, negsuc, suc, ◌-◌, ◌^◌, ◌<◌, ◌≤◌, true, false, eqb, List, [], ◌∷◌, ◌++◌, length, Option, Some, None, option_map, refl, sym, ap, subst, ◌∙◌, arith, codes, FitsSigned, length-append, flat_map, decimal_nonempty, All, nat_lt, w64, decimal, signed_decimal, ltb-true, lt-ltb, ne_eqb, All-nil, All-cons, All-head, recursion_from_All, Break, Split, Priced, Settled, Line, joined, joined_or_dash, breaks_text, proof_line, HasSlot, FitsBreak, FitsLine, IsLine, Words, given, kept, behind, behind_or, led_by, led_or, both_sides, number_in, breaks_in, minus, slot_price_in, slots_in, cuts_in, to_split, split_in, to_priced, priced_in, settled_in, any_line_in, has_slot, proof_line_in, proof_count_in, parts_in}
 use Rattle.certificate.specs.declared.proof_lines.Line.{Line as ProofLine}
-use Rattle.certificate.specs.declared.proof_lines.Line.TheVariants.{Split, Priced, Settled}
-use Rattle.certificate.specs.LineText.{Line, joined, joined_or_dash, breaks_text, proof_line, HasSlot, FitsBreak, FitsLine}
-use Rattle.certificate.specs.Departing.{IsLine}
-use Rattle.certificate.specs.Words.{Words, given, kept, behind, behind_or, led_by, led_or, both_sides, number_in, breaks_in, minus, slot_price_in, slots_in, cuts_in, to_split, split_in, to_priced, priced_in, settled_in, any_line_in, has_slot, proof_line_in, proof_count_in, parts_in}
 use Rattle.certificate.proofs.Spelling.{Exact, Lacks, some_of, same_some, given_some, mapped_some, decimal_lacks, kept_exact, led_exact, sides_exact, behind_takes, behind_again}
 use Rattle.certificate.proofs.Spelled.{number_below, breaks_exact, breaks_lack}
 use Rattle.certificate.proofs.Feeds.{plain, joins, text_before, word_before}

@@ -1,20 +1,6 @@
 -- Bytes are read as a certificate exactly where they are a text of it, and else the fault is where they depart from every text.
-use Rattle.std.proofs.Common.{◌≡◌, ℕ, ◌+◌, ◌-◌, ◌<◌, false, cond, eqb, List, [], ◌∷◌, ◌++◌, length, take, Ok, Err, refl, sym, ap, subst, ◌∙◌, append_assoc, arith, length-append}
-use Rattle.std.specs.Prelude.{All}
-use Rattle.std.specs.List.{count_by, sum_by}
-use Rattle.std.proofs.lemmas.Bool.{ne_eqb}
-use Rattle.std.proofs.lemmas.List.{append-nil, take_at}
-use Rattle.std.proofs.lemmas.List.Elements.{All-nil, All-cons, All-head, All-tail, All-append}
-use Rattle.std.proofs.lemmas.List.Sums.{sum_by-append}
-use Rattle.certificate.specs.declared.Cert.{Cert}
+use Rattle.certificate.proofs.Common.{◌≡◌, ℕ, ◌+◌, ◌-◌, ◌<◌, false, cond, eqb, List, [], ◌∷◌, ◌++◌, length, take, Ok, Err, refl, sym, ap, subst, ◌∙◌, append_assoc, arith, length-append, All, count_by, sum_by, ne_eqb, append-nil, take_at, All-nil, All-cons, All-head, All-tail, All-append, sum_by-append, Cert, Stop, Memory, Left, cert_lines, HasText, Line, lines_text, IsLine, IsNote, Spells, Begins, IsFaultOf, cert_at, AreNotes, LeaveNotes, AnswersNotes, IsStopped, InLines, InNotes, AnswersWhole, cut_at}
 use Rattle.certificate.specs.declared.fault.CertText.TheVariants.{Departs}
-use Rattle.post_codec.specs.declared.fault.Stop.{Stop}
-use Rattle.post_codec.specs.declared.fault.Stop.TheVariants.{Memory, Left}
-use Rattle.certificate.specs.Text.{cert_lines, HasText}
-use Rattle.certificate.specs.LineText.{Line, lines_text}
-use Rattle.certificate.specs.Departing.{IsLine, IsNote, Spells, Begins, IsFaultOf}
-use Rattle.certificate.specs.Reading.{cert_at, AreNotes, LeaveNotes, AnswersNotes, IsStopped, InLines, InNotes, AnswersWhole}
-use Rattle.certificate.specs.Words.{cut_at}
 use Rattle.certificate.proofs.Spelling.{some_of, same_some, cut_again}
 use Rattle.certificate.proofs.LineReading.{right, same_ok, no_fault, Stopping, line_lacks, text_append, cancel, only_value}
 use Rattle.certificate.proofs.Certs.{cert_reads}

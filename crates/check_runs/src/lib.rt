@@ -10,4 +10,4 @@ mod words;
 
 pub use checking::check_run;
 pub use status::{BundleFault, CheckStatus};
-pub use words::{Command, Files, Request, request_of};
+pub use words::{Command, Files, Request, may_be_file, request_of};

@@ -32,7 +32,7 @@ pub struct Request<'a> {
 }
 
 /// Whether a word may name a file: it isn't empty and doesn't begin with `-`.
-fn may_be_file(word: &str) -> bool
+pub fn may_be_file(word: &str) -> bool
     ensures { result ≡ is_file word.now }
 {
     match word.as_bytes() {

@@ -56,7 +56,7 @@ fn obstacle_to(old: &Instance, new: &Instance, row: &Row) -> Option<Obstacle> {
     obstacle_of(old, new, row)
 }
 
-/// How many duties of a row the greatest heads leave no room for, behind the rows before it.
+/// How many duties of a row the `max_heads` of the new instance leaves no room for, behind the rows before it.
 fn crowded(old: &Instance, new: &Instance, before: &[Row], row: &Row) -> u32 {
     let mut room = u32::from(new.heads());
     for other in before {

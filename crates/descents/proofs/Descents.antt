@@ -1,32 +1,10 @@
 -- Which moves lower the cost of a plan, and what is known where none was found.
-use Rattle.std.proofs.Common.{◌≡◌, ◌⊎◌, inl, inr, ℕ, zero, suc, ◌+◌, ◌*◌, ◌/◌, ◌%◌, ◌<◌, ◌≤◌, Bool, true, false, not, ◌==◌, nat_lt, List, [], ◌∷◌, ◌++◌, length, get_or, Option, Some, None, refl, sym, ap, ◌∙◌, subst, arith}
-use Rattle.std.specs.Prelude.{slice_get}
-use Rattle.std.proofs.lemmas.Bool.{cases_Bool, ltb-true, lt-ltb, ltb-false, le-ltb, false≢true}
-use Rattle.std.proofs.lemmas.Nat.{div-mul-add, mod-mul-add, mul-add-lt}
+use Rattle.descents.proofs.Common.{◌≡◌, ◌⊎◌, inl, inr, ℕ, zero, suc, ◌+◌, ◌*◌, ◌/◌, ◌%◌, ◌<◌, ◌≤◌, Bool, true, false, not, ◌==◌, nat_lt, List, [], ◌∷◌, ◌++◌, length, get_or, Option, Some, None, refl, sym, ap, ◌∙◌, subst, arith, slice_get, cases_Bool, ltb-true, lt-ltb, ltb-false, le-ltb, false≢true, div-mul-add, mod-mul-add, mul-add-lt, Break, first_cause, no_cause, none_from_no_cause, Duty, Row, Problem, shift_list, same_duty, count_of, heads_on, is_list_of, is_used, duty_of, rota_of, cost, alike_from_counts, alike_cost, without, duties_of, duty, Part, Rows, Shifts, Days, Move, Add, Drop, Rebreak, Reshift, Drafting, IsNoGain, IsLocalOptimum, IsDutyOptimal, IsBestRebreak, IsOptimalAt, IsPlace, places, Answers, AreSameDuties, is_known, pair_causes, move_causes, moved, unused_by_count, pair_parts}
 use Rattle.std.proofs.lemmas.Option.{slice_get_read, slice_get_past}
-use Rattle.break_rules.specs.declared.Break.{Break}
-use Rattle.break_rules.specs.Causes.{first_cause}
-use Rattle.break_rules.proofs.Causes.{no_cause, none_from_no_cause}
 use Rattle.break_rules.proofs.Counts.{count_by-append}
 use Rattle.break_rules.specs.Lists.{Has}
-use Rattle.shift_instance.specs.declared.Duty.{Duty}
-use Rattle.shift_instance.specs.declared.Row.{Row}
-use Rattle.shift_instance.specs.Problem.{Problem, shift_list}
-use Rattle.shift_instance.specs.Rota.{same_duty, count_of, heads_on, is_list_of, is_used, duty_of, rota_of, cost}
-use Rattle.shift_instance.proofs.Alike.{alike_from_counts, alike_cost}
-use Rattle.rota_cost.specs.Cover.{without}
-use Rattle.rota_cost.specs.Counted.{duties_of}
-use Rattle.greedy.specs.Greedy.{duty}
-use Rattle.descents.specs.declared.descending.Part.{Part}
-use Rattle.descents.specs.declared.descending.Part.TheVariants.{Rows, Shifts, Days}
-use Rattle.local_moves.specs.declared.moves.Move.{Move}
-use Rattle.local_moves.specs.declared.moves.Move.TheVariants.{Add, Drop, Rebreak, Reshift}
 use Rattle.local_moves.specs.declared.moves.MoveFault.{MoveFault}
 use Rattle.local_moves.specs.declared.moves.MoveFault.TheVariants.{UnknownShift, Day, Breaks, Absent, HeadsOver, OtherKind, NotNear, NoMemory}
-use Rattle.local_moves.specs.Drafting.{Drafting}
-use Rattle.descents.specs.Descending.{IsNoGain, IsLocalOptimum, IsDutyOptimal, IsBestRebreak, IsOptimalAt, IsPlace, places}
-use Rattle.local_moves.specs.Moves.{Answers, AreSameDuties, is_known, pair_causes, move_causes, moved}
-use Rattle.local_moves.proofs.Reshifts.{unused_by_count, pair_parts}
 use Rattle.local_moves.proofs.RowPlaces.{some_of}
 
 -- ---- refusals
@@ -64,10 +42,6 @@ with_same i a b e h =
 -- a move that was made and didn't lower the cost
 pub no_gain : (i : Problem) (rota new : List Duty) (m : Move) (before after : ℕ) → AreSameDuties new (moved i m rota) → before ≡ cost i rota → after ≡ cost i new → before ≤ after → IsNoGain i rota m
 no_gain i rota new m before after h e f l accepted = let g : cost i new ≡ cost i (moved i m rota) = same_cost i new (moved i m rota) h in omega arith
-
--- a move that is refused
-pub refused_gain : (i : Problem) (rota : List Duty) (m : Move) → (first_cause (move_causes i rota m) ≡ None → ⊥) → IsNoGain i rota m
-refused_gain i rota m h accepted = absurd (h accepted)
 
 -- ---- breaks of a duty
 rebreak_parts : (i : Problem) (rota : List Duty) (d : Duty) (to : List Break) → first_cause (move_causes i rota (Rebreak d.shift d.day d.breaks to)) ≡ None → (first_cause (move_causes i rota (Drop d.shift d.day d.breaks)) ≡ None) × (is_list_of i d.shift to ≡ true)
@@ -176,55 +150,6 @@ pub record IsLooked (i : Problem) (old new : Drafting) (part : Part) (start left
   pub cheaper : cost i (rota_of new.rows) + start ≤ cost i (rota_of old.rows) + left
   pub down : left ≤ start
   pub none : left ≡ start → 0 < start → (new ≡ old) × ((k : ℕ) → k < place → IsOptimalAt i old.rows part k)
-
-pub looked_none : (i : Problem) (old : Drafting) (part : Part) (start : ℕ) → IsLooked i old old part start start 0
-looked_none i old part start = record {
-  instance = refl;
-  cheaper = omega arith;
-  down = omega arith;
-  none = λ e l. (refl, λ k h. absurd (omega arith));
-}
-
-pub looked_lower : (i : Problem) (old mid new : Drafting) (part : Part) (start left place : ℕ) → IsLooked i old mid part start left place → new.instance ≡ mid.instance → 0 < left → cost i (rota_of new.rows) < cost i (rota_of mid.rows)
-    → (after : ℕ) → after + 1 ≡ left → IsLooked i old new part start after (place + 1)
-looked_lower i old mid new part start left place h e some lower after one =
-    let a : cost i (rota_of mid.rows) + start ≤ cost i (rota_of old.rows) + left = h.cheaper in
-    let b : left ≤ start = h.down in
-    record {
-      instance = e ∙ h.instance;
-      cheaper = omega arith;
-      down = omega arith;
-      none = λ e l. absurd (omega arith);
-    }
-
-pub looked_same : (i : Problem) (old mid new : Drafting) (part : Part) (start left place : ℕ) → IsLooked i old mid part start left place → new ≡ mid → IsOptimalAt i mid.rows part place → IsLooked i old new part start left (place + 1)
-looked_same i old mid new part start left place h same found = record {
-  instance = ap (λ (d : Drafting). d.instance) same ∙ h.instance;
-  cheaper = (let a : cost i (rota_of mid.rows) + start ≤ cost i (rota_of old.rows) + left = h.cheaper in let b : cost i (rota_of new.rows) ≡ cost i (rota_of mid.rows) = ap (λ (d : Drafting). cost i (rota_of d.rows)) same in omega arith);
-  down = h.down;
-  none = λ e l.
-      let known = h.none e l in (
-        same ∙ known.0,
-        λ k below. elim (cases k place below) [
-          | inl less ↦ known.1 k less
-          | inr now ↦ subst (λ (d : Drafting). IsOptimalAt i d.rows part k) known.0 (subst (λ (n : ℕ). IsOptimalAt i mid.rows part n) (sym now) found)
-        ],
-      );
-}
-  where
-    cases : (k n : ℕ) → k < n + 1 → (k < n) ⊎ (k ≡ n)
-    cases k n h = elim (cases_Bool (nat_lt k n)) [
-      | inl t ↦ inl (ltb-true k n t)
-      | inr f ↦ let g : n ≤ k = ltb-false k n f in inr (omega arith)
-    ]
-
-pub looked_stop : (i : Problem) (old new : Drafting) (part : Part) (start left place most : ℕ) → left ≡ 0 → left ≡ start → 0 < start → (new ≡ old) × ((k : ℕ) → k < most → IsOptimalAt i old.rows part k)
-looked_stop i old new part start left place most e f l = absurd (omega arith)
-
-pub looked_all : (i : Problem) (old new : Drafting) (part : Part) (start left place most : ℕ) → IsLooked i old new part start left place → most ≤ place → left ≡ start → 0 < start → (new ≡ old) × ((k : ℕ) → k < most → IsOptimalAt i old.rows part k)
-looked_all i old new part start left place most h m e l =
-    let known = h.none e l in
-    (known.0, λ k below. known.1 k (omega arith))
 
 -- ---- all parts
 -- a duty of a plan stands in a row

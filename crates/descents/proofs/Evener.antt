@@ -1,19 +1,5 @@
 -- What other breaks of a duty leave as it is, and moves that make a plan more even one after another.
-use Rattle.std.proofs.Common.{◌≡◌, ◌⊎◌, inl, inr, ℕ, zero, suc, cond, ◌+◌, ◌<◌, ◌≤◌, ◌&&◌, ◌==◌, List, [], ◌∷◌, ◌++◌, None, refl, sym, ap, ◌∙◌, subst, arith}
-use Rattle.break_rules.specs.declared.Break.{Break}
-use Rattle.break_rules.specs.Causes.{first_cause}
-use Rattle.break_rules.proofs.Causes.{no_cause}
-use Rattle.shift_instance.specs.declared.Duty.{Duty}
-use Rattle.shift_instance.specs.Problem.{Problem}
-use Rattle.shift_instance.specs.Rota.{cost, count_of, heads_on, is_on, rota_of}
-use Rattle.shift_instance.proofs.Alike.{alike_from_counts}
-use Rattle.rota_cost.specs.Cover.{without}
-use Rattle.rota_cost.proofs.Duties.{with_pushed, with_removed}
-use Rattle.greedy.specs.Greedy.{duty}
-use Rattle.local_moves.specs.declared.moves.Move.TheVariants.{Rebreak}
-use Rattle.local_moves.specs.Drafting.{Drafting}
-use Rattle.local_moves.specs.Moves.{AreSameDuties, move_causes, moved}
-use Rattle.descents.specs.Evening.{IsEvenedBy, IsEvener, unevenness}
+use Rattle.descents.proofs.Common.{◌≡◌, ◌⊎◌, inl, inr, ℕ, zero, suc, cond, ◌+◌, ◌<◌, ◌≤◌, ◌&&◌, ◌==◌, List, [], ◌∷◌, ◌++◌, None, refl, sym, ap, ◌∙◌, subst, arith, Break, first_cause, no_cause, Duty, Problem, cost, count_of, heads_on, is_on, rota_of, alike_from_counts, without, with_pushed, with_removed, duty, Rebreak, Drafting, AreSameDuties, move_causes, moved, IsEvenedBy, IsEvener, unevenness}
 use Rattle.descents.proofs.Descents.{some_by_test}
 use Rattle.descents.proofs.Tries.{cost_at}
 
@@ -43,16 +29,6 @@ evener_tried i old mid s day from to before after uneven even e f accepted same 
       heads = rebroken_heads i (rota_of old.rows) (rota_of mid.rows) s day from to accepted same;
     }
 
--- ---- one move after another
-pub evened_none : (i : Problem) (old : Drafting) (start : ℕ) → IsEvenedBy i old old start start
-evened_none i old start = record {
-  instance = refl;
-  cheap = omega arith;
-  evener = omega arith;
-  heads = λ s day. refl;
-  down = omega arith;
-}
-
 pub evened_more : (i : Problem) (old mid new : Drafting) (start left : ℕ) → IsEvenedBy i old mid start left → new.instance ≡ mid.instance → 0 < left → IsEvener i (rota_of mid.rows) (rota_of new.rows) → (after : ℕ) → after + 1 ≡ left
     → IsEvenedBy i old new start after
 evened_more i old mid new start left h e some more after one =
@@ -77,22 +53,6 @@ evened_same i old mid new start left h e = record {
   heads = λ s day. ap (λ (v : Drafting). heads_on (rota_of v.rows) s day) e ∙ h.heads s day;
   down = h.down;
 }
-
-pub evened_then : (i : Problem) (old mid new : Drafting) (start left after : ℕ) → IsEvenedBy i old mid start left → IsEvenedBy i mid new left after → IsEvenedBy i old new start after
-evened_then i old mid new start left after h g =
-    let a : cost i (rota_of mid.rows) ≤ cost i (rota_of old.rows) = h.cheap in
-    let b : cost i (rota_of new.rows) ≤ cost i (rota_of mid.rows) = g.cheap in
-    let c : unevenness i (rota_of mid.rows) + start ≤ unevenness i (rota_of old.rows) + left = h.evener in
-    let d : unevenness i (rota_of new.rows) + left ≤ unevenness i (rota_of mid.rows) + after = g.evener in
-    let l : left ≤ start = h.down in
-    let m : after ≤ left = g.down in
-    record {
-      instance = g.instance ∙ h.instance;
-      cheap = omega arith;
-      evener = omega arith;
-      heads = λ s day. g.heads s day ∙ h.heads s day;
-      down = omega arith;
-    }
 
 -- what is known of a plan that costs no more than another, by what the other costs
 pub from_dearer : (P : Type 0) (a b c n : ℕ) → b ≤ c → P ⊎ (a + n ≤ b) → P ⊎ (a + n ≤ c)

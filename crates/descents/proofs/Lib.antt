@@ -1,5 +1,5 @@
+pub mod Common
 pub mod OneMore
 pub mod Descents
 pub mod Tries
 pub mod Evener
-pub mod Advising

@@ -1,25 +1,11 @@
 -- What one duty more costs.
-use Rattle.std.proofs.Common.{◌≡◌, ◌⊎◌, inl, inr, ℕ, zero, suc, ◌+◌, ◌*◌, ◌<◌, ◌≤◌, ℤ, pos, ◌+ℤ◌, ◌*ℤ◌, ◌≤ℤ◌, true, cond, List, [], ◌∷◌, ◌++◌, length, Some, refl, sym, ap, ◌∙◌, subst, arith, sum_by}
-use Rattle.std.proofs.lemmas.Int.{ints}
-use Rattle.std.proofs.lemmas.Bool.{cases_Bool}
-use Rattle.break_rules.specs.declared.Break.{Break}
+use Rattle.descents.proofs.Common.{◌≡◌, ◌⊎◌, inl, inr, ℕ, zero, suc, ◌+◌, ◌*◌, ◌<◌, ◌≤◌, ℤ, pos, ◌+ℤ◌, ◌*ℤ◌, ◌≤ℤ◌, true, cond, List, [], ◌∷◌, ◌++◌, length, Some, refl, sym, ap, ◌∙◌, subst, arith, sum_by, ints, cases_Bool, Break, Duty, Problem, slots, shift_list, below, works, cover, slot_cost, is_used, shifts_used, cost, is_list_of, duties_of, with_pushed, used_same, used_more, best_list, duty, earned_with, marginal_price, marginal_prices, IsWithin, worth_none, best_found, earned_small, prices_small, fee, used_by_count, unused_by_count}
 use Rattle.break_rules.specs.Sums.{int_sum_by}
 use Rattle.break_rules.proofs.Lists.{from_below}
 use Rattle.break_rules.proofs.Sums.{int_sum_by-same, int_sum_by-add, mul-zero}
-use Rattle.shift_instance.specs.declared.Duty.{Duty}
-use Rattle.shift_instance.specs.Problem.{Problem, slots, shift_list, below}
-use Rattle.shift_instance.specs.Rota.{works, cover, slot_cost, is_used, shifts_used, cost, is_list_of}
 use Rattle.shift_instance.specs.Valid.{IsValid}
 use Rattle.shift_instance.specs.Worth.{price_of, earned, worth, IsBest}
-use Rattle.rota_cost.specs.Counted.{duties_of}
-use Rattle.rota_cost.proofs.Duties.{with_pushed, used_same, used_more}
-use Rattle.greedy.specs.Greedy.{best_list, duty, earned_with, marginal_price, marginal_prices}
-use Rattle.greedy.specs.Sizes.{IsWithin}
-use Rattle.greedy.proofs.BestLists.{worth_none, best_found, earned_small}
 use Rattle.greedy.proofs.Falls.{times_one, slot_falls, price_at, pos_sum}
-use Rattle.greedy.proofs.Rounding.{prices_small}
-use Rattle.local_moves.specs.Moves.{fee}
-use Rattle.local_moves.proofs.Reshifts.{used_by_count, unused_by_count}
 
 -- a slot in a plan with one duty more
 slot_with : (i : Problem) (rota : List Duty) (d : Duty) (t : ℕ) → IsValid i → t < slots i

@@ -1,28 +1,10 @@
 -- What is known of a draft once a move was tried on it.
-use Rattle.std.proofs.Common.{◌≡◌, ℕ, zero, suc, ◌*◌, ◌/◌, ◌%◌, ◌<◌, ◌≤◌, Bool, true, false, List, [], ◌∷◌, ◌++◌, length, get_or, Option, Some, None, sym, ap, ◌∙◌, subst, arith}
-use Rattle.std.specs.Prelude.{IfSome, IsTrue, MatchBool, MatchOption}
-use Rattle.std.specs.Bool.{OnFalse}
-use Rattle.std.proofs.lemmas.Nat.{div_below, mod_below}
-use Rattle.break_rules.specs.declared.Break.{Break}
-use Rattle.break_rules.specs.Causes.{first_cause}
-use Rattle.shift_instance.specs.declared.Duty.{Duty}
-use Rattle.shift_instance.specs.declared.Row.{Row}
-use Rattle.shift_instance.specs.Problem.{Problem, shift_list}
-use Rattle.shift_instance.specs.Rota.{are_legal_rows, cost, duty_of, heads_on, is_list_of, rota_of}
-use Rattle.rota_cost.specs.Cover.{without}
+use Rattle.descents.proofs.Common.{◌≡◌, ℕ, zero, suc, ◌*◌, ◌/◌, ◌%◌, ◌<◌, ◌≤◌, Bool, true, false, List, [], ◌∷◌, ◌++◌, length, get_or, Option, Some, None, sym, ap, ◌∙◌, subst, arith, IfSome, IsTrue, MatchBool, MatchOption, OnFalse, div_below, mod_below, Break, first_cause, Duty, Row, Problem, shift_list, are_legal_rows, cost, duty_of, heads_on, is_list_of, rota_of, without, duty, Part, Rows, Shifts, Days, Move, Add, Drop, Rebreak, Reshift, Drafting, IsNoGain, IsDutyOptimal, IsBestRebreak, IsLocalOptimum, IsOptimalAt, IsPlace, AreSameDuties, move_causes, moved}
 use Rattle.rota_cost.proofs.Counting.{row_duty}
-use Rattle.greedy.specs.Greedy.{duty}
 use Rattle.local_moves.specs.declared.changes.Change.{Change}
-use Rattle.descents.specs.declared.descending.Part.{Part}
-use Rattle.descents.specs.declared.descending.Part.TheVariants.{Rows, Shifts, Days}
-use Rattle.local_moves.specs.declared.moves.Move.{Move}
-use Rattle.local_moves.specs.declared.moves.Move.TheVariants.{Add, Drop, Rebreak, Reshift}
 use Rattle.local_moves.specs.Changes.{IsDone}
-use Rattle.local_moves.specs.Drafting.{Drafting}
-use Rattle.descents.specs.Descending.{IsNoGain, IsDutyOptimal, IsBestRebreak, IsLocalOptimum, IsOptimalAt, IsPlace}
-use Rattle.local_moves.specs.Moves.{AreSameDuties, move_causes, moved}
 use Rattle.local_moves.proofs.Views.{same_drafting}
-use Rattle.descents.proofs.Descents.{no_gain, no_list, best_other, not_better, best_no_better, best_add_no_better, row_optimal, no_row}
+use Rattle.descents.proofs.Descents.{no_gain, no_list, best_other, not_better, best_no_better, best_add_no_better, row_optimal}
 
 -- ---- costs and what is undone
 pub cost_at : (i : Problem) (v : Drafting) (n : ℕ) → v.instance ≡ i → n ≡ cost v.instance (rota_of v.rows) → n ≡ cost i (rota_of v.rows)
@@ -31,21 +13,9 @@ cost_at i v n e h = h ∙ ap (λ (j : Problem). cost j (rota_of v.rows)) e
 pub legal_at : (i : Problem) (v : Drafting) → v.instance ≡ i → are_legal_rows v.instance v.rows ≡ true → are_legal_rows i v.rows ≡ true
 legal_at i v e h = subst (λ (j : Problem). are_legal_rows j v.rows ≡ true) e h
 
--- a move that was made can be undone
-pub can_undo : (i : Problem) (old mid : Drafting) (done : List Change) → old.instance ≡ i → are_legal_rows old.instance old.rows ≡ true → IsDone (rota_of old.rows) (rota_of mid.rows) done
-    → (before : List Row) × IsTrue (are_legal_rows i before) × IsDone (rota_of before) (rota_of mid.rows) done
-can_undo i old mid done e legal d = (old.rows, legal_at i old e legal, d)
-
 pub undone_same : (i : Problem) (old mid new : Drafting) (done : List Change) → old.instance ≡ i → mid.instance ≡ old.instance → new.instance ≡ mid.instance → are_legal_rows old.instance old.rows ≡ true → IsDone (rota_of old.rows) (rota_of mid.rows) done
     → ((before : List Row) → IsTrue (are_legal_rows i before) → IsDone (rota_of before) (rota_of mid.rows) done → new.rows ≡ before) → new ≡ old
 undone_same i old mid new done e f g legal d h = same_drafting new old (g ∙ f) (h old.rows (legal_at i old e legal) d)
-
-pub tried_lower : (i : Problem) (old mid : Drafting) (before after : ℕ) → old.instance ≡ i → mid.instance ≡ old.instance → before ≡ cost old.instance (rota_of old.rows) → after ≡ cost mid.instance (rota_of mid.rows) → after < before
-    → cost i (rota_of mid.rows) < cost i (rota_of old.rows)
-tried_lower i old mid before after e f b a l =
-    let x : before ≡ cost i (rota_of old.rows) = cost_at i old before e b in
-    let y : after ≡ cost i (rota_of mid.rows) = cost_at i mid after (f ∙ e) a in
-    omega arith
 
 pub tried_none : (i : Problem) (old mid : Drafting) (m : Move) (before after : ℕ) → old.instance ≡ i → mid.instance ≡ old.instance → AreSameDuties (rota_of mid.rows) (moved i m (rota_of old.rows))
     → before ≡ cost old.instance (rota_of old.rows) → after ≡ cost mid.instance (rota_of mid.rows) → before ≤ after → IsNoGain i (rota_of old.rows) m
@@ -103,27 +73,10 @@ pub row_optimal_at : (i : Problem) (rows slice : List Row) (k : ℕ) (r : Row) (
 row_optimal_at i rows slice k r d same l at own h =
     row_optimal i rows k r (subst (λ (rs : List Row). k < length rs) same l) (at ∙ ap (λ (rs : List Row). get_or rs k r) same) (subst (λ (x : Duty). IsDutyOptimal i (rota_of rows) x) own h)
 
-pub no_row_at : (i : Problem) (rows slice : List Row) (k : ℕ) → slice ≡ rows → length slice ≤ k → IsOptimalAt i rows Rows k
-no_row_at i rows slice k same l = no_row i rows k (subst (λ (rs : List Row). length rs ≤ k) same l)
-
 -- ---- one duty more
 pub add_tried : (i : Problem) (v : Drafting) (s day n limit heads : ℕ) (best : List Break) → s < length (shift_list i) → day < i.days → limit ≡ i.heads → heads ≡ heads_on (rota_of v.rows) s day → heads < limit → is_list_of i s best ≡ true
     → n ≡ cost i (rota_of v.rows ++ duty s day best ∷ []) → ((list : List Break) → IsTrue (is_list_of i s list) → n ≤ cost i (rota_of v.rows ++ duty s day list ∷ [])) → IsNoGain i (rota_of v.rows) (Add s day best) → (list : List Break) → IsNoGain i (rota_of v.rows) (Add s day list)
 add_tried i v s day n limit heads best hs hd e f few legal exact least h = best_add_no_better i (rota_of v.rows) s day n best hs hd (let l : heads_on (rota_of v.rows) s day < i.heads = omega arith in l) legal exact least h
-
--- ---- numbers of places
-pub some_of_product : (n m k : ℕ) → k < n * m → 0 < m
-some_of_product n zero k h = absurd (omega arith)
-some_of_product n (suc m) k h = omega arith
-
-pub pair_place : (n m k : ℕ) → k < n * m → (0 < m) × (k / m < n) × (k % m < m)
-pair_place n m k h = let some = some_of_product n m k h in (some, div_below k m n some h, mod_below k m some)
-
-pub place_at_shifts : (i : Problem) (part : Part) (k : ℕ) → part ≡ Shifts → IsPlace i part k → k < length (shift_list i) * length (shift_list i)
-place_at_shifts i part k e h = subst (λ (p : Part). IsPlace i p k) e h
-
-pub place_at_days : (i : Problem) (part : Part) (k : ℕ) → part ≡ Days → IsPlace i part k → k < length (shift_list i) * i.days
-place_at_days i part k e h = subst (λ (p : Part). IsPlace i p k) e h
 
 pub optimal_at_rows : (i : Problem) (rows : List Row) (part : Part) (k : ℕ) → part ≡ Rows → IsOptimalAt i rows Rows k → IsOptimalAt i rows part k
 optimal_at_rows i rows part k e h = subst (λ (p : Part). IsOptimalAt i rows p k) (sym e) h

@@ -1,28 +1,9 @@
 -- What the search for a best break list finds.
-use Rattle.std.proofs.Common.{◌≡◌, inl, inr, ℕ, ◌^◌, ◌≤◌, ℤ, ◌≤ℤ◌, ◌<ℤ◌, Bool, true, false, cond, not, List, [], ◌∷◌, length, Option, Some, None, refl, sym, ap, ◌∙◌, subst}
-use Rattle.std.specs.Prelude.{int_lt, slice_get, MatchOption}
+use Rattle.dual_bound.proofs.Common.{◌≡◌, inl, inr, ℕ, ◌^◌, ◌≤◌, ℤ, ◌≤ℤ◌, ◌<ℤ◌, Bool, true, false, cond, not, List, [], ◌∷◌, length, Option, Some, None, refl, sym, ap, ◌∙◌, subst, int_lt, slice_get, MatchOption, list_any, find, zip, ints, cases_Bool, false≢true, arith, Break, Has, Sorted, any_some, any_none, Problem, shift_list, is_list_of, lists_of, IsValid, worth, IsBest, Has-lists_of, from_lists_of, Cut, Prices, are_prices, entries_of, is_nil, reduced_is_worth, IsValue, best_list, is_greatest, value_with, IsBestOn}
 use Rattle.std.specs.Option.{option_map}
-use Rattle.std.specs.List.{list_any, find, zip}
-use Rattle.std.proofs.lemmas.Int.{ints}
-use Rattle.std.proofs.lemmas.Bool.{cases_Bool, false≢true}
-use Rattle.std.proofs.Common.{arith}
-use Rattle.break_rules.specs.declared.Break.{Break}
-use Rattle.break_rules.specs.Lists.{Has, Sorted}
-use Rattle.break_rules.proofs.Lists.{any_some, any_none}
 use Rattle.break_rules.proofs.Ordered.{IsLess}
-use Rattle.shift_instance.specs.Problem.{Problem, shift_list}
-use Rattle.shift_instance.specs.Rota.{is_list_of, lists_of}
-use Rattle.shift_instance.specs.Valid.{IsValid}
-use Rattle.shift_instance.specs.Worth.{worth, IsBest}
-use Rattle.shift_instance.proofs.Rotas.{Has-lists_of, from_lists_of}
 use Rattle.shift_instance.proofs.AllDuties.{Sorted-lists_of}
 use Rattle.patterns.specs.declared.Pattern.{Pattern}
-use Rattle.head_splits.specs.declared.Cut.{Cut}
-use Rattle.head_splits.specs.declared.Prices.{Prices}
-use Rattle.head_splits.specs.Bound.{are_prices, entries_of, is_nil}
-use Rattle.head_splits.proofs.Best.{reduced_is_worth}
-use Rattle.bound_sums.specs.Values.{IsValue}
-use Rattle.dual_bound.specs.BestLists.{best_list, is_greatest, value_with, IsBestOn}
 use Rattle.dual_bound.proofs.Values.{value_of_best, nil_without}
 
 -- in a list that is in order, an element that passes is found where none before it passes

@@ -1,21 +1,6 @@
 -- The values of the duties of a shift that no cut with a prefix bounds, by the prices of slots alone.
-use Rattle.std.proofs.Common.{◌≡◌, ℕ, ◌≤◌, ◌^◌, ℤ, Bool, true, false, cond, not, ◌&&◌, ◌==◌, List, [], ◌∷◌, length, map, Option, Some, None, refl, sym, ap, ◌∙◌, subst}
-use Rattle.std.specs.Prelude.{MatchOption}
-use Rattle.std.specs.List.{list_any, zip, filter}
-use Rattle.std.proofs.lemmas.Bool.{or_parts}
-use Rattle.break_rules.specs.declared.Break.{Break}
-use Rattle.shift_instance.specs.Problem.{Problem}
-use Rattle.shift_instance.specs.Rota.{is_list_of, lists_of}
-use Rattle.shift_instance.specs.Valid.{IsValid}
-use Rattle.shift_instance.specs.Worth.{IsBest}
-use Rattle.pricing.specs.Days.{AreMostByDay, IsMostOn, AreBestByDay, best_at}
-use Rattle.head_splits.specs.declared.Cut.{Cut}
-use Rattle.head_splits.specs.declared.Prices.{Prices}
-use Rattle.head_splits.specs.Bound.{are_prices, entries_of, is_nil}
-use Rattle.bound_sums.specs.Values.{AreValues, IsValue}
+use Rattle.dual_bound.proofs.Common.{◌≡◌, ℕ, ◌≤◌, ◌^◌, ℤ, Bool, true, false, cond, not, ◌&&◌, ◌==◌, List, [], ◌∷◌, length, map, Option, Some, None, refl, sym, ap, ◌∙◌, subst, MatchOption, list_any, zip, filter, or_parts, Break, Problem, is_list_of, lists_of, IsValid, IsBest, AreMostByDay, IsMostOn, AreBestByDay, best_at, Cut, Prices, are_prices, entries_of, is_nil, AreValues, IsValue, IsBestOn, AreBestsOf}
 use Rattle.dual_bound.proofs.Entries.{entry_of, is_of}
-use Rattle.dual_bound.specs.BestLists.{IsBestOn}
-use Rattle.dual_bound.specs.Pricer.{AreBestsOf}
 use Rattle.dual_bound.proofs.BestLists.{best_found}
 use Rattle.dual_bound.proofs.Values.{nil_without, value_of_best}
 

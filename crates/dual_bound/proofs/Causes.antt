@@ -1,17 +1,9 @@
 -- Prices without a fault are a price set.
-use Rattle.std.proofs.Common.{◌≡◌, ℕ, ◌+◌, Bool, true, false, not, ◌&&◌, ◌==◌, nat_le, List, [], ◌∷◌, ◌++◌, map, length, Some, None, refl, ap}
-use Rattle.std.specs.List.{list_all, zip, enumerate_from}
-use Rattle.std.proofs.lemmas.Bool.{not-false, not_from_true, and_parts}
-use Rattle.break_rules.specs.Causes.{first_cause}
+use Rattle.dual_bound.proofs.Common.{◌≡◌, ℕ, ◌+◌, Bool, true, false, not, ◌&&◌, ◌==◌, nat_le, List, [], ◌∷◌, ◌++◌, map, length, Some, None, refl, ap, list_all, zip, enumerate_from, not-false, not_from_true, and_parts, first_cause, Problem, slots, Cut, Prices, is_slot_price, is_cut_price, are_prices, size_causes, slot_causes, cut_causes, price_causes}
 use Rattle.break_rules.proofs.Causes.{NoCause, no_cause, none_from_no_cause}
-use Rattle.shift_instance.specs.Problem.{Problem, slots}
 use Rattle.shift_instance.proofs.Judged.{causes_of_period, causes_of_needs, causes_of_sizes, causes_of_kinds}
-use Rattle.head_splits.specs.declared.Cut.{Cut}
-use Rattle.head_splits.specs.declared.Prices.{Prices}
-use Rattle.head_splits.specs.Bound.{is_slot_price, is_cut_price, are_prices}
 use Rattle.dual_bound.specs.declared.PriceFault.{PriceFault}
 use Rattle.dual_bound.specs.declared.PriceFault.TheVariants.{SlotPrice, CutCount, CutPrice}
-use Rattle.dual_bound.specs.Faults.{size_causes, slot_causes, cut_causes, price_causes}
 
 -- the cause that there are too few or too many prices of cuts
 abbrev pub count_causes : List Cut → List ℕ → List (Bool × PriceFault)

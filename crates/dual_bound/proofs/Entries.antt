@@ -1,15 +1,5 @@
 -- The entries that cuts with their prices make, and their sizes.
-use Rattle.std.proofs.Common.{◌≡◌, inl, inr, ℕ, ◌+◌, ◌<◌, ◌≤◌, ℤ, Bool, true, false, cond, not, ◌&&◌, ◌==◌, List, [], ◌∷◌, ◌++◌, length, map, get_or, All, refl, sym, ap, ◌∙◌, subst, arith, append_assoc}
-use Rattle.std.specs.Int.RustNames.{unsigned_abs}
-use Rattle.std.specs.List.{list_all, zip, filter}
-use Rattle.std.proofs.lemmas.List.Elements.{All-nil, All-cons}
-use Rattle.break_rules.specs.declared.Break.{Break}
-use Rattle.break_rules.specs.Lists.{Has}
-use Rattle.break_rules.proofs.Lists.{from_map, from_filter, all_at}
-use Rattle.head_splits.specs.declared.Cut.{Cut}
-use Rattle.head_splits.specs.Bound.{is_nil, signed_price, entries_of, is_cut_price}
-use Rattle.bound_sums.proofs.Pairs.{pairs_from, pairs_next}
-use Rattle.bound_sums.proofs.Priced.{cut_limit, signed_small}
+use Rattle.dual_bound.proofs.Common.{◌≡◌, inl, inr, ℕ, ◌+◌, ◌<◌, ◌≤◌, ℤ, Bool, true, false, cond, not, ◌&&◌, ◌==◌, List, [], ◌∷◌, ◌++◌, length, map, get_or, All, refl, sym, ap, ◌∙◌, subst, arith, append_assoc, unsigned_abs, list_all, zip, filter, All-nil, All-cons, Break, Has, from_map, from_filter, all_at, Cut, is_nil, signed_price, entries_of, is_cut_price, pairs_from, pairs_next, cut_limit, signed_small}
 
 -- whether a cut is one of a shift on a day, with some prefix; and its entry
 abbrev pub is_of : ℕ → ℕ → Cut × ℕ → Bool

@@ -1,13 +1,5 @@
 -- Best lists that are kept, and their values.
-use Rattle.std.proofs.Common.{◌≡◌, ℕ, ◌<◌, ℤ, pos, get_or, List, Option, Some, None, length, sym, ap, ◌∙◌, subst, arith}
-use Rattle.std.proofs.lemmas.List.{get_or_default}
-use Rattle.break_rules.specs.declared.Break.{Break}
-use Rattle.shift_instance.specs.Problem.{Problem, shift_list}
-use Rattle.head_splits.specs.declared.Cut.{Cut}
-use Rattle.head_splits.specs.declared.Prices.{Prices}
-use Rattle.bound_sums.specs.Values.{AreValues, IsValue}
-use Rattle.pricing.specs.Days.{best_at}
-use Rattle.dual_bound.specs.Pricer.{AreBests, AreAllBests}
+use Rattle.dual_bound.proofs.Common.{◌≡◌, ℕ, ◌<◌, ℤ, pos, get_or, List, Option, Some, None, length, sym, ap, ◌∙◌, subst, arith, get_or_default, Break, Problem, shift_list, Cut, Prices, AreValues, IsValue, best_at, AreBests, AreAllBests}
 use Rattle.dual_bound.proofs.Values.{at_some}
 
 -- those of a shift, read at its place

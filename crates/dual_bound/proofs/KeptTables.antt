@@ -1,45 +1,18 @@
 -- Tables that are kept: the changes that bring them to other prices, and what they say there.
-use Rattle.std.proofs.Common.{◌≡◌, ℕ, suc, ◌+◌, ◌<◌, ◌≤◌, ◌^◌, ℤ, true, false, List, [], ◌∷◌, ◌++◌, length, map, take, get_or, refl, sym, ap, ◌∙◌, subst, arith, append_assoc, All, inl, inr, set}
-use Rattle.std.specs.Prelude.{slice_set, Vec}
-use Rattle.std.specs.List.{enumerate_from, zip}
-use Rattle.std.proofs.Math.Seq.{take-suc, set-append_seam}
-use Rattle.std.proofs.lemmas.List.{map-append, length-append, length-map, length-set, get_or-set_other, with_items_is}
+use Rattle.dual_bound.proofs.Common.{◌≡◌, ℕ, suc, ◌+◌, ◌<◌, ◌≤◌, ◌^◌, ℤ, true, false, List, [], ◌∷◌, ◌++◌, length, map, take, get_or, refl, sym, ap, ◌∙◌, subst, arith, append_assoc, All, inl, inr, set, slice_set, Vec, enumerate_from, zip, take-suc, set-append_seam, map-append, length-map, length-set, get_or-set_other, with_items_is, cases_eq, with_items, Global, each_more, All-nil, All-cons, All-append, All-tail, Break, Problem, below, is_list_of, lists_of, IsValid, IsBest, Cut, Prices, are_prices, entries_of, is_nil, repriced, IsBestOn, DayTables, AreKept, AreKeptOrNone, AreKeptBelow, AreTablesBelow, IsKept, IsAt, place_of}
+use Rattle.std.proofs.lemmas.List.{length-append}
 use Rattle.std.proofs.lemmas.Grind.{get_or-set_at}
-use Rattle.std.proofs.lemmas.Bool.{cases_eq}
-use Rattle.std.specs.Vec.{with_items}
-use Rattle.std.specs.declared.alloc.Global.{Global}
-use Rattle.pricing.proofs.Followed.{each_more}
 use Rattle.std.proofs.lemmas.List.FromFn.{get_or-map-range_with_len}
 use Rattle.std.proofs.Math.ListN.{get_or-map}
-use Rattle.std.proofs.lemmas.List.Elements.{All-nil, All-cons, All-append, All-tail}
-use Rattle.break_rules.specs.declared.Break.{Break}
-use Rattle.shift_instance.specs.Problem.{Problem, below}
 use Rattle.shift_instance.proofs.Ranges.{below_next}
-use Rattle.shift_instance.specs.Rota.{is_list_of, lists_of}
-use Rattle.shift_instance.specs.Valid.{IsValid}
-use Rattle.shift_instance.specs.Worth.{IsBest}
-use Rattle.head_splits.specs.declared.Cut.{Cut}
-use Rattle.head_splits.specs.declared.Prices.{Prices}
-use Rattle.head_splits.specs.Bound.{are_prices, entries_of, is_nil}
-use Rattle.pricing.specs.Tables.{repriced}
-use Rattle.dual_bound.specs.BestLists.{IsBestOn}
 use Rattle.dual_bound.proofs.BestLists.{best_found}
 use Rattle.dual_bound.proofs.Values.{length_below, nil_without, value_of_best}
-use Rattle.dual_bound.specs.declared.day_tables.DayTables.{DayTables}
-use Rattle.dual_bound.specs.KeptTables.{AreKept, AreKeptOrNone, AreKeptBelow, AreTablesBelow, IsKept, IsAt, place_of}
 
 -- one element more, with its index
 pub enumerate_more : {X : Type 0} (n : ℕ) (xs : List X) (x : X) → enumerate_from n (xs ++ x ∷ []) ≡ enumerate_from n xs ++ (n + length xs, x) ∷ []
 enumerate_more n [] x = ap (λ k. (k, x) ∷ []) (omega arith)
 enumerate_more n (y ∷ ys) x =
     ap (λ l. (n, y) ∷ l) (enumerate_more (n + 1) ys x ∙ ap (λ k. enumerate_from (n + 1) ys ++ (k, x) ∷ []) (omega arith))
-
--- the first elements of two lists, and one more
-pub take_more : {X : Type 0} (xs ys : List X) (k : ℕ) (d : X) → k < length xs → length xs ≡ length ys → take k xs ≡ take k ys → get_or xs k d ≡ get_or ys k d → take (k + 1) xs ≡ take (k + 1) ys
-take_more xs ys k d inside same so_far own =
-    let next : k + 1 ≡ suc k = omega arith in
-    ap (λ n. take n xs) next ∙ take-suc xs k d inside ∙ ap (λ l. l ++ get_or xs k d ∷ []) so_far ∙ ap (λ x. take k ys ++ x ∷ []) own
-    ∙ sym (ap (λ n. take n ys) next ∙ take-suc ys k d (omega arith))
 
 -- changes that name each slot give their prices, whatever the prices were
 changed_behind : (front old new : List ℤ) (n : ℕ) → n ≡ length front → length old ≡ length new → repriced (front ++ old) (enumerate_from n new) ≡ front ++ new

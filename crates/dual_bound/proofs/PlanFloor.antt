@@ -1,17 +1,10 @@
 -- The plan of a settled node, and its floor, the plan's cost.
-use Rattle.std.proofs.Common.{◌≡◌, true, false, cond, ◌&&◌, List, sym, ap, ◌∙◌, Option, Some, None, MatchOption}
-use Rattle.std.proofs.lemmas.Bool.{and_parts, not-false, false≢true}
+use Rattle.dual_bound.proofs.Common.{◌≡◌, true, false, cond, ◌&&◌, List, sym, ap, ◌∙◌, Option, Some, None, and_parts, not-false, false≢true, Problem, cost, rota_of, are_legal_rows, is_legal_rota, Cut, meets, is_empty, settled_plan, settled_rows, settled_floor, IsPlan}
+use Rattle.std.proofs.Common.{MatchOption}
 use Rattle.shift_instance.specs.declared.Row.{Row}
-use Rattle.shift_instance.specs.Problem.{Problem}
-use Rattle.shift_instance.specs.Rota.{cost, rota_of, are_legal_rows, is_legal_rota}
 use Rattle.shift_instance.specs.declared.TheConstants.{TOP}
 use Rattle.rota_cost.specs.Costed.{Costing, IsCosted}
-use Rattle.head_splits.specs.declared.Cut.{Cut}
-use Rattle.head_splits.specs.Cuts.{meets}
-use Rattle.head_splits.specs.Settled.{is_empty, settled_plan, settled_rows}
-use Rattle.head_splits.specs.Nodes.{settled_floor}
 use Rattle.head_splits.proofs.PlanRows.{rota_of-settled_rows, settled_rows_legal}
-use Rattle.dual_bound.specs.Settling.{IsPlan}
 
 pub plan_floor : (i : Problem) (cuts : List Cut) (plan : Option Costing) (c : Costing) → plan ≡ Some c
     → MatchOption plan (is_empty i cuts ≡ true) (IsPlan i cuts) → c.cost ≡ settled_floor i cuts

@@ -1,13 +1,7 @@
 -- The class to split is live, and the number by which it is split lies in its range.
-use Rattle.std.proofs.Common.{◌≡◌, ℕ, ◌+◌, ◌/◌, ◌<◌, ◌≤◌, arith, List, subst}
-use Rattle.std.specs.Prelude.{IsTrue, IsSomeAnd}
-use Rattle.shift_instance.specs.Problem.{Problem}
+use Rattle.dual_bound.proofs.Common.{◌≡◌, ℕ, ◌+◌, ◌/◌, ◌<◌, ◌≤◌, arith, List, subst, IsTrue, IsSomeAnd, Problem, Cut, low, high, is_live_class, IsSettle}
 use Rattle.head_splits.specs.declared.Class.{Class}
-use Rattle.head_splits.specs.declared.Cut.{Cut}
 use Rattle.head_splits.specs.declared.Settle.TheVariants.{Unsettled}
-use Rattle.head_splits.specs.Cuts.{low, high}
-use Rattle.head_splits.specs.Settled.{is_live_class}
-use Rattle.head_splits.specs.Settling.{IsSettle}
 use Rattle.head_splits.proofs.Splits.{split_law}
 
 half : (low high m : ℕ) → low < high → m ≡ (low + high) / 2 → (low ≤ m) × (m < high)

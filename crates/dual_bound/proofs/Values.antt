@@ -1,28 +1,10 @@
 -- The value of a duty.
-use Rattle.std.proofs.Common.{◌≡◌, inl, ℕ, zero, suc, ◌+◌, ◌*◌, ◌^◌, ◌≤◌, ℤ, pos, Bool, true, false, cond, List, [], ◌∷◌, length, refl, sym, ◌∙◌, subst, arith, None}
-use Rattle.std.specs.Prelude.{Option, Some, MatchOption}
-use Rattle.std.specs.Int.RustNames.{unsigned_abs}
-use Rattle.std.specs.List.{zip, range_with_len}
-use Rattle.std.proofs.lemmas.Bool.{false≢true}
-use Rattle.break_rules.specs.declared.Break.{Break}
+use Rattle.dual_bound.proofs.Common.{◌≡◌, inl, ℕ, zero, suc, ◌+◌, ◌*◌, ◌^◌, ◌≤◌, ℤ, pos, Bool, true, false, cond, List, [], ◌∷◌, length, refl, sym, ◌∙◌, subst, arith, None, MatchOption, unsigned_abs, zip, range_with_len, false≢true, Break, Has, Problem, slots, below, lists_of, is_list_of, works, price_of, earned, worth, IsBest, IsValid, Has-lists_of, from_lists_of, Cut, Prices, is_nil, entries_of, are_prices, best_is_value, IsValue, sum_size, priced, slot_small}
+use Rattle.std.specs.Prelude.{Option, Some}
 use Rattle.break_rules.specs.Breaks.{begins_with}
-use Rattle.break_rules.specs.Lists.{Has}
 use Rattle.shift_instance.specs.declared.Duty.{Duty}
-use Rattle.shift_instance.specs.Problem.{Problem, slots, below}
-use Rattle.shift_instance.specs.Rota.{lists_of, is_list_of, works}
-use Rattle.shift_instance.specs.Worth.{price_of, earned, worth, IsBest}
 use Rattle.break_rules.specs.Bonuses.{bonus_of}
-use Rattle.shift_instance.specs.Valid.{IsValid}
-use Rattle.shift_instance.proofs.Rotas.{Has-lists_of, from_lists_of}
-use Rattle.head_splits.specs.declared.Cut.{Cut}
-use Rattle.head_splits.specs.declared.Prices.{Prices}
-use Rattle.head_splits.specs.Bound.{is_nil, entries_of, are_prices}
-use Rattle.head_splits.proofs.Best.{best_is_value}
-use Rattle.bound_sums.specs.Values.{IsValue}
 use Rattle.break_rules.proofs.Sizes.{abs_add}
-use Rattle.bound_sums.proofs.Sizes.{sum_size}
-use Rattle.head_splits.proofs.Priced.{priced}
-use Rattle.bound_sums.proofs.Priced.{slot_small}
 use Rattle.dual_bound.proofs.Entries.{entry_small, entries_few}
 
 not_nil : {X : Type 0} (xs : List X) (x : X) → Has xs x → is_nil xs ≡ false

@@ -129,14 +129,6 @@ impl Proved {
         &self.cuts
     }
 
-    /// The prices, which are a price set for the cuts.
-    pub fn prices(&self) -> &Prices
-        ensures prices { result.now ≡ self.now.prices }
-        ensures proved { IsProved self.now }
-    {
-        &self.prices
-    }
-
     /// The bound of the prices: every legal rota of the instance that meets the cuts costs at least that much.
     pub fn bound(&self) -> u64
         ensures bound { result ≡ self.now.bound }

@@ -94,22 +94,6 @@ pub fn settle(alloc: Global, instance: &Instance, cuts: Cuts) -> Result<Fixing, 
 }
 
 impl SettledNode {
-    /// The cuts, from the root on.
-    pub fn cuts(&self) -> &Cuts
-        ensures cuts { result.now ≡ self.now.cuts }
-        ensures settled { IsSettledNode self.now }
-    {
-        &self.cuts
-    }
-
-    /// The plan with its cost, and `None` where no legal rota meets the cuts.
-    pub fn plan(&self) -> Option<&Costed>
-        ensures plan { MatchOption result (self.now.plan ≡ None) (λ c. self.now.plan ≡ Some c.now) }
-        ensures settled { IsSettledNode self.now }
-    {
-        self.plan.as_ref()
-    }
-
     /// The cost of each legal rota that meets the cuts, and [`TOP`] where there is none.
     pub fn floor(&self) -> u64
         ensures floor { result ≡ settled_floor self.now.instance self.now.cuts }

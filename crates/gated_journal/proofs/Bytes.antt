@@ -1,7 +1,5 @@
 -- A write behind a place of a file, and one at it.
-use Rattle.std.proofs.Common.{◌≡◌, ℕ, ◌+◌, ◌≤◌, List, [], ◌∷◌, ◌++◌, length, get_or, take, drop, sym, ◌∙◌, ap, arith, append_assoc, length-append, take-append-drop}
-use Rattle.std.proofs.lemmas.List.{take_at, drop_at, drop_more, drop-drop}
-use Rattle.plan_base.specs.Disk.{overwritten, WritesPart}
+use Rattle.gated_journal.proofs.Common.{◌≡◌, ℕ, ◌+◌, ◌≤◌, List, [], ◌∷◌, ◌++◌, length, get_or, take, drop, sym, ◌∙◌, ap, arith, append_assoc, length-append, take-append-drop, take_at, drop_at, drop_more, drop-drop, overwritten, WritesPart}
 
 module _ (front : List ℕ) (at : ℕ) (size : length front ≡ at) where
   front_next : (gate : ℕ) → length (front ++ gate ∷ []) ≡ at + 1

@@ -1,13 +1,6 @@
 -- A new journal.
-use Rattle.std.proofs.Common.{◌≡◌, ℕ, ◌+◌, ◌≤◌, List, [], ◌∷◌, ◌++◌, length, sym, ◌∙◌, ap, subst, arith, length-append}
-use Rattle.std.proofs.lemmas.List.{append-nil, drop_all}
-use Rattle.std.specs.Prelude.{Option, None, Some, IfSome, OnSome}
-use Rattle.std.specs.Option.{option_map}
-use Rattle.plan_base.specs.Disk.{overwritten, WritesPart, IsSynced, HoldsThroughout}
-use Rattle.gated_journal.specs.Format.{mark, framed, fresh, StandsFor, IsNoLonger}
-use Rattle.gated_journal.specs.View.{JournalView, IsSettled}
+use Rattle.gated_journal.proofs.Common.{◌≡◌, ℕ, ◌+◌, ◌≤◌, List, [], ◌∷◌, ◌++◌, length, sym, ◌∙◌, ap, subst, arith, length-append, append-nil, drop_all, Option, None, Some, IfSome, OnSome, option_map, overwritten, WritesPart, IsSynced, HoldsThroughout, mark, framed, fresh, StandsFor, IsNoLonger, JournalView, IsSettled, weaker}
 use Rattle.gated_journal.proofs.Spelling.{length-framed}
-use Rattle.plan_base.proofs.Moments.{weaker}
 
 pub length-fresh : (head : List ℕ) → length (fresh head) ≡ 13 + length head
 length-fresh head = length-append (mark ++ framed head) (0 ∷ []) ∙ omega (arith, length-append mark (framed head), length-framed head)

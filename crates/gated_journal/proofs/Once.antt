@@ -1,10 +1,6 @@
--- A file stands for one head and one list of records, and then it is no fault.
-use Rattle.std.proofs.Common.{◌≡◌, ◌≢◌, inl, inr, ⊎_elim, ℕ, ◌+◌, ◌<◌, ◌^◌, List, [], ◌∷◌, ◌++◌, length, get_or, take, drop, refl, sym, ◌∙◌, ap, arith, append_assoc, length-append}
-use Rattle.std.proofs.lemmas.List.{take_at, drop_at}
+-- A file stands for one header and one list of records, and then it is no fault.
+use Rattle.gated_journal.proofs.Common.{◌≡◌, ◌≢◌, inl, inr, ⊎_elim, ℕ, ◌+◌, ◌<◌, ◌^◌, List, [], ◌∷◌, ◌++◌, length, get_or, take, drop, refl, sym, ◌∙◌, ap, arith, append_assoc, length-append, take_at, drop_at, mark_of, framed, gated, spelled_in, StandsFor, StandsIn, IsUnfinished, size_of, IsCut, IsNoneIn, IsNoJournal, IsOldVersion, IsDamagedIn, IsDamagedAt}
 use Rattle.std.proofs.lemmas.Nat.{from_le_bytes-to_le_bytes_4}
-use Rattle.gated_journal.specs.Format.{mark_of, framed, gated, spelled_in, StandsFor, StandsIn, IsUnfinished}
-use Rattle.gated_journal.specs.Cuts.{size_of, IsCut, IsNoneIn, IsNoJournal, IsOldVersion}
-use Rattle.gated_journal.specs.Faults.{IsDamagedIn, IsDamagedAt}
 use Rattle.gated_journal.proofs.Spelling.{length-framed}
 
 -- the length that a frame begins with

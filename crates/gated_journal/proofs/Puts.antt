@@ -1,11 +1,5 @@
 -- The moments of a put.
-use Rattle.std.proofs.Common.{◌≡◌, inl, ℕ, ◌+◌, ◌≤◌, List, [], ◌∷◌, ◌++◌, length, sym, ◌∙◌, ap, subst}
-use Rattle.std.specs.Prelude.{Option, None, Some, IfSome, OnSome}
-use Rattle.std.specs.Option.{option_map}
-use Rattle.plan_base.specs.Disk.{overwritten, WritesPart, IsSynced, HoldsThroughout}
-use Rattle.plan_base.proofs.Moments.{weaker, then_run}
-use Rattle.gated_journal.specs.Format.{framed, spelled, StandsFor, IsBeforeOrAfter, end_after}
-use Rattle.gated_journal.specs.View.{JournalView, IsStored, IsSettled}
+use Rattle.gated_journal.proofs.Common.{◌≡◌, inl, ℕ, ◌+◌, ◌≤◌, List, [], ◌∷◌, ◌++◌, length, sym, ◌∙◌, ap, subst, Option, None, Some, IfSome, OnSome, option_map, overwritten, WritesPart, IsSynced, HoldsThroughout, weaker, then_run, framed, spelled, StandsFor, IsBeforeOrAfter, end_after, JournalView, IsStored, IsSettled}
 use Rattle.gated_journal.proofs.Spelling.{behind_gate, is_staged, at_gate_torn, opened}
 
 pub synced : (j : JournalView) (reads : Option (List ℕ)) (images : List ℕ → Type 0) → IsSettled j reads images → IsSynced reads images

@@ -1,9 +1,6 @@
 -- A file's bytes, read in pieces.
-use Rattle.std.proofs.Common.{◌≡◌, ℕ, ◌+◌, ◌≤◌, List, [], ◌++◌, length, take, drop, refl, sym, ◌∙◌, ap, subst, arith, length-append}
+use Rattle.gated_journal.proofs.Common.{◌≡◌, ℕ, ◌+◌, ◌≤◌, List, [], ◌++◌, length, take, drop, refl, sym, ◌∙◌, ap, subst, arith, length-append, take-take, length-take-le, take_all, Option, None, Some, IfSome, ReadsAt}
 use Rattle.std.proofs.Math.Seq.{take-add}
-use Rattle.std.proofs.lemmas.List.{take-take, length-take-le, take_all}
-use Rattle.std.specs.Prelude.{Option, None, Some, IfSome}
-use Rattle.plan_base.specs.Disk.{ReadsAt}
 
 pub appended : (reads : Option (List ℕ)) (old new chunk : List ℕ) (got count : ℕ) → IfSome reads (λ file. ReadsAt file (length old) chunk got) → count ≤ got → new ≡ old ++ take count chunk
     → IfSome reads (λ file. old ≡ take (length old) file → new ≡ take (length new) file)

@@ -1,12 +1,6 @@
 -- Why a file is refused, by its first bytes.
-use Rattle.std.proofs.Common.{◌≡◌, ◌⊎◌, inl, inr, ℕ, ◌+◌, ◌<◌, List, length, take, drop, refl, sym, ◌∙◌, ap, subst, arith}
-use Rattle.std.proofs.lemmas.List.{take-take, drop-take, length-take}
-use Rattle.std.specs.Prelude.{Option, None, Some, IfSome}
+use Rattle.gated_journal.proofs.Common.{◌≡◌, ◌⊎◌, inl, inr, ℕ, ◌+◌, ◌<◌, List, length, take, drop, refl, sym, ◌∙◌, ap, subst, arith, take-take, drop-take, length-take, Option, None, Some, IfSome, IsMarked, IsNoneIn, IsOldVersion, IsUnmarked, size_of, OpenFails, OpenV1Fails, ReadFails, StartFails, JournalFault, DiskFault, NotAJournal, Damaged, Full, NoMemory, OldVersion}
 use Rattle.std.specs.Int.{w32, from_le_bytes}
-use Rattle.gated_journal.specs.Cuts.{IsMarked, IsNoneIn, IsOldVersion, IsUnmarked, size_of}
-use Rattle.gated_journal.specs.Faults.{OpenFails, OpenV1Fails, ReadFails, StartFails}
-use Rattle.gated_journal.specs.declared.fault.JournalFault.{JournalFault}
-use Rattle.gated_journal.specs.declared.fault.JournalFault.TheVariants.{DiskFault, NotAJournal, Damaged, Full, NoMemory, OldVersion}
 
 -- the first 8 of the first 12 bytes, and the number behind them
 front_mark : (file start : List ℕ) → start ≡ take 12 file → take 8 start ≡ take 8 file
@@ -16,7 +10,7 @@ front_size : (file start : List ℕ) → start ≡ take 12 file → size_of (dro
 front_size file start is =
     ap (λ (l : List ℕ). size_of (drop 8 l)) is ∙ ap size_of (drop-take 8 4 file) ∙ ap (from_le_bytes w32) (take-take 4 4 (drop 8 file) (omega arith))
 
--- the first 12 bytes have no mark or no length, or the head behind them passes the end
+-- the first 12 bytes have no mark or no length, or the header behind them passes the end
 abbrev pub IsRefusedStart : ℕ → ℕ → List ℕ → Type 0
 IsRefusedStart digit len start = IsUnmarked digit start ⊎ ((n : ℕ) × IsMarked digit start n × (len < 12 + n))
 

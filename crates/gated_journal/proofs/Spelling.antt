@@ -1,9 +1,5 @@
 -- One more record behind those of a file.
-use Rattle.std.proofs.Common.{◌≡◌, ◌≢◌, inl, inr, ℕ, ◌+◌, ◌≤◌, List, [], ◌∷◌, ◌++◌, length, get_or, drop, sym, ◌∙◌, ap, subst, arith, append_assoc, length-append}
-use Rattle.std.proofs.lemmas.List.{append-nil}
-use Rattle.std.proofs.lemmas.Bool.{cases_eq}
-use Rattle.plan_base.specs.Disk.{overwritten, WritesPart}
-use Rattle.gated_journal.specs.Format.{mark_of, framed, gated, spelled, spelled_in, StandsFor, IsBeforeOrAfter, end_after}
+use Rattle.gated_journal.proofs.Common.{◌≡◌, ◌≢◌, inl, inr, ℕ, ◌+◌, ◌≤◌, List, [], ◌∷◌, ◌++◌, length, get_or, drop, sym, ◌∙◌, ap, subst, arith, append_assoc, length-append, append-nil, cases_eq, overwritten, WritesPart, mark_of, framed, gated, spelled, spelled_in, StandsFor, IsBeforeOrAfter, end_after}
 use Rattle.gated_journal.proofs.Bytes.{torn_behind, put_behind, torn_gate, put_gate}
 
 pub gated-push : (records : List (List ℕ)) (bytes : List ℕ) → gated (records ++ bytes ∷ []) ≡ gated records ++ 1 ∷ framed bytes

@@ -1,18 +1,6 @@
 -- A journal's whole file, and its moments.
-use Rattle.std.proofs.Common.{◌≡◌, inl, inr, ⊎_elim, ℕ, ◌+◌, ◌-◌, ◌≤◌, List, [], ◌∷◌, ◌++◌, length, get_or, take, drop, map, sym, ◌∙◌, ap, subst, arith, append_assoc, length-append, take-append-drop}
-use Rattle.std.proofs.lemmas.List.{append-nil, drop_all, take_rest}
-use Rattle.std.proofs.lemmas.Bool.{cases_eq}
-use Rattle.std.specs.Option.{option_map}
-use Rattle.std.specs.Prelude.{Option, None, Some, IfSome, OnSome}
-use Rattle.plan_base.specs.Disk.{overwritten, WritesPart, HoldsThroughout, IsSynced}
-use Rattle.plan_base.proofs.Moments.{weaker, then_run}
-use Rattle.gated_journal.specs.Format.{framed, gated, spelled, StandsFor, IsUnfinishedOr}
+use Rattle.gated_journal.proofs.Common.{◌≡◌, inl, inr, ⊎_elim, ℕ, ◌+◌, ◌-◌, ◌≤◌, List, [], ◌∷◌, ◌++◌, length, get_or, take, drop, map, sym, ◌∙◌, ap, subst, arith, append_assoc, length-append, take-append-drop, append-nil, drop_all, take_rest, cases_eq, option_map, Option, None, Some, IfSome, OnSome, overwritten, WritesPart, HoldsThroughout, IsSynced, weaker, then_run, framed, gated, spelled, StandsFor, IsUnfinishedOr, IsSettled}
 use Rattle.gated_journal.specs.Install.{IsUnfinishedOrThis}
-use Rattle.gated_journal.specs.View.{IsSettled}
-
--- one record more of those that are left
-next_record : (file bytes : List ℕ) (rest : List (List ℕ)) → ((file ++ 1 ∷ []) ++ framed bytes) ++ gated rest ≡ file ++ gated (bytes ∷ rest)
-next_record file bytes rest = append_assoc (file ++ 1 ∷ []) (framed bytes) (gated rest) ∙ append_assoc file (1 ∷ []) (framed bytes ++ gated rest)
 
 -- each is shorter than the file
 short_record : (file bytes : List ℕ) (rest : List (List ℕ)) (whole : List ℕ) → file ++ gated (bytes ∷ rest) ≡ whole → length bytes ≤ length whole

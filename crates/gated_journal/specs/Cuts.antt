@@ -11,7 +11,7 @@ size_of bytes = from_le_bytes w32 (take 4 bytes)
 abbrev pub IsUnframed : List ℕ → Type 0
 IsUnframed bytes = (length bytes < 4) ⊎ (length bytes < 4 + size_of bytes)
 
--- too short, or without the mark of a version, or the head passes the end
+-- too short, or without the mark of a version, or the header passes the end
 abbrev pub IsNoneIn : ℕ → List ℕ → Type 0
 IsNoneIn digit file = (length file < 12) ⊎ ((take 8 file ≢ mark_of digit) ⊎ (length file < 12 + size_of (drop 8 file)))
 
@@ -37,7 +37,7 @@ abbrev pub IsCut : List (List ℕ) → List ℕ → Type 0
 IsCut records [] = records ≡ []
 IsCut records (gate ∷ tail) = (gate ≡ 1) × IsShort tail
 
--- a file of a version that begins with this head and some records, and is cut off at this place behind them
+-- a file of a version that begins with this header and some records, and is cut off at this place behind them
 pub record IsCutAt (digit : ℕ) (head file : List ℕ) (at : ℕ) : Type 0 where
   pub records : List (List ℕ)
   pub rest : List ℕ
@@ -45,7 +45,7 @@ pub record IsCutAt (digit : ℕ) (head file : List ℕ) (at : ℕ) : Type 0 wher
   pub place : at ≡ length (spelled_in digit head records)
   pub cut : IsCut records rest
 
--- a start with the mark of a version and this length of a head
+-- a start with the mark of a version and this length of a header
 abbrev pub IsMarked : ℕ → List ℕ → ℕ → Type 0
 IsMarked digit start n = (12 ≤ length start) × (take 8 start ≡ mark_of digit) × (n ≡ size_of (drop 8 start))
 

@@ -23,7 +23,7 @@ CreateFails before now (Damaged at) = ⊥
 CreateFails before now (Full e l) = ⊥
 CreateFails before now OldVersion = ⊥
 
--- why the records behind a head aren't read: the file is cut off, or no memory is left
+-- why the records behind a header aren't read: the file is cut off, or no memory is left
 abbrev pub ParseFails : ℕ → List ℕ → List ℕ → JournalFault → Type 0
 ParseFails digit head file (Damaged at) = IsCutAt digit head file at
 ParseFails digit head file NoMemory = ⊤

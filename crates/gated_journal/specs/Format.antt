@@ -19,7 +19,7 @@ abbrev pub gated : List (List ℕ) → List ℕ
 gated [] = []
 gated (record_ ∷ records) = 1 ∷ framed record_ ++ gated records
 
--- the mark of a version, the head and the records
+-- the mark of a version, the header and the records
 abbrev pub spelled_in : ℕ → List ℕ → List (List ℕ) → List ℕ
 spelled_in digit head records = mark_of digit ++ framed head ++ gated records
 
@@ -27,7 +27,7 @@ spelled_in digit head records = mark_of digit ++ framed head ++ gated records
 abbrev pub spelled : List ℕ → List (List ℕ) → List ℕ
 spelled head records = spelled_in 50 head records
 
--- A file of a version stands for a head and records where it is no longer than the limit and spells them, then has a gate
+-- A file of a version stands for a header and records where it is no longer than the limit and spells them, then has a gate
 -- that isn't open, and then anything.
 pub record StandsIn (digit limit : ℕ) (head : List ℕ) (records : List (List ℕ)) (file : List ℕ) : Type 0 where
   pub gate : ℕ
@@ -52,7 +52,7 @@ IsBeforeOrAfter limit head records bytes file = StandsFor limit head records fil
 abbrev pub end_after : List ℕ → List (List ℕ) → ℕ → ℕ
 end_after head records count = length (spelled head records) + 6 + count
 
--- a new journal: the mark, the head and a closed gate
+-- a new journal: the mark, the header and a closed gate
 abbrev pub fresh : List ℕ → List ℕ
 fresh head = mark ++ framed head ++ 0 ∷ []
 
@@ -64,6 +64,6 @@ IsNoLonger n file = length file ≤ n
 abbrev pub IsUnfinished : List ℕ → Type 0
 IsUnfinished file = (length file ≤ 1) ⊎ (take 1 file ≢ 83 ∷ [])
 
--- an unfinished file, or one that stands for this head and these records
+-- an unfinished file, or one that stands for this header and these records
 abbrev pub IsUnfinishedOr : ℕ → List ℕ → List (List ℕ) → List ℕ → Type 0
 IsUnfinishedOr limit head records file = IsUnfinished file ⊎ StandsFor limit head records file

@@ -3,7 +3,7 @@ use Rattle.std.specs.Prelude.{ℕ, List, Option, IfSome}
 use Rattle.plan_base.specs.Disk.{IsOnlyImage}
 use Rattle.gated_journal.specs.Format.{StandsFor}
 
--- the head, the records in order, the most bytes that the file may have, and the most that a record may have
+-- the header, the records in order, the most bytes that the file may have, and the most that a record may have
 pub record JournalView : Type 0 where
   pub head : List ℕ
   pub records : List (List ℕ)

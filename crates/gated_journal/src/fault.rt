@@ -12,7 +12,7 @@ pub enum JournalFault {
     /// A call on the disk failed.
     #[error("the disk failed")]
     DiskFault,
-    /// The file isn't of the first version, and has fewer than 12 bytes, or doesn't begin with the mark, or its head
+    /// The file isn't of the first version, and has fewer than 12 bytes, or doesn't begin with the mark, or its header
     /// passes its end.
     #[error("the file is no journal")]
     NotAJournal,

@@ -16,7 +16,7 @@ fn push_framed(file: &mut Vec<u8>, bytes: &[u8]) -> Result<(), AllocError>
     file.extend_from_slice(bytes)
 }
 
-// The mark and the head.
+// The mark and the header.
 fn marked(alloc: Global, head: &[u8]) -> Result<Vec<u8>, AllocError>
     requires { length head.now < 2 ^ 32 }
     ensures { IfOk result (λ bytes. bytes.items ≡ mark ++ framed head.now) }

@@ -53,7 +53,7 @@ pub fn install<D: Disk>(
     ensures settled { OnOk result (IsSettled (record { head = head.now; records = map (λ v. v.items) records.now; limit = _limit; spare = 0 }) (D.reads disk.new) (D.images disk.new)) }
     ensures file { OnOk result (IfSome (D.reads disk.new) (λ file. file ≡ spelled head.now (map (λ v. v.items) records.now) ++ 0 ∷ [])) }
 
-    // Each image during the call is unfinished, or stands for the head and the records.
+    // Each image during the call is unfinished, or stands for the header and the records.
     ensures any_moment { OnSome (D.reads disk.old) (HoldsThroughout D.calls D.images_since disk.old disk.new (IsUnfinishedOr _limit head.now (map (λ v. v.items) records.now))) }
     ensures six { OnOk result (D.calls disk.new ≡ D.calls disk.old + 6) }
     ensures least { D.calls disk.old ≤ D.calls disk.new }

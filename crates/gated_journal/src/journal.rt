@@ -11,20 +11,20 @@ use crate::file_bytes::first_file;
 use crate::open_file::read_as;
 use crate::parse::{FIRST, SECOND};
 use crate::stored::write_synced;
-use crate::told::Told;
+use crate::told::ToldRecords;
 use plan_base::{Disk, Failed};
 use std::alloc::{AllocError, Global};
 use std::marker::Model;
 
-/// A head and records in a file, each record behind a gate byte: 1 is open, and every other byte is closed and ends
+/// A header and records in a file, each record behind a gate byte: 1 is open, and every other byte is closed and ends
 /// the journal. The disk is handed in at each call.
 ///
-/// Contracts see the head, the records in order, the limit of the file's length, and `spare`, the length of the
+/// Contracts see the header, the records in order, the limit of the file's length, and `spare`, the length of the
 /// longest record that can be put. All lengths are in bytes.
 #[derive(Drop)]
 pub struct Journal {
-    // the head and the records, for clauses alone
-    told: Told,
+    // the header and the records, for clauses alone
+    told: ToldRecords,
     // a record's length, its bytes and the next gate, as they are written
     buffer: Vec<u8>,
     spare: usize,
@@ -92,7 +92,7 @@ impl Journal {
         let buffer = first_file(alloc, head)?;
         write_synced(disk, 0, &buffer)?;
         Ok(Journal {
-            told: Told::of_head(head),
+            told: ToldRecords::of_head(head),
             gate: buffer.len() as u64 - 1,
             buffer,
             spare: 0,
@@ -100,7 +100,7 @@ impl Journal {
         })
     }
 
-    /// Opens whatever stands in a disk's file: it syncs, then only reads, and answers the journal with its head and
+    /// Opens whatever stands in a disk's file: it syncs, then only reads, and answers the journal with its header and
     /// its records, or why there is none. The journal's spare is 0.
     ///
     /// A file with the mark of the first version is `OldVersion`, whatever else is wrong with it. Another one that is no
@@ -136,7 +136,7 @@ impl Journal {
     }
 
     /// Reads a journal of the first version from a disk's file, for the way to the present one: it syncs, then only
-    /// reads, and answers the head and the records, or why there are none.
+    /// reads, and answers the header and the records, or why there are none.
     ///
     /// `NotAJournal` and `Damaged` are those of `open`, by the mark of the first version, and `OldVersion` doesn't
     /// come. `DiskFault` comes only where the disk failed.
@@ -227,7 +227,7 @@ impl Journal {
         join(&mut self.buffer, bytes);
         write_synced(disk, self.gate + 1, &self.buffer)?;
         write_synced(disk, self.gate, &[1])?;
-        self.told = Told::with(&self.told, bytes);
+        self.told = ToldRecords::with(&self.told, bytes);
         self.gate = end - 1;
         Ok(())
     }

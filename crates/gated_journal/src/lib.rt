@@ -1,4 +1,4 @@
-//! A journal: a head and records in a file, so written that a crash at any moment leaves whole records, and every one that was put.
+//! A journal: a header and records in a file, so written that a crash at any moment leaves whole records, and every one that was put.
 #![tactic(auto)]
 
 mod fault;

@@ -9,7 +9,7 @@ use crate::fault::JournalFault;
 use crate::parse::{FIRST, SECOND, behind_mark, read_records, split_head};
 use crate::reads::read_front;
 use crate::settling::settle;
-use crate::told::Told;
+use crate::told::ToldRecords;
 use plan_base::Disk;
 use std::alloc::Global;
 
@@ -78,12 +78,12 @@ fn load<D: Disk>(
     read_front(alloc, disk, len as usize)
 }
 
-/// What stands in a file: the head, the records, what clauses see of both, and the place of the closed gate.
+/// What stands in a file: the header, the records, what clauses see of both, and the place of the closed gate.
 #[derive(Drop)]
 pub(crate) struct Found {
     pub head: Vec<u8>,
     pub records: Vec<Vec<u8>>,
-    pub told: Told,
+    pub told: ToldRecords,
     pub gate: u64,
 }
 

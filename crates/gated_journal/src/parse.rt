@@ -1,11 +1,11 @@
-// A file's bytes as a head and records.
+// A file's bytes as a header and records.
 ghost use Rattle.std.specs.Prelude.{◌≡◌, ◌≢◌, ◌+◌, ◌^◌, ◌<◌, ◌≤◌, List, ℕ, [], ◌∷◌, ◌++◌, length, map, take, IfOk, IfErr, IfSome, IfNone};
 ghost use Rattle.gated_journal.specs.Format.{mark_of, framed, spelled_in, StandsIn};
 ghost use Rattle.gated_journal.specs.Cuts.{size_of, IsUnframed, IsNoneIn, IsRecordsEnd};
 ghost use Rattle.gated_journal.specs.Faults.{ParseFails};
 
 use crate::fault::JournalFault;
-use crate::told::Told;
+use crate::told::ToldRecords;
 use std::alloc::Global;
 
 /// The digit in the mark of the first version.
@@ -43,7 +43,7 @@ pub(crate) fn behind_mark(bytes: &[u8], digit: u8) -> Option<&[u8]>
     Some(tail)
 }
 
-// The head behind the mark of a version, and what stands behind the head.
+// The header behind the mark of a version, and what stands behind the header.
 pub(crate) fn split_head(bytes: &[u8], digit: u8) -> Option<(&[u8], &[u8])>
     ensures some { IfSome result (λ parts. bytes.now ≡ mark_of digit ++ framed parts.0.now ++ parts.1.now) }
     ensures none { IfNone result (IsNoneIn digit bytes.now) }
@@ -68,14 +68,14 @@ fn split_record(bytes: &[u8]) -> Option<(&[u8], &[u8])>
     Some((record, rest))
 }
 
-// The records behind a head, and the place of the closed gate behind them. The digit is for clauses alone.
+// The records behind a header, and the place of the closed gate behind them. The digit is for clauses alone.
 pub(crate) fn read_records(
     alloc: Global,
     bytes: &[u8],
     _digit: u8,
     head: &[u8],
     after: &[u8],
-) -> Result<(Vec<Vec<u8>>, Told, u64), JournalFault>
+) -> Result<(Vec<Vec<u8>>, ToldRecords, u64), JournalFault>
     requires { bytes.now ≡ mark_of _digit ++ framed head.now ++ after.now }
     ensures head { IfOk result (λ r. r.1.head ≡ head.now) }
     ensures records { IfOk result (λ r. r.1.records ≡ map (λ v. v.items) r.0.items) }
@@ -84,11 +84,11 @@ pub(crate) fn read_records(
     ensures cut { IfErr result (ParseFails _digit head.now bytes.now) }
 {
     let mut records = Vec::new(alloc);
-    let mut told = Told::of_head(head);
+    let mut told = ToldRecords::of_head(head);
     let mut rest = after;
     'records: while let Some((record, next)) = split_record(rest) {
         records.push(Vec::from_slice(alloc, record)?)?;
-        told = Told::with(&told, record);
+        told = ToldRecords::with(&told, record);
         rest = next;
     }
     let gate = (bytes.len() - rest.len()) as u64;

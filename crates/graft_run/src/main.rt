@@ -9,7 +9,8 @@ mod paced;
 
 use crate::deadline::Deadline;
 use crate::paced::Paced;
-use graft_runs::{Budget, Command, Files, GraftStatus, Request, graft_top_by, request_of};
+use check_runs::Files;
+use graft_runs::{Budget, Command, GraftStatus, Request, graft_top_by, request_of};
 use join_runs::{JoinRequest, JoinStatus, join_of, join_top};
 use plan_base::{FileSource, StdSink};
 use std::alloc::AllocError;

@@ -1,41 +1,20 @@
 -- What can be written is.
-use Rattle.std.proofs.Common.{◌≡◌, ◌⊎◌, inl, inr, ℕ, ◌+◌, ◌<◌, ◌≤◌, Bool, true, cond, nat_le, List, [], ◌∷◌, length, refl, sym, ap, ◌∙◌, subst, arith, Option, Some, None}
-use Rattle.std.specs.Prelude.{slice_get, IfSome, IsFalse, IsSome, IsSomeAnd, IsTrue, Ok, Err}
-use Rattle.std.specs.Option.{option_map, option_and_then, option_or}
-use Rattle.std.proofs.lemmas.Bool.{and_parts, false≢true}
+use Rattle.graft_runs.proofs.Common.{◌≡◌, ◌⊎◌, inl, inr, ℕ, ◌+◌, ◌<◌, ◌≤◌, Bool, true, cond, nat_le, List, [], ◌∷◌, length, refl, sym, ap, ◌∙◌, subst, arith, Option, Some, None, slice_get, IfSome, IsFalse, IsSome, IsSomeAnd, IsTrue, Ok, option_map, option_and_then, option_or, and_parts, false≢true, Problem, Cut, Node, new_node, Cert, Line, is_accepted, is_bound, is_plan, least_floor, nodes_after, nodes_of, Spells, IsReportOf, Met, WhyUnjudged, GraftFault, NoNode, IsSplit, OtherCuts, NoRows, HasOpenEnd, IsExportFault, nodes_made, first_good, one_good, tree_of, Command, GraftStatus, Written, Refused, Usage, Input, Bundle, ReadFault, WriteFault, NoMemory, Ends, EndsOver, Explains, IsFaultOf, IsNamed, request_of}
+use Rattle.report_grafts.specs.declared.fault.GraftFault.TheVariants.{Refused as CertRefused, NoMemory as NoMemoryForGraft}
+use Rattle.std.specs.Prelude.{Err}
 use Rattle.std.proofs.lemmas.Option.{slice_get_within}
-use Rattle.shift_instance.specs.Problem.{Problem}
-use Rattle.head_splits.specs.declared.Cut.{Cut}
-use Rattle.head_splits.specs.Nodes.{Node, new_node}
 use Rattle.instance_input.specs.Unread.{IsReadAs}
 use Rattle.instance_json.specs.Reading.{reading_of}
 use Rattle.certificate.specs.declared.TheConstants.{BUNDLE_MAX}
-use Rattle.certificate.specs.declared.Cert.{Cert}
-use Rattle.certificate.specs.declared.proof_lines.Line.{Line}
-use Rattle.certificate.specs.Accepted.{is_accepted, is_bound, is_plan, least_floor, nodes_after, nodes_of}
-use Rattle.certificate.specs.Departing.{Spells}
 use Rattle.certificate.proofs.Alone.{certs}
 use Rattle.cert_check.specs.declared.judged.Refused.{Refused as Refusal}
 use Rattle.cert_check.specs.declared.judged.Refused.TheVariants.{BoundTooHigh}
 use Rattle.cert_check.specs.Judged.{bound_cause, cause_of, line_cause, plan_cause}
 use Rattle.cert_check.proofs.Causes.{good_cause, plan_bad}
-use Rattle.check_runs.specs.Check.{IsReportOf, Met, WhyUnjudged}
 use Rattle.check_runs.specs.declared.status.BundleFault.{BundleFault}
 use Rattle.check_runs.specs.declared.status.BundleFault.TheVariants.{TooLong, Text}
-use Rattle.report_grafts.specs.declared.fault.GraftFault.{GraftFault}
-use Rattle.report_grafts.specs.declared.fault.GraftFault.TheVariants.{Refused as CertRefused, NoNode, IsSplit, OtherCuts, NoRows, NoMemory as NoMemoryForGraft}
-use Rattle.report_grafts.specs.Faults.{HasOpenEnd, IsExportFault}
-use Rattle.report_grafts.specs.Grafted.{nodes_made}
-use Rattle.report_grafts.proofs.Lines.{first_good, one_good}
-use Rattle.report_grafts.proofs.Plans.{tree_of}
-use Rattle.graft_runs.specs.declared.words.Command.{Command}
 use Rattle.graft_runs.specs.declared.words.Command.TheVariants.{Below, Thorough, Breaks, Nodes}
-use Rattle.graft_runs.specs.declared.status.GraftStatus.{GraftStatus}
-use Rattle.graft_runs.specs.declared.status.GraftStatus.TheVariants.{Written, Refused, Usage, Input, Bundle, ReadFault, WriteFault, NoMemory}
 use Rattle.graft_runs.specs.Complete.{CanWrite, HasUseOf}
-use Rattle.graft_runs.specs.Runs.{Ends, EndsOver, Explains, IsFaultOf}
-use Rattle.graft_runs.specs.Texts.{IsNamed}
-use Rattle.graft_runs.specs.Words.{request_of}
 
 -- ---- an accepted certificate has no cause against it
 

@@ -1,27 +1,9 @@
 -- From how a run ends over an instance to what its status says.
-use Rattle.std.proofs.Common.{◌≡◌, inl, inr, ℕ, refl, sym, subst, ap, ◌∙◌, Bool, List, arith, Option, Some, None}
-use Rattle.std.specs.Prelude.{slice_get, IsFalse, IsSome, IsSomeAnd}
-use Rattle.std.specs.Option.{option_map}
+use Rattle.graft_runs.proofs.Common.{◌≡◌, inl, inr, ℕ, refl, sym, subst, ap, ◌∙◌, Bool, List, arith, Option, Some, None, slice_get, IsFalse, IsSome, IsSomeAnd, option_map, Problem, Cut, Node, Cert, line_text, IsReportOf, Met, SinkMet, SourceMet, GraftFault, NoNode, IsSplit, OtherCuts, NoRows, HasOpenEnd, IsExportFault, IsGraftFault, nodes_made, Command, GraftStatus, Written, Refused, Usage, Input, Bundle, ReadFault, WriteFault, NoMemory, EndsWith, Told, EndsOver, Explains, IsFaultOf, ReadsInstance, Writes, fault_text, IsNamed, Asked, request_of}
+use Rattle.report_grafts.specs.declared.fault.GraftFault.TheVariants.{Refused as CertRefused, NoMemory as NoMemoryForGraft}
 use Rattle.std.specs.Io.KnownBytes.{Appends}
-use Rattle.shift_instance.specs.Problem.{Problem}
-use Rattle.head_splits.specs.declared.Cut.{Cut}
-use Rattle.head_splits.specs.Nodes.{Node}
-use Rattle.certificate.specs.declared.Cert.{Cert}
-use Rattle.certificate.specs.LineText.{line_text}
-use Rattle.check_runs.specs.Check.{IsReportOf, Met, SinkMet, SourceMet}
-use Rattle.report_grafts.specs.declared.fault.GraftFault.{GraftFault}
-use Rattle.report_grafts.specs.declared.fault.GraftFault.TheVariants.{Refused as CertRefused, NoNode, IsSplit, OtherCuts, NoRows, NoMemory as NoMemoryForGraft}
-use Rattle.report_grafts.specs.Faults.{HasOpenEnd, IsExportFault, IsGraftFault}
-use Rattle.report_grafts.specs.Grafted.{nodes_made}
-use Rattle.graft_runs.specs.declared.words.Command.{Command}
-use Rattle.graft_runs.specs.declared.status.GraftStatus.{GraftStatus}
-use Rattle.graft_runs.specs.declared.status.GraftStatus.TheVariants.{Written, Refused, Usage, Input, Bundle, ReadFault, WriteFault, NoMemory}
 use Rattle.graft_runs.specs.Reading.{ReportUnread}
-use Rattle.graft_runs.specs.Running.{EndsWith, Told}
 use Rattle.graft_runs.specs.Status.{EndsUnwritten}
-use Rattle.graft_runs.specs.Runs.{EndsOver, Explains, IsFaultOf, ReadsInstance, Writes}
-use Rattle.graft_runs.specs.Texts.{fault_text, IsNamed}
-use Rattle.graft_runs.specs.Words.{Asked, request_of}
 
 -- the words' command, where what they ask for was seen
 pub asked_for : {R : Type 0} → (seen : R → Asked) (o : Option R) (r : R) (words : List (List ℕ)) → option_map seen o ≡ request_of words → o ≡ Some r → option_map (λ a. a.command) (request_of words) ≡ Some (seen r).command
@@ -32,17 +14,6 @@ asked_for seen o r words e is =
 from_some : {A B : Type 0} → (f : A → B) (o : Option A) (y : B) → option_map f o ≡ Some y → IsSome o
 from_some f None y e = grind (arith, e)
 from_some f (Some x) y e = refl
-
--- how a run ends over a certificate says how it ends over the instance
-pub over_report : (asks : Bool) (command : Command) (i : Problem) (whole : Cert) (report : SourceMet) (sink : SinkMet) (status : GraftStatus) → IsReportOf report.left whole → EndsWith asks command i whole sink status → EndsOver asks command i report sink status
-over_report asks command i whole report sink Written read ends = (whole, ends.0, read, ends.1, ends.2)
-over_report asks command i whole report sink (Refused why) read ends = (whole, read, ends.0, ends.1, ends.2)
-over_report asks command i whole report sink Usage read ends = absurd ends
-over_report asks command i whole report sink (Input why) read ends = absurd ends
-over_report asks command i whole report sink (Bundle why) read ends = absurd ends
-over_report asks command i whole report sink ReadFault read ends = absurd ends
-over_report asks command i whole report sink WriteFault read ends = (whole, ends.0, read, ends.1, ends.2, ends.3)
-over_report asks command i whole report sink NoMemory read ends = tt
 
 -- why no certificate came of a source is how the run ends
 pub unread : (asks : Bool) (command : Command) (i : Problem) (report : SourceMet) (sink : SinkMet) (status : GraftStatus) → ReportUnread report.left report.faults.0 report.faults.1 status → EndsOver asks command i report sink status

@@ -1,13 +1,5 @@
 -- What a search below a node of a certificate makes of it.
-use Rattle.std.proofs.Common.{◌≡◌, ◌⊎◌, inl, inr, ℕ, Bool, true, false, List, sym, subst}
-use Rattle.shift_instance.specs.Problem.{Problem}
-use Rattle.shift_instance.specs.Valid.{IsValid}
-use Rattle.head_splits.specs.declared.Cut.{Cut}
-use Rattle.certificate.specs.declared.Cert.{Cert}
-use Rattle.report_grafts.specs.Faults.{HasOpenEnd}
-use Rattle.report_grafts.specs.Run.{Run, is_finished, IsSound}
-use Rattle.subtree_search.specs.Stepping.{IsGreedyRun, IsSearched}
-use Rattle.graft_runs.specs.Runs.{limit_of, GrowsBelow, GrowsGreedily, IsGrownText, IsSearch}
+use Rattle.graft_runs.proofs.Common.{◌≡◌, ◌⊎◌, inl, inr, ℕ, Bool, true, false, List, sym, subst, Problem, IsValid, Cut, Cert, HasOpenEnd, Run, is_finished, IsSound, IsGreedyRun, IsSearched, limit_of, GrowsBelow, GrowsGreedily, IsGrownText, IsSearch}
 use Rattle.graft_runs.proofs.Planned.{run_base}
 
 -- a run of a search below some cuts is one below its own

@@ -1,8 +1,9 @@
+pub mod Common
 pub mod Endings
 pub mod Sizes
 pub mod Texts
 pub mod Planned
 pub mod Completed
 pub mod Digits
-pub mod Within
 pub mod Grown
+pub mod Within

@@ -1,27 +1,9 @@
 -- What a search below the pins of rows finds.
-use Rattle.std.proofs.Common.{◌≡◌, ℕ, ◌<◌, ◌≤◌, min, true, false, ◌==◌, List, refl, sym, ap, ◌∙◌, subst, arith, Option, Some, None}
-use Rattle.std.specs.Prelude.{IfSome}
-use Rattle.std.specs.Option.{option_map_or}
-use Rattle.std.proofs.lemmas.Bool.{and_parts, eqb-true}
-use Rattle.shift_instance.specs.declared.Row.{Row}
-use Rattle.shift_instance.specs.declared.TheConstants.{TOP}
-use Rattle.shift_instance.specs.Problem.{Problem}
-use Rattle.shift_instance.specs.Valid.{IsValid}
-use Rattle.shift_instance.specs.Rota.{are_legal_rows, cost, is_legal_rota, rota_of}
+use Rattle.graft_runs.proofs.Common.{◌≡◌, ℕ, ◌<◌, ◌≤◌, min, true, false, ◌==◌, List, refl, sym, ap, ◌∙◌, subst, arith, Option, Some, None, IfSome, option_map_or, and_parts, eqb-true, Row, TOP, Problem, IsValid, are_legal_rows, cost, is_legal_rota, rota_of, Cut, Cert, is_accepted, is_bound, is_plan, lines_text, pins_of, Run, top, IsBest, IsSound, IsGreedyRun, IsSearched, steps_hold, ArePlannedAnew, CostsAtLeast, IsPlannedAnew, IsSearch, breaks_lines}
 use Rattle.rota_cost.specs.Costed.{Costing}
-use Rattle.head_splits.specs.declared.Cut.{Cut}
 use Rattle.head_splits.specs.Cuts.{meets}
-use Rattle.certificate.specs.declared.Cert.{Cert}
-use Rattle.certificate.specs.Accepted.{is_accepted, is_bound, is_plan}
-use Rattle.certificate.specs.LineText.{lines_text}
-use Rattle.report_grafts.specs.Pins.{pins_of}
-use Rattle.report_grafts.specs.Run.{Run, top, IsBest, IsSound}
 use Rattle.report_grafts.proofs.Pinned.{pins_fix}
 use Rattle.report_grafts.proofs.Runs.{floor_enough}
-use Rattle.subtree_search.specs.Stepping.{IsGreedyRun, IsSearched}
-use Rattle.subtree_search.proofs.Sound.{steps_hold}
-use Rattle.graft_runs.specs.Runs.{ArePlannedAnew, CostsAtLeast, IsPlannedAnew, IsSearch}
-use Rattle.graft_runs.specs.Texts.{breaks_lines}
 use Rattle.graft_runs.proofs.Texts.{limit_small}
 
 -- ---- a run of steps is of its instance, its cuts and its limit

@@ -1,25 +1,8 @@
 -- How many lines a report has, how many cuts a node of it, and how many pins its rows.
-use Rattle.std.proofs.Common.{◌≡◌, inl, inr, ℕ, zero, suc, ◌+◌, ◌*◌, ◌^◌, ◌≤◌, List, [], ◌∷◌, ◌++◌, length, map, refl, sym, ap, ◌∙◌, subst, arith, Option, Some, None}
-use Rattle.std.specs.Prelude.{slice_get, codes, IsFalse, IsSomeAnd}
-use Rattle.std.specs.List.{flat_map, range_with_len}
-use Rattle.std.proofs.lemmas.Bool.{cond_both}
-use Rattle.std.proofs.lemmas.List.{length-append, length-map, length_push}
+use Rattle.graft_runs.proofs.Common.{◌≡◌, inl, inr, ℕ, zero, suc, ◌+◌, ◌*◌, ◌^◌, ◌≤◌, List, [], ◌∷◌, ◌++◌, length, map, refl, sym, ap, ◌∙◌, subst, arith, Option, Some, None, slice_get, codes, IsFalse, IsSomeAnd, flat_map, range_with_len, cond_both, length-append, length-map, length_push, Problem, shift_list, below, IsValid, heads_on, lists_of, Cut, is_nil, Node, new_node, Cert, Spells, line_text, lines_text, proof_line, cert_lines, plan_lines, proof_lines, HasOpenEnd, nodes_made, pins_of, pins_of_shift, pins_on, made_is, tree_of}
+use Rattle.certificate.specs.LineText.{Line as TextLine}
 use Rattle.shift_instance.specs.declared.Duty.{Duty}
-use Rattle.shift_instance.specs.Problem.{Problem, shift_list, below}
-use Rattle.shift_instance.specs.Valid.{IsValid}
-use Rattle.shift_instance.specs.Rota.{heads_on, lists_of}
-use Rattle.head_splits.specs.declared.Cut.{Cut}
-use Rattle.head_splits.specs.Bound.{is_nil}
-use Rattle.head_splits.specs.Nodes.{Node, new_node}
 use Rattle.head_splits.proofs.Nodes.{Has-slice_get}
-use Rattle.certificate.specs.declared.Cert.{Cert}
-use Rattle.certificate.specs.Departing.{Spells}
-use Rattle.certificate.specs.LineText.{Line as TextLine, line_text, lines_text, proof_line}
-use Rattle.certificate.specs.Text.{cert_lines, plan_lines, proof_lines}
-use Rattle.report_grafts.specs.Faults.{HasOpenEnd}
-use Rattle.report_grafts.specs.Grafted.{nodes_made}
-use Rattle.report_grafts.specs.Pins.{pins_of, pins_of_shift, pins_on}
-use Rattle.report_grafts.proofs.Plans.{made_is, tree_of}
 use Rattle.report_nodes.proofs.Grown.{CutsWithin, within_lines}
 
 -- ---- lines

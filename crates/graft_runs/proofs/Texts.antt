@@ -1,35 +1,10 @@
 -- A grafted certificate has a text.
-use Rattle.std.proofs.Common.{◌≡◌, ℕ, ◌+◌, ◌*◌, ◌^◌, ◌<◌, ◌≤◌, max, true, ◌&&◌, ◌==◌, not, List, [], ◌∷◌, ◌++◌, length, map, ap, arith, nat_le, Option, Some, None}
-use Rattle.std.specs.Prelude.{zip}
-use Rattle.std.specs.List.{list_all, AllByRecursion}
-use Rattle.std.specs.Option.{option_map_or}
-use Rattle.std.proofs.lemmas.Bool.{and_parts, eqb-true}
-use Rattle.std.proofs.lemmas.List.{length-append, length-map}
+use Rattle.graft_runs.proofs.Common.{◌≡◌, ℕ, ◌+◌, ◌*◌, ◌^◌, ◌<◌, ◌≤◌, max, true, ◌&&◌, ◌==◌, not, List, [], ◌∷◌, ◌++◌, length, map, ap, arith, nat_le, Option, Some, None, zip, list_all, AllByRecursion, option_map_or, and_parts, eqb-true, length-append, length-map, Row, TOP, Problem, slots, IsValid, are_legal_rows, cost, is_legal_rota, rota_of, Cut, are_prices, bound_of, is_slot_price, is_cut_price, Node, new_node, with_floor, Cert, Line, is_accepted, is_bound, is_plan, nodes_after, HasSlot, rows_of, Agrees, AgreesWith, grafted_line, grafted_lines, Run, divisions, cond_some, first_good, tree_of, IsSearched, steps_hold, limit_of}
 use Rattle.std.proofs.lemmas.List.Elements.{All-from_recursion}
-use Rattle.shift_instance.specs.declared.Row.{Row}
-use Rattle.shift_instance.specs.declared.TheConstants.{TOP}
-use Rattle.shift_instance.specs.Problem.{Problem, slots}
-use Rattle.shift_instance.specs.Valid.{IsValid}
-use Rattle.shift_instance.specs.Rota.{are_legal_rows, cost, is_legal_rota, rota_of}
 use Rattle.rota_cost.proofs.Coverage.{costs_below}
-use Rattle.head_splits.specs.declared.Cut.{Cut}
 use Rattle.head_splits.specs.declared.Prices.{Prices}
-use Rattle.head_splits.specs.Bound.{are_prices, bound_of, is_slot_price, is_cut_price}
-use Rattle.head_splits.specs.Nodes.{Node, new_node, with_floor}
-use Rattle.certificate.specs.declared.Cert.{Cert}
-use Rattle.certificate.specs.declared.proof_lines.Line.{Line}
 use Rattle.certificate.specs.declared.proof_lines.Line.TheVariants.{Split, Priced, Settled}
-use Rattle.certificate.specs.Accepted.{is_accepted, is_bound, is_plan, nodes_after}
-use Rattle.certificate.specs.LineText.{HasSlot}
-use Rattle.certificate.specs.Text.{rows_of, Agrees, AgreesWith}
 use Rattle.search_core.proofs.Fits.{rows_fit}
-use Rattle.report_grafts.specs.Grafted.{grafted_line, grafted_lines}
-use Rattle.report_grafts.specs.Run.{Run, divisions}
-use Rattle.report_grafts.proofs.Lines.{cond_some, first_good}
-use Rattle.report_grafts.proofs.Plans.{tree_of}
-use Rattle.subtree_search.specs.Stepping.{IsSearched}
-use Rattle.subtree_search.proofs.Sound.{steps_hold}
-use Rattle.graft_runs.specs.Runs.{limit_of}
 
 -- prices for an instance are some
 some_prices : (i : Problem) (cuts : List Cut) (prices : Prices) → IsValid i → are_prices i cuts prices ≡ true → 0 < length prices.slots

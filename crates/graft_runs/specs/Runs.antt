@@ -80,8 +80,9 @@ pub record IsPlannedAnew (i : Problem) (rows : List Row) (p : ℕ × List Row) :
 abbrev pub CostsAtLeast : Problem → List Row → ℕ → Type 0
 CostsAtLeast i rows bound = (rota : List Duty) → IsTrue (is_legal_rota i rota) → HaveSameHeads i rota (rota_of rows) → bound ≤ cost i rota
 
--- The lines of the rows of a certificate after a search of so many steps by the greedy adviser, below the cuts that fix their heads. What the rows
--- with these heads cost at least is the run's floor, and where the run left no node open, it is what the rows of the lines cost.
+-- The lines of the rows of a certificate after a search of so many steps by the greedy adviser, below the cuts that pin how many
+-- duties of each shift they have on each day. What rows with as many cost at least is the run's floor, and where the run left no
+-- node open, it is what the rows of the lines cost.
 pub record ArePlannedAnew (i : Problem) (whole : Cert) (steps : ℕ) (text : List ℕ) : Type 0 where
   pub accepted : IsTrue (is_accepted i whole)
   pub plan : ℕ × List Row

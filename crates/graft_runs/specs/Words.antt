@@ -1,10 +1,11 @@
 -- The words of the command line.
-use Rattle.std.specs.Prelude.{ℕ, List, [], ◌∷◌, Bool, false, ◌&&◌, not, ◌==◌, ◌^◌, ◌-◌, nat_le, length, if◌then◌else◌, Option, Some, None, codes}
+use Rattle.std.specs.Prelude.{ℕ, List, [], ◌∷◌, Bool, ◌&&◌, ◌==◌, ◌^◌, ◌-◌, nat_le, length, if◌then◌else◌, Option, Some, None, codes}
 use Rattle.std.specs.List.{list_all}
 use Rattle.std.specs.Char.{is_ascii_digit}
 use Rattle.std.specs.Option.{option_and_then}
 use Rattle.std.specs.Str.Parse.{digits_value}
 use Rattle.std.specs.Cmp.Lexicographic.{pointwise}
+use Rattle.check_runs.specs.Words.{is_file}
 use Rattle.graft_runs.specs.declared.words.Command.{Command}
 use Rattle.graft_runs.specs.declared.words.Command.TheVariants.{Below, Thorough, Breaks, Nodes}
 use Rattle.graft_runs.specs.declared.words.Budget.{Budget}
@@ -25,11 +26,6 @@ steps_of (Nodes most) = 0
 -- whether two words are the same
 abbrev pub is_word : List ℕ → List ℕ → Bool
 is_word = pointwise (λ a b. a == b)
-
--- whether a word may name a file: it isn't empty and doesn't begin with `-`
-abbrev pub is_file : List ℕ → Bool
-is_file [] = false
-is_file (first ∷ rest) = not (first == 45)
 
 -- whether a word is one to ten decimal digits
 abbrev pub is_number : List ℕ → Bool

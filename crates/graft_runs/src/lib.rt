@@ -14,4 +14,4 @@ mod words;
 
 pub use running::{graft_top, graft_top_by};
 pub use status::GraftStatus;
-pub use words::{Budget, Command, Files, Request, request_of};
+pub use words::{Budget, Command, Request, request_of};

@@ -1,9 +1,10 @@
 //! The words of the command line.
 ghost use Rattle.std.specs.Prelude.{◌≡◌, ◌≤◌, ◌-◌, ◌^◌, ◌∷◌, [], IfSome, map, string_bytes};
 ghost use Rattle.std.specs.Option.{option_map};
-ghost use Rattle.graft_runs.specs.Words.{asked, below_of, breaks_of, is_file, nodes_of, number_within, request_of, steps_of, thorough_of, timed_of};
+ghost use Rattle.graft_runs.specs.Words.{asked, below_of, breaks_of, nodes_of, number_within, request_of, steps_of, thorough_of, timed_of};
 
 use crate::numbers::number_within;
+use check_runs::{Files, may_be_file};
 
 /// The most steps of a run.
 const STEPS_MOST: u64 = 1_000_000_000;
@@ -36,15 +37,6 @@ pub enum Command {
     Nodes { most: u64 },
 }
 
-/// The files that a command names.
-#[derive(Clone, Copy, Drop)]
-pub struct Files<'a> {
-    /// The path of the instance document.
-    pub instance: &'a str,
-    /// The path of the report.
-    pub report: &'a str,
-}
-
 /// What the words of a command line ask for.
 #[derive(Clone, Copy, Drop)]
 pub struct Request<'a> {
@@ -52,16 +44,6 @@ pub struct Request<'a> {
     pub command: Command,
     /// Its files.
     pub files: Files<'a>,
-}
-
-/// Whether a word may name a file: it isn't empty and doesn't begin with `-`.
-fn may_be_file(word: &str) -> bool
-    ensures { result ≡ is_file word.now }
-{
-    match word.as_bytes() {
-        [] => false,
-        [first, ..] => *first != b'-',
-    }
 }
 
 /// A command with its files, where both words may name files.

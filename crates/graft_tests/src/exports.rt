@@ -1,4 +1,4 @@
-//! Cuts of the nodes of a report, and cuts that pin the heads of its rows.
+//! Cuts of the nodes of a report, and cuts that pin how many duties of each shift its rows have on each day.
 ghost use Rattle.std.specs.Prelude.{◌≡◌};
 
 use crate::split_morning::report;

@@ -1,4 +1,4 @@
-//! Tests of cuts that are exported from a report, of cuts that pin heads, of runs that are grafted, of searches below some cuts, and of breaks that are planned anew, each
+//! Tests of cuts that are exported from a report, of cuts that pin numbers of duties, of runs that are grafted, of searches below some cuts, and of breaks that are planned anew, each
 //! worked out by hand.
 #![tactic(auto)]
 

@@ -1,25 +1,7 @@
 -- The best list of a shift on a day: the least of those that earn most.
-use Rattle.std.proofs.Common.{◌≡◌, inl, inr, ℕ, zero, suc, ◌+◌, ◌*◌, ◌≤◌, ℤ, pos, neg_ℤ, ◌+ℤ◌, ◌≤ℤ◌, ◌<ℤ◌, Bool, true, false, cond, not, Option, Some, None, List, [], ◌∷◌, refl, sym, ap, ◌∙◌, subst, arith}
-use Rattle.std.specs.Prelude.{int_lt, slice_get, MatchOption}
-use Rattle.std.specs.List.{list_any, find}
-use Rattle.std.proofs.lemmas.Int.{ints}
-use Rattle.std.proofs.lemmas.Bool.{cases_Bool, false≢true}
-use Rattle.break_rules.specs.declared.Break.{Break}
-use Rattle.break_rules.specs.Sums.{int_sum_by}
-use Rattle.break_rules.specs.Lists.{Has, Sorted}
-use Rattle.break_rules.proofs.Lists.{any_some, any_none}
-use Rattle.break_rules.proofs.Ordered.{IsLess}
-use Rattle.shift_instance.specs.declared.Duty.{Duty}
-use Rattle.shift_instance.specs.Problem.{Problem, slots, shift_list, below}
-use Rattle.shift_instance.specs.Rota.{lists_of, is_list_of, works}
-use Rattle.shift_instance.specs.Worth.{price_of, earned, worth, IsBest}
-use Rattle.shift_instance.proofs.Rotas.{Has-lists_of, from_lists_of}
+use Rattle.greedy.proofs.Common.{◌≡◌, inl, inr, ℕ, zero, suc, ◌+◌, ◌*◌, ◌≤◌, ℤ, pos, neg_ℤ, ◌+ℤ◌, ◌≤ℤ◌, ◌<ℤ◌, Bool, true, false, cond, not, Option, Some, None, List, [], ◌∷◌, refl, sym, ap, ◌∙◌, subst, arith, int_lt, slice_get, MatchOption, list_any, find, ints, cases_Bool, false≢true, Break, int_sum_by, Has, Sorted, any_some, any_none, IsLess, Duty, Problem, slots, shift_list, below, lists_of, is_list_of, works, price_of, earned, worth, IsBest, Has-lists_of, from_lists_of, duty, earned_with, is_greatest, best_list, IsWithin, ArePrices, Sorted-lists_of, int_sum_below_more}
 use Rattle.patterns.specs.declared.Pattern.{Pattern}
-use Rattle.greedy.specs.Greedy.{duty, earned_with, is_greatest, best_list}
-use Rattle.greedy.specs.Sizes.{IsWithin, ArePrices}
-use Rattle.shift_instance.proofs.AllDuties.{Sorted-lists_of}
 use Rattle.greedy.proofs.Leading.{find_none}
-use Rattle.shift_instance.proofs.Ranges.{int_sum_below_more}
 use Rattle.greedy.proofs.Rounds.{lt_true, lt_false}
 
 -- in a list that is in order, an element that passes is found where none before it passes

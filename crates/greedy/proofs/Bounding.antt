@@ -1,17 +1,5 @@
 -- Bounds of gains: they stay bounds while duties are added, and the shift that leads by an exact bound is the next one.
-use Rattle.std.proofs.Common.{◌≡◌, inl, inr, ℕ, zero, suc, ◌+◌, ◌*◌, ◌<◌, ◌≤◌, ℤ, pos, negsuc, neg_ℤ, ◌+ℤ◌, ◌-ℤ◌, ◌≤ℤ◌, ◌<ℤ◌, Bool, true, false, cond, Option, Some, None, List, [], ◌∷◌, ◌++◌, length, length-set, get_or, set, refl, sym, ap, ◌∙◌, subst, arith}
-use Rattle.std.specs.Prelude.{MatchOption, int_lt, replicate}
-use Rattle.std.proofs.lemmas.Int.{ints}
-use Rattle.std.proofs.lemmas.Bool.{cases_Bool, cases_eq, cases_lt}
-use Rattle.std.proofs.lemmas.List.{get_or-replicate, get_or-set_same, get_or-set_other, get_or_past, get_or_read}
-use Rattle.shift_instance.specs.declared.Duty.{Duty}
-use Rattle.shift_instance.specs.Problem.{Problem, shift_list}
-use Rattle.shift_instance.specs.Rota.{is_used}
-use Rattle.shift_instance.specs.Valid.{IsValid}
-use Rattle.greedy.specs.Bounds.{AreBounds, bound_at}
-use Rattle.greedy.specs.Drafts.{Leads}
-use Rattle.greedy.specs.Greedy.{counts, gain, marginal_prices, new_duties, next_shift, value_on}
-use Rattle.greedy.specs.Sizes.{IsWithin}
+use Rattle.greedy.proofs.Common.{◌≡◌, inl, inr, ℕ, zero, suc, ◌+◌, ◌*◌, ◌<◌, ◌≤◌, ℤ, pos, negsuc, neg_ℤ, ◌+ℤ◌, ◌-ℤ◌, ◌≤ℤ◌, ◌<ℤ◌, Bool, true, false, cond, Option, Some, None, List, [], ◌∷◌, ◌++◌, length, length-set, get_or, set, refl, sym, ap, ◌∙◌, subst, arith, MatchOption, int_lt, replicate, ints, cases_Bool, cases_eq, cases_lt, get_or-replicate, get_or-set_same, get_or-set_other, get_or_past, get_or_read, Duty, Problem, shift_list, is_used, IsValid, AreBounds, bound_at, Leads, counts, gain, marginal_prices, new_duties, next_shift, value_on, IsWithin}
 use Rattle.greedy.proofs.BestLists.{sum_within}
 use Rattle.greedy.proofs.DayValues.{value_small}
 use Rattle.greedy.proofs.Lowering.{counted, gain_is, gain_falls, gain_rises, others_used}

@@ -1,14 +1,5 @@
 -- The values of shifts, day by day, and those at other prices.
-use Rattle.std.proofs.Common.{◌≡◌, ℕ, zero, suc, refl, ◌*◌, ℤ, pos, Option, Some, None, List, get_or, sym, ap, ◌∙◌, subst, arith, false}
-use Rattle.std.specs.Prelude.{MatchOption, replicate}
-use Rattle.std.specs.Option.{option_map_or}
-use Rattle.std.proofs.lemmas.Int.{ints}
-use Rattle.break_rules.specs.declared.Break.{Break}
-use Rattle.shift_instance.specs.Problem.{Problem}
-use Rattle.shift_instance.specs.Rota.{is_list_of}
-use Rattle.pricing.specs.Days.{IsMostOn}
-use Rattle.greedy.specs.Greedy.{duty, earned_with, best_list, day_value}
-use Rattle.greedy.specs.Sizes.{ArePrices, IsWithin}
+use Rattle.greedy.proofs.Common.{◌≡◌, ℕ, zero, suc, refl, ◌*◌, ℤ, pos, Option, Some, None, List, get_or, sym, ap, ◌∙◌, subst, arith, false, MatchOption, replicate, option_map_or, ints, Break, Problem, is_list_of, IsMostOn, duty, earned_with, best_list, day_value, ArePrices, IsWithin}
 use Rattle.greedy.proofs.BestLists.{best_found, best_missing, earned_small}
 
 -- what the best duty of a day earns is the day's value

@@ -1,32 +1,7 @@
 -- A round lowers the cost by the gain of the shift that it takes.
-use Rattle.std.proofs.Common.{◌≡◌, inl, inr, ℕ, zero, suc, ◌+◌, ◌-◌, ◌*◌, ◌/◌, ◌%◌, ◌<◌, ◌≤◌, ℤ, pos, neg_ℤ, ◌+ℤ◌, ◌-ℤ◌, ◌*ℤ◌, ◌<ℤ◌, Bool, true, false, cond, ◌&&◌, ◌||◌, ◌==◌, List, [], ◌∷◌, ◌++◌, length, refl, sym, ap, ◌∙◌, arith, count_by, sum_by, nat_lt, eq-eqb, Some}
-use Rattle.std.specs.Prelude.{slice_get}
-use Rattle.std.specs.Option.{option_map_or}
-use Rattle.std.specs.List.{list_any}
-use Rattle.std.proofs.lemmas.Int.{ints}
-use Rattle.std.proofs.lemmas.Bool.{and_parts, eqb-true, lt-ltb, le-ltb, cases_Bool, cases_lt}
-use Rattle.std.proofs.lemmas.List.Folds.{list_any-append}
-use Rattle.std.proofs.lemmas.List.Sums.{sum_by-cons}
-use Rattle.std.proofs.lemmas.List.FromFn.{get_or-map-range_with_len}
-use Rattle.std.proofs.lemmas.Nat.{div-mul-add}
-use Rattle.std.proofs.Math.Nat.{mul-le-mul_right}
-use Rattle.break_rules.specs.declared.Break.{Break}
-use Rattle.break_rules.specs.declared.Rule.{Rule}
-use Rattle.break_rules.specs.Breaks.{works_at}
-use Rattle.break_rules.specs.Sums.{int_sum_by}
-use Rattle.break_rules.specs.Lists.{Has}
-use Rattle.break_rules.proofs.Lists.{from_below, any_some, any_none, any_at, same_tests}
-use Rattle.break_rules.proofs.Counts.{count_by-append, count_by_same, count_by_none, sum_by_same, count_by_at_most, count_by-below}
-use Rattle.break_rules.proofs.Sums.{int_sum_by-cons, int_sum_by-same, int_sum_by-add, int_sum_by_swap, int_sum_by_if, int_sum_by_zero, mul-suc, mul-zero}
-use Rattle.shift_instance.specs.declared.Shift.{Shift}
-use Rattle.shift_instance.specs.declared.Duty.{Duty}
-use Rattle.shift_instance.specs.Problem.{Problem, slots, day_slots, need_at, need_max_at, shift_list, slot_of, below}
-use Rattle.shift_instance.specs.Rota.{works, cover, slot_cost, is_used, shifts_used, cost}
-use Rattle.shift_instance.specs.Valid.{IsValid}
-use Rattle.shift_instance.specs.Worth.{price_of, earned}
+use Rattle.greedy.proofs.Common.{◌≡◌, inl, inr, ℕ, zero, suc, ◌+◌, ◌-◌, ◌*◌, ◌/◌, ◌%◌, ◌<◌, ◌≤◌, ℤ, pos, neg_ℤ, ◌+ℤ◌, ◌-ℤ◌, ◌*ℤ◌, ◌<ℤ◌, Bool, true, false, cond, ◌&&◌, ◌||◌, ◌==◌, List, [], ◌∷◌, ◌++◌, length, refl, sym, ap, ◌∙◌, arith, sum_by, nat_lt, eq-eqb, Some, slice_get, option_map_or, list_any, ints, and_parts, eqb-true, lt-ltb, le-ltb, cases_Bool, cases_lt, list_any-append, sum_by-cons, get_or-map-range_with_len, div-mul-add, mul-le-mul_right, Break, Rule, works_at, int_sum_by, Has, from_below, any_some, any_none, any_at, same_tests, count_by-append, count_by_same, count_by_none, sum_by_same, count_by_at_most, count_by-below, int_sum_by-cons, int_sum_by-same, int_sum_by-add, int_sum_by_swap, int_sum_by_if, int_sum_by_zero, mul-suc, mul-zero, Shift, Duty, Problem, slots, day_slots, need_at, need_max_at, shift_list, slot_of, below, works, cover, slot_cost, is_used, shifts_used, cost, IsValid, price_of, earned, some_at, Has_at, shift_within, duty, best_duty, marginal_price, marginal_prices, used_list, value_on, counts, gain, next_shift, new_duties, greedy_after}
+use Rattle.std.proofs.Common.{count_by}
 use Rattle.shift_instance.proofs.Offsets.{same_offset}
-use Rattle.shift_instance.proofs.Shifts.{some_at, Has_at, shift_within}
-use Rattle.greedy.specs.Greedy.{duty, best_duty, marginal_price, marginal_prices, used_list, value_on, counts, gain, next_shift, new_duties, greedy_after}
 use Rattle.greedy.proofs.Rounds.{best_earns, counts_parts, count_new, count_one, from_new_duties, next_gains, lt_true, next_cases, round_grows, round_some, round_none, rounds_none}
 
 pub times_one : (v : ℤ) → v *ℤ pos 1 ≡ v

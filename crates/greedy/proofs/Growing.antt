@@ -1,29 +1,8 @@
 -- A legal plan that grows by one duty.
-use Rattle.std.proofs.Common.{◌≡◌, inl, inr, ℕ, zero, suc, ◌+◌, ◌*◌, ◌/◌, ◌%◌, ◌<◌, ◌≤◌, ℤ, Some, Bool, true, false, cond, ◌&&◌, ◌==◌, nat_lt, nat_le, List, [], ◌∷◌, ◌++◌, map, filter, length, get_or, set, replicate, refl, sym, ap, ◌∙◌, subst, arith, eq-eqb}
-use Rattle.std.specs.Prelude.{All}
-use Rattle.std.specs.List.{list_all, count_by}
-use Rattle.std.proofs.lemmas.Bool.{and_parts, and_from, eqb-true, lt-ltb, le-leb, cases_Bool, cases_eq, ne_eqb}
+use Rattle.greedy.proofs.Common.{◌≡◌, inl, inr, ℕ, zero, suc, ◌+◌, ◌*◌, ◌/◌, ◌%◌, ◌<◌, ◌≤◌, ℤ, Some, Bool, true, false, cond, ◌&&◌, ◌==◌, nat_lt, nat_le, List, [], ◌∷◌, ◌++◌, map, filter, length, get_or, set, refl, sym, ap, ◌∙◌, subst, arith, eq-eqb, All, list_all, count_by, and_parts, and_from, eqb-true, lt-ltb, le-leb, cases_Bool, cases_eq, ne_eqb, get_or-set_same, get_or-set_other, get_or-replicate, sum_by_push, div-mul-add, mod-mul-add, mul-add-lt, mul-le-mul_right, Break, Has, Has-append_cases, from_below, from_map, from_filter, all_at, all_from, any_some, any_at, count_by_at_most, count_by_none, count_by-append, any_by_count, Has-from_count, Duty, Row, Problem, shift_list, below, same_duty, count_of, is_list_of, is_on, heads_on, is_used, is_legal_duty, is_legal_rota, IsValid, from_lists_of, heads_within, legal_duties, same_duty_decides, IsDraft, heads_at, with_one_more, duty, rows_of, best_list, all_duties, row_of, legal_length}
+use Rattle.std.proofs.Common.{replicate}
 use Rattle.std.proofs.lemmas.Grind.{common_steps}
-use Rattle.std.proofs.lemmas.List.{get_or-set_same, get_or-set_other, get_or-replicate}
-use Rattle.std.proofs.lemmas.List.Sums.{sum_by_push}
-use Rattle.std.proofs.lemmas.Nat.{div-mul-add, mod-mul-add, mul-add-lt}
-use Rattle.std.proofs.Math.Nat.{mul-le-mul_right}
-use Rattle.break_rules.specs.declared.Break.{Break}
-use Rattle.break_rules.specs.Lists.{Has}
-use Rattle.break_rules.proofs.Lists.{Has-append_cases, from_below, from_map, from_filter, all_at, all_from, any_some, any_at}
-use Rattle.break_rules.proofs.Counts.{count_by_at_most, count_by_none, count_by-append, any_by_count, Has-from_count}
-use Rattle.shift_instance.specs.declared.Duty.{Duty}
-use Rattle.shift_instance.specs.declared.Row.{Row}
-use Rattle.shift_instance.specs.Problem.{Problem, shift_list, below}
-use Rattle.shift_instance.specs.Rota.{same_duty, count_of, is_list_of, is_on, heads_on, is_used, is_legal_duty, is_legal_rota}
-use Rattle.shift_instance.specs.Valid.{IsValid}
-use Rattle.shift_instance.proofs.Rotas.{from_lists_of, heads_within, legal_duties}
-use Rattle.shift_instance.proofs.Alike.{same_duty_decides}
 use Rattle.rota_cost.specs.Cover.{Covering}
-use Rattle.greedy.specs.Drafts.{IsDraft, heads_at, with_one_more}
-use Rattle.greedy.specs.Greedy.{duty, rows_of, best_list}
-use Rattle.shift_instance.specs.AllDuties.{all_duties, row_of}
-use Rattle.rota_cost.proofs.Lengths.{legal_length}
 use Rattle.greedy.proofs.Rounds.{listed}
 use Rattle.greedy.proofs.RowSteps.{rows_more, rows_none}
 

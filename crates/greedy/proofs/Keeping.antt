@@ -1,35 +1,10 @@
 -- Values that stay known while prices fall: those of the days on which no price of a shift's slots fell.
-use Rattle.std.proofs.Common.{◌≡◌, ◌⊎◌, inl, inr, ℕ, zero, suc, ◌+◌, ◌-◌, ◌*◌, ◌<◌, ◌≤◌, ℤ, pos, neg_ℤ, ◌+ℤ◌, ◌-ℤ◌, ◌≤ℤ◌, Bool, true, false, cond, ◌&&◌, ◌==◌, List, [], ◌++◌, length, length-set, set, get_or, refl, sym, ap, ◌∙◌, subst, arith, Option, Some, None, FitsSigned}
-use Rattle.std.specs.Prelude.{slice_get, All, IfSome, is_some, replicate}
-use Rattle.std.specs.Int.{w64}
-use Rattle.std.specs.Option.{option_map_or}
-use Rattle.std.specs.List.{list_any}
-use Rattle.std.proofs.lemmas.Bool.{and_parts, cases_eq, cases_lt, eqb-true, false≢true}
-use Rattle.std.proofs.lemmas.Int.{ints}
-use Rattle.std.proofs.lemmas.List.{get_or-set_same, get_or-set_other}
+use Rattle.greedy.proofs.Common.{◌≡◌, ◌⊎◌, inl, inr, ℕ, zero, suc, ◌+◌, ◌-◌, ◌*◌, ◌<◌, ◌≤◌, ℤ, pos, neg_ℤ, ◌+ℤ◌, ◌-ℤ◌, ◌≤ℤ◌, Bool, true, false, cond, ◌&&◌, ◌==◌, List, [], ◌++◌, length, length-set, set, get_or, refl, sym, ap, ◌∙◌, subst, arith, Option, Some, None, slice_get, All, IfSome, is_some, replicate, w64, option_map_or, list_any, and_parts, cases_eq, cases_lt, eqb-true, false≢true, ints, get_or-set_same, get_or-set_other, mod_below, Break, Rule, works_at, int_sum_by, any_some, from_below, int_sum_by-le, int_sum_by-same, Duty, Shift, Problem, below, day_slots, shift_list, slot_of, slots, works, IsValid, price_of, int_sum_below_more, sum_at, price_in, AreSmallPrices, AreSums, sums_on, AreSumsByDay, day_value, duty, earned_with, marginal_prices, AreAllKnown, AreKnown, AreNoHigher, IsKnown, KeepsEach, price_total, ArePrices}
+use Rattle.std.proofs.Common.{FitsSigned}
 use Rattle.std.proofs.lemmas.List.Elements.{All-from_get_or}
-use Rattle.std.proofs.lemmas.Nat.{mod_below}
 use Rattle.std.specs.Int.RustNames.{unsigned_abs}
-use Rattle.break_rules.specs.declared.Break.{Break}
-use Rattle.break_rules.specs.declared.Rule.{Rule}
-use Rattle.break_rules.specs.Breaks.{works_at}
-use Rattle.break_rules.specs.Sums.{int_sum_by}
-use Rattle.break_rules.proofs.Lists.{any_some, from_below}
 use Rattle.break_rules.proofs.Sizes.{abs_within}
-use Rattle.break_rules.proofs.Sums.{int_sum_by-le, int_sum_by-same}
-use Rattle.shift_instance.specs.declared.Duty.{Duty}
-use Rattle.shift_instance.specs.declared.Shift.{Shift}
-use Rattle.shift_instance.specs.Problem.{Problem, below, day_slots, shift_list, slot_of, slots}
-use Rattle.shift_instance.specs.Rota.{works}
-use Rattle.shift_instance.specs.Valid.{IsValid}
-use Rattle.shift_instance.specs.Worth.{price_of}
-use Rattle.shift_instance.proofs.Ranges.{int_sum_below_more}
-use Rattle.price_sums.specs.Along.{sum_at, price_in, AreSmallPrices, AreSums}
-use Rattle.price_sums.specs.Days.{sums_on, AreSumsByDay}
 use Rattle.price_sums.proofs.Stretches.{difference_fits, over_stretch}
-use Rattle.greedy.specs.Greedy.{day_value, duty, earned_with, marginal_prices}
-use Rattle.greedy.specs.Kept.{AreAllKnown, AreKnown, AreNoHigher, IsKnown, KeepsEach, price_total}
-use Rattle.greedy.specs.Sizes.{ArePrices}
 use Rattle.greedy.proofs.Lowering.{price_falls, value_no_more}
 
 both_ways : (a b : ℤ) → a ≤ℤ b → b ≤ℤ a → a ≡ b
@@ -144,10 +119,6 @@ some_known (Some x) v some held = ap (λ (y : ℤ). Some y) held
 module _ (i : Problem) (prices : List ℤ) (s day : ℕ) (known : List (Option ℤ)) (inside : day < length known) where
   pub known_with : AreKnown i prices s known → AreKnown i prices s (set known day (Some (day_value i prices s day)))
   known_with held k less = place_set (IsKnown i prices s) None known day (Some (day_value i prices s day)) inside refl k (λ ne. held k less)
-
--- values that are all known
-pub all_are : (i : Problem) (prices : List ℤ) (s : ℕ) (known : List (Option ℤ)) → AreAllKnown i prices s known → AreKnown i prices s known
-all_are i prices s known all day less = subst (IsKnown i prices s day) (sym (all day less)) refl
 
 -- with more duties no marginal price is higher
 pub falling_after : (i : Problem) (rota more next : List Duty) (prices new : List ℤ) → next ≡ rota ++ more → prices ≡ marginal_prices i rota → new ≡ marginal_prices i next → AreNoHigher i new prices

@@ -1,14 +1,5 @@
 -- The first number of greatest value, found one number after another.
-use Rattle.std.proofs.Common.{◌≡◌, inl, inr, ℕ, zero, suc, ◌+◌, ◌<◌, ◌≤◌, ℤ, pos, ◌≤ℤ◌, ◌<ℤ◌, Bool, true, false, cond, ◌&&◌, not, List, [], ◌∷◌, refl, sym, ap, ◌∙◌, arith, Option, Some, None}
-use Rattle.std.specs.Prelude.{int_lt}
-use Rattle.std.specs.List.{list_any, find, range_with_len}
-use Rattle.std.proofs.lemmas.Int.{ints}
-use Rattle.std.proofs.lemmas.Bool.{and_from, cases_Bool, cases_eq}
-use Rattle.break_rules.specs.Lists.{Has}
-use Rattle.break_rules.proofs.Lists.{Has-below, from_below, any_at, any_some}
-use Rattle.shift_instance.specs.Problem.{below}
-use Rattle.greedy.specs.Greedy.{first_greatest}
-use Rattle.greedy.specs.Drafts.{Leads}
+use Rattle.greedy.proofs.Common.{◌≡◌, inl, inr, ℕ, zero, suc, ◌+◌, ◌<◌, ◌≤◌, ℤ, pos, ◌≤ℤ◌, ◌<ℤ◌, Bool, true, false, cond, ◌&&◌, not, List, [], ◌∷◌, refl, sym, ap, ◌∙◌, arith, Option, Some, None, int_lt, list_any, find, range_with_len, ints, and_from, cases_Bool, cases_eq, Has, Has-below, from_below, any_at, any_some, below, first_greatest, Leads}
 
 pub lt_from : (a b : ℤ) → a <ℤ b → int_lt a b ≡ true
 lt_from a b h = grind (arith, ints)

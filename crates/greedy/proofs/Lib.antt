@@ -1,3 +1,4 @@
+pub mod Common
 pub mod BestLists
 pub mod Bounding
 pub mod DayValues

@@ -1,22 +1,5 @@
 -- What more duties lower: marginal prices, the values of shifts, and their gains.
-use Rattle.std.proofs.Common.{◌≡◌, ◌⊎◌, inl, inr, ℕ, ◌+◌, ◌<◌, ◌≤◌, ℤ, pos, neg_ℤ, ◌+ℤ◌, ◌-ℤ◌, ◌≤ℤ◌, ◌<ℤ◌, Bool, true, false, cond, ◌&&◌, ◌||◌, ◌==◌, not, Option, Some, None, List, [], ◌∷◌, ◌++◌, refl, sym, ap, ◌∙◌, arith, nat_lt}
-use Rattle.std.specs.Prelude.{int_lt}
-use Rattle.std.specs.Option.{option_map_or}
-use Rattle.std.specs.List.{list_any, find}
-use Rattle.std.proofs.lemmas.Int.{ints}
-use Rattle.std.proofs.lemmas.Bool.{and_parts, and_from, cases_Bool, cases_lt, lt-ltb, ltb-true, ne_eqb}
-use Rattle.std.proofs.lemmas.List.Folds.{list_any-append}
-use Rattle.break_rules.specs.declared.Break.{Break}
-use Rattle.break_rules.specs.Sums.{int_sum_by}
-use Rattle.break_rules.proofs.Counts.{count_by-append}
-use Rattle.break_rules.specs.Lists.{Has}
-use Rattle.break_rules.proofs.Lists.{any_none, any_some, from_below}
-use Rattle.break_rules.proofs.Sums.{int_sum_by-le}
-use Rattle.shift_instance.specs.declared.Duty.{Duty}
-use Rattle.shift_instance.specs.Problem.{Problem, slots, need_at, need_max_at, below}
-use Rattle.shift_instance.specs.Rota.{lists_of, works, cover, heads_on, is_on, is_used}
-use Rattle.shift_instance.specs.Worth.{price_of, earned}
-use Rattle.greedy.specs.Greedy.{duty, marginal_price, marginal_prices, earned_with, is_greatest, best_list, day_value, value_on, counts, gain, next_shift, new_duties}
+use Rattle.greedy.proofs.Common.{◌≡◌, ◌⊎◌, inl, inr, ℕ, ◌+◌, ◌<◌, ◌≤◌, ℤ, pos, neg_ℤ, ◌+ℤ◌, ◌-ℤ◌, ◌≤ℤ◌, ◌<ℤ◌, Bool, true, false, cond, ◌&&◌, ◌||◌, ◌==◌, not, Option, Some, None, List, [], ◌∷◌, ◌++◌, refl, sym, ap, ◌∙◌, arith, nat_lt, int_lt, option_map_or, list_any, find, ints, and_parts, and_from, cases_Bool, cases_lt, lt-ltb, ltb-true, ne_eqb, list_any-append, Break, int_sum_by, count_by-append, Has, any_none, any_some, from_below, int_sum_by-le, Duty, Problem, slots, need_at, need_max_at, below, lists_of, works, cover, heads_on, is_on, is_used, price_of, earned, duty, marginal_price, marginal_prices, earned_with, is_greatest, best_list, day_value, value_on, counts, gain, next_shift, new_duties}
 use Rattle.greedy.proofs.BestLists.{not_true}
 use Rattle.greedy.proofs.Falls.{price_below, price_within, price_above, price_at, new_used}
 use Rattle.greedy.proofs.Leading.{lt_from}

@@ -1,14 +1,5 @@
 -- Where a duty goes among rows, and the prices of one slot more.
-use Rattle.std.proofs.Common.{◌≡◌, ℕ, zero, suc, ◌+◌, ◌<◌, ◌≤◌, ℤ, Bool, true, false, cond, Some, List, [], ◌∷◌, ◌++◌, map, length, get_or, take, drop, set, refl, sym, ap, ◌∙◌, subst, arith}
-use Rattle.std.specs.Prelude.{slice_get, IfSome}
-use Rattle.shift_instance.specs.declared.Duty.{Duty}
-use Rattle.shift_instance.specs.declared.Row.{Row}
-use Rattle.shift_instance.specs.Problem.{Problem, slots, below}
-use Rattle.shift_instance.specs.Rota.{same_duty, duty_of, is_before, cover}
-use Rattle.shift_instance.proofs.Shifts.{some_at, get_or_some}
-use Rattle.greedy.specs.Drafts.{with_one_more}
-use Rattle.greedy.specs.Greedy.{marginal_price, marginal_prices}
-use Rattle.shift_instance.specs.AllDuties.{row_of}
+use Rattle.greedy.proofs.Common.{◌≡◌, ℕ, zero, suc, ◌+◌, ◌<◌, ◌≤◌, ℤ, Bool, true, false, cond, Some, List, [], ◌∷◌, ◌++◌, map, length, get_or, take, drop, set, refl, sym, ap, ◌∙◌, subst, arith, slice_get, IfSome, Duty, Row, Problem, slots, below, same_duty, duty_of, is_before, cover, some_at, get_or_some, with_one_more, marginal_price, marginal_prices, row_of}
 use Rattle.greedy.proofs.Ranges.{map_more}
 
 -- ---- rows

@@ -1,20 +1,7 @@
 -- The best list of types without breaks.
-use Rattle.std.proofs.Common.{◌≡◌, ℕ, ◌<◌, ◌≤◌, ℤ, ◌≤ℤ◌, true, false, Some, List, [], length, refl, sym, ap, ◌∙◌, subst, arith}
-use Rattle.std.specs.Prelude.{slice_get, IsSomeAnd}
-use Rattle.std.specs.Option.{option_map_or}
-use Rattle.std.proofs.lemmas.Int.{ints}
-use Rattle.break_rules.specs.declared.Break.{Break}
-use Rattle.break_rules.specs.declared.Rule.{Rule}
-use Rattle.break_rules.specs.Breaks.{is_legal, is_less_list}
+use Rattle.greedy.proofs.Common.{◌≡◌, ℕ, ◌<◌, ◌≤◌, ℤ, ◌≤ℤ◌, true, false, Some, List, [], length, refl, sym, ap, ◌∙◌, subst, arith, slice_get, IsSomeAnd, option_map_or, ints, Break, Rule, is_legal, is_less_list, Shift, Problem, day_slots, shift_list, is_list_of, IsValid, worth, IsBest, some_at, Has_at, shift_within, is_some_and_at, duty, best_list}
 use Rattle.break_rules.specs.Plain.{plain_rule}
 use Rattle.break_rules.proofs.Plain.{plain_legal, plain_empty}
-use Rattle.shift_instance.specs.declared.Shift.{Shift}
-use Rattle.shift_instance.specs.Problem.{Problem, day_slots, shift_list}
-use Rattle.shift_instance.specs.Rota.{is_list_of}
-use Rattle.shift_instance.specs.Valid.{IsValid}
-use Rattle.shift_instance.specs.Worth.{worth, IsBest}
-use Rattle.shift_instance.proofs.Shifts.{some_at, Has_at, shift_within, is_some_and_at}
-use Rattle.greedy.specs.Greedy.{duty, best_list}
 use Rattle.greedy.proofs.BestLists.{best_found}
 
 -- under a plain rule the empty list is the best one

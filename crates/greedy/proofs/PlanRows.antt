@@ -1,20 +1,6 @@
 -- The rows of a legal plan are legal, and stand for the plan's duties.
-use Rattle.std.proofs.Common.{◌≡◌, inl, inr, ◌*◌, true, cond, List, filter, drop, replicate, sym, ap, ◌∙◌, subst, arith, nat_lt, nat_le}
-use Rattle.std.specs.List.{flat_map, list_all, zip, count_by}
-use Rattle.std.proofs.lemmas.Bool.{and_parts, and_from, cases_Bool}
-use Rattle.break_rules.specs.Lists.{Has}
-use Rattle.break_rules.proofs.Lists.{from_map, from_flat_map, from_filter, from_replicate, all_at, all_from}
-use Rattle.break_rules.proofs.Counts.{sum_by_same, sum_by_if, count_by-flat_map, count_by-replicate}
-use Rattle.break_rules.proofs.Once.{cond_same}
-use Rattle.break_rules.proofs.Ordered.{Sorted-map, Sorted-filter}
-use Rattle.shift_instance.specs.declared.Duty.{Duty}
-use Rattle.shift_instance.specs.declared.Row.{Row}
-use Rattle.shift_instance.specs.Problem.{Problem}
-use Rattle.shift_instance.specs.Rota.{same_duty, count_of, heads_on, is_legal_duty, is_legal_rota, is_before, rota_of, are_legal_rows, cost}
-use Rattle.shift_instance.proofs.Alike.{same_duty_decides, AreAlike, alike_from_counts, alike_cost, alike_legal}
-use Rattle.greedy.specs.Greedy.{rows_of}
-use Rattle.shift_instance.specs.AllDuties.{all_duties, row_of}
-use Rattle.shift_instance.proofs.AllDuties.{adjacent, from_all_duties, no_count, once_in_duties, rows_of_counts, IsBefore, Sorted-all_duties}
+use Rattle.greedy.proofs.Common.{◌≡◌, inl, inr, ◌*◌, true, cond, List, filter, drop, sym, ap, ◌∙◌, subst, arith, nat_lt, nat_le, flat_map, list_all, zip, count_by, and_parts, and_from, cases_Bool, Has, from_map, from_flat_map, from_filter, from_replicate, all_at, all_from, sum_by_same, sum_by_if, count_by-flat_map, count_by-replicate, cond_same, Sorted-map, Sorted-filter, Duty, Row, Problem, same_duty, count_of, heads_on, is_legal_duty, is_legal_rota, is_before, rota_of, are_legal_rows, cost, same_duty_decides, AreAlike, alike_from_counts, alike_cost, alike_legal, rows_of, all_duties, row_of, adjacent, from_all_duties, no_count, once_in_duties, rows_of_counts, IsBefore, Sorted-all_duties}
+use Rattle.std.proofs.Common.{replicate}
 
 rows_ordered : (i : Problem) (rota : List Duty) → list_all (λ p. is_before p.0 p.1) (zip (rows_of i rota) (drop 1 (rows_of i rota))) ≡ true
 rows_ordered i rota =

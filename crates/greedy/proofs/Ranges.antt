@@ -1,7 +1,5 @@
 -- Lists over the numbers below a number, with one number more.
-use Rattle.std.proofs.Common.{◌≡◌, ℕ, ◌+◌, Bool, true, false, cond, List, [], ◌∷◌, ◌++◌, map, filter, refl, ap, ◌∙◌}
-use Rattle.shift_instance.specs.Problem.{below}
-use Rattle.shift_instance.proofs.Ranges.{below_next}
+use Rattle.greedy.proofs.Common.{◌≡◌, ℕ, ◌+◌, Bool, true, false, cond, List, [], ◌∷◌, ◌++◌, map, filter, refl, ap, ◌∙◌, below, below_next}
 
 pub map_push : {Y X : Type 0} (f : Y → X) (xs : List Y) (x : Y) → map f (xs ++ x ∷ []) ≡ map f xs ++ f x ∷ []
 map_push f [] x = refl

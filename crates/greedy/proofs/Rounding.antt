@@ -1,27 +1,10 @@
 -- Steps of the rounds of the greedy plan.
-use Rattle.std.proofs.Common.{◌≡◌, inl, inr, ℕ, suc, ◌+◌, ◌-◌, ◌*◌, ◌<◌, ◌≤◌, ℤ, pos, neg_ℤ, ◌+ℤ◌, ◌-ℤ◌, ◌≤ℤ◌, Bool, true, false, cond, not, ◌&&◌, Option, Some, None, List, [], ◌∷◌, ◌++◌, map, filter, length, get_or, refl, sym, ap, ◌∙◌, subst, arith}
-use Rattle.std.specs.Prelude.{int_lt, nat_lt, MatchBool}
-use Rattle.std.specs.List.{list_any}
-use Rattle.std.proofs.lemmas.Int.{ints}
-use Rattle.std.proofs.lemmas.Bool.{cases_lt}
-use Rattle.std.proofs.lemmas.List.{append-nil, get_or_past}
-use Rattle.std.proofs.lemmas.List.FromFn.{length-map-range_with_len, get_or-map-range_with_len}
-use Rattle.break_rules.specs.declared.Break.{Break}
-use Rattle.break_rules.specs.Sums.{int_sum_by}
-use Rattle.break_rules.proofs.Lists.{from_below}
-use Rattle.shift_instance.specs.declared.Duty.{Duty}
-use Rattle.shift_instance.specs.declared.Row.{Row}
-use Rattle.shift_instance.specs.Problem.{Problem, slots, need_at, need_max_at, shift_list, below}
-use Rattle.shift_instance.specs.Rota.{cover, heads_on, is_used, are_legal_rows, cost, rota_of}
-use Rattle.shift_instance.specs.Valid.{IsValid}
-use Rattle.greedy.specs.Drafts.{Leads, LeadsToGreedy}
-use Rattle.greedy.specs.Greedy.{duty, marginal_price, marginal_prices, best_list, best_duty, day_value, value_on, is_wanted, counts, gain, first_greatest, next_shift, new_duties, greedy_after, greedy_rota, greedy_rows, rows_of, AreRowsAfterRounds, IsAfterRounds}
-use Rattle.greedy.specs.Sizes.{IsWithin, ArePrices}
+use Rattle.greedy.proofs.Common.{◌≡◌, inl, inr, ℕ, suc, ◌+◌, ◌-◌, ◌*◌, ◌<◌, ◌≤◌, ℤ, pos, neg_ℤ, ◌+ℤ◌, ◌-ℤ◌, ◌≤ℤ◌, Bool, true, false, cond, not, ◌&&◌, Option, Some, None, List, [], ◌∷◌, ◌++◌, map, filter, length, get_or, refl, sym, ap, ◌∙◌, subst, arith, int_lt, MatchBool, list_any, ints, cases_lt, append-nil, get_or_past, length-map-range_with_len, get_or-map-range_with_len, Break, int_sum_by, from_below, Duty, Row, Problem, slots, need_at, need_max_at, shift_list, below, cover, heads_on, is_used, are_legal_rows, cost, rota_of, IsValid, Leads, LeadsToGreedy, duty, marginal_price, marginal_prices, best_list, best_duty, day_value, value_on, is_wanted, counts, gain, first_greatest, next_shift, new_duties, greedy_after, greedy_rota, greedy_rows, rows_of, AreRowsAfterRounds, IsAfterRounds, IsWithin, ArePrices, int_sum_below_more}
+use Rattle.std.specs.Prelude.{nat_lt}
 use Rattle.greedy.proofs.Falls.{rounds_cheaper}
 use Rattle.greedy.proofs.Growing.{heads_before}
 use Rattle.greedy.proofs.Leading.{leads_all}
 use Rattle.greedy.proofs.PlanRows.{rows_legal, rota_costs}
-use Rattle.shift_instance.proofs.Ranges.{int_sum_below_more}
 use Rattle.greedy.proofs.Ranges.{map_push, filter_more}
 use Rattle.greedy.proofs.Rounds.{used_is, find_some, round_some, round_none, rounds_more, rounds_none, greedy_after_legal}
 

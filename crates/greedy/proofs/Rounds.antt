@@ -1,25 +1,5 @@
 -- The rounds of the greedy plan: each adds legal duties, and in the end no shift is left to take.
-use Rattle.std.proofs.Common.{◌≡◌, ◌⊎◌, inl, inr, ℕ, zero, suc, ◌+◌, ◌*◌, ◌<◌, ◌≤◌, ℤ, pos, ◌-ℤ◌, ◌≤ℤ◌, ◌<ℤ◌, Bool, true, false, cond, ◌&&◌, ◌==◌, not, List, [], ◌∷◌, ◌++◌, filter, length, refl, sym, ap, ◌∙◌, subst, arith, nat_lt, nat_le, Option, Some, None, length-append}
-use Rattle.std.specs.Prelude.{int_lt, is_some, unwrap_or}
-use Rattle.std.specs.Option.{option_map_or}
-use Rattle.std.specs.List.{list_all, list_any, find, count_by}
-use Rattle.std.proofs.lemmas.Int.{ints}
-use Rattle.std.proofs.lemmas.Bool.{and_parts, and_from, ltb-true, lt-ltb, le-leb, false≢true, cases_Bool, cases_eq, ne_eqb}
-use Rattle.std.proofs.lemmas.List.Sums.{sum_by-cons}
-use Rattle.break_rules.specs.declared.Break.{Break}
-use Rattle.break_rules.specs.Sums.{int_sum_by}
-use Rattle.break_rules.specs.Lists.{Has}
-use Rattle.break_rules.proofs.Lists.{Has-map, from_map, from_filter, Has-filter, from_below, Has-append_cases, all_at, all_from, any_some, any_none}
-use Rattle.break_rules.proofs.Counts.{count_by-append, count_by-map, count_by_same, count_by_none, count_by-below}
-use Rattle.break_rules.proofs.Once.{count_by_and}
-use Rattle.break_rules.proofs.Sums.{int_sum_by-same, int_sum_by_zero}
-use Rattle.shift_instance.specs.declared.Duty.{Duty}
-use Rattle.shift_instance.specs.Problem.{Problem, shift_list, below}
-use Rattle.shift_instance.specs.Rota.{lists_of, is_list_of, is_legal_duty, is_on, heads_on, is_legal_rota, is_used}
-use Rattle.shift_instance.specs.Worth.{earned}
-use Rattle.shift_instance.proofs.Rotas.{from_lists_of, heads_within}
-use Rattle.greedy.specs.Greedy.{best_duty, earned_with, is_greatest, marginal_prices, day_value, best_list, used_list, value_on, counts, gain, next_shift, new_duties, greedy_after, greedy_rota}
-use Rattle.rota_cost.proofs.Lengths.{legal_length}
+use Rattle.greedy.proofs.Common.{◌≡◌, ◌⊎◌, inl, inr, ℕ, zero, suc, ◌+◌, ◌*◌, ◌<◌, ◌≤◌, ℤ, pos, ◌-ℤ◌, ◌≤ℤ◌, ◌<ℤ◌, Bool, true, false, cond, ◌&&◌, ◌==◌, not, List, [], ◌∷◌, ◌++◌, filter, length, refl, sym, ap, ◌∙◌, subst, arith, nat_lt, nat_le, Option, Some, None, length-append, int_lt, is_some, unwrap_or, option_map_or, list_all, list_any, find, count_by, ints, and_parts, and_from, ltb-true, lt-ltb, le-leb, false≢true, cases_Bool, cases_eq, ne_eqb, sum_by-cons, Break, int_sum_by, Has, Has-map, from_map, from_filter, Has-filter, from_below, Has-append_cases, all_at, all_from, any_some, any_none, count_by-append, count_by-map, count_by_same, count_by_none, count_by-below, count_by_and, int_sum_by-same, int_sum_by_zero, Duty, Problem, shift_list, below, lists_of, is_list_of, is_legal_duty, is_on, heads_on, is_legal_rota, is_used, earned, from_lists_of, heads_within, best_duty, earned_with, is_greatest, marginal_prices, day_value, best_list, used_list, value_on, counts, gain, next_shift, new_duties, greedy_after, greedy_rota, legal_length}
 
 pub lt_true : (a b : ℤ) → int_lt a b ≡ true → a <ℤ b
 lt_true a b h = grind (arith, ints)

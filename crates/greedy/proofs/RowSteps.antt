@@ -1,23 +1,5 @@
 -- The rows of a plan with one duty more.
-use Rattle.std.proofs.Common.{◌≡◌, ◌⊎◌, inl, inr, ℕ, ◌+◌, ◌<◌, Bool, true, false, cond, ◌&&◌, ◌||◌, ◌==◌, List, [], ◌∷◌, ◌++◌, map, filter, refl, sym, ap, ◌∙◌, subst, arith, nat_lt}
-use Rattle.std.specs.Prelude.{◌↔◌, IsTrue}
-use Rattle.std.proofs.lemmas.Bool.{and_parts, or_cases, eqb-true, ltb-true, lt-ltb, ltb-false, cases_Bool}
-use Rattle.std.proofs.lemmas.List.Sums.{sum_by_push}
-use Rattle.break_rules.specs.Breaks.{is_less_list}
-use Rattle.break_rules.specs.declared.Break.{Break}
-use Rattle.break_rules.specs.Lists.{Has, Sorted}
-use Rattle.break_rules.proofs.Lists.{from_map, from_filter, same_tests}
-use Rattle.break_rules.proofs.Counts.{Has-from_count}
-use Rattle.break_rules.proofs.Ordered.{less_apart}
-use Rattle.shift_instance.specs.declared.Duty.{Duty}
-use Rattle.shift_instance.specs.declared.Row.{Row}
-use Rattle.shift_instance.specs.Problem.{Problem}
-use Rattle.shift_instance.specs.Rota.{same_duty, count_of, is_legal_duty, is_before, duty_of}
-use Rattle.shift_instance.proofs.Alike.{same_duty_decides}
-use Rattle.greedy.specs.Drafts.{with_one_more}
-use Rattle.greedy.specs.Greedy.{rows_of}
-use Rattle.shift_instance.specs.AllDuties.{all_duties, row_of}
-use Rattle.shift_instance.proofs.AllDuties.{IsBefore, Sorted-all_duties, once_in_duties}
+use Rattle.greedy.proofs.Common.{◌≡◌, ◌⊎◌, inl, inr, ℕ, ◌+◌, ◌<◌, Bool, true, false, cond, ◌&&◌, ◌||◌, ◌==◌, List, [], ◌∷◌, ◌++◌, map, filter, refl, sym, ap, ◌∙◌, subst, arith, nat_lt, ◌↔◌, IsTrue, and_parts, or_cases, eqb-true, ltb-true, lt-ltb, ltb-false, cases_Bool, sum_by_push, is_less_list, Break, Has, Sorted, from_map, from_filter, same_tests, Has-from_count, less_apart, Duty, Row, Problem, same_duty, count_of, is_legal_duty, is_before, duty_of, same_duty_decides, with_one_more, rows_of, all_duties, row_of, IsBefore, Sorted-all_duties, once_in_duties}
 
 before_parts : (a b : Row) → is_before a b ≡ true → (a.shift < b.shift) ⊎ ((a.shift ≡ b.shift) × ((a.day < b.day) ⊎ ((a.day ≡ b.day) × (is_less_list a.breaks b.breaks ≡ true))))
 before_parts a b h =

@@ -9,7 +9,7 @@ ghost use Rattle.greedy.specs.Kept.{KeepsEach};
 ghost use Rattle.greedy.specs.Sizes.{ArePrices, IsWithin};
 ghost use Rattle.greedy.specs.Values.{AreValuesOf};
 
-use crate::draft::Draft;
+use crate::draft::GreedyDraft;
 use crate::gains::gain;
 use crate::known::{KnownDays, kept_values};
 use advice::Stop;
@@ -62,7 +62,7 @@ fn leading(bounds: &[i64]) -> Option<u16>
 pub(crate) fn next_shift<S: Stop>(
     alloc: Global,
     instance: &Instance,
-    draft: &Draft,
+    draft: &GreedyDraft,
     sums: &DaySums,
     bounds: &mut Vec<i64>,
     known: &mut [KnownDays],

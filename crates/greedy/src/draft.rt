@@ -4,7 +4,6 @@ ghost use Rattle.shift_instance.specs.Problem.{shift_list};
 ghost use Rattle.shift_instance.specs.Rota.{heads_on, is_legal_duty, is_used};
 ghost use Rattle.greedy.specs.Drafts.{IsDraft};
 ghost use Rattle.greedy.specs.Greedy.{duty};
-ghost use Rattle.shift_instance.specs.AllDuties.{row_of};
 
 use crate::rows::add_one;
 use break_rules::{Breaks, NoMemory};
@@ -14,7 +13,7 @@ use std::alloc::Global;
 
 /// The duties of a legal plan.
 #[derive(Drop)]
-pub(crate) struct Draft {
+pub(crate) struct GreedyDraft {
     /// How many duties work in each slot.
     pub(crate) cover: Cover,
     /// How many duties of each shift stand on each day: shift by shift, with one number for each day.
@@ -23,9 +22,9 @@ pub(crate) struct Draft {
     pub(crate) rows: Vec<Row>,
 }
 
-impl Draft {
+impl GreedyDraft {
     /// The plan with no duties.
-    pub(crate) fn empty(alloc: Global, instance: &Instance) -> Result<Draft, NoMemory>
+    pub(crate) fn empty(alloc: Global, instance: &Instance) -> Result<GreedyDraft, NoMemory>
         ensures duties { IfOk result (λ d. d.cover.duties ≡ []) }
         ensures draft { IfOk result (λ d. IsDraft instance.now d.cover d.heads.items d.rows.items) }
     {
@@ -33,7 +32,7 @@ impl Draft {
         let cover = Cover::new(alloc, instance)?;
         let heads = vec![in alloc; 0; instance.shifts().len() * days]?;
         let rows = Vec::new(alloc);
-        Ok(Draft { cover, heads, rows })
+        Ok(GreedyDraft { cover, heads, rows })
     }
 
     /// The duties of a shift on a day.
@@ -83,7 +82,7 @@ impl Draft {
         self.cover.add(instance, &duty);
         let at = usize::from(shift) * usize::from(instance.days()) + usize::from(day);
         self.heads[at] += 1;
-        add_one(&mut self.rows, row_of(duty))
+        add_one(&mut self.rows, Row::of_one(duty))
     }
 }
 
@@ -93,17 +92,4 @@ fn copy_of(alloc: Global, list: &Breaks) -> Result<Breaks, NoMemory>
 {
     let copy = Vec::from_slice(alloc, list.as_slice())?;
     Ok(Breaks::new(copy))
-}
-
-/// The row of one duty.
-fn row_of(duty: Duty) -> Row
-    ensures { result ≡ row_of duty 1 }
-{
-    let Duty { shift, day, breaks } = duty;
-    Row {
-        shift,
-        day,
-        breaks,
-        count: 1,
-    }
 }

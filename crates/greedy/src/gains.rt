@@ -5,7 +5,7 @@ ghost use Rattle.greedy.specs.Drafts.{IsDraft};
 ghost use Rattle.greedy.specs.Greedy.{gain, is_wanted, marginal_prices};
 ghost use Rattle.greedy.specs.Values.{AreValuesOf};
 
-use crate::draft::Draft;
+use crate::draft::GreedyDraft;
 use crate::values::value_on;
 use price_sums::Lane;
 use shift_instance::Instance;
@@ -18,7 +18,7 @@ pub(crate) fn is_wanted(instance: &Instance, heads: u16, value: i64) -> bool
 }
 
 /// The gain of a shift, of its values at the plan's marginal prices.
-pub(crate) fn gain(instance: &Instance, draft: &Draft, values: &Lane, shift: u16) -> i64
+pub(crate) fn gain(instance: &Instance, draft: &GreedyDraft, values: &Lane, shift: u16) -> i64
     requires draft { IsDraft instance.now draft.now.cover draft.now.heads.items draft.now.rows.items }
     requires values { AreValuesOf instance.now (marginal_prices instance.now draft.now.cover.duties) shift values.now }
     requires shift { shift < length (shift_list instance.now) }

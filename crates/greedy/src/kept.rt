@@ -20,7 +20,7 @@ use std::alloc::Global;
 
 /// What is kept from round to round.
 #[derive(Drop)]
-pub(crate) struct Kept {
+pub(crate) struct KeptGains {
     /// Bounds of the gains of all shifts.
     pub(crate) bounds: Vec<i64>,
     /// The marginal prices of all slots.
@@ -88,13 +88,13 @@ fn nothing_known(alloc: Global, shifts: usize) -> Result<Vec<KnownDays>, NoMemor
     Ok(known)
 }
 
-impl Kept {
+impl KeptGains {
     /// What is kept before the first round, in which all values have to be found.
     pub(crate) fn opening(
         alloc: Global,
         instance: &Instance,
         cover: &Cover,
-    ) -> Result<Kept, NoMemory>
+    ) -> Result<KeptGains, NoMemory>
         requires valid { IsValid instance.now }
         requires instance { cover.now.instance ≡ instance.now }
         requires duties { cover.now.duties ≡ [] }
@@ -105,7 +105,7 @@ impl Kept {
         let prices = marginal_prices(alloc, instance, cover)?;
         let sums = DaySums::new(alloc, instance, &prices)?;
         let known = nothing_known(alloc, instance.shifts().len())?;
-        Ok(Kept {
+        Ok(KeptGains {
             bounds,
             prices,
             sums,

@@ -10,9 +10,9 @@ ghost use Rattle.greedy.specs.Drafts.{IsDraft, LeadsToGreedy};
 ghost use Rattle.greedy.specs.Greedy.{AreRowsAfterRounds, IsAfterRounds, best_duty, day_value, greedy_rows, is_wanted, marginal_prices, new_duties};
 
 use crate::bounds::{next_shift, raise};
-use crate::draft::Draft;
+use crate::draft::GreedyDraft;
 use crate::gains::is_wanted;
-use crate::kept::Kept;
+use crate::kept::KeptGains;
 use crate::lists::best_list;
 use crate::values::value_on;
 use advice::{Never, Stop};
@@ -25,7 +25,7 @@ use std::alloc::Global;
 fn add_day(
     alloc: Global,
     instance: &Instance,
-    draft: &mut Draft,
+    draft: &mut GreedyDraft,
     prices: &[i64],
     values: &Lane,
     shift: u16,
@@ -53,7 +53,7 @@ fn add_day(
 fn add_days(
     alloc: Global,
     instance: &Instance,
-    draft: &mut Draft,
+    draft: &mut GreedyDraft,
     prices: &[i64],
     values: &Lane,
     shift: u16,
@@ -76,8 +76,8 @@ fn add_days(
 fn round<S: Stop>(
     alloc: Global,
     instance: &Instance,
-    draft: &mut Draft,
-    kept: &mut Kept,
+    draft: &mut GreedyDraft,
+    kept: &mut KeptGains,
     stop: &S,
 ) -> Result<bool, NoMemory>
     requires draft { IsDraft instance.now draft.old.cover draft.old.heads.items draft.old.rows.items }
@@ -112,13 +112,17 @@ fn round<S: Stop>(
 }
 
 /// The greedy plan as a draft or, once the stop asks, the plan after the rounds so far.
-fn greedy_draft<S: Stop>(alloc: Global, instance: &Instance, stop: &S) -> Result<Draft, NoMemory>
+fn greedy_draft<S: Stop>(
+    alloc: Global,
+    instance: &Instance,
+    stop: &S,
+) -> Result<GreedyDraft, NoMemory>
     ensures draft { IfOk result (λ d. IsDraft instance.now d.cover d.heads.items d.rows.items) }
     ensures rounds { IfOk result (λ d. IsAfterRounds instance.now d.cover.duties) }
     ensures leads { IfOk result (λ d. S.can_ask stop.now ≡ false → LeadsToGreedy instance.now 0 d.cover.duties) }
 {
-    let mut draft = Draft::empty(alloc, instance)?;
-    let mut kept = Kept::opening(alloc, instance, &draft.cover)?;
+    let mut draft = GreedyDraft::empty(alloc, instance)?;
+    let mut kept = KeptGains::opening(alloc, instance, &draft.cover)?;
     let most = instance.shifts().len()
         * usize::from(instance.days())
         * usize::from(instance.heads());
@@ -145,7 +149,7 @@ pub fn greedy_plan_until<S: Stop>(
     ensures cheaper { IfOk result (λ rows. cost instance.now (rota_of rows) ≤ cost instance.now []) }
 {
     let draft = greedy_draft(alloc, instance, stop)?;
-    let Draft { rows, .. } = draft;
+    let GreedyDraft { rows, .. } = draft;
     Ok(Rows::new(rows))
 }
 

@@ -1,20 +1,5 @@
 -- A node is settled exactly where the classes of all duties of each shift and day are, one break after another.
-use Rattle.std.proofs.Common.{◌≡◌, inl, inr, ℕ, zero, suc, ◌+◌, ◌<◌, ◌≤◌, true, false, List, [], ◌∷◌, ◌++◌, length, arith, nat_lt, Option, Some, None}
-use Rattle.std.specs.Prelude.{slice_get, ◌↔◌}
-use Rattle.std.specs.Option.{option_map_or}
-use Rattle.std.proofs.lemmas.Bool.{cases_Bool, false≢true, and_parts, and_from, lt-ltb}
-use Rattle.std.proofs.lemmas.List.{length-append}
-use Rattle.break_rules.specs.declared.Break.{Break}
-use Rattle.break_rules.specs.declared.Rule.{Rule}
-use Rattle.break_rules.specs.Breaks.{is_legal, is_live}
-use Rattle.break_rules.proofs.LegalLists.{legal_in_order, few_breaks, live_rest, live_from}
-use Rattle.shift_instance.specs.declared.Shift.{Shift}
-use Rattle.shift_instance.specs.Problem.{Problem, shift_list}
-use Rattle.shift_instance.specs.Rota.{lists_of, is_shift_and}
-use Rattle.shift_instance.proofs.Rotas.{Has-lists_of}
-use Rattle.head_splits.specs.declared.Cut.{Cut}
-use Rattle.head_splits.specs.Bound.{is_nil}
-use Rattle.head_splits.specs.Settled.{class_of, is_settled, is_live_class, IsSettledClass, without_duties, of_fixed_number, of_settled_extensions}
+use Rattle.head_splits.proofs.Common.{◌≡◌, inl, inr, ℕ, zero, suc, ◌+◌, ◌<◌, ◌≤◌, true, false, List, [], ◌∷◌, ◌++◌, length, arith, nat_lt, Option, Some, None, slice_get, ◌↔◌, option_map_or, cases_Bool, false≢true, and_parts, and_from, lt-ltb, length-append, Break, Rule, is_legal, is_live, legal_in_order, few_breaks, live_rest, live_from, Shift, Problem, shift_list, lists_of, is_shift_and, Has-lists_of, Cut, is_nil, class_of, is_settled, is_live_class, IsSettledClass, without_duties, of_fixed_number, of_settled_extensions}
 use Rattle.head_splits.proofs.Duality.{none_in}
 use Rattle.head_splits.proofs.Recursion.{IsSettledFrom, settled_closed, settled_whole, settled_parts, settled_cases, settled_each, settled_from_each}
 

@@ -1,35 +1,11 @@
 -- Weak duality: every legal rota below some cuts costs at least the bound of each price set for them.
-use Rattle.std.proofs.Common.{◌≡◌, inl, inr, ℕ, zero, suc, ◌+◌, ◌-◌, ◌*◌, ◌<◌, ◌≤◌, ℤ, pos, negsuc, neg_ℤ, ◌+ℤ◌, ◌-ℤ◌, ◌*ℤ◌, ◌≤ℤ◌, Bool, true, false, cond, not, ◌&&◌, ◌||◌, ◌==◌, List, [], ◌∷◌, length, refl, sym, ap, ◌∙◌, subst, arith, fold, nat_le, nat_lt}
-use Rattle.std.specs.Prelude.{int_le, sum_by}
+use Rattle.head_splits.proofs.Common.{◌≡◌, inl, inr, ℕ, zero, suc, ◌+◌, ◌-◌, ◌*◌, ◌<◌, ◌≤◌, ℤ, pos, negsuc, neg_ℤ, ◌+ℤ◌, ◌-ℤ◌, ◌*ℤ◌, ◌≤ℤ◌, Bool, true, false, cond, not, ◌&&◌, ◌||◌, ◌==◌, List, [], ◌∷◌, length, refl, sym, ap, ◌∙◌, subst, arith, fold, nat_le, nat_lt, int_le, sum_by, list_all, zip, ints, clamps, and_parts, leb-true, ltb-true, false≢true, cases_Bool, cond_both, cases_lt, and_left, le-ltb, AllPass-from_list_all, Break, begins_with, same_list, Has, Has-map, all_at, any_some, any_none, from_below, same_list_decides, Duty, Problem, slots, need_at, need_max_at, shift_list, below, works, lists_of, is_on, heads_on, is_legal_rota, cover, slot_cost, is_used, shifts_used, cost, price_of, earned, legal_duties, heads_within, count_by_same, count_by_none, count_by_at_most, Class, Side, AtMost, AtLeast, Cut, Prices, holds, class_count, same_class, keeps_to, meets_cut, meets, raised, lowered, low, high, whole_class, int_sum_by, rounded_up, is_nil, signed_price, bonus, reduced, best_value, is_forced, day_value, free_day_value, term, wanted_at, worth_at, slot_worth, cut_worth, total, bound_of, is_slot_price, is_cut_price, are_prices, int_sum_by-le, int_sum_by-same, int_sum_by-add, int_sum_by_zero, int_sum_by_swap, int_sum_by_if, int_sum_by_pick_below, int_sum_by_pos, within_range, within_free_range, greatest_bounds, rounded_up_least}
 use Rattle.std.specs.Int.{int_min}
-use Rattle.std.specs.List.{list_all, zip}
-use Rattle.std.proofs.lemmas.Int.{ints, clamps}
-use Rattle.std.proofs.lemmas.Bool.{and_parts, leb-true, ltb-true, eqb-true, false≢true, cases_Bool, cond_both, cases_lt, and_left, le-ltb}
-use Rattle.std.proofs.lemmas.List.Sums.{AllPass-from_list_all}
+use Rattle.std.proofs.lemmas.Bool.{eqb-true}
 use Rattle.std.proofs.Math.Nat.{mul-le-mul_left, mul-le-mul_right, mul_assoc, mul_comm}
-use Rattle.break_rules.specs.declared.Break.{Break}
-use Rattle.break_rules.specs.Breaks.{begins_with, same_list}
 use Rattle.std.proofs.Math.Bool.{and-true}
-use Rattle.break_rules.specs.Lists.{Has}
-use Rattle.break_rules.proofs.Lists.{Has-map, all_at, any_some, any_none, from_below}
-use Rattle.break_rules.proofs.LegalLists.{same_list_decides}
-use Rattle.shift_instance.specs.declared.Duty.{Duty}
-use Rattle.shift_instance.specs.Problem.{Problem, slots, need_at, need_max_at, shift_list, below}
-use Rattle.shift_instance.specs.Rota.{works, lists_of, is_on, heads_on, is_legal_rota, cover, slot_cost, is_used, shifts_used, cost}
-use Rattle.shift_instance.specs.Worth.{price_of, earned}
-use Rattle.shift_instance.proofs.Rotas.{legal_duties, heads_within}
-use Rattle.break_rules.proofs.Counts.{count_by_same, count_by_none, count_by_at_most}
 use Rattle.head_splits.specs.declared.TheConstants.{CUT_PRICE_MAX}
-use Rattle.head_splits.specs.declared.Class.{Class}
-use Rattle.head_splits.specs.declared.Side.{Side}
-use Rattle.head_splits.specs.declared.Side.TheVariants.{AtMost, AtLeast}
-use Rattle.head_splits.specs.declared.Cut.{Cut}
-use Rattle.head_splits.specs.declared.Prices.{Prices}
-use Rattle.head_splits.specs.Cuts.{holds, class_count, same_class, keeps_to, meets_cut, meets, raised, lowered, low, high, whole_class}
 use Rattle.head_splits.proofs.Priced.{le_from_test, priced as price_parts}
-use Rattle.break_rules.specs.Sums.{int_sum_by, rounded_up}
-use Rattle.head_splits.specs.Bound.{is_nil, signed_price, bonus, reduced, best_value, is_forced, day_value, free_day_value, term, wanted_at, worth_at, slot_worth, cut_worth, total, bound_of, is_slot_price, is_cut_price, are_prices}
-use Rattle.break_rules.proofs.Sums.{int_sum_by-le, int_sum_by-same, int_sum_by-add, int_sum_by_zero, int_sum_by_swap, int_sum_by_if, int_sum_by_pick_below, int_sum_by_pos, within_range, within_free_range, greatest_bounds, rounded_up_least}
 
 -- ---- a slot: its price pays no more than excess above the band and shortage below it cost
 

@@ -1,15 +1,6 @@
 -- The definitions, computed on instances whose bounds were found by hand.
-use Rattle.std.proofs.Common.{◌≡◌, ℕ, ℤ, pos, negsuc, true, false, List, [], ◌∷◌, ◌++◌, refl, replicate, Some}
-use Rattle.break_rules.specs.declared.Break.{Break}
-use Rattle.shift_instance.specs.Problem.{Problem}
+use Rattle.head_splits.proofs.Common.{◌≡◌, ℕ, ℤ, pos, negsuc, true, false, List, [], ◌∷◌, ◌++◌, refl, replicate, Some, Break, Problem, AtMost, AtLeast, Side, Cut, Prices, whole_class, meets, low, high, best_value, reduced, total, bound_of, are_prices, class_of, is_settled, settled_plan, is_empty, split_class, span}
 use Rattle.shift_instance.proofs.Examples.{one_morning, duty}
-use Rattle.head_splits.specs.declared.Side.TheVariants.{AtMost, AtLeast}
-use Rattle.head_splits.specs.declared.Side.{Side}
-use Rattle.head_splits.specs.declared.Cut.{Cut}
-use Rattle.head_splits.specs.declared.Prices.{Prices}
-use Rattle.head_splits.specs.Cuts.{whole_class, meets, low, high}
-use Rattle.head_splits.specs.Bound.{best_value, reduced, total, bound_of, are_prices}
-use Rattle.head_splits.specs.Settled.{class_of, is_settled, settled_plan, is_empty, split_class, span}
 
 abbrev two_heads : Problem
 two_heads = record one_morning { heads = 2 }

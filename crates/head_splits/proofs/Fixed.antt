@@ -1,30 +1,9 @@
 -- Settled nodes: all legal rotas below one have the same duties, and those of its plan.
-use Rattle.std.proofs.Common.{◌≡◌, inl, inr, ℕ, ◌+◌, ◌*◌, ◌≤◌, true, false, cond, ◌&&◌, ◌||◌, ◌==◌, not, List, [], ◌++◌, replicate, length, take, drop, refl, sym, ap, ◌∙◌, subst, arith, eq-eqb, Option, Some, None}
-use Rattle.std.specs.Prelude.{slice_get}
-use Rattle.std.specs.Option.{option_map_or}
-use Rattle.std.specs.List.{list_all, count_by}
-use Rattle.std.proofs.lemmas.Bool.{and_parts, and_from, leb-true, eqb-true, cases_Bool, false≢true}
-use Rattle.std.proofs.lemmas.List.{take-append-drop, append-nil}
-use Rattle.break_rules.specs.declared.Break.{Break}
-use Rattle.break_rules.specs.declared.Rule.{Rule}
-use Rattle.break_rules.specs.Breaks.{is_legal, same_list, begins_with}
-use Rattle.break_rules.specs.Lists.{Has}
-use Rattle.break_rules.proofs.Lists.{from_map, from_flat_map, all_at, all_from, any_some, from_replicate}
-use Rattle.break_rules.proofs.Counts.{count_by_same, count_by_at_most, sum_by_same, sum_by_if, count_by-flat_map, count_by-replicate}
-use Rattle.break_rules.proofs.LegalLists.{begins_rest, begins_from, no_longer_list, same_list_decides}
+use Rattle.head_splits.proofs.Common.{◌≡◌, inl, inr, ℕ, ◌+◌, ◌*◌, ◌≤◌, true, false, cond, ◌&&◌, ◌||◌, ◌==◌, not, List, [], ◌++◌, replicate, length, take, drop, refl, sym, ap, ◌∙◌, subst, arith, eq-eqb, Option, Some, None, slice_get, option_map_or, list_all, count_by, and_parts, and_from, leb-true, cases_Bool, false≢true, take-append-drop, Break, Rule, is_legal, same_list, begins_with, Has, from_map, from_flat_map, all_at, all_from, any_some, from_replicate, count_by_same, count_by_at_most, sum_by_same, sum_by_if, count_by-flat_map, count_by-replicate, begins_rest, begins_from, no_longer_list, same_list_decides, Shift, Duty, Problem, shift_list, below, same_duty, count_of, is_list_of, is_legal_duty, is_legal_rota, is_on, cost, Has-all_duties, from_all_duties, no_count, once_in_duties, legal_duty_parts, legal_duties, same_tests, Cut, holds, class_count, meets, meets_cut, keeps_to, low, high, prefixes, class_of, is_closed, is_fixed, is_settled, fixed_count, settled_plan, is_empty, all_duties}
+use Rattle.std.proofs.lemmas.Bool.{eqb-true}
+use Rattle.std.proofs.lemmas.List.{append-nil}
 use Rattle.break_rules.proofs.Once.{cond_same}
-use Rattle.shift_instance.specs.declared.Shift.{Shift}
-use Rattle.shift_instance.specs.declared.Duty.{Duty}
-use Rattle.shift_instance.specs.Problem.{Problem, shift_list, below}
-use Rattle.shift_instance.specs.Rota.{same_duty, count_of, is_list_of, is_legal_duty, is_legal_rota, is_on, cost}
-use Rattle.shift_instance.proofs.AllDuties.{Has-all_duties, from_all_duties, no_count, once_in_duties}
-use Rattle.shift_instance.proofs.Rotas.{legal_duty_parts, legal_duties}
 use Rattle.shift_instance.proofs.Alike.{same_duty_decides, AreAlike, alike_from_counts, alike_cost, alike_legal}
-use Rattle.break_rules.proofs.Lists.{same_tests}
-use Rattle.head_splits.specs.declared.Cut.{Cut}
-use Rattle.head_splits.specs.Cuts.{holds, class_count, meets, meets_cut, keeps_to, low, high}
-use Rattle.head_splits.specs.Settled.{prefixes, class_of, is_closed, is_fixed, is_settled, fixed_count, settled_plan, is_empty}
-use Rattle.shift_instance.specs.AllDuties.{all_duties}
 use Rattle.head_splits.proofs.Duality.{low_at_most, high_at_least}
 
 -- ---- legal lists of one shift

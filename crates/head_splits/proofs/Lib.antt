@@ -1,3 +1,4 @@
+pub mod Common
 pub mod Best
 pub mod ByClasses
 pub mod Duality

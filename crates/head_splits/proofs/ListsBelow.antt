@@ -1,16 +1,6 @@
 -- The legal lists that begin with some breaks are, in order, those that begin with these and each next break.
-use Rattle.std.proofs.Common.{◌≡◌, inl, inr, ℕ, true, false, ◌&&◌, List, [], ◌∷◌, ◌++◌, filter, refl, sym, ap, ◌∙◌, subst, append_assoc, append-nil}
-use Rattle.std.specs.List.{flat_map}
-use Rattle.std.proofs.lemmas.Bool.{and_from, or_left, or_right, false≢true}
-use Rattle.break_rules.specs.declared.Break.{Break}
-use Rattle.break_rules.specs.declared.Rule.{Rule}
-use Rattle.break_rules.specs.Breaks.{same_break, is_less_break, is_less_list, is_legal, is_live, legal_lists, breaks_between, begins_with}
+use Rattle.head_splits.proofs.Common.{◌≡◌, inl, inr, ℕ, true, false, ◌&&◌, List, [], ◌∷◌, ◌++◌, filter, refl, sym, ap, ◌∙◌, subst, append_assoc, append-nil, flat_map, and_from, or_left, or_right, false≢true, Break, Rule, same_break, is_less_break, is_less_list, is_legal, is_live, legal_lists, breaks_between, begins_with, Has, Sorted, from_flat_map, Has-flat_map, from_filter, Has-filter, begins_rest, begins_from, no_longer_list, same_break_decides, from_legal_lists, Has-legal_lists, Sorted-filter, Sorted-flat_map, Sorted-breaks, Sorted-legal_lists, IsLess, IsLessBreak, less_apart, rest_first}
 use Rattle.break_rules.specs.Walk.{may_follow, nexts_of, spot_of}
-use Rattle.break_rules.specs.Lists.{Has, Sorted}
-use Rattle.break_rules.proofs.Lists.{from_flat_map, Has-flat_map, from_filter, Has-filter}
-use Rattle.break_rules.proofs.LegalLists.{begins_rest, begins_from, no_longer_list, same_break_decides, from_legal_lists, Has-legal_lists}
-use Rattle.break_rules.proofs.Ordered.{Sorted-filter, Sorted-flat_map, Sorted-breaks, Sorted-legal_lists, IsLess, IsLessBreak, less_apart}
-use Rattle.break_rules.proofs.Reaching.{rest_first}
 use Rattle.break_graph.specs.Graph.{live_nexts}
 
 -- lists in a strict order are the same where they have the same elements

@@ -1,17 +1,6 @@
 -- A table that has the ranges of some cuts has those of one more, once the range of its class is narrowed by it.
-use Rattle.std.proofs.Common.{◌≡◌, inl, inr, ℕ, Bool, true, false, cond, ◌&&◌, ◌==◌, List, [], ◌∷◌, ◌++◌, refl, sym, ap, ◌∙◌, Some}
-use Rattle.std.specs.Option.{unwrap_or}
-use Rattle.std.proofs.lemmas.Bool.{cases_Bool}
-use Rattle.std.proofs.lemmas.List.Sums.{fold_push}
+use Rattle.head_splits.proofs.Common.{◌≡◌, inl, inr, ℕ, Bool, true, false, cond, ◌&&◌, ◌==◌, List, [], ◌∷◌, ◌++◌, refl, sym, ap, ◌∙◌, Some, unwrap_or, cases_Bool, fold_push, same_list, Problem, Place, RangeTable, Class, Cut, same_class, raised, lowered, low, high, class_at, same_place, range_in, AreRanges}
 use Rattle.indexmap.specs.IndexMap.{get}
-use Rattle.break_rules.specs.Breaks.{same_list}
-use Rattle.shift_instance.specs.Problem.{Problem}
-use Rattle.head_splits.specs.declared.table.Place.{Place}
-use Rattle.head_splits.specs.declared.table.RangeTable.{RangeTable}
-use Rattle.head_splits.specs.declared.Class.{Class}
-use Rattle.head_splits.specs.declared.Cut.{Cut}
-use Rattle.head_splits.specs.Cuts.{same_class, raised, lowered, low, high}
-use Rattle.head_splits.specs.Ranges.{class_at, same_place, range_in, AreRanges}
 use Rattle.head_splits.proofs.Duality.{same_class_is}
 
 and_assoc : (a b c : Bool) → ((a && b) && c) ≡ (a && (b && c))

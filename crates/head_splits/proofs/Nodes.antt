@@ -1,21 +1,6 @@
 -- Sound nodes: a better floor and a split keep them sound.
-use Rattle.std.proofs.Common.{◌≡◌, ◌⊎◌, inl, inr, ℕ, zero, suc, ◌+◌, ◌<◌, ◌≤◌, min, max, Bool, true, false, cond, List, [], ◌∷◌, ◌++◌, length, get_or, set, refl, sym, ap, ◌∙◌, subst, arith, fold, Some}
-use Rattle.std.specs.Prelude.{slice_get}
-use Rattle.std.proofs.lemmas.Bool.{and_parts, and_from, le-leb, cases_lt, cond_both}
-use Rattle.std.proofs.lemmas.List.Folds.{list_all-append}
-use Rattle.break_rules.specs.Lists.{Has}
-use Rattle.break_rules.proofs.Lists.{Has-append_left, Has-append_right, Has-append_cases}
-use Rattle.shift_instance.specs.declared.Duty.{Duty}
-use Rattle.shift_instance.specs.Problem.{Problem}
+use Rattle.head_splits.proofs.Common.{◌≡◌, ◌⊎◌, inl, inr, ℕ, zero, suc, ◌+◌, ◌<◌, ◌≤◌, min, max, Bool, true, false, cond, List, [], ◌∷◌, ◌++◌, length, get_or, set, refl, sym, ap, ◌∙◌, subst, arith, fold, Some, slice_get, and_parts, and_from, le-leb, cases_lt, cond_both, list_all-append, Has, Has-append_left, Has-append_right, Has-append_cases, Duty, Problem, cost, is_legal_rota, Class, AtMost, AtLeast, Cut, Prices, class_count, meets, meets_cut, are_prices, bound_of, is_settled, settled_plan}
 use Rattle.shift_instance.specs.declared.TheConstants.{TOP}
-use Rattle.shift_instance.specs.Rota.{cost, is_legal_rota}
-use Rattle.head_splits.specs.declared.Class.{Class}
-use Rattle.head_splits.specs.declared.Side.TheVariants.{AtMost, AtLeast}
-use Rattle.head_splits.specs.declared.Cut.{Cut}
-use Rattle.head_splits.specs.declared.Prices.{Prices}
-use Rattle.head_splits.specs.Cuts.{class_count, meets, meets_cut}
-use Rattle.head_splits.specs.Bound.{are_prices, bound_of}
-use Rattle.head_splits.specs.Settled.{is_settled, settled_plan}
 use Rattle.head_splits.specs.Nodes.{Node, new_node, child, with_floor, with_split, settled_floor, AreSound}
 use Rattle.head_splits.proofs.Duality.{weak_duality}
 use Rattle.head_splits.proofs.Fixed.{settled_cost, settled_some}

@@ -1,14 +1,8 @@
 -- The parts of a price set, by the test of one.
-use Rattle.std.proofs.Common.{◌≡◌, ◌≤◌, ℤ, ◌≤ℤ◌, true, ◌&&◌, ◌==◌, nat_le, List, length}
-use Rattle.std.specs.Prelude.{int_le}
+use Rattle.head_splits.proofs.Common.{◌≡◌, ◌≤◌, ℤ, ◌≤ℤ◌, true, ◌&&◌, ◌==◌, nat_le, List, length, int_le, list_all, zip, and_parts, leb-true, Problem, slots, Cut, Prices, is_slot_price, is_cut_price, are_prices}
 use Rattle.std.specs.Int.Signed.{le_z_yes}
-use Rattle.std.specs.List.{list_all, zip}
-use Rattle.std.proofs.lemmas.Bool.{and_parts, leb-true, eqb-true}
+use Rattle.std.proofs.lemmas.Bool.{eqb-true}
 use Rattle.std.proofs.lemmas.Float.{T_from_true}
-use Rattle.shift_instance.specs.Problem.{Problem, slots}
-use Rattle.head_splits.specs.declared.Cut.{Cut}
-use Rattle.head_splits.specs.declared.Prices.{Prices}
-use Rattle.head_splits.specs.Bound.{is_slot_price, is_cut_price, are_prices}
 
 pub record Priced (i : Problem) (cuts : List Cut) (prices : Prices) : Type 0 where
   pub scale : 1 ≤ prices.q

@@ -1,20 +1,5 @@
 -- The shortest prefix of a list whose number is open.
-use Rattle.std.proofs.Common.{◌≡◌, inl, inr, ℕ, ◌+◌, ◌-◌, ◌<◌, ◌≤◌, Bool, true, false, ◌||◌, List, ◌∷◌, ◌++◌, map, length, take, sym, ap, ◌∙◌, arith, nat_lt, subst, Some}
-use Rattle.std.specs.List.{find, range_with_len}
-use Rattle.std.proofs.lemmas.Bool.{cases_Bool, or_parts, not-true, leb-false, lt-ltb, le-ltb, ltb-true, ltb-false}
-use Rattle.std.proofs.lemmas.List.{map-append, take_all}
-use Rattle.break_rules.specs.declared.Break.{Break}
-use Rattle.break_rules.proofs.Lists.{from_map, from_below}
-use Rattle.break_rules.proofs.Reaching.{find_here}
-use Rattle.shift_instance.specs.declared.Duty.{Duty}
-use Rattle.shift_instance.specs.Problem.{Problem, below}
-use Rattle.head_splits.specs.declared.table.Place.{Place}
-use Rattle.head_splits.specs.declared.Class.{Class}
-use Rattle.head_splits.specs.declared.Cut.{Cut}
-use Rattle.head_splits.specs.Cuts.{low, high}
-use Rattle.head_splits.specs.Settled.{prefixes, class_of, is_closed, is_fixed}
-use Rattle.head_splits.specs.Below.{is_open}
-use Rattle.head_splits.specs.Ranges.{class_at}
+use Rattle.head_splits.proofs.Common.{◌≡◌, inl, inr, ℕ, ◌+◌, ◌-◌, ◌<◌, ◌≤◌, Bool, true, false, ◌||◌, List, ◌∷◌, ◌++◌, map, length, take, sym, ap, ◌∙◌, arith, nat_lt, subst, Some, find, range_with_len, cases_Bool, or_parts, not-true, leb-false, lt-ltb, le-ltb, ltb-true, ltb-false, map-append, take_all, Break, from_map, from_below, find_here, Duty, Problem, below, Place, Class, Cut, low, high, prefixes, class_of, is_closed, is_fixed, is_open, class_at}
 use Rattle.head_splits.proofs.WholeWalk.{below_split, range_append}
 
 pub first_prefix : (p : Class → Bool) (s day : ℕ) (list : List Break) (k : ℕ) → k ≤ length list → ((n : ℕ) → n < k → p (class_of s day (take n list)) ≡ false) → p (class_of s day (take k list)) ≡ true

@@ -1,29 +1,6 @@
 -- A node that isn't settled has a class to split, and both parts have a smaller span.
-use Rattle.std.proofs.Common.{◌≡◌, inl, inr, ℕ, ◌+◌, ◌-◌, ◌<◌, ◌≤◌, Bool, true, false, cond, ◌&&◌, ◌||◌, ◌==◌, not, List, [], ◌∷◌, ◌++◌, map, length, take, drop, refl, sym, ap, ◌∙◌, subst, arith, nat_lt, Option, Some, None}
-use Rattle.std.specs.Prelude.{slice_get, sum_by, IsSomeAnd}
-use Rattle.std.specs.Option.{option_map_or}
-use Rattle.std.specs.List.{list_all, list_any, find, flat_map}
-use Rattle.std.proofs.lemmas.Bool.{and_parts, and_from, and_cases, or_parts, leb-false, ltb-true, lt-ltb, false≢true, cond_both, not_from_false, not-true, or_left, or_right, eq-eqb}
-use Rattle.std.proofs.lemmas.List.Sums.{sum_by-cons, fold_push, sum_by-le-sum_by}
-use Rattle.std.proofs.lemmas.List.{take-append-drop, take_all}
-use Rattle.break_rules.specs.declared.Break.{Break}
-use Rattle.break_rules.specs.declared.Rule.{Rule}
-use Rattle.break_rules.specs.Breaks.{is_legal, is_live, live_lists, same_list, break_lists, end_of}
-use Rattle.break_rules.specs.Lists.{Has}
-use Rattle.break_rules.proofs.Lists.{Has-map, from_map, Has-flat_map, Has-filter, any_at, Has-below}
-use Rattle.break_rules.proofs.LegalLists.{StandInOrder, legal_in_order, live_from, live_rest, Has-all_lists, same_list_decides, short}
-use Rattle.shift_instance.specs.declared.Shift.{Shift}
-use Rattle.shift_instance.specs.Problem.{Problem, shift_list, below}
-use Rattle.shift_instance.specs.Rota.{live_lists_of, is_shift_and}
-use Rattle.shift_instance.proofs.Rotas.{legal_duty_parts, slice_get_below}
-use Rattle.head_splits.specs.declared.Class.{Class}
-use Rattle.head_splits.specs.declared.Side.{Side}
-use Rattle.head_splits.specs.declared.Side.TheVariants.{AtMost, AtLeast}
-use Rattle.head_splits.specs.declared.Cut.{Cut}
-use Rattle.head_splits.specs.Cuts.{same_class, raised, lowered, least_high, low, high}
-use Rattle.head_splits.specs.Settled.{prefixes, class_of, is_closed, is_fixed, is_settled, split_class, is_live_class, live_classes, span}
-use Rattle.shift_instance.specs.AllDuties.{all_duties}
-use Rattle.shift_instance.proofs.AllDuties.{from_all_duties}
+use Rattle.head_splits.proofs.Common.{◌≡◌, inl, inr, ℕ, ◌+◌, ◌-◌, ◌<◌, ◌≤◌, Bool, true, false, cond, ◌&&◌, ◌||◌, ◌==◌, not, List, [], ◌∷◌, ◌++◌, map, length, take, drop, refl, sym, ap, ◌∙◌, subst, arith, nat_lt, Option, Some, None, slice_get, sum_by, IsSomeAnd, option_map_or, list_all, list_any, find, flat_map, and_parts, and_from, and_cases, or_parts, leb-false, ltb-true, lt-ltb, false≢true, cond_both, not_from_false, not-true, or_left, or_right, sum_by-cons, fold_push, sum_by-le-sum_by, take-append-drop, take_all, Break, Rule, is_legal, is_live, live_lists, same_list, break_lists, end_of, Has, Has-map, from_map, Has-flat_map, Has-filter, any_at, Has-below, StandInOrder, legal_in_order, live_from, live_rest, Has-all_lists, same_list_decides, short, Shift, Problem, shift_list, below, live_lists_of, is_shift_and, legal_duty_parts, slice_get_below, Class, Side, AtMost, AtLeast, Cut, same_class, raised, lowered, least_high, low, high, prefixes, class_of, is_closed, is_fixed, is_settled, split_class, is_live_class, live_classes, span, all_duties, from_all_duties}
+use Rattle.std.proofs.lemmas.Bool.{eq-eqb}
 
 -- ---- the class to split
 

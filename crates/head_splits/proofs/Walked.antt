@@ -1,44 +1,15 @@
 -- What a walk over the legal duties below a class finds, from what it finds below the class's extensions.
-use Rattle.std.proofs.Common.{◌≡◌, inl, inr, ℕ, zero, suc, ◌+◌, ◌-◌, ◌<◌, ◌≤◌, Bool, true, false, cond, not, ◌||◌, ◌==◌, List, [], ◌∷◌, ◌++◌, map, filter, length, take, drop, refl, sym, ap, ◌∙◌, subst, arith, append_assoc, append-nil, nat_lt, nat_le, Option, Some, None, Result, Ok, Err, eq-eqb, eqb-true}
-use Rattle.std.specs.Prelude.{slice_get, slice_index_or, is_some, IsSomeAnd, IfOk}
-use Rattle.std.specs.Option.{option_map_or, option_or}
-use Rattle.std.specs.List.{flat_map, find}
-use Rattle.std.proofs.lemmas.Bool.{cases_Bool, false≢true, leb-true, lt-ltb, leb-false, ltb-false, ltb-true, le-ltb}
-use Rattle.std.proofs.lemmas.Grind.{flat_map-append}
-use Rattle.std.proofs.lemmas.List.{map-append, take_all, take-append-le, take-append-drop, length-append}
-use Rattle.std.proofs.lemmas.List.Folds.{find-append, flat_map-map}
+use Rattle.head_splits.proofs.Common.{◌≡◌, inl, inr, ℕ, zero, suc, ◌+◌, ◌-◌, ◌<◌, ◌≤◌, Bool, true, false, cond, not, ◌||◌, ◌==◌, List, [], ◌∷◌, ◌++◌, map, filter, length, take, drop, refl, sym, ap, ◌∙◌, subst, arith, append_assoc, append-nil, nat_lt, nat_le, Option, Some, None, Result, Ok, Err, eq-eqb, eqb-true, slice_get, is_some, IsSomeAnd, IfOk, option_map_or, option_or, flat_map, find, cases_Bool, false≢true, leb-true, lt-ltb, leb-false, ltb-false, ltb-true, le-ltb, flat_map-append, map-append, take_all, take-append-le, take-append-drop, length-append, find-append, flat_map-map, Break, Rule, is_legal, legal_lists, begins_with, begins_rest, Has, Has-map, from_map, from_filter, any_at, any_some, Has-below, from_below, find_none, WalkWay, Walks, AreWaysOn, Shift, Duty, Row, Problem, shift_list, below, lists_of, Cut, low, high, prefixes, class_of, is_closed, is_fixed, fixed_count, row_of, lists_below, duties_below, is_open, rows_of, IsWalked, AreWalksOf, StandsOn, IsClear}
+use Rattle.std.specs.Prelude.{slice_index_or}
 use Rattle.std.proofs.lemmas.List.Elements.{filter-append}
 use Rattle.std.proofs.Math.Seq.{take-append_seam}
-use Rattle.break_rules.specs.declared.Break.{Break}
-use Rattle.break_rules.specs.declared.Rule.{Rule}
-use Rattle.break_rules.specs.Breaks.{is_legal, legal_lists, begins_with}
-use Rattle.break_rules.proofs.LegalLists.{begins_rest}
-use Rattle.break_rules.specs.Lists.{Has}
-use Rattle.break_rules.proofs.Lists.{Has-map, from_map, from_filter, any_at, any_some, Has-below, from_below}
-use Rattle.break_rules.proofs.Reaching.{find_none}
 use Rattle.list_walks.specs.declared.steps.Standing.{Standing}
-use Rattle.list_walks.specs.declared.steps.Way.{Way}
-use Rattle.list_walks.specs.Stands.{Walks, AreWaysOn}
-use Rattle.shift_instance.specs.declared.Shift.{Shift}
-use Rattle.shift_instance.specs.declared.Duty.{Duty}
-use Rattle.shift_instance.specs.declared.Row.{Row}
-use Rattle.shift_instance.specs.Problem.{Problem, shift_list, below}
-use Rattle.shift_instance.specs.Rota.{lists_of}
-use Rattle.head_splits.specs.declared.Cut.{Cut}
-use Rattle.head_splits.specs.Cuts.{low, high}
-use Rattle.head_splits.specs.Settled.{prefixes, class_of, is_closed, is_fixed, fixed_count}
-use Rattle.shift_instance.specs.AllDuties.{row_of}
-use Rattle.head_splits.specs.Below.{lists_below, duties_below, is_open, rows_of, IsWalked, AreWalksOf, StandsOn, IsClear}
 use Rattle.head_splits.proofs.ListsBelow.{below_list, below_whole, below_parts}
 
 -- what a fact of some value says
 pub known : {X : Type 0} (o : Option X) (P : X → Type 0) → IsSomeAnd o P → (x : X) × (o ≡ Some x) × P x
 known None P h = absurd h
 known (Some x) P h = (x, refl, h)
-
-pub known_from : {X : Type 0} (o : Option X) (P : X → Type 0) (x : X) → o ≡ Some x → P x → IsSomeAnd o P
-known_from None P x e h = cc
-known_from {X} (Some y) P x e h = let s : y ≡ x = cc in subst P (sym s) h
 
 filter_none : {X : Type 0} (p : X → Bool) (xs : List X) → ((x : X) → Has xs x → p x ≡ false) → filter p xs ≡ []
 filter_none p [] h = refl
@@ -60,12 +31,6 @@ map_ok (Err e) P Q p h = tt
 pub no_some : {X : Type 0} (o : Option X) → is_some o ≡ false → o ≡ None
 no_some None h = refl
 no_some (Some x) h = absurd (false≢true (sym h))
-
--- places of a list
-pub index_any : {X : Type 0} (xs : List X) (k : ℕ) (a b : X) → k < length xs → slice_index_or xs k a ≡ slice_index_or xs k b
-index_any [] k a b h = absurd (omega arith)
-index_any (x ∷ xs) zero a b h = refl
-index_any (x ∷ xs) (suc k) a b h = index_any xs k a b (omega arith)
 
 pub index_get : {X : Type 0} (xs : List X) (k : ℕ) (a : X) → k < length xs → slice_get xs k ≡ Some (slice_index_or xs k a)
 index_get [] k a h = absurd (omega arith)
@@ -125,24 +90,24 @@ module _ (i : Problem) (cuts : List Cut) where
         ∙ ap (λ r. below_list r x.0.0.len list) (sym x.2.0) ∙ ap (λ n. below_list walks.rule n list) (sym x.2.1)
 
     -- where a list has no ways on, it is the only one, and else those of its ways follow one another
-    pub whole_duties : (walks : Walks) (at : Standing) (list : List Break) (ways : List Way) → StandsOn i s walks at list → AreWaysOn walks at list ways → (length ways == 0) ≡ true
+    pub whole_duties : (walks : Walks) (at : Standing) (list : List Break) (ways : List WalkWay) → StandsOn i s walks at list → AreWaysOn walks at list ways → (length ways == 0) ≡ true
         → duties_below i s day list ≡ duty list ∷ []
     whole_duties walks at list ways h on none =
         let legal : is_legal walks.rule walks.len list ≡ true = sym on.ends ∙ none in
         ap (map duty) (lists_below_is walks list h.0 ∙ below_whole walks.rule walks.len list legal)
 
-    pub part_duties : (walks : Walks) (at : Standing) (list : List Break) (ways : List Way) → StandsOn i s walks at list → AreWaysOn walks at list ways → (length ways == 0) ≡ false
-        → duties_below i s day list ≡ flat_map (λ (w : Way). duties_below i s day (list ++ w.stop ∷ [])) ways
+    pub part_duties : (walks : Walks) (at : Standing) (list : List Break) (ways : List WalkWay) → StandsOn i s walks at list → AreWaysOn walks at list ways → (length ways == 0) ≡ false
+        → duties_below i s day list ≡ flat_map (λ (w : WalkWay). duties_below i s day (list ++ w.stop ∷ [])) ways
     part_duties walks at list ways h on some =
         let rule = walks.rule in
         let len = walks.len in
         let part : is_legal rule len list ≡ false = sym on.ends ∙ some in
-        let lists : lists_below i s list ≡ flat_map (λ b. below_list rule len (list ++ b ∷ [])) (map (λ (w : Way). w.stop) ways) =
+        let lists : lists_below i s list ≡ flat_map (λ b. below_list rule len (list ++ b ∷ [])) (map (λ (w : WalkWay). w.stop) ways) =
         lists_below_is walks list h.0 ∙ below_parts rule len list part ∙ ap (flat_map (λ b. below_list rule len (list ++ b ∷ []))) (sym on.stops) in
         ap (map duty) lists
-        ∙ ap (map duty) (flat_map-map (λ b. below_list rule len (list ++ b ∷ [])) (λ (w : Way). w.stop) ways)
-        ∙ map-flat_map duty (λ (w : Way). below_list rule len (list ++ w.stop ∷ [])) ways
-        ∙ flat_map_same (λ (w : Way). map duty (below_list rule len (list ++ w.stop ∷ []))) (λ (w : Way). duties_below i s day (list ++ w.stop ∷ [])) ways
+        ∙ ap (map duty) (flat_map-map (λ b. below_list rule len (list ++ b ∷ [])) (λ (w : WalkWay). w.stop) ways)
+        ∙ map-flat_map duty (λ (w : WalkWay). below_list rule len (list ++ w.stop ∷ [])) ways
+        ∙ flat_map_same (λ (w : WalkWay). map duty (below_list rule len (list ++ w.stop ∷ []))) (λ (w : WalkWay). duties_below i s day (list ++ w.stop ∷ [])) ways
         (λ w. ap (map duty) (sym (lists_below_is walks (list ++ w.stop ∷ []) h.0)))
       where
         flat_map_same : {X Y : Type 0} (f g : X → List Y) (xs : List X) → ((x : X) → f x ≡ g x) → flat_map f xs ≡ flat_map g xs
@@ -225,6 +190,6 @@ module _ (i : Problem) (cuts : List Cut) where
         cond_map f false x = refl
 
     -- a list with the break of a way stands where the way leads
-    pub stands_next : (walks : Walks) (at : Standing) (list : List Break) (ways : List Way) (k : ℕ) (w : Way) → StandsOn i s walks at list → AreWaysOn walks at list ways → slice_get ways k ≡ Some w
+    pub stands_next : (walks : Walks) (at : Standing) (list : List Break) (ways : List WalkWay) (k : ℕ) (w : WalkWay) → StandsOn i s walks at list → AreWaysOn walks at list ways → slice_get ways k ≡ Some w
         → (walks.len - w.at.spot.offset < walks.len - at.spot.offset) × StandsOn i s walks w.at (list ++ w.stop ∷ [])
     stands_next walks at list ways k w h on is = (on.nearer k w is, (h.0, on.stand k w is))

@@ -1,25 +1,6 @@
 -- Walks over the legal duties of a day, of a shift and of an instance.
-use Rattle.std.proofs.Common.{◌≡◌, inl, inr, ℕ, zero, suc, ◌+◌, ◌-◌, ◌<◌, ◌≤◌, Bool, true, false, cond, not, ◌||◌, List, [], ◌∷◌, ◌++◌, map, filter, refl, sym, ap, ◌∙◌, subst, arith, append-nil, Option, Some, None}
-use Rattle.std.specs.Prelude.{slice_get, is_some}
-use Rattle.std.specs.Option.{option_map_or}
-use Rattle.std.specs.List.{flat_map, find, range_with_len}
-use Rattle.std.proofs.lemmas.Bool.{cases_Bool, false≢true}
-use Rattle.std.proofs.lemmas.Grind.{flat_map-append}
-use Rattle.break_rules.specs.declared.Break.{Break}
-use Rattle.break_rules.specs.Breaks.{is_live, legal_lists, begins_with}
-use Rattle.break_rules.specs.Lists.{Has}
-use Rattle.break_rules.proofs.Lists.{all_from, all_at}
-use Rattle.break_rules.proofs.LegalLists.{from_legal_lists, live_from}
+use Rattle.head_splits.proofs.Common.{◌≡◌, inl, inr, ℕ, zero, suc, ◌+◌, ◌-◌, ◌<◌, ◌≤◌, Bool, true, false, cond, not, ◌||◌, List, [], ◌∷◌, ◌++◌, map, filter, refl, sym, ap, ◌∙◌, subst, arith, append-nil, Option, Some, None, slice_get, is_some, option_map_or, flat_map, find, range_with_len, cases_Bool, false≢true, flat_map-append, Break, is_live, legal_lists, begins_with, Has, all_from, all_at, from_legal_lists, live_from, Walks, Duty, Row, Problem, shift_list, below, lists_of, Cut, is_closed, is_fixed, is_settled, all_duties, duties_below, is_open, IsWalked, AreWalksOf, IsClear, shift_duties}
 use Rattle.break_rules.proofs.FirstList.{find_has, find_none_at}
-use Rattle.list_walks.specs.Stands.{Walks}
-use Rattle.shift_instance.specs.declared.Duty.{Duty}
-use Rattle.shift_instance.specs.declared.Row.{Row}
-use Rattle.shift_instance.specs.Problem.{Problem, shift_list, below}
-use Rattle.shift_instance.specs.Rota.{lists_of}
-use Rattle.head_splits.specs.declared.Cut.{Cut}
-use Rattle.head_splits.specs.Settled.{is_closed, is_fixed, is_settled}
-use Rattle.shift_instance.specs.AllDuties.{all_duties}
-use Rattle.head_splits.specs.Below.{duties_below, is_open, IsWalked, AreWalksOf, IsClear, shift_duties}
 use Rattle.head_splits.proofs.Walked.{known, more_walked, stop_walked}
 
 -- ---- lists of numbers

@@ -1,6 +1,6 @@
 -- Classes of duties, cuts on their numbers, and the range that cuts leave to a class. Source: this project's profile. Branching on the number of
 -- duties that begin alike follows branching on sums of columns, as in Barnhart and others 1998 (branch and price).
-use Rattle.std.specs.Prelude.{ℕ, Bool, ◌&&◌, ◌==◌, nat_le, List, [], min, max, fold, count_by, if◌then◌else◌}
+use Rattle.std.specs.Prelude.{◌≡◌, ◌≢◌, ℕ, Bool, ◌&&◌, ◌==◌, nat_le, List, [], min, max, fold, count_by, take, slice_get, if◌then◌else◌}
 use Rattle.std.specs.List.{list_all}
 use Rattle.break_rules.specs.Breaks.{begins_with, same_list}
 use Rattle.shift_instance.specs.declared.Duty.{Duty}
@@ -59,3 +59,7 @@ high i cuts class = least_high i.heads cuts class
 -- the class of all duties of a shift on a day
 abbrev pub whole_class : ℕ → ℕ → Class
 whole_class s day = record { shift = s; day = day; prefix = [] }
+
+-- the first place at which two lists differ, and the length of the shorter where it begins the other
+abbrev pub DifferAt : {A : Type 0} → List A → List A → ℕ → Type 0
+DifferAt xs ys at = (take at xs ≡ take at ys) × (slice_get xs at ≢ slice_get ys at)

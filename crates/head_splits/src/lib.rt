@@ -2,6 +2,7 @@
 #![tactic(auto)]
 
 mod cuts;
+mod differing;
 mod hint;
 pub mod laws;
 mod live;
@@ -13,6 +14,7 @@ mod table;
 
 use break_rules::Breaks;
 pub use cuts::Cuts;
+pub use differing::first_difference;
 pub use hint::Hint;
 pub use live::is_live_class;
 pub use meeting::{duties_in_class, meets};

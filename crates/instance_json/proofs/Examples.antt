@@ -1,6 +1,5 @@
 -- The definitions, computed where the answers are known.
-use Rattle.std.proofs.Common.{◌≡◌, [], ◌∷◌, map, refl}
-use Rattle.instance_json.specs.Generated.{state_after, draw, need_of}
+use Rattle.instance_json.proofs.Common.{◌≡◌, [], ◌∷◌, map, refl, state_after, draw, need_of}
 
 -- the first draws of 0
 first_draws : map (draw 0) (1 ∷ 2 ∷ 3 ∷ []) ≡ 15470 ∷ 18256 ∷ 53708 ∷ []

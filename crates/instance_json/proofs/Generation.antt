@@ -1,23 +1,14 @@
 -- Instances made from a number: their needs as they are made one by one, and that nothing keeps them from being instances.
-use Rattle.std.proofs.Common.{◌≡◌, ℕ, ◌+◌, ◌%◌, ◌≤◌, Bool, true, false, not, ◌||◌, ◌==◌, nat_lt, cond, List, [], ◌∷◌, ◌++◌, map, length, refl, sym, ap, ◌∙◌, arith, None}
-use Rattle.std.specs.Prelude.{All, if◌then◌else◌, count_by}
-use Rattle.std.specs.List.{enumerate_from, zip}
+use Rattle.instance_json.proofs.Common.{◌≡◌, ℕ, ◌+◌, ◌%◌, ◌≤◌, Bool, true, false, not, ◌||◌, ◌==◌, nat_lt, cond, List, [], ◌∷◌, ◌++◌, map, length, refl, sym, ap, ◌∙◌, arith, None, if◌then◌else◌, count_by, enumerate_from, zip, le-ltb, All-from_recursion, Rule, legal_lists, first_cause, period_causes, need_cause, band_cause, band_causes, wanted_causes, size_causes, types_causes, part_causes, instance_causes, below, day_slots, shift_list, next_state, state_after, drawn, draw, is_busy, draws_before, need_of, needs_of, hour_rule, generated}
+use Rattle.std.specs.Prelude.{All}
 use Rattle.std.proofs.Math.Numerals.{add-one}
-use Rattle.std.proofs.lemmas.Bool.{le-ltb}
-use Rattle.std.proofs.lemmas.List.Elements.{All-from_recursion}
 use Rattle.std.proofs.lemmas.List.FromFn.{map-range_with_len_more, length-map-range_with_len}
 use Rattle.std.proofs.lemmas.List.Sums.{sum_by_push}
-use Rattle.break_rules.specs.declared.Rule.{Rule}
-use Rattle.break_rules.specs.Breaks.{legal_lists}
-use Rattle.break_rules.specs.Causes.{first_cause}
 use Rattle.break_rules.specs.RuleFaults.{rule_causes}
 use Rattle.break_rules.proofs.Causes.{NoCause, none_from_no_cause, first_right}
 use Rattle.shift_instance.specs.declared.Shift.{Shift}
-use Rattle.shift_instance.specs.Faults.{period_causes, need_cause, band_cause, band_causes, wanted_causes, size_causes, types_causes, part_causes, instance_causes}
-use Rattle.shift_instance.specs.Problem.{below, day_slots, shift_list}
 use Rattle.shift_instance.proofs.Judged.{causes_of_kinds, causes_last}
 use Rattle.shift_instance.proofs.Ranges.{range_next}
-use Rattle.instance_json.specs.Generated.{next_state, state_after, drawn, draw, is_busy, draws_before, need_of, needs_of, hour_rule, generated}
 
 draws_more : (slot : ℕ) → draws_before (slot + 1) ≡ draws_before slot + cond (is_busy slot) 1 0
 draws_more slot =

@@ -1,16 +1,8 @@
 -- Lists of values beside lists of data.
-use Rattle.std.proofs.Common.{true, false, Bor, Option, None, option_map, find, cond, ◌≡◌, ℕ, Bool, false, ◌&&◌, List, [], ◌∷◌, map, length, ◌==◌, String, BTreeMap, Global, string_bytes, Some, is_some, option_and_then, refl, sym, ap, ◌∙◌}
-use Rattle.std.specs.List.{list_all}
-use Rattle.std.proofs.lemmas.List.{length-map}
+use Rattle.instance_json.proofs.Common.{true, false, Bor, Option, None, option_map, find, cond, ◌≡◌, ℕ, Bool, false, ◌&&◌, List, [], ◌∷◌, map, length, ◌==◌, String, BTreeMap, Global, string_bytes, Some, is_some, option_and_then, refl, sym, ap, ◌∙◌, list_all, length-map, option_map_or, option_copied, Data, view, items_view, members_view, Value, items_at, data_list, member_names, whole, are_numbers, is_wide, is_row, are_rows, names_of}
 use Rattle.std.specs.BTreeMap.{keys}
 use Rattle.std.specs.Map.{keys_of}
-use Rattle.std.specs.Option.{option_map_or, option_copied}
 use Rattle.serde_json.specs.Find.{get, as_array, as_object}
-use Rattle.serde_json.specs.Data.{Data}
-use Rattle.serde_json.specs.View.{view, items_view, members_view}
-use Rattle.serde_json.specs.declared.value.Value.{Value}
-use Rattle.instance_json.specs.Document.{items_at}
-use Rattle.instance_json.specs.Fields.{data_list, member_names, whole, are_numbers, is_wide, is_row, are_rows, names_of}
 
 -- the items of a list of values
 pub data_list-items_view : (vs : List Value) → data_list (items_view vs) ≡ map view vs

@@ -1,8 +1,5 @@
 -- The beginning of a name that a refusal shows.
-use Rattle.std.proofs.Common.{◌≡◌, ℕ, zero, suc, ◌≤◌, List, [], ◌∷◌, length, take, min, IsUtf8, refl, sym, ap, ◌∙◌, arith}
-use Rattle.std.proofs.lemmas.Str.{utf8_valid_len-IsUtf8}
-use Rattle.std.specs.Str.Lossy.{utf8_valid_len}
-use Rattle.instance_json.specs.Departures.{shown}
+use Rattle.instance_json.proofs.Common.{◌≡◌, ℕ, zero, suc, ◌≤◌, List, [], ◌∷◌, length, take, min, IsUtf8, refl, sym, ap, ◌∙◌, arith, utf8_valid_len-IsUtf8, utf8_valid_len, shown}
 
 take_as_long : (n : ℕ) (xs : List ℕ) → take (length (take n xs)) xs ≡ take n xs
 take_as_long zero xs = refl

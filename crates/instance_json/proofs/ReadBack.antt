@@ -1,24 +1,15 @@
 -- The text of whole numbers and ASCII texts, in lists and objects, is read back.
-use Rattle.std.proofs.Common.{◌≡◌, ℕ, ◌^◌, ◌<◌, ◌≤◌, Bool, true, false, List, [], ◌∷◌, ◌++◌, map, All, IsUtf8, Some, option_map, option_and_then, decimal, append-nil, refl, sym, ap, ◌∙◌, arith}
+use Rattle.instance_json.proofs.Common.{◌≡◌, ℕ, ◌^◌, ◌<◌, ◌≤◌, Bool, true, false, List, [], ◌∷◌, ◌++◌, map, All, IsUtf8, Some, option_map, option_and_then, decimal, append-nil, refl, sym, ap, ◌∙◌, arith, IsAscii-decimal, All-head, All-tail, IsUtf8-append, IsUtf8-from_ascii, quoted, are_ascii, IsUtf8-are_ascii, IsUtf8-quoted, unsigned, negative, float, Data, null, boolean, number, string, array, object, Items, no_items, item, Members, no_members, member, put, read, of_json, of_items, of_members, max_depth, compact_text, items_text, members_text, comma_if, outline, items_outline, members_outline, items_data}
 use Rattle.std.specs.Bool.{⊤}
-use Rattle.std.proofs.lemmas.Fmt.{IsAscii-decimal}
-use Rattle.std.proofs.lemmas.List.Elements.{All-head, All-tail}
-use Rattle.std.proofs.lemmas.Str.{IsUtf8-append, IsUtf8-from_ascii}
 use Rattle.json.specs.Json as json
 use Rattle.json.specs.Tree as tree
 use Rattle.json.specs.Tree.{json_tokens, HasNumbers, ItemsHaveNumbers, MembersHaveNumbers}
-use Rattle.json.specs.Print.{quoted}
 use Rattle.json.proofs.Printed.Decimals.{IsNumber-decimal}
 use Rattle.json.specs.Lex.{tokens}
 use Rattle.json.proofs.Printed.Tokens.{tokens-print}
 use Rattle.json.proofs.Printed.Trees.{value-json_tokens, ArePrintable-json_tokens}
-use Rattle.json.proofs.Printed.Utf8.{are_ascii, IsUtf8-are_ascii, IsUtf8-quoted}
-use Rattle.serde_json.specs.Data.{unsigned, negative, float, Data, null, boolean, number, string, array, object, Items, no_items, item, Members, no_members, member, put}
-use Rattle.serde_json.specs.Read.{read, of_json, of_items, of_members, max_depth}
-use Rattle.serde_json.specs.Written.{compact_text, items_text, members_text, comma_if, outline, items_outline, members_outline}
 use Rattle.serde_json.proofs.Numbers.{number_of-decimal}
 use Rattle.serde_json.proofs.Texts.{print-outline}
-use Rattle.instance_json.specs.Canonical.{items_data}
 
 -- the members, put one after another into others
 abbrev pub puts : Members → Members → Members

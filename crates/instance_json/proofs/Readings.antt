@@ -1,22 +1,10 @@
 -- What a text is read as, case by case.
-use Rattle.std.proofs.Common.{◌≡◌, ℕ, ◌<◌, ◌≤◌, Bool, true, false, cond, List, length, Option, Some, None, Result, Ok, Err, IsUtf8, refl, sym, ap, ◌∙◌, cond, arith}
-use Rattle.std.proofs.lemmas.Bool.Decides.{nat_tests}
-use Rattle.std.proofs.lemmas.Str.{IsUtf8-from_is_utf8, is_utf8-from_IsUtf8}
-use Rattle.std.specs.Option.{option_map_or}
+use Rattle.instance_json.proofs.Common.{◌≡◌, ℕ, ◌<◌, ◌≤◌, Bool, true, false, cond, List, length, Option, Some, None, Result, Ok, Err, IsUtf8, refl, sym, ap, ◌∙◌, cond, arith, nat_tests, IsUtf8-from_is_utf8, is_utf8-from_IsUtf8, option_map_or, first_cause, Data, read, Problem, instance_causes, Answers, TooLong, NotJson, Missing, UnknownField, WrongKind, Invalid, NoMemory, document_departure, problem_of, value_of, problem_reading, value_reading, reading_of, IsAnswer, refusal_of}
 use Rattle.std.specs.Str.{is_utf8}
-use Rattle.break_rules.specs.Causes.{first_cause}
-use Rattle.serde_json.specs.Data.{Data}
-use Rattle.serde_json.specs.Read.{read}
-use Rattle.shift_instance.specs.Problem.{Problem}
-use Rattle.shift_instance.specs.Faults.{instance_causes, Answers}
 use Rattle.shift_instance.specs.declared.InstanceFault.{InstanceFault}
 use Rattle.shift_instance.specs.declared.InstanceFault.TheVariants as fault
 use Rattle.instance_json.specs.declared.TheConstants.{INSTANCE_MAX}
 use Rattle.instance_json.specs.declared.ReadRefusal.{ReadRefusal}
-use Rattle.instance_json.specs.declared.ReadRefusal.TheVariants.{TooLong, NotJson, Missing, UnknownField, WrongKind, Invalid, NoMemory}
-use Rattle.instance_json.specs.Departures.{document_departure}
-use Rattle.instance_json.specs.Document.{problem_of}
-use Rattle.instance_json.specs.Reading.{value_of, problem_reading, value_reading, reading_of, IsAnswer, refusal_of}
 
 not_chosen : (b : Bool) (o : Option Data) → (b ≡ true → ⊥) → cond b o None ≡ None
 not_chosen true o h = absurd (h refl)

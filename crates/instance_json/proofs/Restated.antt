@@ -1,21 +1,6 @@
 -- The document of a valid problem departs nowhere, and states that problem.
-use Rattle.std.proofs.Common.{◌≡◌, ℕ, ◌+◌, ◌≤◌, min, Bool, true, false, List, [], ◌∷◌, map, All, None, is_some, refl, ap, ◌∙◌, arith}
+use Rattle.instance_json.proofs.Common.{◌≡◌, ℕ, ◌+◌, ◌≤◌, min, Bool, true, false, List, [], ◌∷◌, map, All, None, is_some, refl, ap, ◌∙◌, arith, not-false, All-head, All-tail, list_all, enumerate_from, Data, Lunch, Rule, IsTotal, IsLunch, IsRule, ranges_from_none, Kind, Problem, IsValid, IsKind, number_data, items_data, total_data, lunch_data, rule_data, kind_data, weights_data, is_banded, document_stating, document_data, first_some, object_departure, type_departure, document_departure, document_fields, weights_fields, type_fields, breaks_fields, number_up_to, total_of, lunch_of, rule_of, kind_of, problem_of, data_list, is_row, whole}
 use Rattle.std.specs.Cmp.Lexicographic.{bytes_decides}
-use Rattle.std.proofs.lemmas.Bool.{not-false}
-use Rattle.std.proofs.lemmas.List.Elements.{All-head, All-tail}
-use Rattle.std.specs.List.{list_all, enumerate_from}
-use Rattle.serde_json.specs.Data.{Data}
-use Rattle.break_rules.specs.declared.Lunch.{Lunch}
-use Rattle.break_rules.specs.declared.Rule.{Rule}
-use Rattle.break_rules.specs.Ranges.{IsTotal, IsLunch, IsRule}
-use Rattle.break_rules.proofs.Ranges.{ranges_from_none}
-use Rattle.shift_instance.specs.Kind.{Kind}
-use Rattle.shift_instance.specs.Problem.{Problem}
-use Rattle.shift_instance.specs.Valid.{IsValid, IsKind}
-use Rattle.instance_json.specs.Canonical.{number_data, items_data, total_data, lunch_data, rule_data, kind_data, weights_data, is_banded, document_stating, document_data}
-use Rattle.instance_json.specs.Departures.{first_some, object_departure, type_departure, document_departure}
-use Rattle.instance_json.specs.Document.{document_fields, weights_fields, type_fields, breaks_fields, number_up_to, total_of, lunch_of, rule_of, kind_of, problem_of}
-use Rattle.instance_json.specs.Fields.{data_list, is_row, whole}
 use Rattle.instance_json.proofs.Sizes.{slot_minutes_limit}
 
 -- what each item of a list states

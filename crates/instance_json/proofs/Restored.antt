@@ -1,27 +1,6 @@
 -- The canonical text of a valid problem is read as that problem.
-use Rattle.std.proofs.Common.{◌≡◌, ℕ, ◌≤◌, Bool, true, false, nat_lt, List, [], ◌∷◌, map, All, codes, IsTrue, None, Some, Ok, Err, refl, sym, ap, ◌∙◌, arith}
-use Rattle.std.proofs.lemmas.Bool.{and_parts}
-use Rattle.std.proofs.lemmas.Bool.Decides.{nat_tests}
-use Rattle.std.specs.List.{list_all}
-use Rattle.std.specs.Option.{option_map_or}
+use Rattle.instance_json.proofs.Common.{◌≡◌, ℕ, ◌≤◌, Bool, true, false, nat_lt, List, [], ◌∷◌, map, All, codes, IsTrue, None, Some, Ok, Err, refl, sym, ap, ◌∙◌, arith, and_parts, nat_tests, list_all, option_map_or, are_ascii, Members, no_members, member, max_depth, compact_text, outline, first_cause, Lunch, Rule, IsTotal, IsLunch, IsRule, ranges_from_none, instance_causes, Kind, is_name, is_name_byte, Problem, IsValid, IsKind, NotJson, number_data, list_data, total_data, lunch_data, rule_data, kind_data, weights_data, is_banded, document_stating, document_data, canonical_text, reading_of, value_of, value_reading, problem_reading}
 use Rattle.json.specs.Tree as tree
-use Rattle.json.proofs.Printed.Utf8.{are_ascii}
-use Rattle.serde_json.specs.Data.{Members, no_members, member}
-use Rattle.serde_json.specs.Read.{max_depth}
-use Rattle.serde_json.specs.Written.{compact_text, outline}
-use Rattle.break_rules.specs.Causes.{first_cause}
-use Rattle.break_rules.specs.declared.Lunch.{Lunch}
-use Rattle.break_rules.specs.declared.Rule.{Rule}
-use Rattle.break_rules.specs.Ranges.{IsTotal, IsLunch, IsRule}
-use Rattle.break_rules.proofs.Ranges.{ranges_from_none}
-use Rattle.shift_instance.specs.Faults.{instance_causes}
-use Rattle.shift_instance.specs.Kind.{Kind}
-use Rattle.shift_instance.specs.Names.{is_name, is_name_byte}
-use Rattle.shift_instance.specs.Problem.{Problem}
-use Rattle.shift_instance.specs.Valid.{IsValid, IsKind}
-use Rattle.instance_json.specs.declared.ReadRefusal.TheVariants.{NotJson}
-use Rattle.instance_json.specs.Canonical.{number_data, list_data, total_data, lunch_data, rule_data, kind_data, weights_data, is_banded, document_stating, document_data, canonical_text}
-use Rattle.instance_json.specs.Reading.{reading_of, value_of, value_reading, problem_reading}
 use Rattle.instance_json.proofs.ReadBack.{IsSound, AreSoundMembers, text_utf8, text_read, sound_items, items_depth}
 use Rattle.instance_json.proofs.Readings.{reading_of-short, value_of-text, value_reading-document, problem_reading-ok}
 use Rattle.instance_json.proofs.Restated.{document_fits, problem_restated}

@@ -1,22 +1,6 @@
 -- How long a canonical text is, at most.
-use Rattle.std.proofs.Common.{◌≡◌, ℕ, suc, ◌+◌, ◌*◌, ◌^◌, ◌<◌, ◌≤◌, Bool, true, false, List, [], ◌∷◌, ◌++◌, map, length, All, IsTrue, codes, ap, ◌∙◌, arith}
-use Rattle.std.proofs.lemmas.Bool.Decides.{nat_tests}
-use Rattle.std.proofs.lemmas.Fmt.{length-decimal-le}
-use Rattle.std.proofs.lemmas.List.{length-append}
-use Rattle.std.proofs.lemmas.List.Elements.{All-head, All-tail, All-nil, All-cons}
+use Rattle.instance_json.proofs.Common.{◌≡◌, ℕ, suc, ◌+◌, ◌*◌, ◌^◌, ◌<◌, ◌≤◌, Bool, true, false, List, [], ◌∷◌, ◌++◌, map, length, All, IsTrue, codes, ap, ◌∙◌, arith, nat_tests, length-decimal-le, length-append, All-head, All-tail, All-nil, All-cons, escape, escape_byte, quoted, Data, Members, no_members, member, compact_text, items_text, members_text, comma_if, Lunch, Rule, IsTotal, IsLunch, IsRule, ranges_from_none, Kind, is_name, Problem, day_slots, IsValid, IsKind, number_data, items_data, list_data, total_data, lunch_data, rule_data, kind_data, weights_data, is_banded, with_bands, document_stating, document_data, canonical_text}
 use Rattle.std.proofs.Math.Nat.{mul-div-le, mul-le-mul_left}
-use Rattle.json.specs.Print.{escape, escape_byte, quoted}
-use Rattle.serde_json.specs.Data.{Data, Members, no_members, member}
-use Rattle.serde_json.specs.Written.{compact_text, items_text, members_text, comma_if}
-use Rattle.break_rules.specs.declared.Lunch.{Lunch}
-use Rattle.break_rules.specs.declared.Rule.{Rule}
-use Rattle.break_rules.specs.Ranges.{IsTotal, IsLunch, IsRule}
-use Rattle.break_rules.proofs.Ranges.{ranges_from_none}
-use Rattle.shift_instance.specs.Kind.{Kind}
-use Rattle.shift_instance.specs.Names.{is_name}
-use Rattle.shift_instance.specs.Problem.{Problem, day_slots}
-use Rattle.shift_instance.specs.Valid.{IsValid, IsKind}
-use Rattle.instance_json.specs.Canonical.{number_data, items_data, list_data, total_data, lunch_data, rule_data, kind_data, weights_data, is_banded, with_bands, document_stating, document_data, canonical_text}
 
 escape_byte_length : (b : ℕ) → length (escape_byte b) ≤ 6
 unfolding escape_byte

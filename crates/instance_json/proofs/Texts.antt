@@ -1,14 +1,5 @@
 -- The canonical text's value, and that it has no float.
-use Rattle.std.specs.Prelude.{if◌then◌else◌}
-use Rattle.std.proofs.Common.{◌≡◌, Bool, true, false, codes, List, [], ◌∷◌, map, refl, ap, ◌∙◌}
-use Rattle.break_rules.specs.declared.Rule.{Rule}
-use Rattle.shift_instance.specs.Kind.{Kind}
-use Rattle.shift_instance.specs.Problem.{Problem}
-use Rattle.serde_json.specs.Data.{Data, object, item, Members, no_members, put}
-use Rattle.serde_json.specs.View.{view, items_view}
-use Rattle.serde_json.specs.Written.{has_float, items_have_float}
-use Rattle.serde_json.specs.declared.value.Value.{Value}
-use Rattle.instance_json.specs.Canonical.{items_data, number_data, list_data, total_data, lunch_data, rule_data, kind_data, weights_data, is_banded, document_stating, document_data}
+use Rattle.instance_json.proofs.Common.{if◌then◌else◌, ◌≡◌, Bool, true, false, codes, List, [], ◌∷◌, map, refl, ap, ◌∙◌, Rule, Kind, Problem, Data, object, item, Members, no_members, put, view, items_view, has_float, items_have_float, Value, items_data, number_data, list_data, total_data, lunch_data, rule_data, kind_data, weights_data, is_banded, document_stating, document_data}
 
 -- the items of a list of values
 pub items_of_values : (vs : List Value) → items_view vs ≡ items_data (map view vs)

@@ -5,7 +5,7 @@ use std::fmt;
 /// A table of an instance.
 #[derive(Clone, Copy, Debug, PartialEq, Drop)]
 pub enum Table {
-    /// The length of a slot, the days, the weights and the greatest heads: one row.
+    /// The length of a slot, the days, the weights and the most duties of a shift on a day: one row.
     Settings,
     /// The wanted employees: a row for each time of each day.
     Need,

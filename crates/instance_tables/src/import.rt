@@ -11,7 +11,7 @@ use std::alloc::Global;
 
 /// The files of the tables of an instance, as bytes.
 #[derive(Clone, Copy, Drop)]
-pub struct Tables<'a> {
+pub struct TableBytes<'a> {
     /// The table of settings.
     pub settings: &'a [u8],
     /// The table of needs.
@@ -39,7 +39,7 @@ fn rules_of(
 /// The settings are read first, then the needs, the break rules and the types. In each table the first line is judged first, then each
 /// line in turn whether it is a row, and then each row, cell by cell. The first refusal is answered, with the table, the row, the column,
 /// what stands there and what may stand there.
-pub fn imported(alloc: Global, tables: &Tables) -> Result<Instance, ImportRefusal> {
+pub fn imported(alloc: Global, tables: &TableBytes) -> Result<Instance, ImportRefusal> {
     let settings = read_settings(alloc, tables.settings)?;
     let bands = read_need(alloc, &settings, tables.need)?;
     let rules = rules_of(alloc, settings.grid, tables.rules)?;

@@ -21,6 +21,6 @@ mod why;
 
 pub use columns::{Column, Table};
 pub use export::{TableTexts, exported};
-pub use import::{Tables, imported};
+pub use import::{TableBytes, imported};
 pub use refusal::{ImportRefusal, TableRefusal};
 pub use why::Why;

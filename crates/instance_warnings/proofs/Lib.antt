@@ -1,3 +1,3 @@
+pub mod Common
 pub mod Lists
 pub mod Reached
-pub mod Relaxed

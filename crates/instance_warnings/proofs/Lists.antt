@@ -1,12 +1,5 @@
 -- Tests and sums along numbers from one on.
-use Rattle.std.proofs.Common.{◌≡◌, inl, inr, ℕ, suc, ◌+◌, ◌-◌, ◌<◌, ◌≤◌, max, Bool, true, false, cond, List, [], ◌∷◌, ◌++◌, filter, fold, refl, sym, ap, ◌∙◌, arith, sum_by}
-use Rattle.std.specs.List.{list_any, range_with_len}
-use Rattle.std.proofs.lemmas.Bool.{cases_Bool, false≢true}
-use Rattle.std.proofs.lemmas.List.Sums.{fold-append, sum_by-cons}
-use Rattle.break_rules.specs.Lists.{Has}
-use Rattle.break_rules.proofs.Lists.{any_some, any_at, Has-range, from_range}
-use Rattle.shift_instance.proofs.Ranges.{below_next, range_next}
-use Rattle.shift_instance.specs.Problem.{below}
+use Rattle.instance_warnings.proofs.Common.{◌≡◌, inl, inr, ℕ, suc, ◌+◌, ◌-◌, ◌<◌, ◌≤◌, max, Bool, true, false, cond, List, [], ◌∷◌, ◌++◌, filter, fold, refl, sym, ap, ◌∙◌, arith, sum_by, list_any, range_with_len, cases_Bool, false≢true, fold-append, sum_by-cons, Has, any_some, any_at, Has-range, from_range, below_next, range_next, below}
 
 -- no element passes a test that each of them fails
 pub any_fails : {X : Type 0} (p : X → Bool) (xs : List X) → ((x : X) → Has xs x → p x ≡ false) → list_any p xs ≡ false

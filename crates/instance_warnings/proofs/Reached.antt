@@ -1,41 +1,22 @@
 -- Which slots legal duties reach: by prices of 1 for a slot, and by duties that were found before.
-use Rattle.std.proofs.Common.{◌≡◌, inl, inr, ℕ, ◌+◌, ◌-◌, ◌*◌, ◌<◌, ◌≤◌, ℤ, pos, ◌+ℤ◌, ◌≤ℤ◌, Bool, true, false, cond, not, ◌&&◌, ◌==◌, List, [], ◌∷◌, ◌++◌, replicate, refl, sym, ap, ◌∙◌, subst, arith, sum_by, count_by, nat_lt, eq-eqb, All, get_or-set_same, get_or-set_other}
+use Rattle.instance_warnings.proofs.Common.{◌≡◌, inl, inr, ℕ, ◌+◌, ◌-◌, ◌*◌, ◌<◌, ◌≤◌, ℤ, pos, ◌+ℤ◌, ◌≤ℤ◌, Bool, true, false, cond, not, ◌&&◌, ◌==◌, List, [], ◌∷◌, ◌++◌, replicate, refl, sym, ap, ◌∙◌, subst, arith, sum_by, count_by, nat_lt, eq-eqb, All, get_or-set_same, get_or-set_other, fold-append, IsTrue, IsSomeAnd, Option, slice_get, unsigned_abs, if◌then◌else◌, list_any, cases_Bool, cases_eq, ne_eqb, false≢true, and_parts, and_from, lt-ltb, All-set, All-replicate, All-nil, All-cons, All-head, All-tail, All-filter, Has, any_at, any_some, from_below, Rule, works_at, Duty, Problem, slots, need_at, shift_list, slot_of, below, is_legal_duty, is_legal_rota, is_list_of, works, cover, slot_cost, cost, price_of, earned, worth, IsBest, below_next, is_reached, is_missed, unreached, unreached_cost, unit_prices, IsReaching, AreLegal, AvoidsOn, Avoids}
 use Rattle.std.proofs.lemmas.List.{append-nil, length-replicate, get_or-replicate}
-use Rattle.std.proofs.lemmas.List.Sums.{fold-append}
-use Rattle.std.specs.Prelude.{IsTrue, IsSomeAnd, Option, slice_get, length, unsigned_abs, fold, max, if◌then◌else◌}
+use Rattle.std.specs.Prelude.{length, fold, max}
 use Rattle.std.specs.Option.{option_map_or}
-use Rattle.std.specs.List.{list_any}
-use Rattle.std.proofs.lemmas.Bool.{cases_Bool, cases_eq, ne_eqb, false≢true, and_parts, and_from, lt-ltb}
 use Rattle.std.proofs.lemmas.Int.{ints}
-use Rattle.std.proofs.lemmas.List.Elements.{All-set, All-replicate, All-nil, All-cons, All-head, All-tail, All-filter}
 use Rattle.break_rules.specs.declared.Break.{Break}
-use Rattle.break_rules.specs.Lists.{Has}
-use Rattle.break_rules.proofs.Lists.{any_at, any_some, from_below}
 use Rattle.break_rules.proofs.Sums.{int_sum_by-same, int_sum_by_pick_below}
 use Rattle.price_sums.specs.Along.{AreSmallPrices}
-use Rattle.break_rules.specs.declared.Rule.{Rule}
-use Rattle.break_rules.specs.Breaks.{works_at}
-use Rattle.shift_instance.specs.declared.Duty.{Duty}
 use Rattle.shift_instance.specs.declared.Shift.{Shift}
 use Rattle.shift_instance.specs.AllDuties.{all_duties}
-use Rattle.shift_instance.specs.Problem.{Problem, slots, need_at, shift_list, slot_of, below}
 use Rattle.shift_instance.proofs.Shifts.{some_at, is_some_and_at, is_some_and_from}
-use Rattle.shift_instance.specs.Rota.{is_legal_duty, is_legal_rota, is_list_of, works, cover, slot_cost, cost}
-use Rattle.shift_instance.specs.Worth.{price_of, earned, worth, IsBest}
 use Rattle.shift_instance.proofs.AllDuties.{Has-all_duties, from_all_duties}
-use Rattle.shift_instance.proofs.Ranges.{below_next}
 use Rattle.shift_instance.specs.Valid.{IsValid}
 use Rattle.rota_cost.proofs.Coverage.{costs_below}
 use Rattle.shift_instance.proofs.Rotas.{legal_duty_parts, legal_duties}
-use Rattle.instance_warnings.specs.Reached.{is_reached, is_missed, unreached, unreached_cost, unit_prices, IsReaching, AreLegal, AvoidsOn, Avoids}
 use Rattle.instance_warnings.proofs.Lists.{any_fails, sum_of_passing}
 
 -- ---- prices of 1 for a slot
-
-pub unit_small : (i : Problem) (t : ℕ) → AreSmallPrices (unit_prices i t)
-unit_small i t =
-    All-set (λ p. unsigned_abs p ≤ 10000000000) (replicate (slots i) (pos 0)) t (pos 1) (omega arith)
-    (All-replicate (λ p. unsigned_abs p ≤ 10000000000) (slots i) (pos 0) (omega arith))
 
 priced_here : (i : Problem) (t : ℕ) → t < slots i → price_of (unit_prices i t) t ≡ pos 1
 priced_here i t h = get_or-set_same (replicate (slots i) (pos 0)) t (pos 1) (pos 0) (subst (λ n. t < n) (sym (length-replicate (slots i) (pos 0))) h)
@@ -100,10 +81,6 @@ best_avoids i t s day list value h best small other legal =
           ]
       | inr f ↦ f
     ]
-
--- where no list is legal, none works in the slot
-pub none_avoids : (i : Problem) (t s day : ℕ) → ((list : List Break) → is_list_of i s list ≡ false) → AvoidsOn i t s day
-none_avoids i t s day none other legal = absurd (false≢true (sym (none other) ∙ legal))
 
 -- a slot at which no offset of a shift on a day stands
 abbrev pub IsApart : Problem → ℕ → ℕ → ℕ → ℕ → Type 0
@@ -206,9 +183,6 @@ unreached_within i =
 
 -- ---- what a slot adds to those out of reach
 
-pub missed_no_need : (i : Problem) (t : ℕ) (xs : List ℕ) → need_at i t ≡ 0 → xs ≡ xs ++ cond (is_missed i t) (t ∷ []) []
-missed_no_need i t xs none = rw none (sym (append-nil xs))
-
 missed_of_reached : (b r : Bool) (xs ys : List ℕ) → r ≡ true → xs ≡ xs ++ cond (b && not r) ys []
 missed_of_reached true true xs ys e = sym (append-nil xs)
 missed_of_reached false true xs ys e = sym (append-nil xs)
@@ -216,14 +190,6 @@ missed_of_reached b false xs ys e = absurd (false≢true e)
 
 pub missed_reached : (i : Problem) (t : ℕ) (xs : List ℕ) → is_reached i t ≡ true → xs ≡ xs ++ cond (is_missed i t) (t ∷ []) []
 missed_reached i t xs e = missed_of_reached (nat_lt 0 (need_at i t)) (is_reached i t) xs (t ∷ []) e
-
-missed_of_needed : (b r : Bool) (ys : List ℕ) → b ≡ true → (if r then [] else ys) ≡ cond (b && not r) ys []
-missed_of_needed true true ys e = refl
-missed_of_needed true false ys e = refl
-missed_of_needed false r ys e = absurd (false≢true e)
-
-pub missed_needed : (i : Problem) (t : ℕ) → (need_at i t ≡ 0 → ⊥) → (if is_reached i t then [] else (t ∷ [])) ≡ cond (is_missed i t) (t ∷ []) []
-missed_needed i t some = missed_of_needed (nat_lt 0 (need_at i t)) (is_reached i t) (t ∷ []) (let h : 0 < need_at i t = omega arith in lt-ltb 0 (need_at i t) h)
 
 pub same_if : (r : Bool) (xs ys : List ℕ) → r ≡ true → xs ≡ xs ++ (if r then [] else ys)
 same_if true xs ys e = sym (append-nil xs)

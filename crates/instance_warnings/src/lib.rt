@@ -15,4 +15,4 @@ pub use judging::{unreached_slots_cost, warnings};
 pub use relaxing::Part;
 pub use slots::Slots;
 pub use telling::{Limit, Warning};
-pub use wording::Told;
+pub use wording::WordedWarning;

@@ -5,8 +5,7 @@ ghost use Rattle.instance_warnings.specs.Odd.{warning_if, excess_warnings, great
 ghost use Rattle.shift_instance.specs.Listing.{IsListed};
 
 use crate::telling::{Limit, Warning};
-use break_rules::{Lunch, NoMemory};
-use rule_sentences::total_among;
+use break_rules::{Lunch, NoMemory, total_among};
 use shift_instance::{Instance, TypeParts};
 
 /// The length that stands for no limit.

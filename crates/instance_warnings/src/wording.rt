@@ -12,7 +12,7 @@ const DAY: u32 = 1440;
 
 /// A warning in words for the instance that it is of.
 #[derive(Clone, Copy, Drop)]
-pub struct Told<'a> {
+pub struct WordedWarning<'a> {
     /// The warning.
     pub warning: &'a Warning,
     /// The instance that it is of.
@@ -52,7 +52,7 @@ fn write_total<W: fmt::Write>(total: Span, f: &mut fmt::Formatter<W>) -> fmt::Re
     }
 }
 
-impl<'a> Told<'a> {
+impl<'a> WordedWarning<'a> {
     /// A type by its number.
     fn kind(&self, kind: u16) -> Option<&TypeParts> {
         let parts = self.instance.parts();
@@ -368,7 +368,7 @@ impl<'a> Told<'a> {
     }
 }
 
-impl<'a> fmt::Display for Told<'a> {
+impl<'a> fmt::Display for WordedWarning<'a> {
     /// Writes a sentence for a planner.
     fn fmt<W: fmt::Write>(&self, f: &mut fmt::Formatter<W>) -> fmt::Result {
         match self.warning {

@@ -1,34 +1,12 @@
 -- A part is one of one node alone, so the same parts join alike, and where one can be joined there is nothing against it.
-use Rattle.std.proofs.Common.{◌≡◌, inl, inr, ℕ, ◌+◌, ◌*◌, ◌^◌, ◌<◌, ◌≤◌, nat_le, true, List, [], ◌∷◌, ◌++◌, length, map, cond, refl, sym, ap, ◌∙◌, subst, append_assoc, arith, Option, Some, None}
-use Rattle.std.specs.Prelude.{slice_get, IsFalse, IsSomeAnd}
-use Rattle.std.specs.Option.{option_and_then, option_or}
-use Rattle.std.proofs.lemmas.Bool.{and_parts, cases_eq, false≢true}
-use Rattle.std.proofs.lemmas.List.{append_cancel_left, length-append, length-map}
-use Rattle.std.proofs.lemmas.Option.{slice_get_within}
-use Rattle.break_rules.specs.Lists.{Has}
-use Rattle.shift_instance.specs.Problem.{Problem}
-use Rattle.head_splits.specs.declared.Cut.{Cut}
-use Rattle.head_splits.specs.Nodes.{Node, new_node}
-use Rattle.certificate.specs.declared.Cert.{Cert}
-use Rattle.certificate.specs.declared.proof_lines.Line.{Line}
-use Rattle.certificate.specs.Accepted.{is_accepted, is_bound, is_plan, least_floor, node_of, nodes_after, nodes_of}
+use Rattle.join_runs.proofs.Common.{◌≡◌, inl, inr, ℕ, ◌+◌, ◌*◌, ◌^◌, ◌<◌, ◌≤◌, nat_le, true, List, [], ◌∷◌, ◌++◌, length, map, cond, refl, sym, ap, ◌∙◌, subst, append_assoc, arith, Option, Some, None, slice_get, IsFalse, IsSomeAnd, option_and_then, option_or, and_parts, cases_eq, false≢true, append_cancel_left, length-append, length-map, slice_get_within, Problem, Cut, Node, new_node, Cert, Line, is_accepted, is_bound, is_plan, least_floor, node_of, nodes_after, nodes_of, bound_cause, cause_of, line_cause, plan_cause, grafted_line, grafted_lines, grafted_number, nodes_made, divisions, after_append, counted_lines, first_good, one_good, front_get, tree_of, PartFault, OtherLines, NothingFurther, NoEnd, OtherNode, OtherPlan, SameNode, TooMany, Departs, GoesOnAt, IsPartFault, LeavesNode, AreJoined, GoesOn, IsPart, IsPlanBelow, Joined, JoinsPart, none, one_more, IsNamedFault}
 use Rattle.cert_check.specs.declared.judged.Refused.{Refused as Refusal}
+use Rattle.break_rules.specs.Lists.{Has}
 use Rattle.cert_check.specs.declared.judged.Refused.TheVariants.{BoundTooHigh}
-use Rattle.cert_check.specs.Judged.{bound_cause, cause_of, line_cause, plan_cause}
 use Rattle.cert_check.proofs.Causes.{good_cause, plan_bad}
 use Rattle.report_grafts.specs.Faults.{HasEnd, HasOpenEnd}
-use Rattle.report_grafts.specs.Grafted.{grafted_line, grafted_lines, grafted_number, nodes_made}
-use Rattle.report_grafts.specs.Run.{divisions}
-use Rattle.report_grafts.proofs.Lines.{after_append, counted_lines, first_good, one_good}
-use Rattle.report_grafts.proofs.Places.{front_get}
-use Rattle.report_grafts.proofs.Plans.{made_is, tree_of}
-use Rattle.report_joins.specs.declared.fault.PartFault.{PartFault}
-use Rattle.report_joins.specs.declared.fault.PartFault.TheVariants.{Refused, OtherLines, NothingFurther, NoEnd, OtherNode, OtherPlan, SameNode, TooMany, NoMemory}
-use Rattle.report_joins.specs.Faults.{Departs, GoesOnAt, IsPartFault, LeavesNode}
-use Rattle.report_joins.specs.Joined.{AreJoined, GoesOn, IsPart, IsPlanBelow, Joined, JoinsPart}
-use Rattle.report_joins.specs.Joined.AreJoined.{none, one_more}
+use Rattle.report_joins.specs.declared.fault.PartFault.TheVariants.{Refused, NoMemory}
 use Rattle.report_joins.proofs.Below.{elsewhere, line_number}
-use Rattle.join_runs.specs.Texts.{IsNamedFault}
 
 -- ---- an accepted certificate has no cause against it
 
@@ -63,23 +41,9 @@ own_number node splits k n is small =
       | inr other ↦ absurd (elsewhere node splits n other (let few : n ≤ 2 * splits = omega (arith, small) in few) k is)
     ]
 
--- an unsplit node of a tree has a number of the tree
-end_within : (nodes : List Node) (node : ℕ) (cuts : List Cut) → HasEnd nodes node cuts → node < length nodes
-end_within nodes node cuts end = within (slice_get nodes node) refl end
-  where
-    within : (o : Option Node) → slice_get nodes node ≡ o → IsSomeAnd o (λ (n : Node). IsFalse n.split × (n.cuts ≡ cuts)) → node < length nodes
-    within None e h = absurd h
-    within (Some n) e h = slice_get_within nodes node n e
-
 same_cuts : (o : Option Node) (a b : List Cut) → IsSomeAnd o (λ (n : Node). IsFalse n.split × (n.cuts ≡ a)) → IsSomeAnd o (λ (n : Node). IsFalse n.split × (n.cuts ≡ b)) → a ≡ b
 same_cuts None a b h k = absurd h
 same_cuts (Some n) a b h k = sym h.1 ∙ k.1
-
--- the number of nodes of an accepted certificate
-nodes_counted : (i : Problem) (c : Cert) → is_accepted i c ≡ true → length (nodes_made i c.lines) ≡ 1 + 2 * divisions c.lines
-nodes_counted i c accepted =
-    let t = tree_of i c accepted in
-    ap (λ (ns : List Node). length ns) (made_is i c.lines t.0 t.1) ∙ counted_lines i (new_node [] ∷ []) t.0 c.lines t.1
 
 -- the first line behind those of an accepted certificate is of one of its nodes
 line_within : (i : Problem) (whole part : Cert) (line : Line) (rest : List Line) → is_accepted i whole ≡ true → is_accepted i part ≡ true → part.lines ≡ whole.lines ++ line ∷ rest → node_of line < 1 + 2 * divisions whole.lines

@@ -1,26 +1,8 @@
 -- Parts that sources give up, joined one after another.
-use Rattle.std.proofs.Common.{◌≡◌, ℕ, suc, zero, ◌+◌, ◌^◌, ◌<◌, ◌≤◌, true, List, [], ◌∷◌, ◌++◌, get_or, length, map, refl, sym, ap, ◌∙◌, subst, arith, Option, Some}
-use Rattle.std.specs.Prelude.{slice_get, take}
+use Rattle.join_runs.proofs.Common.{◌≡◌, ℕ, suc, zero, ◌+◌, ◌^◌, ◌<◌, ◌≤◌, true, List, [], ◌∷◌, ◌++◌, get_or, length, map, refl, sym, ap, ◌∙◌, subst, arith, Option, Some, slice_get, length-append, length-map, Problem, IsValid, Cert, Line, is_accepted, cert_text, Agrees, AgreesWith, set_same, set_other, grafted_line, grafted_lines, divisions, PartFault, OtherLines, NothingFurther, NoEnd, OtherNode, OtherPlan, SameNode, TooMany, Departs, IsPartFault, LeavesNode, alone, AreJoined, IsJoinedCert, Joined, none, one_more, JoinStatus, AreAllJoined, IsAllJoined, IsPartEnd, IsUnjoined, JoinsReport, IsJoinedText, HasPlace}
+use Rattle.report_joins.specs.declared.fault.PartFault.TheVariants.{Refused as IsRefusedPart, NoMemory as NoMemoryLeft}
+use Rattle.std.specs.Prelude.{take}
 use Rattle.std.proofs.Math.ListN.{set}
-use Rattle.std.proofs.lemmas.List.{length-append, length-map}
-use Rattle.shift_instance.specs.Problem.{Problem}
-use Rattle.shift_instance.specs.Valid.{IsValid}
-use Rattle.certificate.specs.declared.Cert.{Cert}
-use Rattle.certificate.specs.declared.proof_lines.Line.{Line}
-use Rattle.certificate.specs.Accepted.{is_accepted}
-use Rattle.certificate.specs.Text.{cert_text, Agrees, AgreesWith}
-use Rattle.report_grafts.proofs.Places.{set_same, set_other}
-use Rattle.report_grafts.specs.Grafted.{grafted_line, grafted_lines}
-use Rattle.report_grafts.specs.Run.{divisions}
-use Rattle.report_joins.specs.declared.fault.PartFault.{PartFault}
-use Rattle.report_joins.specs.declared.fault.PartFault.TheVariants.{Refused as IsRefusedPart, OtherLines, NothingFurther, NoEnd, OtherNode, OtherPlan, SameNode, TooMany, NoMemory as NoMemoryLeft}
-use Rattle.report_joins.specs.Faults.{Departs, IsPartFault, LeavesNode}
-use Rattle.report_joins.specs.Joined.{alone, AreJoined, IsJoinedCert, Joined}
-use Rattle.report_joins.specs.Joined.AreJoined.{none, one_more}
-use Rattle.join_runs.specs.declared.status.JoinStatus.{JoinStatus}
-use Rattle.join_runs.specs.Running.{AreAllJoined, IsAllJoined, IsPartEnd, IsUnjoined, JoinsReport}
-use Rattle.join_runs.specs.Runs.{IsJoinedText}
-use Rattle.join_runs.specs.Texts.{HasPlace}
 use Rattle.join_runs.proofs.Endings.{joined_more, joined_no_more, joined_none}
 use Rattle.join_runs.proofs.Texts.{accepted_text}
 
@@ -122,9 +104,3 @@ pub joined_agrees : (i : Problem) (whole : Cert) (lefts : List (Option (List ℕ
 joined_agrees i whole lefts j c valid all is few agrees =
     let same : j.instance ≡ i = joined_instance i whole all.0 j all.2 in
     accepted_text i c valid (subst (λ (x : Problem). is_accepted x c ≡ true) same is.accepted) few agrees
-
-pub text_of_all : (i : Problem) (whole : Cert) (lefts : List (Option (List ℕ))) (c : Cert) (bytes : List ℕ) → IsAllJoined i whole lefts c → bytes ≡ cert_text c → IsJoinedText i whole lefts bytes
-text_of_all i whole lefts c bytes all text =
-    let j : Joined = all.0 in
-    let joined : AreAllJoined i whole lefts j = all.1 in
-    record { parts = joined.0; reports = joined.1; joined = j; are_joined = joined.2; cert = c; is_cert = all.2; text = text }

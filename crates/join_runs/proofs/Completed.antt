@@ -1,32 +1,12 @@
 -- A run that can join writes the report with its parts.
-use Rattle.std.proofs.Common.{◌≡◌, ◌⊎◌, inl, inr, ℕ, zero, suc, ◌+◌, ◌<◌, ◌≤◌, List, [], ◌∷◌, ◌++◌, length, take, refl, sym, ap, ◌∙◌, subst, arith, Option, Some, None}
-use Rattle.std.specs.Prelude.{slice_get, IfSome, IsSome, Ok, Err}
-use Rattle.std.proofs.lemmas.Bool.{cases_lt, false≢true}
-use Rattle.std.proofs.lemmas.List.{length-append, take-append-le, take_at}
-use Rattle.std.proofs.lemmas.Option.{slice_get_within}
-use Rattle.shift_instance.specs.Problem.{Problem}
-use Rattle.instance_input.specs.Unread.{IsReadAs}
+use Rattle.join_runs.proofs.Common.{◌≡◌, ◌⊎◌, inl, inr, ℕ, zero, suc, ◌+◌, ◌<◌, ◌≤◌, List, [], ◌∷◌, ◌++◌, length, take, refl, sym, ap, ◌∙◌, subst, arith, Option, Some, None, slice_get, IfSome, IsSome, Ok, Err, cases_lt, false≢true, length-append, take-append-le, take_at, slice_get_within, Problem, IsReadAs, Cert, Spells, cause_of, IsReportOf, WhyUnjudged, front_get, last_get, IsPartFault, AreJoined, Joined, JoinsPart, none, one_more, JoinStatus, Written, Refused, NoPart, Usage, Input, Bundle, ReadFault, WriteFault, NoMemory, PartCause, AreReportsOf, EndsOver, Explains, IsCauseOf, IsNoPart, Met, IsNamed, join_of}
 use Rattle.instance_json.specs.Reading.{reading_of}
 use Rattle.certificate.specs.declared.TheConstants.{BUNDLE_MAX}
-use Rattle.certificate.specs.declared.Cert.{Cert}
-use Rattle.certificate.specs.Departing.{Spells}
 use Rattle.certificate.proofs.Alone.{certs}
-use Rattle.cert_check.specs.Judged.{cause_of}
-use Rattle.check_runs.specs.Check.{IsReportOf, WhyUnjudged}
 use Rattle.check_runs.specs.declared.status.BundleFault.{BundleFault}
 use Rattle.check_runs.specs.declared.status.BundleFault.TheVariants.{TooLong, Text}
-use Rattle.report_grafts.proofs.Places.{front_get, last_get}
-use Rattle.report_joins.specs.Faults.{IsPartFault}
-use Rattle.report_joins.specs.Joined.{AreJoined, Joined, JoinsPart}
-use Rattle.report_joins.specs.Joined.AreJoined.{none, one_more}
-use Rattle.join_runs.specs.declared.status.JoinStatus.{JoinStatus}
-use Rattle.join_runs.specs.declared.status.JoinStatus.TheVariants.{Written, Refused, NoPart, Usage, Input, Bundle, ReadFault, WriteFault, NoMemory}
-use Rattle.join_runs.specs.declared.status.PartCause.{PartCause}
 use Rattle.join_runs.specs.declared.status.PartCause.TheVariants.{NoReport, Fault}
 use Rattle.join_runs.specs.Complete.{CanJoin, TellReports, TellsReport}
-use Rattle.join_runs.specs.Runs.{AreReportsOf, EndsOver, Explains, IsCauseOf, IsNoPart, Met}
-use Rattle.join_runs.specs.Texts.{IsNamed}
-use Rattle.join_runs.specs.Words.{join_of}
 use Rattle.join_runs.proofs.Alike.{alike, faultless, uncaused, Alike}
 
 -- ---- what was told is what was met

@@ -1,32 +1,8 @@
 -- From how a run ends over an instance to what its status says.
-use Rattle.std.proofs.Common.{◌≡◌, inl, inr, ℕ, suc, zero, ◌+◌, refl, sym, subst, ap, ◌∙◌, List, [], ◌∷◌, ◌++◌, take, arith, Option, Some, None}
-use Rattle.std.specs.Prelude.{slice_get, IsSome}
-use Rattle.std.specs.Option.{option_map}
-use Rattle.std.specs.Io.KnownBytes.{Appends}
-use Rattle.shift_instance.specs.Problem.{Problem}
-use Rattle.instance_input.specs.Unread.{IsReadAs}
-use Rattle.certificate.specs.declared.Cert.{Cert}
-use Rattle.certificate.specs.LineText.{line_text}
+use Rattle.join_runs.proofs.Common.{◌≡◌, inl, inr, ℕ, suc, zero, ◌+◌, refl, sym, subst, ap, ◌∙◌, List, [], ◌∷◌, ◌++◌, take, arith, Option, Some, None, slice_get, IsSome, option_map, Problem, IsReadAs, Cert, line_text, cause_of, IsReportOf, SinkMet, SourceMet, alone, Joined, none, one_more, JoinStatus, Written, Refused, NoPart, Usage, Input, Bundle, ReadFault, WriteFault, NoMemory, PartCause, AreAllJoined, IsPartEnd, IsUnjoined, JoinsReport, Told, AreReportsOf, EndsOver, EndsWith, Explains, HasCommand, IsJoinedText, IsNoPart, Met, PartsMet, EndsBeforeParts, part_text, refused_text, IsNamed, IsNamedRefusal, Asked, join_of}
 use Rattle.cert_check.specs.declared.judged.Refused.{Refused as Refusal}
-use Rattle.cert_check.specs.Judged.{cause_of}
-use Rattle.check_runs.specs.Check.{IsReportOf, SinkMet, SourceMet}
-use Rattle.report_joins.specs.Joined.{alone, Joined}
-use Rattle.report_joins.specs.Joined.AreJoined.{none, one_more}
-use Rattle.join_runs.specs.declared.status.JoinStatus.{JoinStatus}
-use Rattle.join_runs.specs.declared.status.JoinStatus.TheVariants.{Written, Refused, NoPart, Usage, Input, Bundle, ReadFault, WriteFault, NoMemory}
-use Rattle.join_runs.specs.declared.status.PartCause.{PartCause}
-use Rattle.join_runs.specs.Running.{AreAllJoined, IsPartEnd, IsUnjoined, JoinsReport, Told}
+use Rattle.std.specs.Io.KnownBytes.{Appends}
 use Rattle.join_runs.specs.Runs.Says.{joins, refuses, has_no_part}
-use Rattle.join_runs.specs.Runs.{AreReportsOf, EndsOver, EndsWith, Explains, HasCommand, IsJoinedText, IsNoPart, Met, PartsMet}
-use Rattle.join_runs.specs.Status.{EndsBeforeParts}
-use Rattle.join_runs.specs.Texts.{part_text, refused_text, IsNamed, IsNamedRefusal}
-use Rattle.join_runs.specs.Words.{Asked, join_of}
-
--- what was written, or the beginning of it, says how a run ends that has a text
-pub told_text : (i : Problem) (whole : Cert) (parts : PartsMet) (sink : SinkMet) (text : List ℕ) (status : JoinStatus) → IsJoinedText i whole parts.left text → Told text Written (sink.held, sink.held_after) sink.faults status
-    → EndsWith i whole parts sink status
-told_text i whole parts sink text status w (inl t) = subst (EndsWith i whole parts sink) (sym t.0) (text, w, t.1)
-told_text i whole parts sink text status w (inr t) = subst (EndsWith i whole parts sink) (sym t.0) (text, joins w, t.1, t.2)
 
 -- and how one ends whose report is refused
 pub told_refusal : (i : Problem) (whole : Cert) (parts : PartsMet) (sink : SinkMet) (why : Refusal) (line : List ℕ) (status : JoinStatus) → cause_of i whole ≡ Some why → IsNamedRefusal why → line ≡ line_text (refused_text why)
@@ -42,18 +18,6 @@ told_part i whole parts sink number cause line status f named is (inl t) =
     subst (EndsWith i whole parts sink) (sym t.0) (f, named, subst (λ (bs : List ℕ). Appends sink.held sink.held_after bs) is t.1)
 told_part i whole parts sink number cause line status f named is (inr t) = subst (EndsWith i whole parts sink) (sym t.0) (line, has_no_part number cause f named is, t.1, t.2)
 
--- how a run ends over a certificate says how it ends over the instance
-pub over_report : (i : Problem) (whole : Cert) (report : SourceMet) (parts : PartsMet) (sink : SinkMet) (status : JoinStatus) → IsReportOf report.left whole → EndsWith i whole parts sink status → EndsOver i report parts sink status
-over_report i whole report parts sink Written read ends = (whole, read, ends)
-over_report i whole report parts sink (Refused why) read ends = (whole, read, ends)
-over_report i whole report parts sink (NoPart number cause) read ends = (whole, read, ends)
-over_report i whole report parts sink Usage read ends = absurd ends
-over_report i whole report parts sink (Input why) read ends = absurd ends
-over_report i whole report parts sink (Bundle why) read ends = absurd ends
-over_report i whole report parts sink ReadFault read ends = inr (whole, read, ends)
-over_report i whole report parts sink WriteFault read ends = (whole, read, ends)
-over_report i whole report parts sink NoMemory read ends = tt
-
 -- how a run ends over the instance of its document explains its status
 pub explained : (met : Met) (i : Problem) (status : JoinStatus) → HasCommand met → IsReadAs met.document.left i → EndsOver i met.report met.parts met.sink status → Explains met status
 explained met i Written asked read ends = (asked, (i, read, ends))
@@ -65,11 +29,6 @@ explained met i (Bundle why) asked read ends = (asked, (i, read, ends))
 explained met i ReadFault asked read ends = inr (asked, (i, read, ends))
 explained met i WriteFault asked read ends = (asked, (i, read, ends))
 explained met i NoMemory asked read ends = asked
-
--- what tells of an end before the parts tells of that end itself
-pub told_early : (bytes : List ℕ) (end : JoinStatus) (held : Option (List ℕ) × Option (List ℕ)) (faults : ℕ × ℕ) (status : JoinStatus) → Told bytes end held faults status → EndsBeforeParts status → EndsBeforeParts end
-told_early bytes end held faults status (inl t) early = subst (λ (s : JoinStatus). EndsBeforeParts s) t.0 early
-told_early bytes end held faults status (inr t) early = let never : EndsBeforeParts WriteFault = subst (λ (s : JoinStatus). EndsBeforeParts s) t.0 early in absurd never
 
 -- an end by a part comes no earlier than the parts
 pub part_was_read : (j : Joined) (number : ℕ) (part : SourceMet) (status : JoinStatus) → IsPartEnd j number part status → EndsBeforeParts status → ⊥

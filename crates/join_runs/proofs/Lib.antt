@@ -1,3 +1,4 @@
+pub mod Common
 pub mod Sizes
 pub mod Texts
 pub mod Endings

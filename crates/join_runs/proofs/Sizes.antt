@@ -1,11 +1,6 @@
 -- A report has no more proof lines than bytes.
-use Rattle.std.proofs.Common.{◌≡◌, ℕ, ◌+◌, ◌≤◌, List, [], ◌∷◌, ◌++◌, length, map, ap, ◌∙◌, arith}
-use Rattle.std.specs.Prelude.{codes}
-use Rattle.std.proofs.lemmas.List.{length-append, length-map, length_push}
-use Rattle.certificate.specs.declared.Cert.{Cert}
-use Rattle.certificate.specs.Departing.{Spells}
-use Rattle.certificate.specs.LineText.{Line as TextLine, line_text, lines_text, proof_line}
-use Rattle.certificate.specs.Text.{cert_lines, plan_lines, proof_lines}
+use Rattle.join_runs.proofs.Common.{◌≡◌, ℕ, ◌+◌, ◌≤◌, List, [], ◌∷◌, ◌++◌, length, map, ap, ◌∙◌, arith, codes, length-append, length-map, length_push, Cert, Spells, line_text, lines_text, proof_line, cert_lines, plan_lines, proof_lines}
+use Rattle.certificate.specs.LineText.{Line as TextLine}
 
 -- a text has no fewer bytes than lines
 lines_in : (lines : List TextLine) → length lines ≤ length (lines_text lines)

@@ -1,26 +1,12 @@
 -- A joined certificate has a text.
-use Rattle.std.proofs.Common.{◌≡◌, ℕ, ◌^◌, ◌<◌, ◌≤◌, max, true, ◌&&◌, ◌==◌, not, List, [], ◌∷◌, length, arith, nat_le, Option, Some, None}
-use Rattle.std.specs.Prelude.{zip}
-use Rattle.std.specs.List.{list_all, AllByRecursion}
-use Rattle.std.proofs.lemmas.Bool.{and_parts, eqb-true}
+use Rattle.join_runs.proofs.Common.{◌≡◌, ℕ, ◌^◌, ◌<◌, ◌≤◌, max, true, ◌&&◌, ◌==◌, not, List, [], ◌∷◌, length, arith, nat_le, Option, Some, None, zip, list_all, AllByRecursion, and_parts, eqb-true, Problem, slots, IsValid, Cut, Node, new_node, with_floor, Cert, Line, is_accepted, is_bound, is_plan, nodes_after, HasSlot, rows_of, Agrees, AgreesWith, cond_some, first_good, tree_of}
 use Rattle.std.proofs.lemmas.List.Elements.{All-from_recursion}
 use Rattle.shift_instance.specs.declared.Row.{Row}
-use Rattle.shift_instance.specs.Problem.{Problem, slots}
-use Rattle.shift_instance.specs.Valid.{IsValid}
 use Rattle.shift_instance.specs.Rota.{are_legal_rows, cost, rota_of}
-use Rattle.head_splits.specs.declared.Cut.{Cut}
 use Rattle.head_splits.specs.declared.Prices.{Prices}
 use Rattle.head_splits.specs.Bound.{are_prices, bound_of, is_slot_price, is_cut_price}
-use Rattle.head_splits.specs.Nodes.{Node, new_node, with_floor}
-use Rattle.certificate.specs.declared.Cert.{Cert}
-use Rattle.certificate.specs.declared.proof_lines.Line.{Line}
 use Rattle.certificate.specs.declared.proof_lines.Line.TheVariants.{Split, Priced, Settled}
-use Rattle.certificate.specs.Accepted.{is_accepted, is_bound, is_plan, nodes_after}
-use Rattle.certificate.specs.LineText.{HasSlot}
-use Rattle.certificate.specs.Text.{rows_of, Agrees, AgreesWith}
 use Rattle.search_core.proofs.Fits.{rows_fit}
-use Rattle.report_grafts.proofs.Lines.{cond_some, first_good}
-use Rattle.report_grafts.proofs.Plans.{tree_of}
 
 -- prices for an instance are some
 some_prices : (i : Problem) (cuts : List Cut) (prices : Prices) → IsValid i → are_prices i cuts prices ≡ true → 0 < length prices.slots

@@ -1,16 +1,12 @@
 -- The words of the command line.
-use Rattle.std.specs.Prelude.{ℕ, List, [], ◌∷◌, Bool, false, ◌&&◌, not, ◌==◌, if◌then◌else◌, Option, Some, None, codes}
+use Rattle.std.specs.Prelude.{ℕ, List, [], ◌∷◌, Bool, false, ◌&&◌, ◌==◌, if◌then◌else◌, Option, Some, None, codes}
 use Rattle.std.specs.List.{list_all}
 use Rattle.std.specs.Cmp.Lexicographic.{pointwise}
+use Rattle.check_runs.specs.Words.{is_file}
 
 -- whether two words are the same
 abbrev pub is_word : List ℕ → List ℕ → Bool
 is_word = pointwise (λ a b. a == b)
-
--- whether a word may name a file: it isn't empty and doesn't begin with `-`
-abbrev pub is_file : List ℕ → Bool
-is_file [] = false
-is_file (first ∷ rest) = not (first == 45)
 
 -- whether words may name files, and are at least one
 abbrev pub are_files : List (List ℕ) → Bool

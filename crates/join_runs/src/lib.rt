@@ -10,4 +10,4 @@ mod words;
 
 pub use joining::join_top;
 pub use status::{JoinStatus, PartCause};
-pub use words::{Files, JoinRequest, join_of};
+pub use words::{JoinRequest, join_of};

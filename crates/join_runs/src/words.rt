@@ -2,16 +2,10 @@
 ghost use Rattle.std.specs.Prelude.{◌≡◌, map, string_bytes};
 ghost use Rattle.std.specs.List.{list_all};
 ghost use Rattle.std.specs.Option.{option_map};
-ghost use Rattle.join_runs.specs.Words.{are_files, is_file, join_of};
+ghost use Rattle.check_runs.specs.Words.{is_file};
+ghost use Rattle.join_runs.specs.Words.{are_files, join_of};
 
-/// The document and the report that the words name.
-#[derive(Clone, Copy, Drop)]
-pub struct Files<'a> {
-    /// The path of the instance document.
-    pub instance: &'a str,
-    /// The path of the report.
-    pub report: &'a str,
-}
+use check_runs::{Files, may_be_file};
 
 /// What `join INSTANCE REPORT PART..` asks for.
 #[derive(Clone, Copy, Drop)]
@@ -20,16 +14,6 @@ pub struct JoinRequest<'a> {
     pub files: Files<'a>,
     /// The paths of the parts, at least one.
     pub parts: &'a [String],
-}
-
-/// Whether a word may name a file: it isn't empty and doesn't begin with `-`.
-fn may_be_file(word: &str) -> bool
-    ensures { result ≡ is_file word.now }
-{
-    match word.as_bytes() {
-        [] => false,
-        [first, ..] => *first != b'-',
-    }
 }
 
 /// Whether each word may name a file.

@@ -7,7 +7,7 @@ use break_rules::NoMemory;
 use head_splits::{Cuts, Hint};
 use rota_cost::{cost_rows, legal_rows};
 use shift_instance::{Instance, Rows};
-use shift_tables::Tables;
+use shift_tables::ShiftTables;
 use std::alloc::Global;
 
 /// An adviser that gives another's advice, where each legal plan has more of the wanted duties and costs no more. The first that it
@@ -19,7 +19,7 @@ pub struct Keeping<A: Adviser> {
     wanted: Rows,
     begin: Rows,
     /// Tables of the instance; none where no row is wanted.
-    tables: Option<Tables>,
+    tables: Option<ShiftTables>,
     /// Whether the rows to begin with weren't advised yet.
     is_fresh: bool,
 }
@@ -29,11 +29,11 @@ fn tables_for(
     alloc: Global,
     instance: &Instance,
     wanted: &Rows,
-) -> Result<Option<Tables>, NoMemory> {
+) -> Result<Option<ShiftTables>, NoMemory> {
     if wanted.is_empty() {
         return Ok(None);
     }
-    Ok(Some(Tables::new(alloc, instance)?))
+    Ok(Some(ShiftTables::new(alloc, instance)?))
 }
 
 /// Rows where they are a plan that is cheaper than `best`, with what they cost.

@@ -9,7 +9,7 @@ use break_rules::NoMemory;
 use plan_comparison::kept_duties;
 use rota_cost::{cost_rows, recount};
 use shift_instance::{Instance, Rows};
-use shift_tables::Tables;
+use shift_tables::ShiftTables;
 use std::alloc::Global;
 
 /// What a legal plan costs with `change` for each wanted duty that another one keeps.
@@ -51,7 +51,7 @@ pub fn least_changed(
     ensures rows { IfOk result (λ new. WeighsNoMore instance.now wanted.now change new rows) }
     ensures other { IfOk result (λ new. IsTrue (are_legal_rows instance.now other) → WeighsNoMore instance.now wanted.now change new other) }
 {
-    let tables = Tables::new(alloc, instance)?;
+    let tables = ShiftTables::new(alloc, instance)?;
     let one = with_more_kept(alloc, instance, &tables, rows, wanted, change)?;
     let Ok(plan) = cost_rows(instance, other) else {
         return Ok(one);

@@ -3,7 +3,7 @@
 use break_rules::NoMemory;
 use plan_comparison::{duties_on, kept_on};
 use shift_instance::Rows;
-use shift_tables::Tables;
+use shift_tables::ShiftTables;
 use std::alloc::Global;
 use working_plan::{Placed, Plan};
 
@@ -77,7 +77,7 @@ fn as_float(duties: u128) -> f64 {
 }
 
 /// Takes the duties of a day out of a plan.
-fn take_day(plan: &mut Plan, tables: &Tables, placed: &[Placed], day: u8) {
+fn take_day(plan: &mut Plan, tables: &ShiftTables, placed: &[Placed], day: u8) {
     for one in placed {
         if one.day == usize::from(day) {
             plan.take(tables, one);
@@ -86,7 +86,12 @@ fn take_day(plan: &mut Plan, tables: &Tables, placed: &[Placed], day: u8) {
 }
 
 /// Puts the duties of a day into a plan.
-fn put_day(plan: &mut Plan, tables: &Tables, placed: &[Placed], day: u8) -> Result<(), NoMemory> {
+fn put_day(
+    plan: &mut Plan,
+    tables: &ShiftTables,
+    placed: &[Placed],
+    day: u8,
+) -> Result<(), NoMemory> {
     for one in placed {
         if one.day == usize::from(day) {
             plan.put(tables, one)?;
@@ -98,7 +103,7 @@ fn put_day(plan: &mut Plan, tables: &Tables, placed: &[Placed], day: u8) -> Resu
 /// Gives a day the duties that a choice says.
 fn turn_day(
     plan: &mut Plan,
-    tables: &Tables,
+    tables: &ShiftTables,
     sides: &Sides,
     day: u8,
     is_wanted: bool,
@@ -113,7 +118,13 @@ fn turn_day(
 }
 
 /// Takes a plan from one choice of days to another.
-fn turn(plan: &mut Plan, tables: &Tables, sides: &Sides, from: u8, to: u8) -> Result<(), NoMemory> {
+fn turn(
+    plan: &mut Plan,
+    tables: &ShiftTables,
+    sides: &Sides,
+    from: u8,
+    to: u8,
+) -> Result<(), NoMemory> {
     for day in 0..DAYS {
         let is_wanted = has_day(to, day);
         if has_day(from, day) != is_wanted {
@@ -125,7 +136,7 @@ fn turn(plan: &mut Plan, tables: &Tables, sides: &Sides, from: u8, to: u8) -> Re
 
 /// Of all choices of days the one by which a plan, which has its own duties, is cheapest with what wanted duties count that it lacks, and has
 /// the most of them among the cheapest. The plan is as the last choice makes it then.
-fn best_choice(plan: &mut Plan, tables: &Tables, sides: &Sides) -> Result<Choice, NoMemory> {
+fn best_choice(plan: &mut Plan, tables: &ShiftTables, sides: &Sides) -> Result<Choice, NoMemory> {
     let mut best = Choice {
         days: 0,
         cost: plan.cost,
@@ -150,7 +161,7 @@ fn best_choice(plan: &mut Plan, tables: &Tables, sides: &Sides) -> Result<Choice
 /// is just as cheap.
 pub(crate) fn restore_days(
     plan: &mut Plan,
-    tables: &Tables,
+    tables: &ShiftTables,
     sides: &Sides,
 ) -> Result<(), NoMemory> {
     let best = best_choice(plan, tables, sides)?;

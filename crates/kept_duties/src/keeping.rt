@@ -10,14 +10,14 @@ use break_rules::NoMemory;
 use plan_comparison::kept_duties;
 use rota_cost::{cost_rows, recount};
 use shift_instance::{Instance, Rows};
-use shift_tables::Tables;
+use shift_tables::ShiftTables;
 use std::alloc::Global;
 
 /// The rows of a plan after whole days, and then single duties, came back from the wanted rows where that makes it dearer by at most `change`
 /// for each. Nothing is claimed of them.
 fn restored(
     alloc: Global,
-    tables: &Tables,
+    tables: &ShiftTables,
     rows: &Rows,
     wanted: &Rows,
     change: u32,
@@ -80,7 +80,7 @@ fn kept_or(instance: &Instance, rows: Rows, other: Rows, wanted: &Rows, change: 
 pub fn with_more_kept(
     alloc: Global,
     instance: &Instance,
-    tables: &Tables,
+    tables: &ShiftTables,
     rows: Rows,
     wanted: &Rows,
     change: u32,

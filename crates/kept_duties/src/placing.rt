@@ -2,7 +2,7 @@
 
 use break_rules::{Breaks, NoMemory};
 use shift_instance::{Row, Rows};
-use shift_tables::{Pauses, Tables};
+use shift_tables::{Pauses, ShiftTables};
 use std::alloc::Global;
 use working_plan::{Placed, Plan};
 
@@ -34,7 +34,7 @@ pub fn placed_of(alloc: Global, rows: &Rows) -> Result<Option<Vec<Placed>>, NoMe
 }
 
 /// The working plan of some duties.
-pub fn plan_of(alloc: Global, tables: &Tables, placed: &[Placed]) -> Result<Plan, NoMemory> {
+pub fn plan_of(alloc: Global, tables: &ShiftTables, placed: &[Placed]) -> Result<Plan, NoMemory> {
     let mut plan = Plan::new(alloc, tables)?;
     for one in placed {
         plan.put(tables, one)?;
@@ -53,7 +53,7 @@ fn row_of(alloc: Global, placed: &Placed, count: u16) -> Result<Row, NoMemory> {
 }
 
 /// The rows of a working plan, in their order.
-pub fn rows_of(alloc: Global, tables: &Tables, plan: &Plan) -> Result<Rows, NoMemory> {
+pub fn rows_of(alloc: Global, tables: &ShiftTables, plan: &Plan) -> Result<Rows, NoMemory> {
     let mut sorted = Vec::new(alloc);
     plan.list_into(tables, &mut sorted)?;
     sorted.sort_unstable();

@@ -1,7 +1,7 @@
 //! Duties that give way to wanted ones.
 
 use break_rules::NoMemory;
-use shift_tables::{Pauses, Tables};
+use shift_tables::{Pauses, ShiftTables};
 use std::alloc::Global;
 use working_plan::{Placed, Plan};
 
@@ -28,7 +28,7 @@ fn times_listed(list: &[Pauses], pauses: &Pauses) -> usize {
 }
 
 /// How often a plan has a duty.
-fn times_in(plan: &Plan, tables: &Tables, placed: &Placed) -> usize {
+fn times_in(plan: &Plan, tables: &ShiftTables, placed: &Placed) -> usize {
     let list = plan.duties(tables, placed.shift, placed.day);
     times_listed(list, &placed.pauses)
 }
@@ -36,7 +36,7 @@ fn times_in(plan: &Plan, tables: &Tables, placed: &Placed) -> usize {
 /// Puts a duty in where there is room and the plan costs no more than `cost` then, and says whether it did.
 fn has_fitted(
     plan: &mut Plan,
-    tables: &Tables,
+    tables: &ShiftTables,
     placed: &Placed,
     cost: f64,
 ) -> Result<bool, NoMemory> {
@@ -54,7 +54,7 @@ fn has_fitted(
 /// Puts a wanted duty in place of another where the plan costs no more than `cost` then, and says whether it did.
 fn has_traded(
     plan: &mut Plan,
-    tables: &Tables,
+    tables: &ShiftTables,
     other: &Placed,
     placed: &Placed,
     cost: f64,
@@ -71,7 +71,7 @@ fn has_traded(
 fn restore_duty(
     alloc: Global,
     plan: &mut Plan,
-    tables: &Tables,
+    tables: &ShiftTables,
     wanted: &[Placed],
     placed: &Placed,
     change: f64,
@@ -97,7 +97,7 @@ fn restore_duty(
 pub(crate) fn restore_duties(
     alloc: Global,
     plan: &mut Plan,
-    tables: &Tables,
+    tables: &ShiftTables,
     wanted: &[Placed],
     change: f64,
 ) -> Result<(), NoMemory> {

@@ -24,7 +24,7 @@ use Rattle.break_graph.proofs.Elements.{Has-get}
 use Rattle.break_graph.proofs.Marks.{walk_front}
 use Rattle.break_layers.specs.declared.ways.Way.{Way as LayerWay}
 use Rattle.list_walks.specs.declared.steps.Standing.{Standing}
-use Rattle.list_walks.specs.declared.steps.Way.{Way}
+use Rattle.list_walks.specs.declared.steps.WalkWay.{WalkWay}
 use Rattle.list_walks.specs.Stands.{Walks, Stands, AreWaysOn}
 use Rattle.list_walks.specs.Steps.{way_along, way_to}
 
@@ -93,25 +93,25 @@ module _ (walks : Walks) (nodes : List Node) (h : walks.nodes ≡ Some nodes) (r
     node = subst (λ (o : Option (List Node)). IfSome o (λ ns. StandsAt walks.rule walks.len ns node list)) (sym h) s;
   }
 
-  pub ways_on_along : (at : Standing) (list : List Break) (ways : List Way) → ways ≡ map (way_along nodes) (node_at nodes at.node).edges → Stands walks at list → AreWaysOn walks at list ways
+  pub ways_on_along : (at : Standing) (list : List Break) (ways : List WalkWay) → ways ≡ map (way_along nodes) (node_at nodes at.node).edges → Stands walks at list → AreWaysOn walks at list ways
   ways_on_along at list ways is s =
       let edges = (node_at nodes at.node).edges in
       let here = stands_at at list s in
       record {
-        stops = ap (map (λ (w : Way). w.stop)) is ∙ map-map (λ (w : Way). w.stop) (way_along nodes) edges ∙ g.edges at.node list here;
+        stops = ap (map (λ (w : WalkWay). w.stop)) is ∙ map-map (λ (w : WalkWay). w.stop) (way_along nodes) edges ∙ g.edges at.node list here;
         stand = stand;
         nearer = λ i w m. stands_nearer walks at w.at list w.stop r s (stand i w m);
-        ends = ap (λ (ws : List Way). length ws == 0) is ∙ ap (λ (n : ℕ). n == 0) (length-map edges (way_along nodes)) ∙ g.ends at.node list here;
+        ends = ap (λ (ws : List WalkWay). length ws == 0) is ∙ ap (λ (n : ℕ). n == 0) (length-map edges (way_along nodes)) ∙ g.ends at.node list here;
       }
     where
-      stand : (i : ℕ) (w : Way) → slice_get ways i ≡ Some w → Stands walks w.at (list ++ w.stop ∷ [])
+      stand : (i : ℕ) (w : WalkWay) → slice_get ways i ≡ Some w → Stands walks w.at (list ++ w.stop ∷ [])
       stand i w m =
-          let e = from_mapped (way_along nodes) (node_at nodes at.node).edges i w (ap (λ (ws : List Way). slice_get ws i) (sym is) ∙ m) in
+          let e = from_mapped (way_along nodes) (node_at nodes at.node).edges i w (ap (λ (ws : List WalkWay). slice_get ws i) (sym is) ∙ m) in
           let behind = g.behind at.node i e.0 list (stands_at at list s) e.1 in
-          subst (λ (v : Way). Stands walks v.at (list ++ v.stop ∷ [])) e.2 (stands_by e.0.next (list ++ e.0.stop ∷ []) behind)
+          subst (λ (v : WalkWay). Stands walks v.at (list ++ v.stop ∷ [])) e.2 (stands_by e.0.next (list ++ e.0.stop ∷ []) behind)
 
 -- by layers
-pub ways_on_by : (walks : Walks) → walks.nodes ≡ None → IsRule walks.rule → (at : Standing) (list : List Break) (found : List LayerWay) (ways : List Way) → ways ≡ map way_to found
+pub ways_on_by : (walks : Walks) → walks.nodes ≡ None → IsRule walks.rule → (at : Standing) (list : List Break) (found : List LayerWay) (ways : List WalkWay) → ways ≡ map way_to found
     → map (λ (w : LayerWay). w.stop) found ≡ live_nexts walks.rule walks.len list
     → ((i : ℕ) (w : LayerWay) → slice_get found i ≡ Some w → w.spot ≡ spot_of walks.rule (list ++ w.stop ∷ []))
     → Stands walks at list → AreWaysOn walks at list ways
@@ -120,15 +120,15 @@ ways_on_by walks h r at list found ways is stops spots s =
       stops = all;
       stand = stand;
       nearer = λ i w m. stands_nearer walks at w.at list w.stop r s (stand i w m);
-      ends = ap (λ (n : ℕ). n == 0) (sym (length-map ways (λ (w : Way). w.stop))) ∙ ap (λ (bs : List Break). length bs == 0) all ∙ none_on walks.rule walks.len list s.live;
+      ends = ap (λ (n : ℕ). n == 0) (sym (length-map ways (λ (w : WalkWay). w.stop))) ∙ ap (λ (bs : List Break). length bs == 0) all ∙ none_on walks.rule walks.len list s.live;
     }
   where
-    all : map (λ (w : Way). w.stop) ways ≡ live_nexts walks.rule walks.len list
-    all = ap (map (λ (w : Way). w.stop)) is ∙ map-map (λ (w : Way). w.stop) way_to found ∙ stops
+    all : map (λ (w : WalkWay). w.stop) ways ≡ live_nexts walks.rule walks.len list
+    all = ap (map (λ (w : WalkWay). w.stop)) is ∙ map-map (λ (w : WalkWay). w.stop) way_to found ∙ stops
 
-    stand : (i : ℕ) (w : Way) → slice_get ways i ≡ Some w → Stands walks w.at (list ++ w.stop ∷ [])
+    stand : (i : ℕ) (w : WalkWay) → slice_get ways i ≡ Some w → Stands walks w.at (list ++ w.stop ∷ [])
     stand i w m =
-        let v = from_mapped way_to found i w (ap (λ (ws : List Way). slice_get ws i) (sym is) ∙ m) in
+        let v = from_mapped way_to found i w (ap (λ (ws : List WalkWay). slice_get ws i) (sym is) ∙ m) in
         let has : Has (live_nexts walks.rule walks.len list) v.0.stop = subst (λ (bs : List Break). Has bs v.0.stop) stops (Has-map (λ (w : LayerWay). w.stop) found v.0 (Has-get found i v.0 v.1)) in
         let live : is_live walks.rule walks.len (list ++ v.0.stop ∷ []) ≡ true = (from_filter (λ b. is_live walks.rule walks.len (list ++ b ∷ [])) (nexts_of walks.rule walks.len (spot_of walks.rule list)) v.0.stop has).1 in
         let stands : Stands walks (way_to v.0).at (list ++ v.0.stop ∷ []) = record {
@@ -137,4 +137,4 @@ ways_on_by walks h r at list found ways is stops spots s =
           spot = spots i v.0 v.1;
           node = subst (λ (o : Option (List Node)). IfSome o (λ ns. StandsAt walks.rule walks.len ns 0 (list ++ v.0.stop ∷ []))) (sym h) tt;
         } in
-        subst (λ (u : Way). Stands walks u.at (list ++ u.stop ∷ [])) v.2 stands
+        subst (λ (u : WalkWay). Stands walks u.at (list ++ u.stop ∷ [])) v.2 stands

@@ -7,7 +7,7 @@ use Rattle.break_rules.specs.Walk.{is_walk, spot_of}
 use Rattle.break_graph.specs.declared.Node.{Node}
 use Rattle.break_graph.specs.Graph.{StandsAt, live_nexts}
 use Rattle.list_walks.specs.declared.steps.Standing.{Standing}
-use Rattle.list_walks.specs.declared.steps.Way.{Way}
+use Rattle.list_walks.specs.declared.steps.WalkWay.{WalkWay}
 
 -- the rule and the length of a shift, and the nodes of the graph along which walks go, if they go along one
 pub record Walks : Type 0 where
@@ -24,10 +24,10 @@ pub record Stands (walks : Walks) (at : Standing) (list : List Break) : Type 0 w
 
 -- the ways on from where a list stands: the breaks with which some legal list goes on, in rising order, each with where the list with that
 -- break stands, which is nearer to the end of the shift; and there are none exactly where the list is legal
-pub record AreWaysOn (walks : Walks) (at : Standing) (list : List Break) (ways : List Way) : Type 0 where
+pub record AreWaysOn (walks : Walks) (at : Standing) (list : List Break) (ways : List WalkWay) : Type 0 where
   pub stops : map (λ w. w.stop) ways ≡ live_nexts walks.rule walks.len list
-  pub stand : (i : ℕ) (w : Way) → slice_get ways i ≡ Some w → Stands walks w.at (list ++ w.stop ∷ [])
-  pub nearer : (i : ℕ) (w : Way) → slice_get ways i ≡ Some w → walks.len - w.at.spot.offset < walks.len - at.spot.offset
+  pub stand : (i : ℕ) (w : WalkWay) → slice_get ways i ≡ Some w → Stands walks w.at (list ++ w.stop ∷ [])
+  pub nearer : (i : ℕ) (w : WalkWay) → slice_get ways i ≡ Some w → walks.len - w.at.spot.offset < walks.len - at.spot.offset
   pub ends : (length ways == 0) ≡ is_legal walks.rule walks.len list
 
 -- the opening spot at the last node of a graph

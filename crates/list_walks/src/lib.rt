@@ -5,5 +5,5 @@
 mod steps;
 mod walks;
 
-pub use steps::{Standing, Way};
+pub use steps::{Standing, WalkWay};
 pub use walks::ListWalks;

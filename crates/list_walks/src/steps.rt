@@ -21,7 +21,7 @@ pub struct Standing {
 
 /// A break with which some legal list goes on, and where the list with that break stands.
 #[derive(Clone, Copy, PartialEq, Eq, Drop)]
-pub struct Way {
+pub struct WalkWay {
     /// The break.
     pub stop: Break,
     /// Where the list with that break stands.
@@ -29,7 +29,11 @@ pub struct Way {
 }
 
 /// The ways on from a node of a graph.
-pub(crate) fn ways_along(alloc: Global, graph: &Graph, node: usize) -> Result<Vec<Way>, NoMemory>
+pub(crate) fn ways_along(
+    alloc: Global,
+    graph: &Graph,
+    node: usize,
+) -> Result<Vec<WalkWay>, NoMemory>
     requires node { node < length graph.now }
     requires edges { (i : ℕ) (e : Edge) → slice_get (node_at graph.now node).edges i ≡ Some e → e.next < length graph.now }
     ensures { IfOk result (λ ways. ways.items ≡ map (way_along graph.now) (node_at graph.now node).edges) }
@@ -42,7 +46,7 @@ pub(crate) fn ways_along(alloc: Global, graph: &Graph, node: usize) -> Result<Ve
             spot: graph.spot(next),
             node: next,
         };
-        ways.push(Way {
+        ways.push(WalkWay {
             stop: edge.stop,
             at,
         })?;
@@ -51,12 +55,12 @@ pub(crate) fn ways_along(alloc: Global, graph: &Graph, node: usize) -> Result<Ve
 }
 
 /// The ways on that layers give.
-pub(crate) fn ways_to(alloc: Global, found: &[LayerWay]) -> Result<Vec<Way>, NoMemory>
+pub(crate) fn ways_to(alloc: Global, found: &[LayerWay]) -> Result<Vec<WalkWay>, NoMemory>
     ensures { IfOk result (λ ways. ways.items ≡ map way_to found.now) }
 {
     let mut ways = Vec::with_capacity(alloc, found.len())?;
     for way in found {
-        ways.push(Way {
+        ways.push(WalkWay {
             stop: way.stop,
             at: Standing {
                 spot: way.spot,

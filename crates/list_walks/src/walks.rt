@@ -6,7 +6,7 @@ ghost use Rattle.break_rules.specs.Breaks.{is_live};
 ghost use Rattle.shift_instance.specs.Problem.{shift_list};
 ghost use Rattle.list_walks.specs.Stands.{Stands, AreWaysOn, StandsLast, IsOpening};
 
-use crate::steps::{Standing, Way, ways_along, ways_to};
+use crate::steps::{Standing, WalkWay, ways_along, ways_to};
 use break_graph::Graph;
 use break_layers::LayerValues;
 use break_rules::{NoMemory, Rule, Spot};
@@ -110,7 +110,7 @@ impl<'a> ListWalks<'a> {
     /// Returns the ways on from where a list stands: the breaks with which some legal list goes on, in rising order, each with
     /// where the list with that break stands. There are none exactly where the list itself is legal. The only refusal is running out
     /// of memory.
-    pub fn ways(&self, alloc: Global, at: Standing) -> Result<Vec<Way>, NoMemory>
+    pub fn ways(&self, alloc: Global, at: Standing) -> Result<Vec<WalkWay>, NoMemory>
         requires { (list : List Break) × Stands self.now at list }
         ensures { IfOk result (λ ways. (list : List Break) → Stands self.now at list → AreWaysOn self.now at list ways.items) }
     {

@@ -1,20 +1,6 @@
 -- What one duty more, one less and other breaks of a duty need and give.
-use Rattle.std.proofs.Common.{◌≡◌, ◌⊎◌, inl, inr, ℕ, ◌+◌, ◌<◌, ◌≤◌, Bool, true, false, cond, not, ◌&&◌, ◌==◌, nat_lt, List, [], ◌∷◌, ◌++◌, Option, Some, refl, sym, ap, ◌∙◌, subst, arith, eqb-true, eq-eqb}
-use Rattle.std.specs.List.{count_by}
-use Rattle.std.proofs.lemmas.Bool.{and_parts, and_from, cases_Bool, ltb-true, ltb-false, false≢true}
-use Rattle.std.proofs.lemmas.List.Sums.{sum_by-cons}
-use Rattle.shift_instance.specs.declared.Duty.{Duty}
-use Rattle.shift_instance.specs.Problem.{Problem}
-use Rattle.shift_instance.specs.Rota.{same_duty, count_of, is_on, heads_on, is_list_of, is_legal_duty, is_legal_rota, are_legal_rows, rota_of}
-use Rattle.shift_instance.proofs.Alike.{same_duty_decides}
-use Rattle.shift_instance.proofs.Rotas.{heads_within}
-use Rattle.rota_cost.specs.Cover.{without}
-use Rattle.rota_cost.proofs.Counting.{legal_rows_parts}
-use Rattle.rota_cost.proofs.Duties.{with_pushed, with_removed}
+use Rattle.local_moves.proofs.Common.{◌≡◌, ◌⊎◌, inl, inr, ℕ, ◌+◌, ◌<◌, ◌≤◌, Bool, true, false, cond, not, ◌&&◌, ◌==◌, nat_lt, List, [], ◌∷◌, ◌++◌, Option, Some, refl, sym, ap, ◌∙◌, subst, arith, eqb-true, eq-eqb, count_by, and_parts, and_from, cases_Bool, ltb-true, ltb-false, false≢true, sum_by-cons, Duty, Problem, same_duty, count_of, is_on, heads_on, is_list_of, is_legal_duty, is_legal_rota, are_legal_rows, rota_of, same_duty_decides, heads_within, without, legal_rows_parts, with_pushed, with_removed, UnknownShift, Day, Breaks, Absent, HeadsOver, OtherKind, NotNear, NoMemory, Drafting, IsExchanged, Answers, AreSameDuties}
 use Rattle.local_moves.specs.declared.moves.MoveFault.{MoveFault}
-use Rattle.local_moves.specs.declared.moves.MoveFault.TheVariants.{UnknownShift, Day, Breaks, Absent, HeadsOver, OtherKind, NotNear, NoMemory}
-use Rattle.local_moves.specs.Drafting.{Drafting, IsExchanged}
-use Rattle.local_moves.specs.Moves.{Answers, AreSameDuties}
 
 -- a plan that is kept is legal
 pub now_legal : (v : Drafting) (i : Problem) → v.instance ≡ i → are_legal_rows v.instance v.rows ≡ true → is_legal_rota i (rota_of v.rows) ≡ true

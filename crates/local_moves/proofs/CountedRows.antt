@@ -1,20 +1,6 @@
 -- A plan's duties and heads, row by row.
-use Rattle.std.proofs.Common.{◌≡◌, ℕ, zero, suc, ◌+◌, ◌*◌, ◌<◌, ◌≤◌, Bool, cond, ◌&&◌, ◌==◌, List, [], ◌∷◌, ◌++◌, length, get_or, set, take, replicate, refl, sym, ap, ◌∙◌, subst, arith, append_assoc, append-nil, add-one, eq-eqb, true}
-use Rattle.std.specs.List.{count_by}
-use Rattle.std.proofs.lemmas.Bool.{and_from}
-use Rattle.std.proofs.lemmas.List.{length-append, length-replicate}
-use Rattle.break_rules.proofs.Counts.{count_by-append, count_by-replicate}
-use Rattle.shift_instance.specs.declared.Duty.{Duty}
-use Rattle.shift_instance.specs.declared.Row.{Row}
-use Rattle.shift_instance.specs.Problem.{Problem, shift_list}
-use Rattle.shift_instance.specs.Rota.{is_on, heads_on, duty_of, rota_of, are_legal_rows, is_legal_rota}
+use Rattle.local_moves.proofs.Common.{◌≡◌, ℕ, zero, suc, ◌+◌, ◌*◌, ◌<◌, ◌≤◌, Bool, cond, ◌&&◌, ◌==◌, List, [], ◌∷◌, ◌++◌, length, get_or, set, take, replicate, refl, sym, ap, ◌∙◌, subst, arith, append_assoc, append-nil, add-one, eq-eqb, true, count_by, and_from, length-append, length-replicate, count_by-append, count_by-replicate, Duty, Row, Problem, shift_list, is_on, heads_on, duty_of, rota_of, are_legal_rows, is_legal_rota, heads_within, legal_rows_parts, row_duty, Covering, IsDraft, rows_of, few_duties}
 use Rattle.shift_instance.specs.Valid.{IsValid}
-use Rattle.shift_instance.proofs.Rotas.{heads_within}
-use Rattle.rota_cost.proofs.Counting.{legal_rows_parts, row_duty}
-use Rattle.rota_cost.specs.Cover.{Covering}
-use Rattle.greedy.specs.Drafts.{IsDraft}
-use Rattle.greedy.specs.Greedy.{rows_of}
-use Rattle.greedy.proofs.Growing.{few_duties}
 use Rattle.local_moves.proofs.OwnRows.{own_rows}
 use Rattle.local_moves.proofs.Taking.{headed_set}
 

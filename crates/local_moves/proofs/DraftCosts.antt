@@ -1,12 +1,5 @@
 -- What a draft's plan costs is small.
-use Rattle.std.proofs.Common.{◌≡◌, ℕ, ◌<◌, List, subst}
-use Rattle.shift_instance.specs.declared.Row.{Row}
-use Rattle.shift_instance.specs.Rota.{cost, rota_of}
-use Rattle.rota_cost.specs.Cover.{Covering}
-use Rattle.rota_cost.proofs.Counting.{legal_rows_parts}
-use Rattle.rota_cost.proofs.Coverage.{costs_below}
-use Rattle.greedy.specs.Drafts.{IsDraft}
-use Rattle.local_moves.specs.Drafting.{Drafting}
+use Rattle.local_moves.proofs.Common.{◌≡◌, ℕ, ◌<◌, List, subst, Row, cost, rota_of, Covering, legal_rows_parts, costs_below, IsDraft, Drafting}
 use Rattle.local_moves.proofs.DraftFacts.{draft_legal}
 
 pub view_below : (v : Drafting) (cover : Covering) (heads : List ℕ) (rows : List Row) → IsDraft cover.instance cover heads rows → record { instance = cover.instance; rows = rows } ≡ v → cost v.instance (rota_of v.rows) < 1000000000000000

@@ -1,23 +1,6 @@
 -- What the numbers and rows of a draft say of its duties.
-use Rattle.std.proofs.Common.{◌≡◌, ◌⊎◌, inl, inr, ℕ, zero, suc, cond, not, [], ◌∷◌, ◌++◌, take, refl, add-one, ◌+◌, ◌*◌, length, get_or, ◌<◌, ◌≤◌, Bool, true, ◌&&◌, ◌==◌, List, sym, ap, ◌∙◌, subst, arith, eq-eqb}
-use Rattle.std.specs.List.{count_by}
-use Rattle.std.proofs.lemmas.Bool.{and_from, cases_Bool}
-use Rattle.std.proofs.lemmas.List.Sums.{sum_by-cons, sum_by_push}
-use Rattle.std.proofs.lemmas.Nat.{mul-add-lt}
+use Rattle.local_moves.proofs.Common.{◌≡◌, ◌⊎◌, inl, inr, ℕ, zero, suc, cond, not, [], ◌∷◌, ◌++◌, take, refl, add-one, ◌+◌, ◌*◌, length, get_or, ◌<◌, ◌≤◌, Bool, true, ◌&&◌, ◌==◌, List, sym, ap, ◌∙◌, subst, arith, eq-eqb, count_by, and_from, cases_Bool, sum_by-cons, sum_by_push, mul-add-lt, count_by_at_most, Sorted, Duty, Row, Problem, shift_list, same_duty, count_of, is_on, heads_on, is_legal_duty, rota_of, are_legal_rows, cost, cover, works, same_duty_decides, AreAlike, Covering, without, with_removed, IsDraft, rows_alike, rows_legal, rota_costs, Drafting, IsExchanged, IsBefore}
 use Rattle.std.proofs.Math.Nat.{mul-le-mul}
-use Rattle.break_rules.proofs.Counts.{count_by_at_most}
-use Rattle.break_rules.specs.Lists.{Sorted}
-use Rattle.shift_instance.specs.declared.Duty.{Duty}
-use Rattle.shift_instance.specs.declared.Row.{Row}
-use Rattle.shift_instance.specs.Problem.{Problem, shift_list}
-use Rattle.shift_instance.specs.Rota.{same_duty, count_of, is_on, heads_on, is_legal_duty, rota_of, are_legal_rows, cost, cover, works}
-use Rattle.shift_instance.proofs.Alike.{same_duty_decides, AreAlike}
-use Rattle.rota_cost.specs.Cover.{Covering, without}
-use Rattle.rota_cost.proofs.Duties.{with_removed}
-use Rattle.greedy.specs.Drafts.{IsDraft}
-use Rattle.greedy.proofs.PlanRows.{rows_alike, rows_legal, rota_costs}
-use Rattle.local_moves.specs.Drafting.{Drafting, IsExchanged}
-use Rattle.local_moves.specs.Places.{IsBefore}
 use Rattle.local_moves.proofs.OwnRows.{legal_sorted}
 
 pub draft_legal : (i : Problem) (cover : Covering) (heads : List ℕ) (rows : List Row) → IsDraft i cover heads rows → are_legal_rows i rows ≡ true
@@ -49,9 +32,6 @@ view_cost v cover heads rows h e = draft_costs cover.instance cover heads rows h
 
 pub view_cover : (v : Drafting) (working : Covering) (heads : List ℕ) (rows : List Row) (t : ℕ) → IsDraft working.instance working heads rows → record { instance = working.instance; rows = rows } ≡ v → cover working.instance working.duties t ≡ cover v.instance (rota_of v.rows) t
 view_cover v working heads rows t h e = draft_alike working.instance working heads rows h (λ d. works working.instance d t) ∙ ap (λ (w : Drafting). cover w.instance (rota_of w.rows) t) e
-
-pub view_sorted : (v : Drafting) (cover : Covering) (heads : List ℕ) (rows : List Row) → IsDraft cover.instance cover heads rows → record { instance = cover.instance; rows = rows } ≡ v → Sorted IsBefore rows
-view_sorted v cover heads rows h e = draft_sorted cover.instance cover heads rows h
 
 pub view_heads : (i : Problem) (v : Drafting) (cover : Covering) (heads : List ℕ) (rows : List Row) (s day k : ℕ) → IsDraft cover.instance cover heads rows → record { instance = cover.instance; rows = rows } ≡ v → v.instance ≡ i
     → s < length (shift_list i) → day < i.days → k ≡ s * i.days + day → (k < length heads) × (get_or heads k 0 ≡ heads_on (rota_of v.rows) s day)
@@ -125,24 +105,9 @@ next_legal i left rest d e none = elim (cases_Bool (is_legal_duty i d)) [
       absurd (omega (arith, a, none, one))
 ]
 
-pub rest_legal : (i : Problem) (left rest : List Duty) (d : Duty) → left ≡ rest ++ d ∷ [] → count_by (λ d. not (is_legal_duty i d)) left ≡ 0 → count_by (λ d. not (is_legal_duty i d)) rest ≡ 0
-rest_legal i left rest d e none = let a = last_counts (λ d. not (is_legal_duty i d)) left rest d e in omega (arith, a, none)
-
 pub next_heads : (i : Problem) (start all now left rest : List Duty) (d : Duty) → AreLeft start all now left → left ≡ rest ++ d ∷ [] → ((s day : ℕ) → heads_on start s day + heads_on all s day ≤ i.heads) → heads_on now d.shift d.day < i.heads
 next_heads i start all now left rest d h e room =
     let a : heads_on now d.shift d.day + heads_on left d.shift d.day ≡ heads_on start d.shift d.day + heads_on all d.shift d.day = h (is_on d.shift d.day) in
     let b = last_counts (is_on d.shift d.day) left rest d e in
     let one : ◌≡◌ {A = ℕ} (cond (is_on d.shift d.day d) 1 0) 1 = ap (λ b. cond b 1 0) (and_from (d.shift == d.shift) (d.day == d.day) (eq-eqb d.shift d.shift refl) (eq-eqb d.day d.day refl)) in
     omega (arith, a, b, one, room d.shift d.day)
-
-pub put_more : (start all now next left rest : List Duty) (d : Duty) → AreLeft start all now left → left ≡ rest ++ d ∷ [] → next ≡ now ++ d ∷ [] → AreLeft start all next rest
-put_more start all now next left rest d h e f p =
-    let a : count_by p now + count_by p left ≡ count_by p start + count_by p all = h p in
-    omega (arith, a, last_counts p left rest d e, last_counts p next now d f)
-
-pub put_whole : (start all now left : List Duty) → AreLeft start all now left → left ≡ [] → IsExchanged start [] all now
-put_whole start all now left h e p =
-    let a : count_by p now + count_by p left ≡ count_by p start + count_by p all = h p in
-    let b : count_by p left ≡ 0 = ap (count_by p) e in
-    let c : count_by p [] ≡ 0 = refl in
-    omega arith

@@ -1,13 +1,5 @@
 -- What an exchange of duties needs and gives.
-use Rattle.std.proofs.Common.{◌≡◌, ℕ, ◌+◌, ◌≤◌, Bool, List, [], refl, ap, ◌∙◌, arith}
-use Rattle.std.specs.List.{count_by}
-use Rattle.shift_instance.specs.declared.Duty.{Duty}
-use Rattle.shift_instance.specs.declared.Row.{Row}
-use Rattle.shift_instance.specs.Problem.{Problem}
-use Rattle.shift_instance.specs.Rota.{same_duty, count_of, is_on, heads_on, rota_of}
-use Rattle.rota_cost.specs.Cover.{Covering}
-use Rattle.greedy.specs.Drafts.{IsDraft}
-use Rattle.local_moves.specs.Drafting.{Drafting, IsExchanged}
+use Rattle.local_moves.proofs.Common.{◌≡◌, ℕ, ◌+◌, ◌≤◌, Bool, List, [], refl, ap, ◌∙◌, arith, count_by, Duty, Row, Problem, same_duty, count_of, is_on, heads_on, rota_of, Covering, IsDraft, Drafting, IsExchanged}
 use Rattle.local_moves.proofs.DraftFacts.{draft_alike}
 
 view_alike : (v : Drafting) (cover : Covering) (heads : List ℕ) (rows : List Row) → IsDraft cover.instance cover heads rows → record { instance = cover.instance; rows = rows } ≡ v → (p : Duty → Bool) → count_by p cover.duties ≡ count_by p (rota_of v.rows)

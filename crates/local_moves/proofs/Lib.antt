@@ -1,3 +1,4 @@
+pub mod Common
 pub mod RowOrder
 pub mod RowPlaces
 pub mod OwnRows

@@ -1,18 +1,5 @@
 -- Rows in order are told apart by how often each duty stands in them.
-use Rattle.std.proofs.Common.{◌≡◌, ◌⊎◌, inl, inr, ℕ, ◌+◌, ◌<◌, true, false, cond, List, [], ◌∷◌, ◌++◌, drop, refl, sym, ap, ◌∙◌, subst, arith, nat_lt}
-use Rattle.std.specs.List.{list_all, zip}
-use Rattle.std.proofs.lemmas.Bool.{cases_Bool, false≢true, ltb-true, and_parts}
-use Rattle.break_rules.specs.Lists.{Sorted}
-use Rattle.shift_instance.specs.declared.Duty.{Duty}
-use Rattle.shift_instance.specs.declared.Row.{Row}
-use Rattle.shift_instance.specs.Problem.{Problem}
-use Rattle.shift_instance.specs.Rota.{same_duty, count_of, duty_of, rota_of, is_before, is_legal_rota, are_legal_rows}
-use Rattle.shift_instance.proofs.Alike.{same_duty_decides, AreAlike, alike_legal}
-use Rattle.rota_cost.proofs.Counting.{legal_rows_parts}
-use Rattle.shift_instance.specs.AllDuties.{row_of}
-use Rattle.greedy.specs.Greedy.{rows_of}
-use Rattle.greedy.proofs.PlanRows.{rows_alike, rows_legal}
-use Rattle.local_moves.specs.Places.{IsBefore}
+use Rattle.local_moves.proofs.Common.{◌≡◌, ◌⊎◌, inl, inr, ℕ, ◌+◌, ◌<◌, true, false, cond, List, [], ◌∷◌, ◌++◌, drop, refl, sym, ap, ◌∙◌, subst, arith, nat_lt, list_all, zip, cases_Bool, false≢true, ltb-true, and_parts, Sorted, Duty, Row, Problem, same_duty, count_of, duty_of, rota_of, is_before, is_legal_rota, are_legal_rows, same_duty_decides, AreAlike, alike_legal, legal_rows_parts, row_of, rows_of, rows_alike, rows_legal, IsBefore}
 use Rattle.local_moves.proofs.RowOrder.{before_trans, before_itself}
 use Rattle.local_moves.proofs.RowPlaces.{count_cons, none_later, some_of}
 

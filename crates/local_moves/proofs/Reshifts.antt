@@ -1,34 +1,12 @@
 -- What it needs and gives that all duties of a shift go over to another one.
-use Rattle.std.proofs.Common.{◌≡◌, ◌⊎◌, inl, inr, ℕ, zero, suc, ◌+◌, ◌*◌, ◌<◌, ◌≤◌, Bool, true, false, cond, not, ◌&&◌, ◌||◌, ◌==◌, nat_lt, max, List, [], ◌∷◌, ◌++◌, map, filter, take, replicate, length, get_or, Some, None, refl, sym, ap, ◌∙◌, subst, arith, add-one, append-nil, eqb-true, eq-eqb}
-use Rattle.std.specs.Prelude.{slice_get, unwrap_or}
+use Rattle.local_moves.proofs.Common.{◌≡◌, ◌⊎◌, inl, inr, ℕ, zero, suc, ◌+◌, ◌*◌, ◌<◌, ◌≤◌, Bool, true, false, cond, not, ◌&&◌, ◌||◌, ◌==◌, nat_lt, max, List, [], ◌∷◌, ◌++◌, map, filter, take, replicate, length, get_or, Some, None, refl, sym, ap, ◌∙◌, subst, arith, add-one, append-nil, eqb-true, eq-eqb, slice_get, unwrap_or, count_by, and_parts, and_from, cases_Bool, cases_lt, ne_eqb, ltb-true, lt-ltb, ltb-false, le-ltb, false≢true, sum_by-cons, Break, is_legal, first_cause, no_cause, count_by_none, count_by_same, count_by_at_most, count_by-map, any_by_count, any_from_count, Has, Has-below, from_filter, from_map, Duty, Row, Problem, shift_list, below, same_duty, count_of, is_on, heads_on, is_list_of, is_legal_duty, is_legal_rota, is_used, lists_of, duty_of, rota_of, heads_within, legal_duties, from_lists_of, some_at, Has_at, kind_of, duties_of, duty, Absent, HeadsOver, IsExchanged, of_shift, list_after, reshifted, AreSameDuties, is_known, greatest, most_heads, pair_causes, heads_causes}
 use Rattle.std.specs.Option.{option_map_or}
-use Rattle.std.specs.List.{count_by}
-use Rattle.std.proofs.lemmas.Bool.{and_parts, and_from, cases_Bool, cases_lt, ne_eqb, ltb-true, lt-ltb, ltb-false, le-ltb, false≢true}
 use Rattle.std.proofs.lemmas.List.Elements.{filter-append}
-use Rattle.std.proofs.lemmas.List.Sums.{sum_by-cons}
-use Rattle.break_rules.specs.declared.Break.{Break}
 use Rattle.break_rules.specs.declared.Rule.{Rule}
-use Rattle.break_rules.specs.Breaks.{is_legal}
-use Rattle.break_rules.specs.Causes.{first_cause}
-use Rattle.break_rules.proofs.Causes.{no_cause}
-use Rattle.break_rules.proofs.Counts.{count_by_none, count_by_same, count_by_at_most, count_by-map, any_by_count, any_from_count}
-use Rattle.break_rules.specs.Lists.{Has}
-use Rattle.break_rules.proofs.Lists.{Has-below, from_filter, from_map}
-use Rattle.shift_instance.specs.declared.Duty.{Duty}
-use Rattle.shift_instance.specs.declared.Row.{Row}
 use Rattle.shift_instance.specs.declared.Shift.{Shift}
 use Rattle.shift_instance.specs.Kind.{Kind}
-use Rattle.shift_instance.specs.Problem.{Problem, shift_list, below}
-use Rattle.shift_instance.specs.Rota.{same_duty, count_of, is_on, heads_on, is_list_of, is_legal_duty, is_legal_rota, is_used, lists_of, duty_of, rota_of}
-use Rattle.shift_instance.proofs.Rotas.{heads_within, legal_duties, from_lists_of}
-use Rattle.shift_instance.proofs.Shifts.{some_at, Has_at, kind_of}
-use Rattle.rota_cost.specs.Counted.{duties_of}
-use Rattle.greedy.specs.Greedy.{duty}
 use Rattle.shift_instance.proofs.Ranges.{below_next}
 use Rattle.greedy.proofs.Rounds.{count_by-filter_and}
-use Rattle.local_moves.specs.declared.moves.MoveFault.TheVariants.{Absent, HeadsOver}
-use Rattle.local_moves.specs.Drafting.{IsExchanged}
-use Rattle.local_moves.specs.Moves.{of_shift, list_after, reshifted, AreSameDuties, is_known, greatest, most_heads, pair_causes, heads_causes}
 use Rattle.local_moves.proofs.CountedRows.{rota_more}
 
 -- ---- the duties of a shift among rows
@@ -83,20 +61,6 @@ own_at s (x ∷ xs) k d =
         → k < length (x ∷ filter (λ d. d.shift == s) xs) → (get_or (x ∷ filter (λ d. d.shift == s) xs) k d).shift ≡ s
     first zero t rest l = eqb-true x.shift s t
     first (suc k) t rest l = rest k (omega arith)
-
-pub map_next : (f : Duty → Duty) (ds : List Duty) (k : ℕ) (d e : Duty) (now next : List Duty) → now ≡ map f (take k ds) → k < length ds → d ≡ get_or ds k d → e ≡ f d → next ≡ now ++ e ∷ [] → next ≡ map f (take (k + 1) ds)
-map_next f ds k d e now next h l at same g =
-    g ∙ ap (λ xs. xs ++ e ∷ []) h ∙ ap (λ x. map f (take k ds) ++ x ∷ []) same ∙ one ds k d l at ∙ ap (λ n. map f (take n ds)) (sym (add-one k))
-  where
-    one : (ds : List Duty) (k : ℕ) (d : Duty) → k < length ds → d ≡ get_or ds k d → map f (take k ds) ++ f d ∷ [] ≡ map f (take (suc k) ds)
-    one [] k d l e = absurd (omega arith)
-    one (x ∷ xs) zero d l e = ap (λ (z : Duty). f z ∷ []) e
-    one (x ∷ xs) (suc k) d l e = ap (λ zs. f x ∷ zs) (one xs k d (omega arith) e)
-
--- ---- the greatest number
--- max in parts
-max_zero : (a : ℕ) → max 0 a ≡ a
-max_zero a = omega arith
 
 max_three : (a b c : ℕ) → max (max a b) c ≡ max a (max b c)
 max_three a b c = omega arith

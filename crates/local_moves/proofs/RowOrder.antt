@@ -1,18 +1,8 @@
 -- The order of rows.
-use Rattle.std.proofs.Common.{◌≡◌, ◌⊎◌, inl, inr, ℕ, zero, suc, ◌<◌, Bool, true, false, ◌&&◌, ◌||◌, ◌==◌, List, [], ◌∷◌, refl, sym, subst, arith, eqb-true, eq-eqb, nat_lt}
-use Rattle.std.specs.Prelude.{slice_get, Some}
-use Rattle.std.proofs.lemmas.Bool.{or_cases, or_left, or_right, and_parts, and_from, ltb-true, lt-ltb, false≢true}
-use Rattle.break_rules.specs.declared.Break.{Break}
-use Rattle.break_rules.specs.Breaks.{same_break, is_less_break, is_less_list}
+use Rattle.local_moves.proofs.Common.{◌≡◌, ◌⊎◌, inl, inr, ℕ, zero, suc, ◌<◌, Bool, true, false, ◌&&◌, ◌||◌, ◌==◌, List, [], ◌∷◌, refl, sym, subst, arith, eqb-true, eq-eqb, nat_lt, slice_get, or_cases, or_left, or_right, and_parts, and_from, ltb-true, lt-ltb, false≢true, Break, same_break, is_less_break, is_less_list, Has, Sorted, Duty, Row, same_duty, duty_of, is_before, same_duty_decides, row_of, IsBefore}
+use Rattle.std.specs.Prelude.{Some}
 use Rattle.break_rules.proofs.LegalLists.{same_break_decides}
-use Rattle.break_rules.specs.Lists.{Has, Sorted}
 use Rattle.break_rules.proofs.Ordered.{less_apart}
-use Rattle.shift_instance.specs.declared.Duty.{Duty}
-use Rattle.shift_instance.specs.declared.Row.{Row}
-use Rattle.shift_instance.specs.Rota.{same_duty, duty_of, is_before}
-use Rattle.shift_instance.proofs.Alike.{same_duty_decides}
-use Rattle.shift_instance.specs.AllDuties.{row_of}
-use Rattle.local_moves.specs.Places.{IsBefore}
 
 pub is_false : (b : Bool) → (b ≡ true → ⊥) → b ≡ false
 is_false true h = absurd (h refl)

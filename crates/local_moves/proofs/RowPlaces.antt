@@ -1,20 +1,6 @@
 -- Where a duty stands among rows in order.
-use Rattle.std.proofs.Common.{◌≡◌, ◌⊎◌, inl, inr, ℕ, zero, suc, ◌+◌, ◌-◌, ◌*◌, ◌/◌, ◌<◌, ◌≤◌, Bool, true, false, cond, Some, List, [], ◌∷◌, ◌++◌, length, get_or, take, drop, set, replicate, refl, sym, ap, ◌∙◌, subst, arith, add-one, nat_lt}
-use Rattle.std.specs.Prelude.{slice_get}
-use Rattle.std.specs.List.{list_all}
-use Rattle.std.proofs.lemmas.Bool.{cases_Bool, cases_lt, false≢true, ltb-true, lt-ltb, le-ltb, and_parts}
-use Rattle.break_rules.proofs.Counts.{count_by-append, count_by-replicate}
-use Rattle.break_rules.specs.Lists.{Has, Sorted}
-use Rattle.shift_instance.specs.declared.Duty.{Duty}
-use Rattle.shift_instance.specs.declared.Row.{Row}
-use Rattle.shift_instance.specs.Rota.{same_duty, count_of, duty_of, rota_of, is_before}
-use Rattle.shift_instance.proofs.Alike.{same_duty_decides}
-use Rattle.std.proofs.lemmas.Option.{slice_get_read}
-use Rattle.shift_instance.proofs.Shifts.{some_at}
-use Rattle.greedy.specs.Drafts.{with_one_more}
-use Rattle.shift_instance.specs.AllDuties.{row_of}
+use Rattle.local_moves.proofs.Common.{◌≡◌, ◌⊎◌, inl, inr, ℕ, zero, suc, ◌+◌, ◌-◌, ◌*◌, ◌/◌, ◌<◌, ◌≤◌, Bool, true, false, cond, Some, List, [], ◌∷◌, ◌++◌, length, get_or, take, drop, set, replicate, refl, sym, ap, ◌∙◌, subst, arith, add-one, nat_lt, slice_get, list_all, cases_Bool, cases_lt, false≢true, ltb-true, lt-ltb, le-ltb, and_parts, count_by-append, count_by-replicate, Has, Sorted, Duty, Row, same_duty, count_of, duty_of, rota_of, is_before, same_duty_decides, slice_get_read, some_at, with_one_more, row_of, IsBefore, AreBefore, IsNotBefore, with_one_less}
 use Rattle.greedy.proofs.Places.{place_on, place_alike, place_new, place_last}
-use Rattle.local_moves.specs.Places.{IsBefore, AreBefore, IsNotBefore, with_one_less}
 use Rattle.local_moves.proofs.RowOrder.{is_false, before_trans, not_alike, not_alike_after, in_order}
 
 -- ---- the halving
@@ -39,14 +25,6 @@ not_before_at rows d k r l e h x f =
     let both : Some r ≡ Some x = sym (slice_get_read rows (length rows) k r refl l e) ∙ f in
     let same : r ≡ x = cc in
     subst (λ (z : Row). is_before z (row_of d 1) ≡ false) same h
-
-pub none_before : (rows : List Row) (d : Duty) → AreBefore rows d 0
-none_before rows d j r l e = absurd (omega arith)
-
-pub end_not_before : (rows : List Row) (d : Duty) (k : ℕ) → length rows ≤ k → IsNotBefore rows d k
-end_not_before [] d k l r e = absurd (cc)
-end_not_before (x ∷ xs) d zero l r e = absurd (omega arith)
-end_not_before (x ∷ xs) d (suc k) l r e = end_not_before xs d k (omega arith) r e
 
 -- ---- a place by rows before it
 first_before : (x : Row) (xs : List Row) (d : Duty) (k : ℕ) → AreBefore (x ∷ xs) d (suc k) → is_before x (row_of d 1) ≡ true

@@ -1,14 +1,5 @@
 -- The duties of a shift, day by day.
-use Rattle.std.proofs.Common.{◌≡◌, ◌⊎◌, inl, inr, ℕ, ◌+◌, ◌<◌, Bool, true, false, cond, ◌&&◌, ◌==◌, nat_lt, List, refl, ap, ◌∙◌, arith, eq-eqb}
-use Rattle.std.specs.List.{count_by}
-use Rattle.std.proofs.lemmas.Bool.{cases_lt, cases_eq, ne_eqb, lt-ltb, le-ltb}
-use Rattle.break_rules.proofs.Counts.{count_by_same, count_by_none}
-use Rattle.shift_instance.specs.declared.Duty.{Duty}
-use Rattle.shift_instance.specs.Problem.{Problem}
-use Rattle.shift_instance.specs.Rota.{heads_on, is_legal_rota}
-use Rattle.shift_instance.proofs.Rotas.{legal_duties}
-use Rattle.rota_cost.specs.Counted.{duties_of}
-use Rattle.rota_cost.proofs.Coverage.{split_count}
+use Rattle.local_moves.proofs.Common.{◌≡◌, ◌⊎◌, inl, inr, ℕ, ◌+◌, ◌<◌, Bool, true, false, cond, ◌&&◌, ◌==◌, nat_lt, List, refl, ap, ◌∙◌, arith, eq-eqb, count_by, cases_lt, cases_eq, ne_eqb, lt-ltb, le-ltb, count_by_same, count_by_none, Duty, Problem, heads_on, is_legal_rota, legal_duties, duties_of, split_count}
 
 -- the duties of a shift on the days below one
 abbrev pub duties_before : List Duty → ℕ → ℕ → ℕ

@@ -1,26 +1,7 @@
 -- A legal plan that loses one duty.
-use Rattle.std.proofs.Common.{◌≡◌, ◌⊎◌, inl, inr, ℕ, ◌+◌, ◌-◌, ◌*◌, ◌/◌, ◌%◌, ◌<◌, ◌≤◌, true, false, cond, ◌&&◌, ◌==◌, not, nat_le, List, [], ◌∷◌, ◌++◌, length, get_or, set, refl, sym, ap, ◌∙◌, subst, arith, eq-eqb}
-use Rattle.std.specs.List.{list_all, count_by}
-use Rattle.std.proofs.lemmas.Bool.{and_parts, and_from, eqb-true, le-leb, cases_Bool, cases_eq}
+use Rattle.local_moves.proofs.Common.{◌≡◌, ◌⊎◌, inl, inr, ℕ, ◌+◌, ◌-◌, ◌*◌, ◌/◌, ◌%◌, ◌<◌, ◌≤◌, true, false, cond, ◌&&◌, ◌==◌, not, nat_le, List, [], ◌∷◌, ◌++◌, length, get_or, set, refl, sym, ap, ◌∙◌, subst, arith, eq-eqb, list_all, count_by, and_parts, and_from, le-leb, cases_Bool, cases_eq, get_or-set_same, get_or-set_other, div-mul-add, mod-mul-add, mul-add-lt, all_from, all_at, all_by_count, all_from_count, Has-from_count, Duty, Row, Problem, shift_list, same_duty, count_of, is_on, heads_on, is_legal_duty, is_legal_rota, heads_within, same_duty_decides, AreAlike, Covering, without, IsWith, with_removed, with_pushed, legal_rows_parts, IsDraft, heads_at, rows_of, rows_legal, rows_more, with_one_less}
+use Rattle.std.proofs.lemmas.Bool.{eqb-true}
 use Rattle.std.proofs.lemmas.Grind.{common_steps}
-use Rattle.std.proofs.lemmas.List.{get_or-set_same, get_or-set_other}
-use Rattle.std.proofs.lemmas.Nat.{div-mul-add, mod-mul-add, mul-add-lt}
-use Rattle.break_rules.proofs.Lists.{all_from, all_at}
-use Rattle.break_rules.proofs.Counts.{all_by_count, all_from_count, Has-from_count}
-use Rattle.shift_instance.specs.declared.Duty.{Duty}
-use Rattle.shift_instance.specs.declared.Row.{Row}
-use Rattle.shift_instance.specs.Problem.{Problem, shift_list}
-use Rattle.shift_instance.specs.Rota.{same_duty, count_of, is_on, heads_on, is_legal_duty, is_legal_rota}
-use Rattle.shift_instance.proofs.Rotas.{heads_within}
-use Rattle.shift_instance.proofs.Alike.{same_duty_decides, AreAlike}
-use Rattle.rota_cost.specs.Cover.{Covering, without}
-use Rattle.rota_cost.proofs.Duties.{IsWith, with_removed, with_pushed}
-use Rattle.rota_cost.proofs.Counting.{legal_rows_parts}
-use Rattle.greedy.specs.Drafts.{IsDraft, heads_at}
-use Rattle.greedy.specs.Greedy.{rows_of}
-use Rattle.greedy.proofs.PlanRows.{rows_legal}
-use Rattle.greedy.proofs.RowSteps.{rows_more}
-use Rattle.local_moves.specs.Places.{with_one_less}
 use Rattle.local_moves.proofs.OwnRows.{alike_rows}
 use Rattle.local_moves.proofs.RowPlaces.{less_more}
 

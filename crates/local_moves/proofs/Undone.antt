@@ -1,19 +1,5 @@
 -- What undoing a move needs and gives.
-use Rattle.std.proofs.Common.{◌≡◌, ◌⊎◌, inl, inr, ℕ, ◌+◌, ◌<◌, ◌≤◌, true, not, List, ◌++◌, refl, sym, ap, ◌∙◌, subst, arith}
-use Rattle.std.specs.List.{count_by}
-use Rattle.std.proofs.lemmas.Bool.{cases_Bool}
-use Rattle.break_rules.specs.Lists.{Has}
-use Rattle.break_rules.proofs.Lists.{any_some, any_at}
-use Rattle.break_rules.proofs.Counts.{count_by-append, count_by_none, any_by_count}
-use Rattle.shift_instance.specs.declared.Duty.{Duty}
-use Rattle.shift_instance.specs.declared.Row.{Row}
-use Rattle.shift_instance.specs.Problem.{Problem}
-use Rattle.shift_instance.specs.Rota.{same_duty, count_of, is_on, heads_on, is_legal_duty, is_legal_rota, rota_of, are_legal_rows}
-use Rattle.shift_instance.proofs.Alike.{same_duty_decides, alike_from_counts}
-use Rattle.shift_instance.proofs.Rotas.{heads_within}
-use Rattle.local_moves.specs.declared.changes.Change.{Change}
-use Rattle.local_moves.specs.Changes.{is_place, IsDone, IsTied}
-use Rattle.local_moves.specs.Drafting.{IsExchanged}
+use Rattle.local_moves.proofs.Common.{◌≡◌, ◌⊎◌, inl, inr, ℕ, ◌+◌, ◌<◌, ◌≤◌, true, not, List, ◌++◌, refl, sym, ap, ◌∙◌, subst, arith, count_by, cases_Bool, Has, any_some, any_at, count_by-append, count_by_none, any_by_count, Duty, Row, Problem, same_duty, count_of, is_on, heads_on, is_legal_duty, is_legal_rota, rota_of, are_legal_rows, same_duty_decides, alike_from_counts, heads_within, Change, is_place, IsDone, IsTied, IsExchanged}
 use Rattle.local_moves.proofs.OwnRows.{same_legal_rows}
 use Rattle.local_moves.proofs.Taking.{legal_one}
 

@@ -1,14 +1,6 @@
 -- Drafts that are the same to contracts.
-use Rattle.std.proofs.Common.{◌≡◌, ℕ, ◌+◌, ◌≤◌, true, not, List, ap, ◌∙◌, subst, arith}
+use Rattle.local_moves.proofs.Common.{◌≡◌, ℕ, ◌+◌, ◌≤◌, true, not, List, ap, ◌∙◌, subst, arith, list_all, count_by, and_parts, all_by_count, Duty, Row, Problem, same_duty, count_of, heads_on, is_legal_duty, is_legal_rota, rota_of, are_legal_rows, Drafting, IsExchanged}
 use Rattle.std.specs.Prelude.{nat_le}
-use Rattle.std.specs.List.{list_all, count_by}
-use Rattle.std.proofs.lemmas.Bool.{and_parts}
-use Rattle.break_rules.proofs.Counts.{all_by_count}
-use Rattle.shift_instance.specs.declared.Duty.{Duty}
-use Rattle.shift_instance.specs.declared.Row.{Row}
-use Rattle.shift_instance.specs.Problem.{Problem}
-use Rattle.shift_instance.specs.Rota.{same_duty, count_of, heads_on, is_legal_duty, is_legal_rota, rota_of, are_legal_rows}
-use Rattle.local_moves.specs.Drafting.{Drafting, IsExchanged}
 use Rattle.local_moves.proofs.OwnRows.{same_legal_rows}
 
 pub same_drafting : (a b : Drafting) → a.instance ≡ b.instance → a.rows ≡ b.rows → a ≡ b

@@ -1,5 +1,5 @@
 //! Drafts: legal plans that change, with their cost kept.
-ghost use Rattle.std.specs.Prelude.{◌≡◌, ℕ, Bool, ◌+◌, ◌*◌, ◌≤◌, ◌<◌, ◌++◌, ◌∷◌, [], IfErr, IfOk, IsTrue, OnErr, OnOk, count_by, length, not, replicate, slice_index, slice_set};
+ghost use Rattle.std.specs.Prelude.{◌≡◌, ℕ, Bool, ◌+◌, ◌*◌, ◌≤◌, ◌<◌, ◌∷◌, [], IfErr, IfOk, IsTrue, OnErr, OnOk, count_by, length, not, slice_index, slice_set};
 ghost use Rattle.rota_cost.specs.Counted.{duties_of};
 ghost use Rattle.shift_instance.specs.declared.Duty.{Duty};
 ghost use Rattle.shift_instance.specs.declared.TheConstants.{TOP};
@@ -48,21 +48,7 @@ pub(crate) fn duty_of(alloc: Global, row: &Row) -> Result<Duty, NoMemory>
     duty_with(alloc, row.shift, row.day, &row.breaks)
 }
 
-/// Adds a duty to a cover that often.
-fn add_often(instance: &Instance, cover: &mut Cover, duty: &Duty, often: u16)
-    requires instance { cover.old.instance ≡ instance.now }
-    requires shift { duty.now.shift < length (shift_list instance.now) }
-    requires day { duty.now.day < instance.now.days }
-    requires room { length cover.old.duties + often ≤ 2147483648 }
-    ensures instance { cover.new.instance ≡ cover.old.instance }
-    ensures duties { cover.new.duties ≡ cover.old.duties ++ replicate often duty.now }
-{
-    for _ in 0..often {
-        cover.add(instance, duty);
-    }
-}
-
-/// Counts the duties of rows in a cover without duties and in heads of 0.
+/// Counts the duties of rows in a cover without duties and in numbers of 0.
 fn count_rows(
     alloc: Global,
     instance: &Instance,
@@ -82,7 +68,7 @@ fn count_rows(
     let days = usize::from(instance.days());
     for row in rows {
         let duty = duty_of(alloc, row)?;
-        add_often(instance, cover, &duty, row.count);
+        cover.add_often(instance, &duty, row.count);
         heads[usize::from(row.shift) * days + usize::from(row.day)] += row.count;
     }
     Ok(())

@@ -1,4 +1,4 @@
-//! A plan's cover, heads and rows, which change together.
+//! A plan's cover, numbers of duties and rows, which change together.
 ghost use Rattle.std.specs.Prelude.{◌≡◌, ℕ, Bool, ◌+◌, ◌≤◌, ◌<◌, ◌++◌, ◌∷◌, [], IsTrue, count_by, length, not, vec_capacity, vec_len};
 ghost use Rattle.rota_cost.specs.Cover.{without};
 ghost use Rattle.shift_instance.specs.declared.Duty.{Duty};

@@ -3,7 +3,6 @@ ghost use Rattle.std.specs.Prelude.{◌≡◌, ◌+◌, ◌≤◌, ◌<◌, All,
 ghost use Rattle.break_rules.specs.Lists.{Sorted};
 ghost use Rattle.shift_instance.specs.Rota.{count_of, rota_of};
 ghost use Rattle.greedy.specs.Drafts.{with_one_more};
-ghost use Rattle.shift_instance.specs.AllDuties.{row_of};
 ghost use Rattle.local_moves.specs.Places.{IsBefore, AreBefore, IsNotBefore, with_one_less};
 
 use crate::order::{is_before, is_of};
@@ -58,19 +57,6 @@ pub(crate) fn take_one(rows: &mut Vec<Row>, duty: &Duty)
     }
 }
 
-/// The row of one duty.
-fn row_of(duty: Duty) -> Row
-    ensures { result ≡ row_of duty 1 }
-{
-    let Duty { shift, day, breaks } = duty;
-    Row {
-        shift,
-        day,
-        breaks,
-        count: 1,
-    }
-}
-
 /// Adds one duty, for whose row there is room. It takes no memory.
 pub(crate) fn add_one(rows: &mut Vec<Row>, duty: Duty)
     requires order { Sorted IsBefore rows.old.items }
@@ -85,5 +71,5 @@ pub(crate) fn add_one(rows: &mut Vec<Row>, duty: Duty)
         rows[at].count += 1;
         return;
     }
-    let _added = rows.insert(at, row_of(duty));
+    let _added = rows.insert(at, Row::of_one(duty));
 }

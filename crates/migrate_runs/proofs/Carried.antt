@@ -1,31 +1,18 @@
 -- What is carried over from an old file, and why it isn't.
-use Rattle.std.proofs.Common.{◌≡◌, ◌⊎◌, inl, inr, ℕ, ◌+◌, ◌≤◌, List, length, refl, sym, ◌∙◌, ap, subst, arith}
-use Rattle.std.specs.List.{AllZip}
-use Rattle.std.specs.Prelude.{Option, None, Some, Result, Ok, Err, IfOk, IfErr, OnOk, IfSome}
-use Rattle.instance_json.specs.Canonical.{canonical_text}
+use Rattle.migrate_runs.proofs.Common.{◌≡◌, ◌⊎◌, inl, inr, ℕ, ◌+◌, ◌≤◌, List, length, refl, sym, ◌∙◌, ap, subst, arith, AllZip, Option, None, Some, Result, Ok, Err, IfOk, IfErr, OnOk, IfSome, canonical_text, Problem, Post, Eight, SpellPosts, SpellSame, JOURNAL_MAX, spelled_in, StoodFor, ended_by, HasNoInstance, HeadFails, IsCarried, IsInstance, OldBook, OldCause, OldFails, unread_by, MigrateStatus, Migrated, Usage, WriteFault, DiskFault, NoMemory, Old, Target}
 use Rattle.instance_json.specs.Reading.{reading_of, IsAnswer}
 use Rattle.instance_json.specs.declared.ReadRefusal.{ReadRefusal}
 use Rattle.instance_json.specs.declared.ReadRefusal.TheVariants.{TooLong, NotJson, Missing, UnknownField, WrongKind, Invalid, NoMemory as ReadsMemory}
 use Rattle.instance_json.proofs.Restored.{canonical_read}
-use Rattle.shift_instance.specs.Problem.{Problem}
-use Rattle.post_codec.specs.declared.post.Post.{Post}
-use Rattle.post_codec.specs.declared.price_width.PriceWidth.TheVariants.{Eight}
 use Rattle.recovery.specs.declared.fault.Why.{Why}
-use Rattle.post_codec.specs.Batches.{SpellPosts}
 use Rattle.search_core.specs.Book.{Book}
-use Rattle.recovery.specs.Migrating.{SpellSame}
 use Rattle.recovery.specs.Records.{MakeBook, MakeBookBy}
 use Rattle.recovery.specs.Refusals.{IsFirstRejectedBy}
-use Rattle.gated_journal.specs.declared.TheConstants.{JOURNAL_MAX}
 use Rattle.gated_journal.specs.declared.fault.JournalFault.{JournalFault}
 use Rattle.gated_journal.specs.declared.fault.JournalFault.TheVariants.{DiskFault as JournalsDisk, NoMemory as JournalsMemory, NotAJournal as NoJournal, Damaged as IsDamaged, Full, OldVersion}
 use Rattle.gated_journal.specs.Faults.{OpenV1Fails}
-use Rattle.gated_journal.specs.Format.{spelled_in, StoodFor}
 use Rattle.gated_journal.proofs.Once.{stands_once_in, stands_journal_in, stands_whole_in}
-use Rattle.migrate_runs.specs.Migrate.{ended_by, HasNoInstance, HeadFails, IsCarried, IsInstance, OldBook, OldCause, OldFails, unread_by}
 use Rattle.migrate_runs.specs.declared.status.OldFault.TheVariants.{NotAJournal, Damaged, Rejected, Head}
-use Rattle.migrate_runs.specs.declared.status.MigrateStatus.{MigrateStatus}
-use Rattle.migrate_runs.specs.declared.status.MigrateStatus.TheVariants.{Migrated, Usage, WriteFault, DiskFault, NoMemory, Old, Target}
 use Rattle.migrate_runs.proofs.Shorter.{journal_shorter}
 
 -- a file that isn't opened is refused for its cause
@@ -61,7 +48,7 @@ unread head e answer i valid is =
     let read : reading_of head ≡ Ok i = ap reading_of is ∙ canonical_read i valid.0 valid.1 in
     subst (λ (r : Result Problem ReadRefusal). OnOk r ⊥) (sym answer ∙ read) tt
 
--- a head that is refused, or read as an instance of another text, is no instance's canonical text
+-- a header that is refused, or read as an instance of another text, is no instance's canonical text
 pub not_read : (head : List ℕ) (e : ReadRefusal) → IsAnswer e (reading_of head) → HeadFails head (unread_by e)
 not_read head TooLong answer = unread head TooLong answer
 not_read head NotJson answer = unread head NotJson answer
@@ -76,24 +63,7 @@ other_text head j own other read i valid is =
     let same : i ≡ j = same_read i j (reading_of head) (ap reading_of is ∙ canonical_read i valid.0 valid.1) read in
     other (sym (is ∙ ap canonical_text same))
 
--- an old file whose head makes no instance
-no_instance : (reads : Option (List ℕ)) (head : List ℕ) (records : List (List ℕ)) → IfSome reads (StoodFor JOURNAL_MAX head records) → ((i : Problem) → IsInstance i → head ≡ canonical_text i → ⊥) → IfSome reads HasNoInstance
-no_instance None head records stood none = tt
-no_instance (Some file) head records stood none = record { head = head; records = records; stood = stood; none = none }
-
-pub headless : (reads : Option (List ℕ)) (before now : ℕ) (head : List ℕ) (records : List (List ℕ)) (status : MigrateStatus) → IfSome reads (StoodFor JOURNAL_MAX head records) → HeadFails head status → OldFails reads before now status
-headless reads before now head records (Old Head) stood fails = no_instance reads head records stood fails
-headless reads before now head records (Old NotAJournal) stood fails = absurd fails
-headless reads before now head records (Old (Damaged at)) stood fails = absurd fails
-headless reads before now head records (Old (Rejected at why)) stood fails = absurd fails
-headless reads before now head records NoMemory stood fails = tt
-headless reads before now head records DiskFault stood fails = absurd fails
-headless reads before now head records Migrated stood fails = absurd fails
-headless reads before now head records Usage stood fails = absurd fails
-headless reads before now head records WriteFault stood fails = absurd fails
-headless reads before now head records (Target len) stood fails = absurd fails
-
--- an old file that stands for posts of an instance has a head
+-- an old file that stands for posts of an instance has a header
 pub has_head : (i : Problem) (posts : List Post) (file head : List ℕ) (records : List (List ℕ)) (status : MigrateStatus) → OldBook i posts file → StoodFor JOURNAL_MAX head records file → HeadFails head status → (status ≡ NoMemory) ⊎ (status ≡ DiskFault)
 has_head i posts file head records (Old Head) book stood fails = absurd (fails i book.instance (stands_once_in 49 JOURNAL_MAX head (canonical_text i) records book.records file (omega arith) stood book.stood).0)
 has_head i posts file head records (Old NotAJournal) book stood fails = absurd fails

@@ -1,17 +1,11 @@
 -- How many posts records spell.
-use Rattle.std.proofs.Common.{◌≡◌, ℕ, ◌+◌, ◌<◌, List, [], ◌++◌, length, map, take, get_or, refl, ◌∙◌, ap, arith, length-append, Vec, Global}
-use Rattle.post_codec.specs.declared.post.Post.{Post}
-use Rattle.post_codec.specs.Spelling.{Spells}
-use Rattle.post_codec.specs.Batches.{SpellPosts}
-use Rattle.post_codec.proofs.Batches.{none_spelled, posts_once, spell_next}
+use Rattle.migrate_runs.proofs.Common.{◌≡◌, ℕ, ◌+◌, ◌<◌, List, [], ◌++◌, length, map, take, get_or, refl, ◌∙◌, ap, arith, length-append, Vec, Global, Post, Spells, SpellPosts}
+use Rattle.post_codec.proofs.Batches.{posts_once, spell_next}
 use Rattle.post_codec.proofs.Formats.{one_list}
 
 -- records that spell so many posts
 abbrev pub IsCounted : List (Vec ℕ Global) → ℕ → Type 0
 IsCounted records count = (posts : List Post) × SpellPosts (map (λ r. r.items) records) posts × (count ≡ length posts)
-
-pub none_counted : IsCounted [] 0
-none_counted = ([], none_spelled, refl)
 
 -- one record more
 pub counted_more : (records : List (Vec ℕ Global)) (k : ℕ) (x : Vec ℕ Global) (count more : ℕ) (batch : List Post) → k < length records → x ≡ get_or records k x → IsCounted (take k records) count → Spells x.items batch → more ≡ length batch → IsCounted (take (k + 1) records) (count + more)

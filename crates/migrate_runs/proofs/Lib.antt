@@ -1,3 +1,4 @@
+pub mod Common
 pub mod Shorter
 pub mod Counted
 pub mod Carried

@@ -1,11 +1,5 @@
 -- The files of a migration.
-use Rattle.std.proofs.Common.{inl, inr, ⊎_elim, ℕ, ◌+◌, ◌<◌, List, length, refl, subst}
-use Rattle.std.specs.Prelude.{Option, None, Some, IfSome, OnSome}
-use Rattle.plan_base.specs.Disk.{HoldsThroughout, OnlyLooks}
-use Rattle.plan_base.proofs.Moments.{weaker, then_run}
-use Rattle.gated_journal.specs.declared.TheConstants.{JOURNAL_MAX}
-use Rattle.gated_journal.specs.Format.{IsUnfinishedOr, StandsFor, StoodFor}
-use Rattle.migrate_runs.specs.Migrate.{IsCarried, IsEarlierOr, IsEarlierOrSame, IsOldBook, IsSameBook, IsUnfinishedOrSame}
+use Rattle.migrate_runs.proofs.Common.{inl, inr, ⊎_elim, ℕ, ◌+◌, ◌<◌, List, length, refl, subst, Option, None, Some, IfSome, OnSome, HoldsThroughout, OnlyLooks, weaker, then_run, JOURNAL_MAX, IsUnfinishedOr, StandsFor, StoodFor, IsCarried, IsEarlierOr, IsEarlierOrSame, IsOldBook, IsSameBook, IsUnfinishedOrSame}
 
 -- a file that stands for what was carried over stands for the posts of the old file
 pub same_book : (before : Option (List ℕ)) (head : List ℕ) (records : List (List ℕ)) (count : ℕ) → IsCarried before head records count → (image : List ℕ) → StandsFor JOURNAL_MAX head records image → IfSome before (λ file. IsSameBook file image (length records) count)
@@ -23,12 +17,6 @@ same_book (Some file) head records count carried image stands = record {
 pub unfinished_or_same : (before : Option (List ℕ)) (head : List ℕ) (records : List (List ℕ)) (count : ℕ) → IsCarried before head records count → (image : List ℕ) → IsUnfinishedOr JOURNAL_MAX head records image → IsUnfinishedOrSame before image
 unfinished_or_same before head records count carried image (inl less) = inl less
 unfinished_or_same before head records count carried image (inr stands) = inr (length records, count, same_book before head records count carried image stands)
-
--- what was carried over stands in the old file
-pub was_book : (before : Option (List ℕ)) (head : List ℕ) (records : List (List ℕ)) (count : ℕ) → IsCarried before head records count → IfSome before IsOldBook
-was_book None head records count carried = tt
-was_book (Some file) head records count carried =
-    (carried.instance, carried.posts, record { instance = carried.valid; records = carried.old; stood = subst (λ (h : List ℕ). StoodFor JOURNAL_MAX h carried.old file) carried.text carried.stood; book = carried.before; make = carried.make })
 
 -- at each moment of a run
 pub same_moments : {D : Type 0} (calls : D → ℕ) (since : D → ℕ → List ℕ → Type 0) (images : List ℕ → Type 0) (old new : D) (reads before : Option (List ℕ)) (head : List ℕ) (records : List (List ℕ)) (count : ℕ) → IsCarried before head records count

@@ -1,13 +1,7 @@
 -- A journal of the present version is no longer than the one of the first version with the same posts.
-use Rattle.std.proofs.Common.{◌≡◌, ℕ, ℤ, ◌≤◌, List, [], ◌∷◌, ◌++◌, length, refl, ap, arith, length-append}
-use Rattle.std.specs.List.{AllZip, flat_map}
+use Rattle.migrate_runs.proofs.Common.{◌≡◌, ℕ, ℤ, ◌≤◌, List, [], ◌∷◌, ◌++◌, length, refl, ap, arith, length-append, AllZip, flat_map, framed, gated, mark_of, spelled, spelled_in, Five, Eight, Post, cuts_bytes, post_bytes, price_bytes, prices_bytes, slot_bytes, slots_bytes, spelling, spelling_by, twos_complement, u16_bytes, u32_bytes, u64_bytes, SpellSame}
 use Rattle.head_splits.specs.declared.Prices.{Prices}
-use Rattle.gated_journal.specs.Format.{framed, gated, mark_of, spelled, spelled_in}
-use Rattle.post_codec.specs.declared.price_width.PriceWidth.TheVariants.{Five, Eight}
-use Rattle.post_codec.specs.declared.post.Post.{Post}
 use Rattle.post_codec.specs.declared.post.Post.TheVariants.{Plan, Priced, Split, Settled}
-use Rattle.post_codec.specs.Spelling.{cuts_bytes, post_bytes, price_bytes, prices_bytes, slot_bytes, slots_bytes, spelling, spelling_by, twos_complement, u16_bytes, u32_bytes, u64_bytes}
-use Rattle.recovery.specs.Migrating.{SpellSame}
 
 price_five : (n : ℕ) → length (price_bytes Five n) ≡ 5
 unfolding price_bytes u64_bytes

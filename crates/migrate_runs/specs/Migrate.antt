@@ -80,7 +80,7 @@ IsEarlierOrSame images before = IsEarlierOr images (IsUnfinishedOrSame before)
 abbrev pub migrated_line : ℕ → ℕ → List ℕ
 migrated_line records posts = codes "migrated records " ++ (decimal records ++ (codes " posts " ++ (decimal posts ++ (10 ∷ []))))
 
--- a journal of the first version whose head is no instance's canonical text
+-- a journal of the first version whose header is no instance's canonical text
 pub record HasNoInstance (file : List ℕ) : Type 0 where
   pub head : List ℕ
   pub records : List (List ℕ)
@@ -121,7 +121,7 @@ ended_by NoJournal = Old NotAJournal
 ended_by OldVersion = Old NotAJournal
 ended_by (Full end limit) = Old NotAJournal
 
--- how a run ends where a head isn't read
+-- how a run ends where a header isn't read
 abbrev pub unread_by : ReadRefusal → MigrateStatus
 unread_by TooLong = Old Head
 unread_by NotJson = Old Head
@@ -131,7 +131,7 @@ unread_by (WrongKind at field) = Old Head
 unread_by (Invalid fault) = Old Head
 unread_by ReadsMemory = NoMemory
 
--- why nothing is carried over from a head
+-- why nothing is carried over from a header
 abbrev pub HeadFails : List ℕ → MigrateStatus → Type 0
 HeadFails head (Old Head) = (i : Problem) → IsInstance i → head ≡ canonical_text i → ⊥
 HeadFails head (Old NotAJournal) = ⊥
@@ -144,7 +144,7 @@ HeadFails head Usage = ⊥
 HeadFails head WriteFault = ⊥
 HeadFails head (Target len) = ⊥
 
--- What is carried over: a head and records that fit a journal, which spell the posts of the old file, so many.
+-- What is carried over: a header and records that fit a journal, which spell the posts of the old file, so many.
 pub record IsCarried (reads : Option (List ℕ)) (head : List ℕ) (records : List (List ℕ)) (count : ℕ) : Type 0 where
   pub instance : Problem
   pub valid : IsInstance instance

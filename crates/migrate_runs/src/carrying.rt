@@ -20,7 +20,7 @@ use std::thread::Threads;
 /// By how many workers at most the old records are judged. Each more takes memory for what it reads.
 const WORKERS: u32 = 4;
 
-/// The head and the records of the journal that is made, and the number of its posts.
+/// The header and the records of the journal that is made, and the number of its posts.
 #[derive(Drop)]
 pub(crate) struct Carried {
     pub head: Vec<u8>,
@@ -38,7 +38,7 @@ impl From<AllocError> for MigrateStatus {
     }
 }
 
-/// How the run ends where a head isn't read.
+/// How the run ends where a header isn't read.
 fn end_of_reading(refusal: ReadRefusal) -> MigrateStatus
     ensures { result ≡ unread_by refusal }
 {
@@ -53,7 +53,7 @@ fn end_of_reading(refusal: ReadRefusal) -> MigrateStatus
     }
 }
 
-/// The instance whose canonical text a head is.
+/// The instance whose canonical text a header is.
 fn instance_of(alloc: Global, head: &[u8]) -> Result<Instance, MigrateStatus>
     ensures text { IfOk result (λ i. head.now ≡ canonical_text i) }
     ensures valid { IfOk result (λ i. IsInstance i) }

@@ -15,7 +15,7 @@ pub enum OldFault {
     Damaged { at: u64 },
     /// The record of that number, from 0 on, is the first that spells no posts or has a post that isn't allowed.
     Rejected { at_record: u64, why: Why },
-    /// The head isn't the canonical text of an instance.
+    /// The header isn't the canonical text of an instance.
     Head,
 }
 

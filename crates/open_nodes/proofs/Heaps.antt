@@ -1,17 +1,13 @@
 -- Open nodes in a heap, in their order.
-use Rattle.std.proofs.Common.{◌≡◌, ◌⊎◌, inl, inr, ℕ, ◌+◌, ◌<◌, ◌≤◌, Bool, true, false, cond, ◌&&◌, ◌||◌, ◌==◌, not, nat_lt, List, [], ◌∷◌, length, refl, sym, ap, ◌∙◌, subst, arith, get_or, Some}
-use Rattle.std.specs.Prelude.{slice_get}
+use Rattle.open_nodes.proofs.Common.{◌≡◌, ◌⊎◌, inl, inr, ℕ, ◌+◌, ◌<◌, ◌≤◌, Bool, true, false, cond, ◌&&◌, ◌||◌, ◌==◌, not, nat_lt, List, [], ◌∷◌, length, refl, sym, ap, ◌∙◌, subst, arith, get_or, Some, slice_get, filter, list_all, list_any, false≢true, or_cases, has_node, is_before, is_listed, with_entry, Entry, Rises}
 use Rattle.std.specs.declared.cmp.Ordering.TheVariants.{Less, Equal, Greater}
 use Rattle.std.specs.declared.cmp.Reverse.{Reverse}
 use Rattle.std.specs.BinaryHeap.{IsUpperBound}
-use Rattle.std.specs.List.{filter, list_all, list_any}
 use Rattle.std.specs.List.Sorted.{IsPermutation}
 use Rattle.std.specs.Ordering.{is_lt, nat_cmp, ordering_then}
-use Rattle.std.proofs.lemmas.Bool.{false≢true, or_cases}
 use Rattle.std.proofs.lemmas.List.Filters.{length-filter_both}
 use Rattle.std.proofs.lemmas.List.Sorted.{IsPermutation-refl, length_permutation, list_any-IsPermutation}
 use Rattle.open_nodes.specs.Kept.{heap_cmp, in_order, IsKept}
-use Rattle.open_nodes.specs.Listed.{has_node, is_before, is_listed, with_entry, Entry, Rises}
 use Rattle.open_nodes.proofs.Orders.{any_filter, filter_rises, first_with, is_it, it_is, length_new, length_with, listed_filter, listed_with, none_listed, rises_same, with_rises}
 
 pub order_rises : (items : List (Reverse Entry)) → Rises (in_order items)

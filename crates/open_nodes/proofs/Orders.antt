@@ -1,8 +1,5 @@
 -- Lists of open nodes that rise strictly.
-use Rattle.std.proofs.Common.{◌≡◌, ◌⊎◌, inl, inr, ℕ, ◌+◌, ◌<◌, ◌≤◌, Bool, true, false, cond, ◌&&◌, ◌||◌, ◌==◌, not, nat_lt, List, [], ◌∷◌, length, refl, sym, ap, ◌∙◌, subst, arith, eq-eqb}
-use Rattle.std.specs.List.{filter, list_all, list_any}
-use Rattle.std.proofs.lemmas.Bool.{and_from, and_parts, cases_Bool, cases_lt, eqb-true, false≢true, le-ltb, lt-ltb, ltb-false, ltb-true, or_cases, or_left, or_right}
-use Rattle.open_nodes.specs.Listed.{has_node, is_before, is_listed, with_entry, Entry, Rises}
+use Rattle.open_nodes.proofs.Common.{◌≡◌, ◌⊎◌, inl, inr, ℕ, ◌+◌, ◌<◌, ◌≤◌, Bool, true, false, cond, ◌&&◌, ◌||◌, ◌==◌, not, nat_lt, List, [], ◌∷◌, length, refl, sym, ap, ◌∙◌, subst, arith, eq-eqb, filter, list_all, list_any, and_from, and_parts, cases_Bool, cases_lt, eqb-true, false≢true, le-ltb, lt-ltb, ltb-false, ltb-true, or_cases, or_left, or_right, has_node, is_before, is_listed, with_entry, Entry, Rises}
 
 -- ---- which comes before which
 

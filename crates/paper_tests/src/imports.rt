@@ -1,7 +1,7 @@
 //! Which tables are read as which instance, and what refusals say: no clause says it.
 
 use instance_json::{canonical, generate};
-use instance_tables::{ImportRefusal, Tables, exported, imported};
+use instance_tables::{ImportRefusal, TableBytes, exported, imported};
 use shift_instance::Instance;
 use std::alloc::{AllocError, Global};
 use std::test::Fail;
@@ -17,8 +17,13 @@ const RULES: &str =
     "rule,lead,work_max,totals,lunches\nward,1:00,4:30,4:00=0:30 8:00=1:00,8:00=0:30@3:00-5:30\n";
 
 /// The tables of these texts.
-fn tables_of<'a>(settings: &'a str, need: &'a str, types: &'a str, rules: &'a str) -> Tables<'a> {
-    Tables {
+fn tables_of<'a>(
+    settings: &'a str,
+    need: &'a str,
+    types: &'a str,
+    rules: &'a str,
+) -> TableBytes<'a> {
+    TableBytes {
         settings: settings.as_bytes(),
         need: need.as_bytes(),
         types: types.as_bytes(),
@@ -27,7 +32,7 @@ fn tables_of<'a>(settings: &'a str, need: &'a str, types: &'a str, rules: &'a st
 }
 
 /// The canonical text of the instance of tables, or the sentence of their refusal.
-fn answer(alloc: Global, tables: &Tables) -> Result<String, Fail> {
+fn answer(alloc: Global, tables: &TableBytes) -> Result<String, Fail> {
     match imported(alloc, tables) {
         Ok(instance) => Ok(String::from_utf8(canonical(alloc, &instance)?)?),
         Err(ImportRefusal::NoMemory) => Err(Fail::from("no memory")),
@@ -38,7 +43,7 @@ fn answer(alloc: Global, tables: &Tables) -> Result<String, Fail> {
 /// The canonical text of the instance that the tables of an instance state.
 fn text_again(alloc: Global, instance: &Instance) -> Result<String, Fail> {
     let texts = exported(alloc, instance)?;
-    let tables = Tables {
+    let tables = TableBytes {
         settings: texts.settings.as_slice(),
         need: texts.need.as_slice(),
         types: texts.types.as_slice(),

@@ -6,7 +6,7 @@ use std::test::Fail;
 /// The days of the week.
 const DAYS: [&str; 7] = ["Mon", "Tue", "Wed", "Thu", "Fri", "Sat", "Sun"];
 
-/// The heads of the day.
+/// The numbers of duties of the day.
 const HEADS_OF_DAY: &str = "\
 shift               1  sum
 K\"k\"   08:00-13:00  1    1
@@ -14,7 +14,7 @@ M<b>   08:00-14:00  3    3
 all                 4    4
 ";
 
-/// The heads of the week: the night on Sunday is the last day's, and the three of shift 2 start on Monday.
+/// The numbers of duties of the week: the night on Sunday is the last day's, and the three of shift 2 start on Monday.
 const HEADS_OF_WEEK: &str = "\
 shift                 Mon  Tue  Wed  Thu  Fri  Sat  Sun  sum
 early    06:00-14:00    3    -    -    -    -    -    -    3

@@ -1,24 +1,15 @@
 -- Sums of the numbers at prefixes, and what an addition does to them.
-use Rattle.std.proofs.Common.{◌≡◌, inl, inr, ℕ, ◌+◌, ◌*◌, ◌^◌, ◌<◌, ◌≤◌, ℤ, pos, ◌+ℤ◌, Bool, true, false, cond, List, [], ◌∷◌, ◌++◌, map, length, take, get_or, refl, sym, ap, ◌∙◌, subst, arith, Option, Some, FitsSigned, to_z, of_z}
+use Rattle.patterns.proofs.Common.{◌≡◌, inl, inr, ℕ, ◌+◌, ◌*◌, ◌^◌, ◌<◌, ◌≤◌, ℤ, pos, ◌+ℤ◌, Bool, true, false, cond, List, [], ◌∷◌, ◌++◌, map, length, take, get_or, refl, sym, ap, ◌∙◌, subst, arith, Option, Some, FitsSigned, to_z, of_z, w128, w64, cases_Bool, cond-true, cond-false, ints, fits_signed_from_abs, to_z-of_z, take_more, Break, same_list, begins_with, same_list_decides, with_added, AreSmall, share_of, bonus_of}
 use Rattle.std.specs.Option.{unwrap_or}
-use mir.Syntax.{w128, w64}
-use Rattle.std.proofs.lemmas.Bool.{cases_Bool, cond-true, cond-false}
-use Rattle.std.proofs.lemmas.Int.{ints, fits_signed_from_abs, to_z-of_z}
 use Rattle.std.specs.Int.RustNames.{unsigned_abs}
 use Rattle.std.proofs.lemmas.List.Sums.{sum_by-cons}
 use Rattle.std.specs.List.{sum_by, AllByRecursion, IsDistinct}
-use Rattle.std.proofs.lemmas.List.{take_more}
 use Rattle.std.specs.Map.{lookup, keys_of}
 use Rattle.std.proofs.lemmas.Map.Keys.{IsDistinct-head, IsDistinct-tail}
 use Rattle.indexmap.specs.IndexMap.{insert_entry}
-use Rattle.break_rules.specs.declared.Break.{Break}
-use Rattle.break_rules.specs.Breaks.{same_list, begins_with}
 use Rattle.break_rules.specs.Sums.{int_sum_by}
-use Rattle.break_rules.proofs.LegalLists.{same_list_decides}
 use Rattle.break_rules.proofs.Sizes.{abs_add}
 use Rattle.break_rules.proofs.Sums.{int_sum_by-cons, int_sum_by-same, int_sum_by-add}
-use Rattle.patterns.specs.Bonuses.{with_added, AreSmall}
-use Rattle.break_rules.specs.Bonuses.{share_of, bonus_of}
 use Rattle.patterns.proofs.Beginnings.{own_of, share_more, share_empty}
 
 size_add : (a b : ℤ) → unsigned_abs (a +ℤ b) ≤ unsigned_abs a + unsigned_abs b

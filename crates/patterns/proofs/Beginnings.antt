@@ -1,11 +1,5 @@
 -- With which prefixes a list begins that is one break longer.
-use Rattle.std.proofs.Common.{◌≡◌, ◌⊎◌, inl, inr, ◌+◌, ℤ, pos, ◌+ℤ◌, true, false, cond, List, [], ◌∷◌, ◌++◌, length, drop, refl, sym, ap, ◌∙◌, arith, append_assoc, append-nil, length-append}
-use Rattle.std.proofs.lemmas.Bool.{false≢true, false_from_ne_true, cases_Bool, cond-true, cond-false}
-use Rattle.std.proofs.lemmas.Int.{ints}
-use Rattle.break_rules.specs.declared.Break.{Break}
-use Rattle.break_rules.specs.Breaks.{same_list, begins_with}
-use Rattle.break_rules.proofs.LegalLists.{same_list_decides, begins_rest, begins_from}
-use Rattle.break_rules.specs.Bonuses.{share_of}
+use Rattle.patterns.proofs.Common.{◌≡◌, ◌⊎◌, inl, inr, ◌+◌, ℤ, pos, ◌+ℤ◌, true, false, cond, List, [], ◌∷◌, ◌++◌, length, drop, refl, sym, ap, ◌∙◌, arith, append_assoc, append-nil, length-append, false≢true, false_from_ne_true, cases_Bool, cond-true, cond-false, ints, Break, same_list, begins_with, same_list_decides, begins_rest, begins_from, share_of}
 
 -- the number of an entry, if its prefix is the whole list, and else 0
 abbrev pub own_of : List Break → List Break × ℤ → ℤ

@@ -1,7 +1,5 @@
 -- How runs of calls go on.
-use Rattle.std.proofs.Common.{inl, inr, ⊎_elim, ℕ, List, refl, ◌∙◌, subst, arith}
-use Rattle.std.specs.Prelude.{Option, None, Some, OnSome}
-use Rattle.plan_base.specs.Disk.{HoldsThroughout, OnlyLooks}
+use Rattle.plan_base.proofs.Common.{inl, inr, ⊎_elim, ℕ, List, refl, ◌∙◌, subst, arith, Option, None, Some, OnSome, HoldsThroughout, OnlyLooks}
 
 pub told_all : (o : Option (List ℕ)) (A : Type 0) → A → OnSome o A
 told_all None A a = tt

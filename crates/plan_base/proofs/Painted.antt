@@ -1,13 +1,6 @@
 -- A content in which each byte written since the last sync is another is one of the images.
-use Rattle.std.proofs.Common.{◌≡◌, ℕ, zero, suc, ◌+◌, List, [], ◌∷◌, ◌++◌, length, take, drop, true, refl, sym, ◌∙◌, ap, subst, arith, length-append, length-take, length-drop}
-use Rattle.std.proofs.lemmas.List.{length-replicate}
-use Rattle.std.specs.Prelude.{replicate}
-use Rattle.plan_base.specs.Disk.{overwritten, WritesPart, CutsPart}
-use Rattle.plan_base.specs.Replay.{acted, content, images_after, image_of, fits, all_fit, masked, mask_of, painted}
-use Rattle.plan_base.specs.ReplayLaws.{whole_write, whole_cut, le_true, both}
-use Rattle.plan_base.specs.declared.disk_event.DiskEvent.{DiskEvent}
+use Rattle.plan_base.proofs.Common.{◌≡◌, ℕ, zero, suc, ◌+◌, List, [], ◌∷◌, ◌++◌, length, take, drop, true, refl, sym, ◌∙◌, ap, subst, arith, length-append, length-take, length-drop, length-replicate, replicate, overwritten, WritesPart, CutsPart, acted, content, images_after, image_of, fits, all_fit, masked, mask_of, painted, whole_write, whole_cut, le_true, both, DiskEvent, Write, Shorten, Sync}
 use Rattle.plan_base.specs.declared.disk_event.DiskAct.{DiskAct}
-use Rattle.plan_base.specs.declared.disk_event.DiskAct.TheVariants.{Write, Shorten, Sync}
 
 length_over : (at : ℕ) (bs bs' old old' : List ℕ) → length bs ≡ length bs' → length old ≡ length old' → length (overwritten at bs old) ≡ length (overwritten at bs' old')
 length_over at bs bs' old old' same alike =

@@ -1,12 +1,6 @@
 -- One call more in the log of a disk in memory.
-use Rattle.std.proofs.Common.{◌≡◌, inl, inr, ⊎_elim, ℕ, ◌+◌, List, [], ◌∷◌, ◌++◌, length, reverse, Vec, true, refl, sym, ◌∙◌, ap, subst, arith}
+use Rattle.plan_base.proofs.Common.{◌≡◌, inl, inr, ⊎_elim, ℕ, ◌+◌, List, [], ◌∷◌, ◌++◌, length, reverse, Vec, true, refl, sym, ◌∙◌, ap, subst, arith, reverse-append, take_all, WritesPart, CutsPart, StepsFrom, AddsMoment, content, image_of, image_since, all_fit, reads_image, DiskEvent, Write, Shorten, Sync}
 use Rattle.std.specs.declared.alloc.Global.{Global}
-use Rattle.std.proofs.lemmas.List.{reverse-append, take_all}
-use Rattle.plan_base.specs.Disk.{WritesPart, CutsPart, StepsFrom, AddsMoment}
-use Rattle.plan_base.specs.Replay.{content, image_of, image_since, all_fit}
-use Rattle.plan_base.specs.ReplayLaws.{reads_image}
-use Rattle.plan_base.specs.declared.disk_event.DiskEvent.{DiskEvent}
-use Rattle.plan_base.specs.declared.disk_event.DiskAct.TheVariants.{Write, Shorten, Sync}
 
 pub newest_first : (old new : List DiskEvent) (e : DiskEvent) → new ≡ old ++ e ∷ [] → reverse new ≡ e ∷ reverse old
 newest_first old new e is = ap reverse is ∙ reverse-append old (e ∷ [])

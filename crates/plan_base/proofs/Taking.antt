@@ -1,11 +1,7 @@
 -- The bytes that runs of reads take and runs of writes give.
-use Rattle.std.proofs.Common.{◌≡◌, ⊎_elim, ℕ, ◌+◌, ◌<◌, ◌≤◌, List, [], ◌++◌, length, take, drop, sym, ◌∙◌, ap, arith, append_assoc, length-append}
-use Rattle.std.proofs.lemmas.List.{append-nil, drop-drop, take-append-drop}
+use Rattle.plan_base.proofs.Common.{◌≡◌, ⊎_elim, ℕ, ◌+◌, ◌<◌, ◌≤◌, List, [], ◌++◌, length, take, drop, sym, ◌∙◌, ap, arith, append_assoc, length-append, append-nil, drop-drop, take-append-drop, ReadsAt, Option, None, Some, IfSome, Result, Ok, Err, OnErr, Consumes, Appends, IsAtEnd, Keeps}
 use Rattle.std.proofs.Math.Seq.{take-add}
 use Rattle.std.proofs.Math.ListN.{drop_of_length-le}
-use Rattle.plan_base.specs.Disk.{ReadsAt}
-use Rattle.std.specs.Prelude.{Option, None, Some, IfSome, Result, Ok, Err, OnErr}
-use Rattle.std.specs.Io.KnownBytes.{Consumes, Appends, IsAtEnd, Keeps}
 
 pub none_consumed : (a : Option (List ℕ)) (bs : List ℕ) → bs ≡ [] → Consumes a a bs
 none_consumed None bs none = tt
@@ -34,10 +30,6 @@ long_left None b bs n taken long = tt
 long_left (Some xs) None bs n taken long = absurd taken
 long_left (Some xs) (Some ys) bs n taken long = omega (arith, ap length taken, length-append bs ys)
 
-pub none_appended : (a : Option (List ℕ)) → Appends a a []
-none_appended None = tt
-none_appended (Some xs) = sym (append-nil xs)
-
 -- a write goes on behind the first bytes
 pub more_appended : (a b c : Option (List ℕ)) (bytes : List ℕ) (n m : ℕ) → Appends a b (take n bytes) → Appends b c (take m (drop n bytes)) → Appends a c (take (n + m) bytes)
 more_appended None b c bytes n m first second = tt
@@ -45,13 +37,6 @@ more_appended (Some xs) None c bytes n m first second = absurd first
 more_appended (Some xs) (Some ys) None bytes n m first second = absurd second
 more_appended (Some xs) (Some ys) (Some zs) bytes n m first second =
     second ∙ ap (λ (l : List ℕ). l ++ take m (drop n bytes)) first ∙ append_assoc xs (take n bytes) (take m (drop n bytes)) ∙ ap (λ (l : List ℕ). xs ++ l) (sym (take-add n m bytes))
-
--- a write that failed gave nothing
-pub kept_appended : (a b c : Option (List ℕ)) (bytes : List ℕ) → Appends a b bytes → Keeps b c → Appends a c bytes
-kept_appended None b c bytes first kept = tt
-kept_appended (Some xs) None c bytes first kept = absurd first
-kept_appended (Some xs) (Some ys) None bytes first kept = absurd kept
-kept_appended (Some xs) (Some ys) (Some zs) bytes first kept = kept ∙ first
 
 pub on_err : {T E : Type 0} (result : Result T E) (P : Type 0) → P → OnErr result P
 on_err (Ok x) P p = tt

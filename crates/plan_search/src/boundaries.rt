@@ -4,7 +4,7 @@ use crate::changes::Heads;
 use crate::search::PlanSearch;
 use advice::Stop;
 use break_rules::NoMemory;
-use shift_tables::Tables;
+use shift_tables::ShiftTables;
 
 /// The most slots by which a boundary moves.
 const FARTHEST: usize = 6;
@@ -31,7 +31,7 @@ pub(crate) struct Successor {
 
 impl Boundary {
     /// Where a start or an end of a shift lies once the boundary has moved.
-    fn moved(self, tables: &Tables, time: u16) -> u16 {
+    fn moved(self, tables: &ShiftTables, time: u16) -> u16 {
         let day = tables.day_slots;
         let behind = usize::from(time).wrapping_add(day).wrapping_sub(self.from);
         if self.width < behind.checked_rem(day).unwrap_or(0) {
@@ -46,7 +46,7 @@ impl Boundary {
 
 impl<S: Stop + Drop> PlanSearch<S> {
     /// A boundary that an end of a shift belongs to: three times in five the slot of that end alone.
-    fn some_boundary(&mut self, tables: &Tables, shift: u16) -> Option<Boundary> {
+    fn some_boundary(&mut self, tables: &ShiftTables, shift: u16) -> Option<Boundary> {
         let place = *tables.shifts.get(usize::from(shift))?;
         let time = if self.chance.is_once_in(2) {
             place.start.saturating_add(place.len)
@@ -71,7 +71,7 @@ impl<S: Stop + Drop> PlanSearch<S> {
     }
 
     /// What a used shift becomes where a boundary moves: none where it stays, or where there is no such shift.
-    fn successor(&mut self, tables: &Tables, shift: u16, boundary: Boundary) -> Option<u16> {
+    fn successor(&mut self, tables: &ShiftTables, shift: u16, boundary: Boundary) -> Option<u16> {
         let place = *tables.shifts.get(usize::from(shift))?;
         let end = place.start.saturating_add(place.len);
         let moved_start = boundary.moved(tables, place.start);
@@ -84,7 +84,11 @@ impl<S: Stop + Drop> PlanSearch<S> {
     }
 
     /// Lists what the used shifts become where a boundary moves.
-    fn list_successors(&mut self, tables: &Tables, boundary: Boundary) -> Result<(), NoMemory> {
+    fn list_successors(
+        &mut self,
+        tables: &ShiftTables,
+        boundary: Boundary,
+    ) -> Result<(), NoMemory> {
         self.successors.clear();
         for k in 0..self.plan.used.len() {
             let Some(shift) = self.plan.used.get(k).copied() else {
@@ -102,7 +106,7 @@ impl<S: Stop + Drop> PlanSearch<S> {
     }
 
     /// Takes the duties of the shifts out that become others.
-    fn drop_predecessors(&mut self, tables: &Tables) -> Result<(), NoMemory> {
+    fn drop_predecessors(&mut self, tables: &ShiftTables) -> Result<(), NoMemory> {
         for k in 0..self.successors.len() {
             let Some(successor) = self.successors.get(k).copied() else {
                 break;
@@ -116,7 +120,11 @@ impl<S: Stop + Drop> PlanSearch<S> {
     }
 
     /// The starts and ends of used shifts that lie at an end of one of them, or close to it, move together.
-    pub(crate) fn move_boundary(&mut self, tables: &Tables, shift: u16) -> Result<(), NoMemory> {
+    pub(crate) fn move_boundary(
+        &mut self,
+        tables: &ShiftTables,
+        shift: u16,
+    ) -> Result<(), NoMemory> {
         let Some(boundary) = self.some_boundary(tables, shift) else {
             return Ok(());
         };

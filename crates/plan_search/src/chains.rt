@@ -3,7 +3,7 @@
 use crate::search::{PlanSearch, Task};
 use advice::Stop;
 use break_rules::NoMemory;
-use shift_tables::Tables;
+use shift_tables::ShiftTables;
 use std::num::{nearest_u64_to_f64, saturating_f64_to_u64};
 
 /// A chain of moves: the work at which it began, how much work it takes, and its first temperature.
@@ -70,13 +70,13 @@ impl Chain {
 }
 
 /// The lesser weight of an employee too many or too few, and at least 1.
-fn unit(tables: &Tables) -> f64 {
+fn unit(tables: &ShiftTables) -> f64 {
     tables.excess.min(tables.shortage).max(1.0)
 }
 
 impl<S: Stop + Drop> PlanSearch<S> {
     /// Puts the best plan of the leg in place of the running one.
-    fn restore_best(&mut self, tables: &Tables) -> Result<(), NoMemory> {
+    fn restore_best(&mut self, tables: &ShiftTables) -> Result<(), NoMemory> {
         self.plan.clear(tables);
         for k in 0..self.leg.best.len() {
             if let Some(placed) = self.leg.best.get(k).copied() {
@@ -90,7 +90,7 @@ impl<S: Stop + Drop> PlanSearch<S> {
     }
 
     /// The duties of a shift by day in the guide, with 0.3 added and rounded down.
-    fn guided_heads(&self, tables: &Tables, shift: u16) -> [usize; 7] {
+    fn guided_heads(&self, tables: &ShiftTables, shift: u16) -> [usize; 7] {
         let mut heads = [0; 7];
         for (day, place) in heads.iter_mut().enumerate() {
             if day < tables.days {
@@ -103,7 +103,7 @@ impl<S: Stop + Drop> PlanSearch<S> {
     }
 
     /// Puts the guide's duties of its most used shifts in; but for the first chain, one shift in five is left out.
-    fn put_guided(&mut self, tables: &Tables, most: usize) -> Result<(), NoMemory> {
+    fn put_guided(&mut self, tables: &ShiftTables, most: usize) -> Result<(), NoMemory> {
         let is_first = self.chains <= 1;
         for k in 0..most {
             let Some(shift) = self.guide.shifts.get(k).copied() else {
@@ -118,7 +118,7 @@ impl<S: Stop + Drop> PlanSearch<S> {
     }
 
     /// Adds those of the guide's most used shifts that aren't used.
-    fn add_guided(&mut self, tables: &Tables, most: usize) -> Result<(), NoMemory> {
+    fn add_guided(&mut self, tables: &ShiftTables, most: usize) -> Result<(), NoMemory> {
         for k in 0..most {
             let Some(shift) = self.guide.shifts.get(k).copied() else {
                 break;
@@ -131,14 +131,14 @@ impl<S: Stop + Drop> PlanSearch<S> {
     }
 
     /// Begins anew from the most used shifts of the guide.
-    fn begin_guided(&mut self, tables: &Tables) -> Result<(), NoMemory> {
+    fn begin_guided(&mut self, tables: &ShiftTables) -> Result<(), NoMemory> {
         let most = self.chance.pick(&[6usize, 10, 16, 30]).unwrap_or(6);
         self.put_guided(tables, most)?;
         self.add_guided(tables, most)
     }
 
     /// Begins anew.
-    fn begin(&mut self, tables: &Tables) -> Result<(), NoMemory> {
+    fn begin(&mut self, tables: &ShiftTables) -> Result<(), NoMemory> {
         self.plan.clear(tables);
         self.log.clear();
         if self.is_unguided() {
@@ -152,7 +152,7 @@ impl<S: Stop + Drop> PlanSearch<S> {
     }
 
     /// Puts a plan of the pool in place of the running one, or else the best one: so many times in 100 one of the pool.
-    fn restore_some(&mut self, tables: &Tables, pooled: usize) -> Result<(), NoMemory> {
+    fn restore_some(&mut self, tables: &ShiftTables, pooled: usize) -> Result<(), NoMemory> {
         if self.pool.len() == 0 || pooled <= self.chance.below(100) {
             return self.restore_best(tables);
         }
@@ -161,7 +161,7 @@ impl<S: Stop + Drop> PlanSearch<S> {
     }
 
     /// Begins from a mixed plan: a union of two of the pool, or one that grew.
-    fn begin_mixed(&mut self, tables: &Tables) -> Result<(), NoMemory> {
+    fn begin_mixed(&mut self, tables: &ShiftTables) -> Result<(), NoMemory> {
         if self.chance.is_once_in(2) {
             self.begin_union(tables)?;
         } else {
@@ -173,7 +173,7 @@ impl<S: Stop + Drop> PlanSearch<S> {
     }
 
     /// Begins from the best plan, or one of the pool, after one or two changes of its shifts.
-    fn begin_near(&mut self, tables: &Tables) -> Result<(), NoMemory> {
+    fn begin_near(&mut self, tables: &ShiftTables) -> Result<(), NoMemory> {
         self.restore_some(tables, 30)?;
         let kicks = self.chance.below(2).saturating_add(1);
         for _ in 0..kicks {
@@ -184,7 +184,7 @@ impl<S: Stop + Drop> PlanSearch<S> {
     }
 
     /// Offers the running plan and the best one of the leg to the pool.
-    fn pool_plans(&mut self, tables: &Tables) -> Result<(), NoMemory> {
+    fn pool_plans(&mut self, tables: &ShiftTables) -> Result<(), NoMemory> {
         self.copied.clear();
         self.plan.list_into(tables, &mut self.copied)?;
         self.pool.offer(&self.copied, self.plan.cost)?;
@@ -220,7 +220,7 @@ impl<S: Stop + Drop> PlanSearch<S> {
 
     /// How much work the next chain takes: the more, the more shifts there are to choose from, the more kinds of days there are, and the
     /// more work was done in the leg.
-    fn length_from(&self, tables: &Tables, start: Start) -> u64 {
+    fn length_from(&self, tables: &ShiftTables, start: Start) -> u64 {
         let shifts = nearest_u64_to_f64(tables.usable.len() as u64);
         let kinds = 1.0 + f64::from(self.likeness.kinds());
         let growth = 1.0 + nearest_u64_to_f64(self.leg.work(self.work)) / DOUBLED;
@@ -228,7 +228,7 @@ impl<S: Stop + Drop> PlanSearch<S> {
     }
 
     /// Makes the running plan the one that the next chain begins from.
-    fn begin_from(&mut self, tables: &Tables, start: Start) -> Result<(), NoMemory> {
+    fn begin_from(&mut self, tables: &ShiftTables, start: Start) -> Result<(), NoMemory> {
         match start {
             Start::Fresh => self.begin(tables)?,
             Start::Mixed => self.begin_mixed(tables)?,
@@ -238,7 +238,7 @@ impl<S: Stop + Drop> PlanSearch<S> {
     }
 
     /// Begins the next chain, and a leg with it where one is over.
-    fn begin_chain(&mut self, tables: &Tables) -> Result<(), NoMemory> {
+    fn begin_chain(&mut self, tables: &ShiftTables) -> Result<(), NoMemory> {
         self.pool_plans(tables)?;
         if self.leg.is_over(self.work) {
             self.begin_leg()?;
@@ -260,7 +260,7 @@ impl<S: Stop + Drop> PlanSearch<S> {
     }
 
     /// One move of the running chain.
-    fn step(&mut self, tables: &Tables) -> Result<(), NoMemory> {
+    fn step(&mut self, tables: &ShiftTables) -> Result<(), NoMemory> {
         self.log.clear();
         self.count(tables.slots);
         if self.plan.used.is_empty() {
@@ -279,7 +279,7 @@ impl<S: Stop + Drop> PlanSearch<S> {
     }
 
     /// Goes on with what the search is at, by a move, or begins the next chain.
-    fn go_on(&mut self, tables: &Tables) -> Result<(), NoMemory> {
+    fn go_on(&mut self, tables: &ShiftTables) -> Result<(), NoMemory> {
         match self.task {
             Task::Pruning(pruning) => {
                 self.prune_on(tables, pruning)?;
@@ -294,7 +294,7 @@ impl<S: Stop + Drop> PlanSearch<S> {
 
     /// Goes on for some work, counted in edges of graphs and in slots, and a little more: the move that is under way then is
     /// ended, which is cut short where it takes long. Once the search is asked to stop, the move that is under way is cut short.
-    pub fn run(&mut self, tables: &Tables, work: u64) -> Result<(), NoMemory> {
+    pub fn run(&mut self, tables: &ShiftTables, work: u64) -> Result<(), NoMemory> {
         if tables.usable.is_empty() {
             return Ok(());
         }

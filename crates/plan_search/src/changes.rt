@@ -3,7 +3,7 @@
 use crate::search::{PlanSearch, Task};
 use advice::Stop;
 use break_rules::NoMemory;
-use shift_tables::Tables;
+use shift_tables::ShiftTables;
 use working_plan::Placed;
 
 /// The duties of a shift on each day.
@@ -66,7 +66,7 @@ impl<S: Stop + Drop> PlanSearch<S> {
     /// Takes so many duties of a shift on a day out, the last ones first, and tells how many these are.
     pub(crate) fn drop_some(
         &mut self,
-        tables: &Tables,
+        tables: &ShiftTables,
         shift: u16,
         day: usize,
         count: usize,
@@ -82,7 +82,7 @@ impl<S: Stop + Drop> PlanSearch<S> {
     /// Takes all duties of a shift on a day out, and tells how many there were.
     pub(crate) fn drop_day(
         &mut self,
-        tables: &Tables,
+        tables: &ShiftTables,
         shift: u16,
         day: usize,
     ) -> Result<usize, NoMemory> {
@@ -91,7 +91,11 @@ impl<S: Stop + Drop> PlanSearch<S> {
     }
 
     /// Takes all duties of a shift out, and tells how many there were on each day.
-    pub(crate) fn drop_shift(&mut self, tables: &Tables, shift: u16) -> Result<Heads, NoMemory> {
+    pub(crate) fn drop_shift(
+        &mut self,
+        tables: &ShiftTables,
+        shift: u16,
+    ) -> Result<Heads, NoMemory> {
         let mut heads = [0; 7];
         for (day, place) in heads.iter_mut().take(tables.days).enumerate() {
             *place = self.drop_day(tables, shift, day)?;
@@ -100,7 +104,7 @@ impl<S: Stop + Drop> PlanSearch<S> {
     }
 
     /// What one more duty of a shift on a day gains, and 0 where it doesn't or there is no room for it.
-    fn gain(&mut self, tables: &Tables, shift: u16, day: usize) -> f64 {
+    fn gain(&mut self, tables: &ShiftTables, shift: u16, day: usize) -> f64 {
         if self.plan.has_room(tables, shift, day) && 0.0 < self.bound(tables, shift, day) {
             self.value(tables, shift, day).max(0.0)
         } else {
@@ -109,7 +113,7 @@ impl<S: Stop + Drop> PlanSearch<S> {
     }
 
     /// What one more duty of a shift gains on each day, summed up.
-    fn gain_of_days(&mut self, tables: &Tables, shift: u16) -> f64 {
+    fn gain_of_days(&mut self, tables: &ShiftTables, shift: u16) -> f64 {
         let mut sum = 0.0;
         for day in 0..tables.days {
             sum += self.gain(tables, shift, day);
@@ -120,7 +124,7 @@ impl<S: Stop + Drop> PlanSearch<S> {
     /// Puts so many duties of a shift in on a day, as far as there is room, and, if `strict`, as long as they gain.
     fn put_day(
         &mut self,
-        tables: &Tables,
+        tables: &ShiftTables,
         shift: u16,
         day: usize,
         count: usize,
@@ -142,7 +146,7 @@ impl<S: Stop + Drop> PlanSearch<S> {
     /// Puts so many duties of a shift in on each day, as far as there is room, and, if `strict`, as long as they gain.
     pub(crate) fn put_heads(
         &mut self,
-        tables: &Tables,
+        tables: &ShiftTables,
         shift: u16,
         heads: &Heads,
         strict: bool,
@@ -154,13 +158,13 @@ impl<S: Stop + Drop> PlanSearch<S> {
     }
 
     /// Puts duties of a shift in on each day as long as they gain.
-    pub(crate) fn add_shift(&mut self, tables: &Tables, shift: u16) -> Result<(), NoMemory> {
+    pub(crate) fn add_shift(&mut self, tables: &ShiftTables, shift: u16) -> Result<(), NoMemory> {
         let heads = [tables.heads; 7];
         self.put_heads(tables, shift, &heads, true)
     }
 
     /// Of some shifts that are drawn, near one or else candidates, the first whose duties gain most; never that one itself.
-    fn most_gaining(&mut self, tables: &Tables, shift: u16, is_near: bool) -> Option<u16> {
+    fn most_gaining(&mut self, tables: &ShiftTables, shift: u16, is_near: bool) -> Option<u16> {
         let mut found = None;
         let mut most = 0.0;
         for _ in 0..DRAWN {
@@ -183,7 +187,7 @@ impl<S: Stop + Drop> PlanSearch<S> {
 
     /// A used shift becomes another one, three times in four one near it: of some that are drawn the one that gains most in its place.
     /// Where none of them gains, the shift goes.
-    fn become_other(&mut self, tables: &Tables, shift: u16) -> Result<(), NoMemory> {
+    fn become_other(&mut self, tables: &ShiftTables, shift: u16) -> Result<(), NoMemory> {
         let is_near = !self.chance.is_once_in(4);
         let heads = self.drop_shift(tables, shift)?;
         let Some(other) = self.most_gaining(tables, shift, is_near) else {
@@ -194,7 +198,7 @@ impl<S: Stop + Drop> PlanSearch<S> {
     }
 
     /// A candidate is added, and none to two used shifts are dropped.
-    fn add_candidate(&mut self, tables: &Tables, shift: u16) -> Result<(), NoMemory> {
+    fn add_candidate(&mut self, tables: &ShiftTables, shift: u16) -> Result<(), NoMemory> {
         let Some(other) = self.candidate(tables) else {
             return Ok(());
         };
@@ -210,7 +214,7 @@ impl<S: Stop + Drop> PlanSearch<S> {
     }
 
     /// The usable shift from one slot of the day to another.
-    pub(crate) fn usable_between(&self, tables: &Tables, start: u16, end: u16) -> Option<u16> {
+    pub(crate) fn usable_between(&self, tables: &ShiftTables, start: u16, end: u16) -> Option<u16> {
         for shift in &tables.usable {
             if let Some(place) = tables.shifts.get(usize::from(*shift)) {
                 if place.start == start && place.start.saturating_add(place.len) == end {
@@ -222,7 +226,7 @@ impl<S: Stop + Drop> PlanSearch<S> {
     }
 
     /// Two used shifts that overlap exchange their ends.
-    fn exchange_ends(&mut self, tables: &Tables, shift: u16) -> Result<(), NoMemory> {
+    fn exchange_ends(&mut self, tables: &ShiftTables, shift: u16) -> Result<(), NoMemory> {
         let Some(other) = self.some_used() else {
             return Ok(());
         };
@@ -251,7 +255,12 @@ impl<S: Stop + Drop> PlanSearch<S> {
     }
 
     /// Two used shifts become one of them or near it.
-    fn join_shifts(&mut self, tables: &Tables, shift: u16, other: u16) -> Result<(), NoMemory> {
+    fn join_shifts(
+        &mut self,
+        tables: &ShiftTables,
+        shift: u16,
+        other: u16,
+    ) -> Result<(), NoMemory> {
         let heads = self.drop_shift(tables, shift)?;
         let others = self.drop_shift(tables, other)?;
         let joint = match self.chance.below(4) {
@@ -266,7 +275,7 @@ impl<S: Stop + Drop> PlanSearch<S> {
     }
 
     /// A used shift becomes two near it.
-    fn split_shift(&mut self, tables: &Tables, shift: u16) -> Result<(), NoMemory> {
+    fn split_shift(&mut self, tables: &ShiftTables, shift: u16) -> Result<(), NoMemory> {
         let first = self.neighbour(tables, shift);
         let second = self.neighbour(tables, shift);
         let (Some(first), Some(second)) = (first, second) else {
@@ -278,7 +287,7 @@ impl<S: Stop + Drop> PlanSearch<S> {
     }
 
     /// Two used shifts become one, or one becomes two.
-    fn join_or_split(&mut self, tables: &Tables, shift: u16) -> Result<(), NoMemory> {
+    fn join_or_split(&mut self, tables: &ShiftTables, shift: u16) -> Result<(), NoMemory> {
         let other = self.some_used().unwrap_or(shift);
         if shift != other && self.chance.is_once_in(2) {
             self.join_shifts(tables, shift, other)
@@ -288,7 +297,7 @@ impl<S: Stop + Drop> PlanSearch<S> {
     }
 
     /// Changes the set of used shifts in one of the ways, as a number from 0 to 44 tells.
-    fn change_set(&mut self, tables: &Tables, shift: u16, way: usize) -> Result<(), NoMemory> {
+    fn change_set(&mut self, tables: &ShiftTables, shift: u16, way: usize) -> Result<(), NoMemory> {
         match way {
             0..=21 => self.move_boundary(tables, shift),
             22..=33 => self.become_other(tables, shift),
@@ -303,7 +312,7 @@ impl<S: Stop + Drop> PlanSearch<S> {
     }
 
     /// Has the next moves repair a change of the set: moves on duties, as long as they promise to bring the cost to a threshold.
-    fn repair(&mut self, tables: &Tables, threshold: f64, temperature: f64) {
+    fn repair(&mut self, tables: &ShiftTables, threshold: f64, temperature: f64) {
         let unit = tables.excess.min(tables.shortage);
         self.task = Task::Repair(Repair {
             threshold,
@@ -327,7 +336,11 @@ impl<S: Stop + Drop> PlanSearch<S> {
     }
 
     /// One move of a repair, or its end.
-    pub(crate) fn repair_on(&mut self, tables: &Tables, repair: Repair) -> Result<(), NoMemory> {
+    pub(crate) fn repair_on(
+        &mut self,
+        tables: &ShiftTables,
+        repair: Repair,
+    ) -> Result<(), NoMemory> {
         if repair.moves < REPAIRS && repair.moves % SPREAD == 0 {
             self.spread(tables)?;
         }
@@ -343,7 +356,7 @@ impl<S: Stop + Drop> PlanSearch<S> {
     }
 
     /// Keeps a change of the set where the cost is at most a threshold, and else undoes it.
-    fn end_change(&mut self, tables: &Tables, threshold: f64) -> Result<(), NoMemory> {
+    fn end_change(&mut self, tables: &ShiftTables, threshold: f64) -> Result<(), NoMemory> {
         if self.plan.cost <= threshold {
             self.log.clear();
         } else {
@@ -353,7 +366,7 @@ impl<S: Stop + Drop> PlanSearch<S> {
     }
 
     /// Whether a change of the set is among those that are repaired; follows the law of their rises.
-    fn is_repaired(&mut self, tables: &Tables, rise: f64) -> bool {
+    fn is_repaired(&mut self, tables: &ShiftTables, rise: f64) -> bool {
         let is_low = rise <= self.repaired_rise;
         let pull = if is_low { REPAIRED - 1.0 } else { REPAIRED };
         self.repaired_rise += 0.1 * tables.weight * pull;
@@ -364,7 +377,7 @@ impl<S: Stop + Drop> PlanSearch<S> {
     /// next moves do that.
     pub(crate) fn move_set(
         &mut self,
-        tables: &Tables,
+        tables: &ShiftTables,
         way: usize,
         temperature: f64,
     ) -> Result<(), NoMemory> {
@@ -388,7 +401,11 @@ impl<S: Stop + Drop> PlanSearch<S> {
     }
 
     /// Adds so many candidates.
-    pub(crate) fn add_candidates(&mut self, tables: &Tables, count: u32) -> Result<(), NoMemory> {
+    pub(crate) fn add_candidates(
+        &mut self,
+        tables: &ShiftTables,
+        count: u32,
+    ) -> Result<(), NoMemory> {
         for _ in 0..count {
             if let Some(candidate) = self.candidate(tables) {
                 self.add_shift(tables, candidate)?;
@@ -398,7 +415,7 @@ impl<S: Stop + Drop> PlanSearch<S> {
     }
 
     /// One change of the set of used shifts, taken whatever it costs.
-    pub(crate) fn kick(&mut self, tables: &Tables) -> Result<(), NoMemory> {
+    pub(crate) fn kick(&mut self, tables: &ShiftTables) -> Result<(), NoMemory> {
         let Some(shift) = self.some_used() else {
             return Ok(());
         };

@@ -3,7 +3,7 @@
 use crate::search::PlanSearch;
 use advice::Stop;
 use break_rules::NoMemory;
-use shift_tables::Tables;
+use shift_tables::ShiftTables;
 use std::alloc::Global;
 use working_plan::Placed;
 
@@ -27,14 +27,14 @@ fn are_alike(needs: &[i32], others: &[i32]) -> bool {
 }
 
 /// The numbers of the slots of a day.
-fn on_day<'a>(tables: &Tables, numbers: &'a [i32], day: usize) -> &'a [i32] {
+fn on_day<'a>(tables: &ShiftTables, numbers: &'a [i32], day: usize) -> &'a [i32] {
     let from = day.wrapping_mul(tables.day_slots);
     let to = from.wrapping_add(tables.day_slots);
     numbers.get(from..to).unwrap_or(&[])
 }
 
 /// Whether two days are alike, by the least and by the most wanted employees.
-fn are_days_alike(tables: &Tables, a: usize, b: usize) -> bool {
+fn are_days_alike(tables: &ShiftTables, a: usize, b: usize) -> bool {
     let need = tables.need.as_slice();
     let most = tables.need_max.as_slice();
     are_alike(on_day(tables, need, a), on_day(tables, need, b))
@@ -43,7 +43,7 @@ fn are_days_alike(tables: &Tables, a: usize, b: usize) -> bool {
 
 impl Likeness {
     /// Which days are alike.
-    pub(crate) fn new(alloc: Global, tables: &Tables) -> Result<Likeness, NoMemory> {
+    pub(crate) fn new(alloc: Global, tables: &ShiftTables) -> Result<Likeness, NoMemory> {
         let days = tables.days;
         let mut alike = Vec::new(alloc);
         for pair in 0..days.saturating_mul(days) {
@@ -84,7 +84,7 @@ impl Likeness {
 
 impl<S: Stop + Drop> PlanSearch<S> {
     /// Lists the duties of the running plan on a day, to be copied.
-    fn list_running(&mut self, tables: &Tables, day: usize) -> Result<(), NoMemory> {
+    fn list_running(&mut self, tables: &ShiftTables, day: usize) -> Result<(), NoMemory> {
         self.copied.clear();
         for k in 0..self.plan.used.len() {
             if let Some(shift) = self.plan.used.get(k).copied() {
@@ -106,7 +106,7 @@ impl<S: Stop + Drop> PlanSearch<S> {
     }
 
     /// Takes all duties of a day out.
-    fn empty_day(&mut self, tables: &Tables, day: usize) -> Result<(), NoMemory> {
+    fn empty_day(&mut self, tables: &ShiftTables, day: usize) -> Result<(), NoMemory> {
         self.order.clear();
         self.order.extend_from_slice(self.plan.used.as_slice())?;
         for k in 0..self.order.len() {
@@ -118,7 +118,7 @@ impl<S: Stop + Drop> PlanSearch<S> {
     }
 
     /// Puts the listed duties in on a day.
-    fn put_copied(&mut self, tables: &Tables, day: usize) -> Result<(), NoMemory> {
+    fn put_copied(&mut self, tables: &ShiftTables, day: usize) -> Result<(), NoMemory> {
         for k in 0..self.copied.len() {
             if let Some(placed) = self.copied.get(k).copied() {
                 let Placed { shift, pauses, .. } = placed;
@@ -129,7 +129,7 @@ impl<S: Stop + Drop> PlanSearch<S> {
     }
 
     /// Puts the listed duties in place of those of a day, and fills up and sweeps it and the next one.
-    fn copy_to(&mut self, tables: &Tables, day: usize) -> Result<(), NoMemory> {
+    fn copy_to(&mut self, tables: &ShiftTables, day: usize) -> Result<(), NoMemory> {
         self.empty_day(tables, day)?;
         self.put_copied(tables, day)?;
         let next = day.wrapping_add(1).checked_rem(tables.days).unwrap_or(0);
@@ -143,7 +143,7 @@ impl<S: Stop + Drop> PlanSearch<S> {
     }
 
     /// Lists the duties of another day of the running plan, or of a day of a plan of the pool, to be copied to a day.
-    fn list_source(&mut self, tables: &Tables, day: usize) -> Result<(), NoMemory> {
+    fn list_source(&mut self, tables: &ShiftTables, day: usize) -> Result<(), NoMemory> {
         let other = self.chance.below(tables.days);
         if self.pool.len() == 0 || (1 < tables.days && self.chance.is_once_in(2)) {
             return self.list_running(tables, other);
@@ -158,7 +158,11 @@ impl<S: Stop + Drop> PlanSearch<S> {
     }
 
     /// A day takes all duties of another one; the change is kept as the temperature allows.
-    pub(crate) fn move_day(&mut self, tables: &Tables, temperature: f64) -> Result<(), NoMemory> {
+    pub(crate) fn move_day(
+        &mut self,
+        tables: &ShiftTables,
+        temperature: f64,
+    ) -> Result<(), NoMemory> {
         let mark = self.log.len();
         let before = self.plan.cost;
         let from = self.chance.below(tables.slots);
@@ -176,14 +180,14 @@ impl<S: Stop + Drop> PlanSearch<S> {
     }
 
     /// What the cover of a day costs.
-    fn cost_of_day(&self, tables: &Tables, day: usize) -> f64 {
+    fn cost_of_day(&self, tables: &ShiftTables, day: usize) -> f64 {
         let from = day.wrapping_mul(tables.day_slots);
         let to = from.wrapping_add(tables.day_slots);
         self.plan.levels.cost_between(tables, from, to)
     }
 
     /// The day like another one whose cover costs least, where that is less than the other's.
-    fn cheaper_day(&self, tables: &Tables, day: usize) -> Option<usize> {
+    fn cheaper_day(&self, tables: &ShiftTables, day: usize) -> Option<usize> {
         let mut found = None;
         let mut least = self.cost_of_day(tables, day);
         for other in 0..tables.days {
@@ -197,7 +201,7 @@ impl<S: Stop + Drop> PlanSearch<S> {
     }
 
     /// A day takes all duties of another one, unless the plan gets dearer.
-    fn spread_to(&mut self, tables: &Tables, day: usize, from: usize) -> Result<(), NoMemory> {
+    fn spread_to(&mut self, tables: &ShiftTables, day: usize, from: usize) -> Result<(), NoMemory> {
         let mark = self.log.len();
         let before = self.plan.cost;
         self.list_running(tables, from)?;
@@ -209,7 +213,7 @@ impl<S: Stop + Drop> PlanSearch<S> {
     }
 
     /// Each day takes all duties of the cheapest day like it that is cheaper, unless the plan gets dearer.
-    pub(crate) fn spread(&mut self, tables: &Tables) -> Result<(), NoMemory> {
+    pub(crate) fn spread(&mut self, tables: &ShiftTables) -> Result<(), NoMemory> {
         for day in 0..tables.days {
             if let Some(from) = self.cheaper_day(tables, day) {
                 self.spread_to(tables, day, from)?;

@@ -3,7 +3,7 @@
 use crate::search::PlanSearch;
 use advice::Stop;
 use break_rules::NoMemory;
-use shift_tables::Tables;
+use shift_tables::ShiftTables;
 use working_plan::Placed;
 
 /// Of so many moves on duties one copies a whole day.
@@ -21,7 +21,12 @@ fn touch(days: &mut Touched, day: usize) {
 
 impl<S: Stop + Drop> PlanSearch<S> {
     /// Adds the days to the list on which a shift has a duty whose window has a slot.
-    fn list_days_near(&mut self, tables: &Tables, shift: u16, slot: usize) -> Result<(), NoMemory> {
+    fn list_days_near(
+        &mut self,
+        tables: &ShiftTables,
+        shift: u16,
+        slot: usize,
+    ) -> Result<(), NoMemory> {
         let len = tables.len_of(shift);
         for day in 0..tables.days {
             let is_near = tables.offset(shift, day, slot) < len;
@@ -33,7 +38,7 @@ impl<S: Stop + Drop> PlanSearch<S> {
     }
 
     /// Lists the shifts and days that have a duty whose window has a slot.
-    fn list_near(&mut self, tables: &Tables, slot: usize) -> Result<(), NoMemory> {
+    fn list_near(&mut self, tables: &ShiftTables, slot: usize) -> Result<(), NoMemory> {
         self.near_duties.clear();
         for k in 0..self.plan.used.len() {
             if let Some(shift) = self.plan.used.get(k).copied() {
@@ -44,7 +49,7 @@ impl<S: Stop + Drop> PlanSearch<S> {
     }
 
     /// Takes one of the duties of a shift on a day out, unless it is the shift's last.
-    fn take_some(&mut self, tables: &Tables, shift: u16, day: usize) -> Result<(), NoMemory> {
+    fn take_some(&mut self, tables: &ShiftTables, shift: u16, day: usize) -> Result<(), NoMemory> {
         if self.plan.count(shift) <= 1 {
             return Ok(());
         }
@@ -55,7 +60,12 @@ impl<S: Stop + Drop> PlanSearch<S> {
     }
 
     /// Takes one to three duties out near a slot of a day, or of used shifts on that day.
-    fn ruin(&mut self, tables: &Tables, day: usize, days: &mut Touched) -> Result<(), NoMemory> {
+    fn ruin(
+        &mut self,
+        tables: &ShiftTables,
+        day: usize,
+        days: &mut Touched,
+    ) -> Result<(), NoMemory> {
         let count = self.chance.below(3).saturating_add(1);
         for k in 0..count {
             let Some((mut shift, mut on)) = self.chance.pick(&self.near_duties) else {
@@ -72,7 +82,7 @@ impl<S: Stop + Drop> PlanSearch<S> {
     }
 
     /// Puts a duty of some used shift in on a day, where there is room.
-    fn force(&mut self, tables: &Tables, day: usize) -> Result<(), NoMemory> {
+    fn force(&mut self, tables: &ShiftTables, day: usize) -> Result<(), NoMemory> {
         if let Some(shift) = self.some_used() {
             if self.plan.has_room(tables, shift, day) {
                 let _ = self.put_best(tables, shift, day)?;
@@ -82,7 +92,7 @@ impl<S: Stop + Drop> PlanSearch<S> {
     }
 
     /// Fills up and sweeps the touched days.
-    fn mend(&mut self, tables: &Tables, days: &Touched) -> Result<(), NoMemory> {
+    fn mend(&mut self, tables: &ShiftTables, days: &Touched) -> Result<(), NoMemory> {
         for (day, is_touched) in days.iter().enumerate() {
             if *is_touched {
                 self.fill_day(tables, day)?;
@@ -96,7 +106,7 @@ impl<S: Stop + Drop> PlanSearch<S> {
     /// A move on duties: seldom a day takes all duties of another one, and else some duties are exchanged.
     pub(crate) fn move_duties(
         &mut self,
-        tables: &Tables,
+        tables: &ShiftTables,
         temperature: f64,
     ) -> Result<(), NoMemory> {
         if self.chance.is_once_in(COPIED) {
@@ -107,7 +117,7 @@ impl<S: Stop + Drop> PlanSearch<S> {
 
     /// Some duties near a slot that hasn't just the employees that are wanted are taken out, and the best duties of the used
     /// shifts put in; the change is kept as the temperature allows.
-    fn exchange_duties(&mut self, tables: &Tables, temperature: f64) -> Result<(), NoMemory> {
+    fn exchange_duties(&mut self, tables: &ShiftTables, temperature: f64) -> Result<(), NoMemory> {
         let mark = self.log.len();
         let before = self.plan.cost;
         self.count(tables.slots);

@@ -4,7 +4,7 @@ use crate::changes::Heads;
 use crate::search::{PlanSearch, Task};
 use advice::Stop;
 use break_rules::NoMemory;
-use shift_tables::Tables;
+use shift_tables::ShiftTables;
 use working_plan::Placed;
 
 /// How often a mixed plan is polished.
@@ -42,7 +42,7 @@ impl<S: Stop + Drop> PlanSearch<S> {
     /// Puts the plan of a number in the pool in place of the running one.
     pub(crate) fn restore_pooled(
         &mut self,
-        tables: &Tables,
+        tables: &ShiftTables,
         number: usize,
     ) -> Result<(), NoMemory> {
         self.plan.clear(tables);
@@ -58,7 +58,12 @@ impl<S: Stop + Drop> PlanSearch<S> {
     }
 
     /// Puts in each second duty of those shifts of a plan of the pool that another plan of the pool hasn't.
-    fn add_half(&mut self, tables: &Tables, number: usize, other: usize) -> Result<(), NoMemory> {
+    fn add_half(
+        &mut self,
+        tables: &ShiftTables,
+        number: usize,
+        other: usize,
+    ) -> Result<(), NoMemory> {
         let mut shift = None;
         let mut is_due = true;
         for k in 0..self.pool.duties(number).len() {
@@ -76,7 +81,7 @@ impl<S: Stop + Drop> PlanSearch<S> {
 
     /// Begins from the union of two plans of the pool: the first one whole, and each second duty of each shift that only the second
     /// one has.
-    pub(crate) fn begin_union(&mut self, tables: &Tables) -> Result<(), NoMemory> {
+    pub(crate) fn begin_union(&mut self, tables: &ShiftTables) -> Result<(), NoMemory> {
         let first = self.chance.below(self.pool.len());
         let others = self.pool.len().saturating_sub(1);
         let mut second = self.chance.below(others);
@@ -91,7 +96,7 @@ impl<S: Stop + Drop> PlanSearch<S> {
     }
 
     /// Takes half of the duties of a shift on each day out, rounded up, and tells how many these are.
-    fn drop_half(&mut self, tables: &Tables, shift: u16) -> Result<Heads, NoMemory> {
+    fn drop_half(&mut self, tables: &ShiftTables, shift: u16) -> Result<Heads, NoMemory> {
         let mut heads = [0; 7];
         for (day, place) in heads.iter_mut().take(tables.days).enumerate() {
             let count = self.plan.duties(tables, shift, day).len();
@@ -102,7 +107,7 @@ impl<S: Stop + Drop> PlanSearch<S> {
     }
 
     /// A shift that isn't used takes half of the duties of a used one that is near it; or a candidate gets a duty on each day.
-    fn grow_once(&mut self, tables: &Tables) -> Result<(), NoMemory> {
+    fn grow_once(&mut self, tables: &ShiftTables) -> Result<(), NoMemory> {
         let Some(shift) = self.some_used() else {
             return Ok(());
         };
@@ -127,7 +132,7 @@ impl<S: Stop + Drop> PlanSearch<S> {
     }
 
     /// Grows the running plan by one to three shifts, and prunes it again, to at most one shift more than before.
-    pub(crate) fn grow(&mut self, tables: &Tables) -> Result<(), NoMemory> {
+    pub(crate) fn grow(&mut self, tables: &ShiftTables) -> Result<(), NoMemory> {
         let size = self.plan.used.len();
         let times = self.chance.below(3).saturating_add(1);
         for _ in 0..times {
@@ -139,7 +144,7 @@ impl<S: Stop + Drop> PlanSearch<S> {
     }
 
     /// What the running plan costs once a shift is taken out and the rest polished; the plan stays as it is.
-    fn cost_without(&mut self, tables: &Tables, shift: u16) -> Result<f64, NoMemory> {
+    fn cost_without(&mut self, tables: &ShiftTables, shift: u16) -> Result<f64, NoMemory> {
         let mark = self.log.len();
         let limit = self.plan.cost + 2.0 * tables.weight;
         let _ = self.drop_shift(tables, shift)?;
@@ -160,7 +165,7 @@ impl<S: Stop + Drop> PlanSearch<S> {
 
     /// Takes the shift out for good without which the running plan costs least, where that is due, and goes on with the others.
     /// Else the pruning ends.
-    fn end_round(&mut self, tables: &Tables, pruning: Pruning) -> Result<(), NoMemory> {
+    fn end_round(&mut self, tables: &ShiftTables, pruning: Pruning) -> Result<(), NoMemory> {
         self.task = Task::Moves;
         let is_due = pruning.size < self.plan.used.len() || pruning.least < self.plan.cost;
         let Some(shift) = pruning.found else {
@@ -175,7 +180,11 @@ impl<S: Stop + Drop> PlanSearch<S> {
     }
 
     /// One move of a pruning: tries what the running plan costs without the next shift, or ends a round of tries.
-    pub(crate) fn prune_on(&mut self, tables: &Tables, tried: Pruning) -> Result<(), NoMemory> {
+    pub(crate) fn prune_on(
+        &mut self,
+        tables: &ShiftTables,
+        tried: Pruning,
+    ) -> Result<(), NoMemory> {
         let Some(shift) = self.removals.pop() else {
             return self.end_round(tables, tried);
         };

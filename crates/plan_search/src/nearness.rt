@@ -1,7 +1,7 @@
 //! Which shifts are near one another.
 
 use break_rules::NoMemory;
-use shift_tables::Tables;
+use shift_tables::ShiftTables;
 use std::alloc::Global;
 
 /// The shifts near each shift.
@@ -11,7 +11,7 @@ pub(crate) struct Nearness {
 }
 
 /// Whether both ends of two shifts are within 2 slots, or one end is equal and the other within 6.
-fn is_near(tables: &Tables, a: u16, b: u16) -> bool {
+fn is_near(tables: &ShiftTables, a: u16, b: u16) -> bool {
     let (Some(x), Some(y)) = (
         tables.shifts.get(usize::from(a)),
         tables.shifts.get(usize::from(b)),
@@ -26,7 +26,7 @@ fn is_near(tables: &Tables, a: u16, b: u16) -> bool {
 }
 
 /// The usable shifts near one.
-fn near_to(alloc: Global, tables: &Tables, shift: u16) -> Result<Vec<u16>, NoMemory> {
+fn near_to(alloc: Global, tables: &ShiftTables, shift: u16) -> Result<Vec<u16>, NoMemory> {
     let mut list = Vec::new(alloc);
     for other in &tables.usable {
         if is_near(tables, shift, *other) {
@@ -38,7 +38,7 @@ fn near_to(alloc: Global, tables: &Tables, shift: u16) -> Result<Vec<u16>, NoMem
 
 impl Nearness {
     /// Which shifts are near one another.
-    pub(crate) fn new(alloc: Global, tables: &Tables) -> Result<Nearness, NoMemory> {
+    pub(crate) fn new(alloc: Global, tables: &ShiftTables) -> Result<Nearness, NoMemory> {
         let mut lists = Vec::new(alloc);
         for shift in 0..tables.shift_count() {
             let shift = u16::try_from(shift).unwrap_or(u16::MAX);

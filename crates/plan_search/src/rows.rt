@@ -6,7 +6,7 @@ use advice::Stop;
 use break_rules::{Breaks, NoMemory};
 use rota_cost::{Costed, cost_rows};
 use shift_instance::{Instance, Row, Rows};
-use shift_tables::{Pauses, Tables};
+use shift_tables::{Pauses, ShiftTables};
 use std::alloc::Global;
 use working_plan::Placed;
 
@@ -53,7 +53,7 @@ impl<S: Stop + Drop> PlanSearch<S> {
 
     /// Offers a plan to go on from, which is taken where it is cheaper than the best so far. A plan with a duty of too many
     /// breaks isn't taken.
-    pub fn offer(&mut self, tables: &Tables, rows: &Rows) -> Result<(), NoMemory> {
+    pub fn offer(&mut self, tables: &ShiftTables, rows: &Rows) -> Result<(), NoMemory> {
         self.plan.clear(tables);
         self.log.clear();
         self.chain.end();

@@ -12,7 +12,7 @@ use crate::nearness::Nearness;
 use crate::pool::Pool;
 use advice::Stop;
 use break_rules::NoMemory;
-use shift_tables::{ListGraph, Pauses, Tables};
+use shift_tables::{ListGraph, Pauses, ShiftTables};
 use std::alloc::Global;
 use working_plan::{FREE, FULL, Placed, Plan, Stretches, count_of};
 
@@ -119,7 +119,7 @@ fn count_between(list: &[u8], from: usize, to: usize, byte: u8) -> f64 {
 }
 
 /// How many slots of a part of a window are free.
-fn free_between(tables: &Tables, bytes: &[u8], from: usize, to: usize) -> f64 {
+fn free_between(tables: &ShiftTables, bytes: &[u8], from: usize, to: usize) -> f64 {
     if tables.banded {
         count_between(bytes, from, to, FREE)
     } else {
@@ -163,7 +163,7 @@ impl<S: Stop + Drop> PlanSearch<S> {
     /// A search that hasn't begun, and ends early once it is asked to stop.
     pub fn new(
         alloc: Global,
-        tables: &Tables,
+        tables: &ShiftTables,
         seed: u64,
         stop: S,
     ) -> Result<PlanSearch<S>, NoMemory> {
@@ -240,7 +240,7 @@ impl<S: Stop + Drop> PlanSearch<S> {
     }
 
     /// Lays the sums of a shift's window on a day at marginal prices, with noise, and tells how many there are.
-    fn lay_window(&mut self, tables: &Tables, shift: u16, day: usize) -> usize {
+    fn lay_window(&mut self, tables: &ShiftTables, shift: u16, day: usize) -> usize {
         let len = tables.len_of(shift);
         let turn = self.chance.below(TURNS);
         let noise = from_place(&self.noise, turn);
@@ -256,7 +256,7 @@ impl<S: Stop + Drop> PlanSearch<S> {
     }
 
     /// What one more duty of a shift on a day gains, less what the shift costs.
-    pub(crate) fn value(&mut self, tables: &Tables, shift: u16, day: usize) -> f64 {
+    pub(crate) fn value(&mut self, tables: &ShiftTables, shift: u16, day: usize) -> f64 {
         let count = self.lay_window(tables, shift, day);
         let Some(graph) = tables.graph(shift) else {
             return f64::MIN;
@@ -266,7 +266,7 @@ impl<S: Stop + Drop> PlanSearch<S> {
     }
 
     /// The breaks of a duty of a shift on a day that gains most, one of them at random.
-    pub(crate) fn list(&mut self, tables: &Tables, shift: u16, day: usize) -> Option<Pauses> {
+    pub(crate) fn list(&mut self, tables: &ShiftTables, shift: u16, day: usize) -> Option<Pauses> {
         let count = self.lay_window(tables, shift, day);
         let graph = tables.graph(shift)?;
         self.count(graph.edge_count().saturating_add(count));
@@ -274,7 +274,7 @@ impl<S: Stop + Drop> PlanSearch<S> {
     }
 
     /// No duty of a shift on a day gains more than this.
-    pub(crate) fn bound(&mut self, tables: &Tables, shift: u16, day: usize) -> f64 {
+    pub(crate) fn bound(&mut self, tables: &ShiftTables, shift: u16, day: usize) -> f64 {
         let Some(place) = tables.shifts.get(usize::from(shift)) else {
             return f64::MIN;
         };
@@ -293,7 +293,7 @@ impl<S: Stop + Drop> PlanSearch<S> {
     }
 
     /// Puts a duty in.
-    pub(crate) fn put(&mut self, tables: &Tables, placed: Placed) -> Result<(), NoMemory> {
+    pub(crate) fn put(&mut self, tables: &ShiftTables, placed: Placed) -> Result<(), NoMemory> {
         self.log.push(Change {
             placed,
             is_put: true,
@@ -303,7 +303,7 @@ impl<S: Stop + Drop> PlanSearch<S> {
     }
 
     /// Takes a duty out.
-    pub(crate) fn take(&mut self, tables: &Tables, placed: Placed) -> Result<(), NoMemory> {
+    pub(crate) fn take(&mut self, tables: &ShiftTables, placed: Placed) -> Result<(), NoMemory> {
         self.log.push(Change {
             placed,
             is_put: false,
@@ -316,7 +316,7 @@ impl<S: Stop + Drop> PlanSearch<S> {
     /// Puts a duty of a shift in on a day that gains most, whatever that is.
     pub(crate) fn put_best(
         &mut self,
-        tables: &Tables,
+        tables: &ShiftTables,
         shift: u16,
         day: usize,
     ) -> Result<bool, NoMemory> {
@@ -328,7 +328,7 @@ impl<S: Stop + Drop> PlanSearch<S> {
     }
 
     /// Undoes the running move back to that many changes.
-    pub(crate) fn undo_to(&mut self, tables: &Tables, mark: usize) -> Result<(), NoMemory> {
+    pub(crate) fn undo_to(&mut self, tables: &ShiftTables, mark: usize) -> Result<(), NoMemory> {
         for _ in mark..self.log.len() {
             let Some(change) = self.log.pop() else {
                 break;
@@ -344,7 +344,7 @@ impl<S: Stop + Drop> PlanSearch<S> {
     }
 
     /// Keeps the plan where it is the best of the running leg, or of all.
-    pub(crate) fn note_best(&mut self, tables: &Tables) -> Result<(), NoMemory> {
+    pub(crate) fn note_best(&mut self, tables: &ShiftTables) -> Result<(), NoMemory> {
         if self.plan.cost < self.leg.cost {
             self.leg.best.clear();
             self.plan.list_into(tables, &mut self.leg.best)?;
@@ -364,7 +364,7 @@ impl<S: Stop + Drop> PlanSearch<S> {
     }
 
     /// A shift that may be worth using.
-    pub(crate) fn candidate(&mut self, tables: &Tables) -> Option<u16> {
+    pub(crate) fn candidate(&mut self, tables: &ShiftTables) -> Option<u16> {
         if !self.guide.shifts.is_empty() && !self.chance.is_once_in(3) {
             return self.chance.pick(&self.guide.shifts);
         }
@@ -372,7 +372,7 @@ impl<S: Stop + Drop> PlanSearch<S> {
     }
 
     /// A shift near one, or else a candidate.
-    pub(crate) fn neighbour(&mut self, tables: &Tables, shift: u16) -> Option<u16> {
+    pub(crate) fn neighbour(&mut self, tables: &ShiftTables, shift: u16) -> Option<u16> {
         match self.chance.pick(self.near.of(shift)) {
             Some(near) => Some(near),
             None => self.candidate(tables),
@@ -386,6 +386,6 @@ impl<S: Stop + Drop> PlanSearch<S> {
 }
 
 /// The stretches of work of a duty.
-pub(crate) fn stretches(tables: &Tables, placed: &Placed) -> Stretches {
+pub(crate) fn stretches(tables: &ShiftTables, placed: &Placed) -> Stretches {
     Stretches::of(tables, placed.shift, placed.day, &placed.pauses)
 }

@@ -3,7 +3,7 @@
 use crate::search::{PlanSearch, stretches};
 use advice::Stop;
 use break_rules::NoMemory;
-use shift_tables::Tables;
+use shift_tables::ShiftTables;
 use working_plan::Placed;
 
 /// The most duties that are filled in at a time.
@@ -13,7 +13,7 @@ impl<S: Stop + Drop> PlanSearch<S> {
     /// The used shift, other than `barred`, of which one more duty on a day gains most, where that is more than `least`.
     fn best_used(
         &mut self,
-        tables: &Tables,
+        tables: &ShiftTables,
         day: usize,
         least: f64,
         barred: Option<u16>,
@@ -38,7 +38,7 @@ impl<S: Stop + Drop> PlanSearch<S> {
     }
 
     /// Puts duties of used shifts in on a day as long as one gains.
-    pub(crate) fn fill_day(&mut self, tables: &Tables, day: usize) -> Result<(), NoMemory> {
+    pub(crate) fn fill_day(&mut self, tables: &ShiftTables, day: usize) -> Result<(), NoMemory> {
         for _ in 0..FILLS {
             if self.is_spent() {
                 break;
@@ -54,7 +54,7 @@ impl<S: Stop + Drop> PlanSearch<S> {
     }
 
     /// Whether some used shift other than one may gain more than `least` on a day.
-    fn may_gain(&mut self, tables: &Tables, day: usize, least: f64, barred: u16) -> bool {
+    fn may_gain(&mut self, tables: &ShiftTables, day: usize, least: f64, barred: u16) -> bool {
         for k in 0..self.plan.used.len() {
             let Some(shift) = self.plan.used.get(k).copied() else {
                 break;
@@ -70,7 +70,7 @@ impl<S: Stop + Drop> PlanSearch<S> {
     }
 
     /// What the last duty of a shift costs beside its slots.
-    fn last_fee(&self, tables: &Tables, shift: u16, last: u32) -> f64 {
+    fn last_fee(&self, tables: &ShiftTables, shift: u16, last: u32) -> f64 {
         if self.plan.count(shift) == last {
             tables.weight
         } else {
@@ -79,7 +79,7 @@ impl<S: Stop + Drop> PlanSearch<S> {
     }
 
     /// Whether taking a duty out and another one in may gain; never `false` where it does.
-    fn is_hopeful(&mut self, tables: &Tables, placed: &Placed, wide: bool) -> bool {
+    fn is_hopeful(&mut self, tables: &ShiftTables, placed: &Placed, wide: bool) -> bool {
         let stretches = stretches(tables, placed);
         let fee = self.last_fee(tables, placed.shift, 1);
         let effect = self.plan.levels.expose(&stretches);
@@ -95,7 +95,7 @@ impl<S: Stop + Drop> PlanSearch<S> {
     /// `wide`, any used one.
     fn best_return(
         &mut self,
-        tables: &Tables,
+        tables: &ShiftTables,
         placed: &Placed,
         least: f64,
         wide: bool,
@@ -118,7 +118,12 @@ impl<S: Stop + Drop> PlanSearch<S> {
     }
 
     /// Takes a duty out, and another one in, where that gains, and tells whether it does.
-    fn replace(&mut self, tables: &Tables, placed: Placed, wide: bool) -> Result<bool, NoMemory> {
+    fn replace(
+        &mut self,
+        tables: &ShiftTables,
+        placed: Placed,
+        wide: bool,
+    ) -> Result<bool, NoMemory> {
         let mark = self.log.len();
         let before = self.plan.cost;
         self.take(tables, placed)?;
@@ -141,7 +146,7 @@ impl<S: Stop + Drop> PlanSearch<S> {
     /// out and put in again stands behind all that are still to come. As long as nothing changes, a duty like a hopeless one is one.
     fn sweep_shift(
         &mut self,
-        tables: &Tables,
+        tables: &ShiftTables,
         shift: u16,
         day: usize,
         wide: bool,
@@ -177,7 +182,7 @@ impl<S: Stop + Drop> PlanSearch<S> {
     /// plan changed.
     pub(crate) fn sweep(
         &mut self,
-        tables: &Tables,
+        tables: &ShiftTables,
         day: usize,
         wide: bool,
     ) -> Result<bool, NoMemory> {
@@ -197,7 +202,7 @@ impl<S: Stop + Drop> PlanSearch<S> {
     /// Fills up and sweeps all days, some times, and gives up where the cost is above a limit after the first time.
     pub(crate) fn polish(
         &mut self,
-        tables: &Tables,
+        tables: &ShiftTables,
         most: u32,
         limit: f64,
     ) -> Result<(), NoMemory> {

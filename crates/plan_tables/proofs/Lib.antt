@@ -1,3 +1,4 @@
+pub mod Common
 pub mod RowDuties
 pub mod SlotSums
 pub mod Starts

@@ -1,9 +1,6 @@
 -- What a number with a width is written as.
-use Rattle.std.proofs.Common.{◌≡◌, ℕ, zero, suc, ◌-◌, Bool, true, false, ◌==◌, ◌&&◌, cond, List, [], ◌∷◌, ◌++◌, length, replicate, refl, sym, ap, arith, eqb-true, append-nil, encode_utf8}
-use Rattle.std.specs.List.{repeat}
-use Rattle.std.specs.Fmt.{char_count, decimal, format_spec, padded_integral, styled_decimal}
+use Rattle.plan_tables.proofs.Common.{◌≡◌, ℕ, zero, suc, ◌-◌, Bool, true, false, ◌==◌, ◌&&◌, cond, List, [], ◌∷◌, ◌++◌, length, replicate, refl, sym, ap, arith, eqb-true, append-nil, encode_utf8, repeat, char_count, decimal, format_spec, padded_integral, styled_decimal, at_right}
 use Rattle.std.proofs.lemmas.Str.{encode_ascii}
-use Rattle.plan_tables.specs.Columns.{at_right}
 
 -- one byte, that often
 repeat_one : (n : ℕ) (x : ℕ) → repeat n (x ∷ []) ≡ replicate n x

@@ -1,15 +1,8 @@
 -- The duties of legal rows, row by row.
-use Rattle.std.proofs.Common.{◌≡◌, ℕ, zero, suc, ◌+◌, ◌*◌, ◌<◌, ◌≤◌, true, List, [], ◌∷◌, ◌++◌, length, get_or, map, take, replicate, refl, sym, ap, ◌∙◌, subst, arith, append_assoc, append-nil, add-one}
+use Rattle.plan_tables.proofs.Common.{◌≡◌, ℕ, zero, suc, ◌+◌, ◌*◌, ◌<◌, ◌≤◌, true, List, [], ◌∷◌, ◌++◌, length, get_or, map, take, replicate, refl, sym, ap, ◌∙◌, subst, arith, append_assoc, append-nil, add-one, length-append, length-replicate, map-append, Duty, Row, Problem, shift_list, duty_of, rota_of, are_legal_rows, is_legal_rota, legal_rows_parts, row_duty, unbroken}
 use Rattle.std.proofs.Math.Nat.{mul-le-mul_right}
-use Rattle.std.proofs.lemmas.List.{length-append, length-replicate, map-append}
-use Rattle.shift_instance.specs.declared.Duty.{Duty}
-use Rattle.shift_instance.specs.declared.Row.{Row}
-use Rattle.shift_instance.specs.Problem.{Problem, shift_list}
-use Rattle.shift_instance.specs.Rota.{duty_of, rota_of, are_legal_rows, is_legal_rota}
 use Rattle.shift_instance.specs.Valid.{IsValid}
-use Rattle.rota_cost.proofs.Counting.{legal_rows_parts, row_duty}
 use Rattle.rota_cost.proofs.Lengths.{legal_length}
-use Rattle.plan_tables.specs.Attendance.{unbroken}
 
 -- the duties of the first rows and of one more
 pub rota_more : (rows : List Row) (k : ℕ) (r : Row) → k < length rows → r ≡ get_or rows k r → rota_of (take (suc k) rows) ≡ rota_of (take k rows) ++ replicate r.count (duty_of r)

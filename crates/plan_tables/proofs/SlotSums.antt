@@ -1,12 +1,5 @@
 -- Sums over slots one after another, and the parts of a cost.
-use Rattle.std.proofs.Common.{◌≡◌, ℕ, ◌+◌, ◌*◌, List, [], ◌∷◌, ap, ◌∙◌, arith, sum_by, add-one}
-use Rattle.std.specs.List.{range_with_len}
-use Rattle.std.proofs.lemmas.List.Sums.{sum_by_push, sum_by-cons}
-use Rattle.shift_instance.specs.declared.Duty.{Duty}
-use Rattle.shift_instance.specs.Problem.{Problem, slots, below}
-use Rattle.shift_instance.specs.Rota.{cost, shifts_used}
-use Rattle.shift_instance.proofs.Ranges.{range_next}
-use Rattle.plan_tables.specs.Attendance.{over_at, under_at}
+use Rattle.plan_tables.proofs.Common.{◌≡◌, ℕ, ◌+◌, ◌*◌, List, [], ◌∷◌, ap, ◌∙◌, arith, sum_by, add-one, range_with_len, sum_by_push, sum_by-cons, Duty, Problem, slots, below, cost, shifts_used, range_next, over_at, under_at}
 
 -- a sum over one slot more
 pub sum_range_more : (f : ℕ → ℕ) (a n : ℕ) → sum_by f (range_with_len a (n + 1)) ≡ sum_by f (range_with_len a n) + f (a + n)

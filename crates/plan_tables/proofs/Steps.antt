@@ -1,18 +1,7 @@
 -- Lists and counts over the numbers below one more.
-use Rattle.std.proofs.Common.{◌≡◌, ℕ, ◌+◌, ◌<◌, ◌≤◌, Bool, true, false, ◌==◌, cond, List, [], ◌∷◌, ◌++◌, map, filter, count_by, sym, ap, ◌∙◌, subst, arith, nat_lt, zero-add, append-nil}
-use Rattle.std.specs.List.{list_any}
-use Rattle.std.proofs.lemmas.Bool.{lt-ltb}
-use Rattle.std.proofs.lemmas.List.{map-append}
+use Rattle.plan_tables.proofs.Common.{◌≡◌, ℕ, ◌+◌, ◌<◌, ◌≤◌, Bool, true, false, ◌==◌, cond, List, [], ◌∷◌, ◌++◌, map, filter, count_by, sym, ap, ◌∙◌, subst, arith, nat_lt, zero-add, append-nil, list_any, lt-ltb, map-append, Duty, Row, Problem, below, are_legal_rows, is_used, rota_of, below_next, sum_below_more, legal_rows_parts, CostlySlot, costly_slot, costs}
 use Rattle.std.proofs.lemmas.List.FromFn.{filter_of_map_range_with_len_more}
-use Rattle.shift_instance.specs.declared.Duty.{Duty}
-use Rattle.shift_instance.specs.declared.Row.{Row}
-use Rattle.shift_instance.specs.Problem.{Problem, below}
-use Rattle.shift_instance.specs.Rota.{are_legal_rows, is_used, rota_of}
-use Rattle.shift_instance.proofs.Ranges.{below_next, sum_below_more}
 use Rattle.shift_instance.proofs.RowCounts.{any_rows}
-use Rattle.rota_cost.proofs.Counting.{legal_rows_parts}
-use Rattle.plan_tables.specs.declared.costliest.CostlySlot.{CostlySlot}
-use Rattle.plan_tables.specs.Costliest.{costly_slot, costs}
 
 pub map_below_more : {X : Type 0} (f : ℕ → X) (n : ℕ) → map f (below (n + 1)) ≡ map f (below n) ++ f n ∷ []
 map_below_more f n = ap (map f) (below_next n) ∙ map-append f (below n) (n ∷ [])

@@ -53,20 +53,6 @@ fn unbroken(alloc: Global, row: &Row) -> Duty
     }
 }
 
-/// Adds a duty to a cover that often.
-fn add_often(instance: &Instance, cover: &mut Cover, duty: &Duty, often: u16)
-    requires instance { cover.old.instance ≡ instance.now }
-    requires shift { duty.now.shift < length (shift_list instance.now) }
-    requires day { duty.now.day < instance.now.days }
-    requires room { length cover.old.duties + often ≤ 2147483648 }
-    ensures instance { cover.new.instance ≡ cover.old.instance }
-    ensures duties { cover.new.duties ≡ cover.old.duties ++ replicate often duty.now }
-{
-    for _ in 0..often {
-        cover.add(instance, duty);
-    }
-}
-
 /// Adds the duties of a row to a cover, and to another one without their breaks.
 fn add_row(
     alloc: Global,
@@ -88,8 +74,8 @@ fn add_row(
 {
     let duty = duty_of(alloc, row)?;
     let without = unbroken(alloc, row);
-    add_often(instance, working, &duty, row.count);
-    add_often(instance, whole, &without, row.count);
+    working.add_often(instance, &duty, row.count);
+    whole.add_often(instance, &without, row.count);
     Ok(())
 }
 

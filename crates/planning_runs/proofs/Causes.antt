@@ -1,8 +1,6 @@
 -- Refusals have their causes.
-use Rattle.std.proofs.Common.{◌≡◌, MatchResult, Ok, Err, Result, inl, inr}
+use Rattle.planning_runs.proofs.Common.{◌≡◌, MatchResult, Ok, Err, Result, inl, inr, NoMemory, IsFor}
 use Rattle.planning_runs.specs.declared.refusal.Cause.{Cause}
-use Rattle.planning_runs.specs.declared.refusal.Cause.TheVariants.{NoMemory}
-use Rattle.planning_runs.specs.Causes.{IsFor}
 
 -- a refusal with a sentence, or with none on running out of memory, is one for its cause
 pub said_for : {A B : Type 0} (sentence : Result A B) (cause found : Cause) → MatchResult sentence (λ _. found ≡ cause) (λ _. found ≡ NoMemory) → IsFor cause found

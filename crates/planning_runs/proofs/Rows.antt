@@ -1,24 +1,18 @@
 -- A certificate with other legal rows has a text, and is accepted.
-use Rattle.std.proofs.Common.{◌≡◌, inl, inr, ℕ, ◌≤◌, Bool, cond, ◌&&◌, ◌==◌, List, refl, sym, ap, subst, arith, nat_le, Option, Some, ◌∙◌}
+use Rattle.planning_runs.proofs.Common.{◌≡◌, inl, inr, ℕ, ◌≤◌, Bool, cond, ◌&&◌, ◌==◌, List, refl, sym, ap, subst, arith, nat_le, Option, Some, ◌∙◌, Row, cost, rota_of, are_legal_rows, Cert, is_bound, is_plan, is_accepted, Spells, Agrees, AgreesWith}
 use Rattle.std.specs.Prelude.{IsTrue}
 use Rattle.std.proofs.Props.{props}
 use Rattle.std.proofs.Math.Logic.{∥∥₁_elim}
 use Rattle.std.proofs.lemmas.Bool.{and_parts, and_from, cases_Bool, eq-eqb, leb-true, leb-false}
-use Rattle.shift_instance.specs.declared.Row.{Row}
 use Rattle.shift_instance.specs.Problem.{Problem}
-use Rattle.shift_instance.specs.Rota.{cost, rota_of, are_legal_rows}
 use Rattle.shift_instance.specs.Valid.{IsValid}
 use Rattle.rota_cost.proofs.Counting.{legal_rows_parts}
 use Rattle.search_core.proofs.Fits.{rows_fit}
-use Rattle.certificate.specs.declared.Cert.{Cert}
 use Rattle.certificate.specs.declared.CertStatus.{CertStatus}
 use Rattle.certificate.specs.declared.CertStatus.TheVariants.{Optimal, Stopped}
-use Rattle.certificate.specs.Accepted.{is_bound, is_plan, is_accepted}
-use Rattle.certificate.specs.Departing.{Spells}
 use Rattle.certificate.specs.declared.proof_lines.Line.{Line}
 use Rattle.certificate.specs.declared.proof_lines.Line.TheVariants.{Split, Priced, Settled}
 use Rattle.certificate.specs.LineText.{HasSlot}
-use Rattle.certificate.specs.Text.{Agrees, AgreesWith}
 use Rattle.certificate.proofs.Acceptance.{bounds}
 use Rattle.planning_runs.specs.Reports.{status_beside, with_rows}
 

@@ -115,7 +115,7 @@ fn above(alloc: Global, instance: &Instance, rows: &Rows) -> Result<Vec<Section>
     Ok(sections)
 }
 
-/// The texts below the days: the heads by shift and day, the breaks by time of day, the rules, and the notes.
+/// The texts below the days: the duties by shift and day, the breaks by time of day, the rules, and the notes.
 fn below(
     alloc: Global,
     instance: &Instance,

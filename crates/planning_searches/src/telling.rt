@@ -1,7 +1,7 @@
 //! What is said of a search on standard error.
 
 use crate::reading::Read;
-use instance_warnings::{Told, warnings};
+use instance_warnings::{WordedWarning, warnings};
 use plan_tables::Hours;
 use planning_runs::{PlanRefusal, shown_on};
 use planning_words::{PlanWords, Progress, Shown};
@@ -99,7 +99,7 @@ fn add_warnings(
     instance: &Instance,
 ) -> Result<(), AllocError> {
     for warning in &warnings(alloc, instance)? {
-        let told = Told { warning, instance };
+        let told = WordedWarning { warning, instance };
         notes.push(format!(in alloc; "{told}")?)?;
     }
     Ok(())

@@ -45,7 +45,7 @@ fn all_rows_are_carried_to_the_same_instance(rt: HostRuntime) -> Result<(), Fail
     Ok(())
 }
 
-// The early shift at 9 isn't there any more, and one late duty is above the greatest heads.
+// The early shift at 9 isn't there any more, and one late duty is above `max_heads`.
 #[test]
 fn rows_follow_their_types(rt: HostRuntime) -> Result<(), Fail> {
     let alloc = rt.alloc();

@@ -5,7 +5,7 @@ use fixtures::{NIGHT, instance_of};
 use kept_duties::{least_changed, with_more_kept};
 use plan_comparison::kept_duties;
 use rota_cost::cost_rows;
-use shift_tables::Tables;
+use shift_tables::ShiftTables;
 use std::alloc::Global;
 use std::test::Fail;
 
@@ -19,7 +19,7 @@ fn kept_of(
     change: u32,
 ) -> Result<((u128, u64), (u128, u64)), Fail> {
     let instance = instance_of(alloc, document)?;
-    let tables = Tables::new(alloc, &instance)?;
+    let tables = ShiftTables::new(alloc, &instance)?;
     let wanted = rows_of(alloc, wanted)?;
     let plan = plan_of(alloc, &instance, plan)?;
     let before = (kept_duties(&wanted, plan.rows()), plan.cost());

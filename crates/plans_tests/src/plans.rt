@@ -6,7 +6,7 @@ use fixtures::instance_of;
 use plan_search::PlanSearch;
 use rota_cost::Costed;
 use shift_instance::{Instance, Rows};
-use shift_tables::Tables;
+use shift_tables::ShiftTables;
 use std::alloc::Global;
 use std::test::Fail;
 
@@ -39,7 +39,7 @@ struct Outcome {
 /// A search after some slices of work.
 fn searched(
     alloc: Global,
-    tables: &Tables,
+    tables: &ShiftTables,
     seed: u64,
     slices: u32,
 ) -> Result<PlanSearch<Never>, NoMemory> {
@@ -69,7 +69,7 @@ fn outcome_of(search: &PlanSearch<Never>, instance: &Instance) -> Result<Outcome
 /// What a search with a seed comes to on a day in some slices of work.
 fn reached(alloc: Global, day: &str, seed: u64, slices: u32) -> Result<Outcome, Fail> {
     let instance = instance_of(alloc, day)?;
-    let tables = Tables::new(alloc, &instance)?;
+    let tables = ShiftTables::new(alloc, &instance)?;
     let search = searched(alloc, &tables, seed, slices)?;
     outcome_of(&search, &instance)
 }
@@ -78,7 +78,7 @@ fn reached(alloc: Global, day: &str, seed: u64, slices: u32) -> Result<Outcome, 
 fn rows_found(
     alloc: Global,
     instance: &Instance,
-    tables: &Tables,
+    tables: &ShiftTables,
     seed: u64,
 ) -> Result<Rows, Fail> {
     let search = searched(alloc, tables, seed, 10)?;
@@ -89,7 +89,7 @@ fn rows_found(
 fn offered(
     alloc: Global,
     instance: &Instance,
-    tables: &Tables,
+    tables: &ShiftTables,
     rows: &Rows,
 ) -> Result<Outcome, Fail> {
     let mut search = PlanSearch::new(alloc, tables, 2, Never)?;
@@ -100,7 +100,7 @@ fn offered(
 /// What a search on a day comes to that is offered what another one found.
 fn outcome_offered(alloc: Global, day: &str) -> Result<Outcome, Fail> {
     let instance = instance_of(alloc, day)?;
-    let tables = Tables::new(alloc, &instance)?;
+    let tables = ShiftTables::new(alloc, &instance)?;
     let rows = rows_found(alloc, &instance, &tables, 1)?;
     offered(alloc, &instance, &tables, &rows)
 }

@@ -1,11 +1,5 @@
 -- Records and the batches that they spell.
-use Rattle.std.proofs.Common.{◌≡◌, ℕ, zero, suc, ◌+◌, ◌<◌, List, [], ◌∷◌, ◌++◌, length, map, take, get_or, refl, sym, ◌∙◌, ap, subst, arith}
-use Rattle.std.specs.List.{AllZip}
-use Rattle.std.proofs.lemmas.List.{append-nil, map_more}
-use Rattle.std.proofs.lemmas.List.Concat.{flat_map-append}
-use Rattle.post_codec.specs.declared.price_width.PriceWidth.{PriceWidth}
-use Rattle.post_codec.specs.declared.post.Post.{Post}
-use Rattle.post_codec.specs.Spelling.{SpellsBy, EachSpellsOnce}
+use Rattle.post_codec.proofs.Common.{◌≡◌, ℕ, zero, suc, ◌+◌, ◌<◌, List, [], ◌∷◌, ◌++◌, length, map, take, get_or, refl, sym, ◌∙◌, ap, subst, arith, AllZip, append-nil, map_more, flat_map-append, PriceWidth, Post, SpellsBy, EachSpellsOnce}
 use Rattle.post_codec.specs.Batches.{joined, SpellPostsBy}
 
 -- ---- lists that go together, place by place
@@ -75,14 +69,3 @@ pub spell_next : {w : PriceWidth} {V : Type 0} (f : V → List ℕ) (records : L
 spell_next {w} {V} f records k x posts batch small at s b =
     let more : map f (take (k + 1) records) ≡ map f (take k records) ++ f x ∷ [] = map_more f records k x small ∙ ap (λ (y : V). map f (take k records) ++ f y ∷ []) (sym at) in
     subst (λ (l : List (List ℕ)). SpellPostsBy w l (posts ++ batch)) (sym more) (spell_more (map f (take k records)) posts (f x) batch s b)
-
-spelled_at : {w : PriceWidth} {V : Type 0} (f : V → List ℕ) (records : List V) (batches : List (List Post)) (k : ℕ) (d : V) → k < length records → AllZip (SpellsBy w) (map f records) batches → (batch : List Post) × SpellsBy w (f (get_or records k d)) batch
-spelled_at f [] batches k d small z = absurd (omega arith)
-spelled_at f (r ∷ rs) [] k d small z = absurd z
-spelled_at f (r ∷ rs) (b ∷ bs) zero d small z = (b, z.0)
-spelled_at f (r ∷ rs) (b ∷ bs) (suc k) d small z = let less : k < length rs = omega arith in spelled_at f rs bs k d less z.1
-
-pub spell_at : {w : PriceWidth} {V : Type 0} (f : V → List ℕ) (records : List V) (k : ℕ) (x : V) (posts : List Post) → k < length records → x ≡ get_or records k x → SpellPostsBy w (map f records) posts → (batch : List Post) × SpellsBy w (f x) batch
-spell_at {w} {V} f records k x posts small at s =
-    let y = spelled_at f records s.batches k x small s.spelled in
-    (y.0, subst (λ (v : V). SpellsBy w (f v) y.0) (sym at) y.1)

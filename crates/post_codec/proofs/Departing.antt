@@ -1,23 +1,10 @@
 -- Where a list of posts is read, the fault is where the bytes depart from every spelling.
-use Rattle.std.proofs.Common.{◌≡◌, ◌⊎◌, inl, inr, ℕ, ℤ, zero, suc, ◌+◌, ◌-◌, ◌^◌, ◌<◌, ◌≤◌, Bool, true, false, cond, ltb, List, [], ◌∷◌, ◌++◌, length, take, Result, Ok, Err, refl, sym, ap, subst, ◌∙◌, arith, length-append}
-use Rattle.std.specs.Prelude.{Vec, IfErr}
-use Rattle.std.specs.declared.alloc.Global.{Global}
-use Rattle.std.specs.Int.{w16, w32, w64}
-use Rattle.std.proofs.lemmas.Bool.{ltb-true, ne_eqb, cases_eq, eq-eqb}
-use Rattle.std.proofs.lemmas.List.{append-nil, take_at, take_all}
+use Rattle.post_codec.proofs.Common.{◌≡◌, ◌⊎◌, inl, inr, ℕ, ℤ, zero, suc, ◌+◌, ◌-◌, ◌^◌, ◌<◌, ◌≤◌, Bool, true, false, cond, ltb, List, [], ◌∷◌, ◌++◌, length, take, Result, Ok, Err, refl, sym, ap, subst, ◌∙◌, arith, length-append, Vec, IfErr, Global, w16, w32, w64, ltb-true, ne_eqb, cases_eq, eq-eqb, append-nil, take_at, take_all, PriceWidth, Five, Eight, Post, Plan, Priced, Split, Settled, CodecFault, u16_bytes, u32_bytes, u64_bytes, break_bytes, breaks_bytes, row_bytes, rows_bytes, class_bytes, bytes_in, room, price_bytes, twos_complement, slot_bytes, slots_bytes, cuts_bytes, prices_bytes, post_bytes, spelling_by, FitsBreak, FitsBreaks, FitsRow, FitsRows, FitsClass, FitsSlot, FitsCut, FitsSlots, FitsCuts, FitsPrices, FitsPost, FitsPosts, break_fields, breaks_fields, row_fields, rows_fields, class_fields, slots_fields, cuts_fields, prices_fields, post_fields, posts_fields, bytes_of, AreFirstFields, DepartAt, IsFaultOf, GivesPosts, Reader, ◌then◌, byte_at, number_at, to_break, break_at, breaks_at, to_row, row_at, rows_at, to_class, class_at, to_slot, price_at, slot_at, slots_at, cuts_at, to_prices, prices_at, to_plan, plan_at, to_priced, priced_at, to_split, split_at, to_settled, settled_at, post_at, posts_at, ended, by_offset, whole, reading, IsRead}
 use Rattle.break_rules.specs.declared.Break.{Break}
 use Rattle.shift_instance.specs.declared.Row.{Row}
 use Rattle.head_splits.specs.declared.Class.{Class}
 use Rattle.head_splits.specs.declared.Prices.{Prices}
-use Rattle.post_codec.specs.declared.price_width.PriceWidth.{PriceWidth}
-use Rattle.post_codec.specs.declared.price_width.PriceWidth.TheVariants.{Five, Eight}
-use Rattle.post_codec.specs.declared.post.Post.{Post}
-use Rattle.post_codec.specs.declared.post.Post.TheVariants.{Plan, Priced, Split, Settled}
-use Rattle.post_codec.specs.declared.fault.CodecFault.{CodecFault}
 use Rattle.post_codec.specs.declared.fault.CodecFault.TheVariants.{Departs, NoMemory}
-use Rattle.post_codec.specs.Spelling.{u16_bytes, u32_bytes, u64_bytes, break_bytes, breaks_bytes, row_bytes, rows_bytes, class_bytes, bytes_in, room, price_bytes, twos_complement, slot_bytes, slots_bytes, cuts_bytes, prices_bytes, post_bytes, spelling_by, FitsBreak, FitsBreaks, FitsRow, FitsRows, FitsClass, FitsSlot, FitsCut, FitsSlots, FitsCuts, FitsPrices, FitsPost, FitsPosts}
-use Rattle.post_codec.specs.Fields.{break_fields, breaks_fields, row_fields, rows_fields, class_fields, slots_fields, cuts_fields, prices_fields, post_fields, posts_fields, bytes_of, AreFirstFields, DepartAt, IsFaultOf, GivesPosts}
-use Rattle.post_codec.specs.Reading.{Reader, ◌then◌, byte_at, number_at, to_break, break_at, breaks_at, to_row, row_at, rows_at, to_class, class_at, to_slot, price_at, slot_at, slots_at, cuts_at, to_prices, prices_at, to_plan, plan_at, to_priced, priced_at, to_split, split_at, to_settled, settled_at, post_at, posts_at, ended, by_offset, whole, reading, IsRead}
 use Rattle.post_codec.proofs.Laws.{AreBytes, byte, number_16, number_32, number_64, price_wide, price_number, tail_bytes}
 use Rattle.post_codec.proofs.Formats.{break, row, class, slot, slots, complement_back, complement_fits, complement_small, post, posts, reads_spelling}
 use Rattle.post_codec.proofs.Steers.{Begins, Steers, Field, left_of, no_fault, stopped, begins_none, bytes_more, leaves, part_steers, made_steers, pair_steers, field_steers, counted_steers, many_joins}

@@ -1,9 +1,5 @@
 -- Small bytes, read and spelled.
-use Rattle.std.proofs.Common.{◌≡◌, [], ◌∷◌, Ok, Err, refl, negsuc}
-use Rattle.post_codec.specs.declared.price_width.PriceWidth.TheVariants.{Five, Eight}
-use Rattle.post_codec.specs.declared.post.Post.TheVariants.{Plan, Priced, Split, Settled}
-use Rattle.post_codec.specs.Spelling.{spelling, spelling_by, u16_bytes, u32_bytes, u64_bytes, price_bytes}
-use Rattle.post_codec.specs.Reading.{reading, times, breaks_at, rows_at, class_at, slot_at, slots_at, cuts_at, prices_at, plan_at, priced_at, split_at, settled_at, post_at, posts_at}
+use Rattle.post_codec.proofs.Common.{◌≡◌, [], ◌∷◌, Ok, Err, refl, negsuc, Five, Eight, Plan, Priced, Split, Settled, spelling, spelling_by, u16_bytes, u32_bytes, u64_bytes, price_bytes, reading, times, breaks_at, rows_at, class_at, slot_at, slots_at, cuts_at, prices_at, plan_at, priced_at, split_at, settled_at, post_at, posts_at}
 
 plan_spelled : spelling (Plan 0 (record { shift = 3; day = 1; breaks = record { start = 3; len = 1 } ∷ []; count = 2 } ∷ []) 7 ∷ [])
     ≡ 1 ∷ 0 ∷ 1 ∷ 0 ∷ 0 ∷ 7 ∷ 0 ∷ 0 ∷ 0 ∷ 0 ∷ 0 ∷ 0 ∷ 0 ∷ 1 ∷ 0 ∷ 0 ∷ 0 ∷ 3 ∷ 0 ∷ 1 ∷ 2 ∷ 0 ∷ 1 ∷ 3 ∷ 0 ∷ 1 ∷ 0 ∷ []

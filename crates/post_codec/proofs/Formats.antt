@@ -1,17 +1,5 @@
 -- The two laws for each part of a post, and for all of the bytes.
-use Rattle.std.proofs.Common.{pos, negsuc, suc, ◌≡◌, inl, inr, ℕ, ℤ, ◌+◌, ◌-◌, ◌^◌, ◌<◌, ◌≤◌, cond, eqb, List, [], ◌∷◌, ◌++◌, length, Result, Ok, Err, refl, sym, ap, subst, ◌∙◌, arith}
-use Rattle.std.specs.Prelude.{IfOk, Vec}
-use Rattle.std.specs.declared.alloc.Global.{Global}
-use Rattle.std.specs.Int.{w16, w32}
-use Rattle.std.proofs.lemmas.List.{append-nil}
-use Rattle.std.proofs.lemmas.Bool.{eqb-true, cases_lt, lt-ltb, le-ltb}
-use Rattle.post_codec.specs.declared.price_width.PriceWidth.{PriceWidth}
-use Rattle.post_codec.specs.declared.price_width.PriceWidth.TheVariants.{Five, Eight}
-use Rattle.post_codec.specs.declared.post.Post.{Post}
-use Rattle.post_codec.specs.declared.post.Post.TheVariants.{Plan, Priced, Split, Settled}
-use Rattle.post_codec.specs.declared.fault.CodecFault.{CodecFault}
-use Rattle.post_codec.specs.Spelling.{u16_bytes, u32_bytes, u64_bytes, break_bytes, breaks_bytes, row_bytes, rows_bytes, class_bytes, room, half, price_bytes, twos_complement, slot_bytes, slots_bytes, cuts_bytes, prices_bytes, post_bytes, spelling_by, FitsBreak, FitsBreaks, FitsRow, FitsRows, FitsClass, FitsSlot, FitsCut, FitsSlots, FitsCuts, FitsPrices, FitsPost, FitsPosts, SpellsBy}
-use Rattle.post_codec.specs.Reading.{◌then◌, byte_at, number_at, to_break, break_at, breaks_at, to_row, row_at, rows_at, to_class, class_at, to_slot, price_at, slot_at, slots_at, cuts_at, to_prices, prices_at, to_plan, plan_at, to_priced, priced_at, to_split, split_at, to_settled, settled_at, post_at, posts_at, ended, by_offset, whole, reading, IsRead}
+use Rattle.post_codec.proofs.Common.{pos, negsuc, suc, ◌≡◌, inl, inr, ℕ, ℤ, ◌+◌, ◌-◌, ◌^◌, ◌<◌, ◌≤◌, cond, eqb, List, [], ◌∷◌, ◌++◌, length, Result, Ok, Err, refl, sym, ap, subst, ◌∙◌, arith, IfOk, Vec, Global, w16, w32, append-nil, eqb-true, cases_lt, lt-ltb, le-ltb, PriceWidth, Five, Eight, Post, Plan, Priced, Split, Settled, CodecFault, u16_bytes, u32_bytes, u64_bytes, break_bytes, breaks_bytes, row_bytes, rows_bytes, class_bytes, room, half, price_bytes, twos_complement, slot_bytes, slots_bytes, cuts_bytes, prices_bytes, post_bytes, spelling_by, FitsBreak, FitsBreaks, FitsRow, FitsRows, FitsClass, FitsSlot, FitsCut, FitsSlots, FitsCuts, FitsPrices, FitsPost, FitsPosts, SpellsBy, ◌then◌, byte_at, number_at, to_break, break_at, breaks_at, to_row, row_at, rows_at, to_class, class_at, to_slot, price_at, slot_at, slots_at, cuts_at, to_prices, prices_at, to_plan, plan_at, to_priced, priced_at, to_split, split_at, to_settled, settled_at, post_at, posts_at, ended, by_offset, whole, reading, IsRead}
 use Rattle.post_codec.proofs.Laws.{AreBytes, bound, same, Took, Inverse, pair, tagged, chosen, tail_bytes, byte, number_16, number_32, number_64, price_number, many, made_of}
 
 pub break : Inverse FitsBreak break_bytes break_at

@@ -1,12 +1,5 @@
 -- A reader stops behind the last whole field that some value's spelling may have there.
-use Rattle.std.proofs.Common.{◌≡◌, ◌⊎◌, inl, inr, ℕ, zero, suc, ◌+◌, ◌<◌, ◌≤◌, List, [], ◌∷◌, ◌++◌, length, take, drop, Result, Ok, Err, refl, sym, ap, subst, ◌∙◌, append_assoc, arith, length-append, length-take}
-use Rattle.std.specs.Prelude.{All}
-use Rattle.std.specs.List.{flat_map, AllByRecursion}
-use Rattle.std.proofs.lemmas.List.{take_at, take-append-drop, append-nil}
-use Rattle.std.proofs.lemmas.List.Concat.{flat_map-append}
-use Rattle.std.proofs.lemmas.List.Elements.{All-from_recursion, recursion_from_All}
-use Rattle.post_codec.specs.Reading.{Reader, ◌>>=◌, ◌then◌, made, times, counted}
-use Rattle.post_codec.specs.Fields.{bytes_of}
+use Rattle.post_codec.proofs.Common.{◌≡◌, ◌⊎◌, inl, inr, ℕ, zero, suc, ◌+◌, ◌<◌, ◌≤◌, List, [], ◌∷◌, ◌++◌, length, take, drop, Result, Ok, Err, refl, sym, ap, subst, ◌∙◌, append_assoc, arith, length-append, length-take, All, flat_map, AllByRecursion, take_at, take-append-drop, append-nil, flat_map-append, All-from_recursion, recursion_from_All, Reader, ◌>>=◌, ◌then◌, made, times, counted, bytes_of}
 use Rattle.post_codec.proofs.Laws.{AreBytes, Inverse}
 
 -- these bytes are first fields of some value

@@ -8,7 +8,7 @@ use crate::ranges::Ranges;
 use crate::values::Values;
 use advice::Stop;
 use break_rules::NoMemory;
-use shift_tables::Tables;
+use shift_tables::ShiftTables;
 use std::alloc::Global;
 
 /// The rounds between two full passes.
@@ -117,7 +117,7 @@ fn mark(reached: &mut [bool], base: usize, len: usize) {
 }
 
 /// The slots in which some duty may work.
-fn reached(alloc: Global, tables: &Tables) -> Result<Vec<bool>, NoMemory> {
+fn reached(alloc: Global, tables: &ShiftTables) -> Result<Vec<bool>, NoMemory> {
     let mut reached = vec![in alloc; false; tables.slots]?;
     for shift in &tables.usable {
         for day in 0..tables.days {
@@ -133,7 +133,7 @@ fn reached(alloc: Global, tables: &Tables) -> Result<Vec<bool>, NoMemory> {
 
 impl Climb {
     /// A climb that hasn't begun.
-    pub fn new(alloc: Global, tables: &Tables) -> Result<Climb, NoMemory> {
+    pub fn new(alloc: Global, tables: &ShiftTables) -> Result<Climb, NoMemory> {
         let slots = tables.slots;
         let shifts = tables.shift_count();
         let places = shifts.saturating_mul(tables.days);
@@ -182,7 +182,7 @@ impl Climb {
     }
 
     /// What the best duty of each shift on each day earns at the best prices, shift by shift, once more.
-    pub fn worth(&mut self, tables: &Tables, ranges: &Ranges) -> Result<Vec<f64>, NoMemory> {
+    pub fn worth(&mut self, tables: &ShiftTables, ranges: &Ranges) -> Result<Vec<f64>, NoMemory> {
         self.values
             .value(tables, ranges, &self.best, &self.everyone)?;
         let worth = Vec::from_slice(self.alloc, self.values.worth.as_slice())?;
@@ -190,7 +190,7 @@ impl Climb {
     }
 
     /// Makes the working set of the shifts that earn much, or adds them to it.
-    fn renew_working(&mut self, tables: &Tables, ranges: &Ranges, anew: bool) {
+    fn renew_working(&mut self, tables: &ShiftTables, ranges: &Ranges, anew: bool) {
         for shift in &tables.usable {
             let at = usize::from(*shift);
             let worth = self.shift_worth.get(at).copied().unwrap_or(0.0);
@@ -203,14 +203,14 @@ impl Climb {
     }
 
     /// The direction at a place, without what leads out of the box.
-    fn inward(&self, tables: &Tables, place: usize) -> f64 {
+    fn inward(&self, tables: &ShiftTables, place: usize) -> f64 {
         let along = self.direction.get(place).copied().unwrap_or(0.0);
         let price = self.current.get(place).copied().unwrap_or(0.0);
         PriceRange::at(tables, place).inward(price, along)
     }
 
     /// The square of the length of the direction, without what leads out of the box.
-    fn length_squared(&self, tables: &Tables) -> f64 {
+    fn length_squared(&self, tables: &ShiftTables) -> f64 {
         let mut sum = 0.0;
         for place in 0..self.direction.len() {
             let along = self.inward(tables, place);
@@ -220,7 +220,7 @@ impl Climb {
     }
 
     /// Puts the point a step away from the current prices; `false` where there is no way.
-    fn go(&mut self, tables: &Tables, value: f64, step: f64) -> bool {
+    fn go(&mut self, tables: &ShiftTables, value: f64, step: f64) -> bool {
         let norm = self.length_squared(tables);
         if norm < 0.000000000001 {
             return false;
@@ -244,7 +244,7 @@ impl Climb {
     /// Rounds over the working set, from the current prices of a value; gives the value of those it ends at.
     fn run_batch<S: Stop>(
         &mut self,
-        tables: &Tables,
+        tables: &ShiftTables,
         ranges: &Ranges,
         pace: &mut Pace,
         from: f64,
@@ -273,7 +273,7 @@ impl Climb {
     /// they are much worse.
     fn take_stock(
         &mut self,
-        tables: &Tables,
+        tables: &ShiftTables,
         ranges: &Ranges,
         best: f64,
     ) -> Result<Stock, NoMemory> {
@@ -305,7 +305,7 @@ impl Climb {
     }
 
     /// Puts the point at some prices, kept in their ranges; slots in which no duty may work have the greatest price.
-    fn lay_start(&mut self, tables: &Tables, start: &[f64]) {
+    fn lay_start(&mut self, tables: &ShiftTables, start: &[f64]) {
         for place in 0..self.point.len() {
             let range = PriceRange::at(tables, place);
             let price = start.get(place).copied().unwrap_or(0.0);
@@ -321,7 +321,12 @@ impl Climb {
     }
 
     /// Begins at some prices: values them over all shifts.
-    fn begin(&mut self, tables: &Tables, ranges: &Ranges, start: &[f64]) -> Result<f64, NoMemory> {
+    fn begin(
+        &mut self,
+        tables: &ShiftTables,
+        ranges: &Ranges,
+        start: &[f64],
+    ) -> Result<f64, NoMemory> {
         self.make_room(tables.slots, ranges.fronts().len())?;
         self.lay_start(tables, start);
         clear(&mut self.heads);
@@ -343,7 +348,7 @@ impl Climb {
     /// stop.
     pub fn climb<S: Stop>(
         &mut self,
-        tables: &Tables,
+        tables: &ShiftTables,
         ranges: &Ranges,
         start: &[f64],
         limits: Limits,

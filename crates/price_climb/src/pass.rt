@@ -5,7 +5,7 @@ use crate::corners::{Corner, Share, top};
 use crate::price_range::PriceRange;
 use crate::ranges::Ranges;
 use break_rules::NoMemory;
-use shift_tables::{Pauses, Tables, begins_with};
+use shift_tables::{Pauses, ShiftTables, begins_with};
 
 /// Adds so many employees to the cover of some slots of a window.
 fn add_cover(cover: &mut [f64], from: usize, to: usize, heads: f64) {
@@ -24,7 +24,7 @@ fn add_cover(cover: &mut [f64], from: usize, to: usize, heads: f64) {
 
 /// Adds so many duties with some breaks to the cover.
 fn add_duties(
-    tables: &Tables,
+    tables: &ShiftTables,
     cover: &mut [f64],
     shift: u16,
     day: usize,
@@ -52,7 +52,7 @@ fn add_duties(
 }
 
 /// Adds so many duties of unknown breaks to the cover, each by the part of its window in which it works.
-fn add_parts(tables: &Tables, cover: &mut [f64], shift: u16, day: usize, heads: f64) {
+fn add_parts(tables: &ShiftTables, cover: &mut [f64], shift: u16, day: usize, heads: f64) {
     let Some(place) = tables.shifts.get(usize::from(shift)) else {
         return;
     };
@@ -70,7 +70,7 @@ pub(crate) fn clear(list: &mut [f64]) {
 }
 
 /// The factor by which prices on a ray come to the edge of their ranges, at most 2^40.
-fn edge(tables: &Tables, prices: &[f64], reached: &[bool]) -> f64 {
+fn edge(tables: &ShiftTables, prices: &[f64], reached: &[bool]) -> f64 {
     let mut most = f64::MAX;
     for (place, price) in prices.iter().enumerate() {
         if reached.get(place).copied().unwrap_or(true) {
@@ -100,7 +100,7 @@ fn target(price: f64, need: i32, most: i32, working: f64) -> f64 {
 
 impl Climb {
     /// What wanted employees and cuts earn along the ray, and what those slots earn that nobody can work in.
-    fn needed(&self, tables: &Tables, ranges: &Ranges) -> (f64, f64) {
+    fn needed(&self, tables: &ShiftTables, ranges: &Ranges) -> (f64, f64) {
         let mut slope = 0.0;
         let mut fixed = 0.0;
         let bands = tables.need.iter().zip(&tables.need_max);
@@ -122,7 +122,7 @@ impl Climb {
     /// Counts one shift: as one that must be used, or as a corner.
     fn count_shift(
         &mut self,
-        tables: &Tables,
+        tables: &ShiftTables,
         ranges: &Ranges,
         shift: u16,
         slope: &mut f64,
@@ -177,7 +177,7 @@ impl Climb {
     /// Chooses so many duties of a shift on a day, and adds them to the cover.
     fn choose(
         &mut self,
-        tables: &Tables,
+        tables: &ShiftTables,
         ranges: &Ranges,
         shift: u16,
         day: usize,
@@ -201,7 +201,7 @@ impl Climb {
     /// Chooses the duties of a share.
     fn choose_share(
         &mut self,
-        tables: &Tables,
+        tables: &ShiftTables,
         ranges: &Ranges,
         share: Share,
     ) -> Result<(), NoMemory> {
@@ -217,7 +217,7 @@ impl Climb {
 
     /// How far the cover of each slot is from the number that its price moves towards, and the count of each cut on duties of certain
     /// breaks from its number.
-    fn lay_violations(&mut self, tables: &Tables, ranges: &Ranges) {
+    fn lay_violations(&mut self, tables: &ShiftTables, ranges: &Ranges) {
         let bands = tables.need.iter().zip(&tables.need_max);
         let counted = self.cover.iter().zip(bands).zip(&self.reached);
         let priced = counted.zip(&self.point);
@@ -239,7 +239,7 @@ impl Climb {
     }
 
     /// The chosen duties, and how they fail the bands and the cuts.
-    fn find_violations(&mut self, tables: &Tables, ranges: &Ranges) -> Result<(), NoMemory> {
+    fn find_violations(&mut self, tables: &ShiftTables, ranges: &Ranges) -> Result<(), NoMemory> {
         self.chosen.clear();
         clear(&mut self.cover);
         clear(&mut self.front_counts);
@@ -253,7 +253,7 @@ impl Climb {
     }
 
     /// Moves the point along its ray.
-    fn scale(&mut self, tables: &Tables, factor: f64) {
+    fn scale(&mut self, tables: &ShiftTables, factor: f64) {
         for (price, reached) in self.point.iter_mut().zip(&self.reached) {
             if *reached {
                 *price *= factor;
@@ -267,7 +267,7 @@ impl Climb {
     /// Counts the shifts of the working set, or all; gives the slope of the ray, and what doesn't change along it.
     fn count_shifts(
         &mut self,
-        tables: &Tables,
+        tables: &ShiftTables,
         ranges: &Ranges,
         all: bool,
     ) -> Result<(f64, f64), NoMemory> {
@@ -284,7 +284,7 @@ impl Climb {
     }
 
     /// What the shifts that needn't be used earn above their cost at a point of the ray.
-    fn surplus(&self, tables: &Tables, factor: f64) -> f64 {
+    fn surplus(&self, tables: &ShiftTables, factor: f64) -> f64 {
         let mut sum = 0.0;
         for corner in &self.corners {
             sum += (factor * corner.worth - tables.weight).max(0.0);
@@ -296,7 +296,7 @@ impl Climb {
     /// the solution and its violations.
     pub(crate) fn pass(
         &mut self,
-        tables: &Tables,
+        tables: &ShiftTables,
         ranges: &Ranges,
         all: bool,
     ) -> Result<f64, NoMemory> {

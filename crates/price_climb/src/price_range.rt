@@ -1,6 +1,6 @@
 //! The ranges in which prices stay.
 
-use shift_tables::Tables;
+use shift_tables::ShiftTables;
 
 /// The greatest price that a climb gives to a cut: what the greatest price of a cut is worth at a scale of 10,000.
 const CUT_PRICE: f64 = 100000000.0;
@@ -20,7 +20,7 @@ pub(crate) struct PriceRange {
 
 impl PriceRange {
     /// The range at a place of a list of prices, which has those of the slots, and behind them those of cuts.
-    pub(crate) fn at(tables: &Tables, place: usize) -> PriceRange {
+    pub(crate) fn at(tables: &ShiftTables, place: usize) -> PriceRange {
         if place < tables.slots {
             PriceRange {
                 least: -tables.excess,

@@ -3,7 +3,7 @@
 use crate::fronts::{FrontCut, front_cuts};
 use break_rules::NoMemory;
 use head_splits::{Cut, Side};
-use shift_tables::Tables;
+use shift_tables::ShiftTables;
 use std::alloc::Global;
 
 /// The least and the greatest number of duties of each shift on each day, shift by shift, and the cuts on duties of certain
@@ -31,7 +31,7 @@ fn lower(list: &mut [u16], place: usize, m: u16) {
 
 impl Ranges {
     /// The ranges that some cuts leave.
-    pub fn new(alloc: Global, tables: &Tables, cuts: &[Cut]) -> Result<Ranges, NoMemory> {
+    pub fn new(alloc: Global, tables: &ShiftTables, cuts: &[Cut]) -> Result<Ranges, NoMemory> {
         let places = tables.shift_count().saturating_mul(tables.days);
         let heads = u16::try_from(tables.heads).unwrap_or(u16::MAX);
         let mut ranges = Ranges {
@@ -48,7 +48,7 @@ impl Ranges {
     }
 
     /// Narrows the range of a cut's shift and day.
-    fn narrow(&mut self, tables: &Tables, cut: &Cut) {
+    fn narrow(&mut self, tables: &ShiftTables, cut: &Cut) {
         let place = tables.place(cut.class.shift, usize::from(cut.class.day));
         match cut.side {
             Side::AtMost => lower(&mut self.high, place, cut.m),
@@ -77,7 +77,7 @@ impl Ranges {
     }
 
     /// Whether a shift must have duties.
-    pub fn is_forced(&self, tables: &Tables, shift: u16) -> bool {
+    pub fn is_forced(&self, tables: &ShiftTables, shift: u16) -> bool {
         for day in 0..tables.days {
             if 0 < self.low(tables.place(shift, day)) {
                 return true;
@@ -87,7 +87,7 @@ impl Ranges {
     }
 
     /// What a shift earns that must have duties, where `worth` has what a duty of each shift on each day earns.
-    pub(crate) fn forced_worth(&self, tables: &Tables, worth: &[f64], shift: u16) -> f64 {
+    pub(crate) fn forced_worth(&self, tables: &ShiftTables, worth: &[f64], shift: u16) -> f64 {
         let mut sum = 0.0;
         for day in 0..tables.days {
             let place = tables.place(shift, day);
@@ -99,7 +99,7 @@ impl Ranges {
     }
 
     /// What a shift earns that needn't have duties, where `worth` has what a duty of each shift on each day earns.
-    pub(crate) fn free_worth(&self, tables: &Tables, worth: &[f64], shift: u16) -> f64 {
+    pub(crate) fn free_worth(&self, tables: &ShiftTables, worth: &[f64], shift: u16) -> f64 {
         let mut sum = 0.0;
         for day in 0..tables.days {
             let place = tables.place(shift, day);

@@ -2,7 +2,7 @@
 
 use crate::ranges::Ranges;
 use break_rules::NoMemory;
-use shift_tables::{Bonus, Found, LANES, Lane, ListGraph, Tables};
+use shift_tables::{Bonus, Found, LANES, Lane, ListGraph, ShiftTables};
 use std::alloc::Global;
 use std::num::saturating_f64_to_i64;
 
@@ -42,7 +42,7 @@ pub(crate) struct Values {
 /// The shifts and days of a graph.
 fn list_users(
     alloc: Global,
-    tables: &Tables,
+    tables: &ShiftTables,
     number: usize,
 ) -> Result<Vec<(u16, usize)>, NoMemory> {
     let mut users = Vec::new(alloc);
@@ -91,7 +91,7 @@ fn lay_lane(windows: &mut [Lane], sums: &[i32], lane: usize) {
 
 impl Values {
     /// Nothing is known yet.
-    pub(crate) fn new(alloc: Global, tables: &Tables) -> Result<Values, NoMemory> {
+    pub(crate) fn new(alloc: Global, tables: &ShiftTables) -> Result<Values, NoMemory> {
         let places = tables.shift_count().saturating_mul(tables.days);
         let sums = tables.slots.saturating_mul(2).saturating_add(1);
         let mut users = Vec::new(alloc);
@@ -158,7 +158,7 @@ impl Values {
     }
 
     /// Lays the window of a shift on a day for the next walk.
-    fn lay(&mut self, tables: &Tables, shift: u16, day: usize) {
+    fn lay(&mut self, tables: &ShiftTables, shift: u16, day: usize) {
         let base = tables.base(shift, day);
         let len = tables.len_of(shift);
         let end = base.wrapping_add(len);
@@ -182,7 +182,7 @@ impl Values {
     /// Values all shifts and days of a graph whose shifts are asked for, but for those that have no duties.
     fn value_graph(
         &mut self,
-        tables: &Tables,
+        tables: &ShiftTables,
         ranges: &Ranges,
         number: usize,
         graph: &ListGraph,
@@ -237,7 +237,7 @@ impl Values {
     /// it has too many breaks.
     pub(crate) fn found(
         &mut self,
-        tables: &Tables,
+        tables: &ShiftTables,
         ranges: &Ranges,
         cut_prices: &[f64],
         shift: u16,
@@ -260,7 +260,7 @@ impl Values {
     /// best list has too many breaks, what it earns without the cuts stays.
     fn value_fronts(
         &mut self,
-        tables: &Tables,
+        tables: &ShiftTables,
         ranges: &Ranges,
         cut_prices: &[f64],
         asked: &[bool],
@@ -282,7 +282,7 @@ impl Values {
     /// cuts on duties of certain breaks.
     pub(crate) fn value(
         &mut self,
-        tables: &Tables,
+        tables: &ShiftTables,
         ranges: &Ranges,
         prices: &[f64],
         asked: &[bool],

@@ -1,3 +1,4 @@
+pub mod Common
 pub mod Stretches
 pub mod Prices
 pub mod Windows

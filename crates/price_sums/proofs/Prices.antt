@@ -1,18 +1,7 @@
 -- Sums of prices, one offset after another.
-use Rattle.std.proofs.Common.{◌≡◌, ◌⊎◌, inl, inr, ℕ, zero, suc, ◌+◌, ◌%◌, ◌*◌, ◌^◌, ◌<◌, ◌≤◌, ℤ, pos, ◌+ℤ◌, ◌-ℤ◌, List, [], ◌∷◌, ◌++◌, length, sym, ap, ◌∙◌, subst, arith, Some, Option, to_z, of_z, get_or, FitsSigned}
-use Rattle.std.specs.Int.{w64}
+use Rattle.price_sums.proofs.Common.{◌≡◌, ◌⊎◌, inl, inr, ℕ, zero, suc, ◌+◌, ◌%◌, ◌*◌, ◌^◌, ◌<◌, ◌≤◌, ℤ, pos, ◌+ℤ◌, ◌-ℤ◌, List, [], ◌∷◌, ◌++◌, length, sym, ap, ◌∙◌, subst, arith, Some, Option, to_z, of_z, get_or, FitsSigned, w64, unsigned_abs, IsSomeAnd, ints, fits_signed_from_abs, to_z-of_z, get_or_append_left, get_or_push, Rule, Shift, Problem, day_slots, slots, slot_of, add-mod, mod-mod, sum_at, price_in, AreSmallPrices, abs_add}
 use mir.Syntax.{w128}
-use Rattle.std.specs.Int.RustNames.{unsigned_abs}
-use Rattle.std.specs.Prelude.{IsSomeAnd}
-use Rattle.std.proofs.lemmas.Int.{ints, fits_signed_from_abs, to_z-of_z}
-use Rattle.std.proofs.lemmas.List.{get_or_append_left, get_or_push}
 use Rattle.std.proofs.lemmas.List.Elements.{All-get_or}
-use Rattle.break_rules.specs.declared.Rule.{Rule}
-use Rattle.shift_instance.specs.declared.Shift.{Shift}
-use Rattle.shift_instance.specs.Problem.{Problem, day_slots, slots, slot_of}
-use Rattle.std.proofs.Math.Nat.{add-mod, mod-mod}
-use Rattle.price_sums.specs.Along.{sum_at, price_in, AreSmallPrices}
-use Rattle.break_rules.proofs.Sizes.{abs_add}
 
 pub price_small : (prices : List ℤ) (t : ℕ) → t < length prices → AreSmallPrices prices → unsigned_abs (get_or prices t (pos 0)) ≤ 10000000000
 price_small prices t inside small = All-get_or (λ p. unsigned_abs p ≤ 10000000000) prices t (pos 0) inside small

@@ -1,24 +1,18 @@
 -- What is earned with a break more: a stretch of work, and what is earned behind the break.
-use Rattle.std.proofs.Common.{◌≡◌, inl, inr, ℕ, zero, suc, ◌+◌, ◌-◌, ◌*◌, ◌<◌, ◌≤◌, ℤ, pos, ◌+ℤ◌, ◌-ℤ◌, Bool, true, false, cond, ◌&&◌, ◌||◌, ◌==◌, not, List, [], ◌∷◌, ◌++◌, refl, sym, ap, ◌∙◌, subst, arith, nat_le, nat_lt, fold, sum_by, FitsSigned}
+use Rattle.price_sums.proofs.Common.{◌≡◌, inl, inr, ℕ, zero, suc, ◌+◌, ◌-◌, ◌*◌, ◌<◌, ◌≤◌, ℤ, pos, ◌+ℤ◌, ◌-ℤ◌, Bool, true, false, cond, ◌&&◌, ◌||◌, ◌==◌, not, List, [], ◌∷◌, ◌++◌, refl, sym, ap, ◌∙◌, subst, arith, nat_le, nat_lt, fold, sum_by, FitsSigned, w64, unsigned_abs, ints, fits_signed_from_abs, Rule, abs_add, abs_sub, sum_at, price_in, AreSums, resumes, earned_from, Completes}
 use Rattle.std.specs.List.{list_all, list_any, range_with_len}
-use Rattle.std.specs.Int.{w64}
-use Rattle.std.specs.Int.RustNames.{unsigned_abs}
-use Rattle.std.proofs.lemmas.Int.{ints, fits_signed_from_abs}
 use Rattle.std.proofs.lemmas.List.Sums.{fold-append}
 use Rattle.std.proofs.lemmas.Bool.{and_parts, and_from, and_left, and_right, or_from, or_left, leb-true, le-leb, lt-leb, lt-ltb, le-ltb, ne_eqb, eqb-true, ltb-true, cases_Bool, cond-true, cond-false}
 use Rattle.break_rules.specs.declared.Break.{Break}
-use Rattle.break_rules.specs.declared.Rule.{Rule}
 use Rattle.break_rules.specs.Breaks.{end_of, is_legal, has_work, is_off, works_at, is_lunched, total_of}
 use Rattle.break_rules.specs.Ranges.{IsRule}
 use Rattle.break_rules.specs.Sums.{int_sum_by}
 use Rattle.break_rules.specs.Walk.{end_of_all, may_follow, is_walk, is_walk_from, may_end}
 use Rattle.break_rules.proofs.Lists.{from_range}
-use Rattle.break_rules.proofs.Sizes.{abs_add, abs_sub}
 use Rattle.break_rules.proofs.Sums.{int_sum_by-cons, int_sum_by-append, int_sum_by-same, int_sum_by_zero}
 use Rattle.break_rules.proofs.Walk.{legal_is_walk}
 use Rattle.break_rules.proofs.Steps.{bounds}
 use Rattle.break_rules.proofs.Reaching.{is_walk-append}
-use Rattle.price_sums.specs.Along.{sum_at, price_in, AreSums, resumes, earned_from, Completes}
 
 -- breaks that leave room to resettle
 abbrev pub Spaced : Rule → ℕ → ℕ → List Break → Type 0

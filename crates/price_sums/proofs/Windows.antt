@@ -1,13 +1,6 @@
 -- Sums of all days side by side: lanes, and windows of them.
-use Rattle.std.proofs.Common.{◌≡◌, ◌⊎◌, inl, inr, ℕ, ◌+◌, ◌%◌, ◌*◌, ◌<◌, ◌≤◌, ℤ, pos, ◌+ℤ◌, ◌-ℤ◌, List, [], ◌∷◌, ◌++◌, length, take, drop, set, sym, ap, ◌∙◌, subst, arith, get_or, to_z, of_z}
-use Rattle.std.specs.Int.{w64}
-use Rattle.std.specs.Int.RustNames.{unsigned_abs}
-use Rattle.std.proofs.lemmas.Int.{fits_signed_from_abs, to_z-of_z}
+use Rattle.price_sums.proofs.Common.{◌≡◌, ◌⊎◌, inl, inr, ℕ, ◌+◌, ◌%◌, ◌*◌, ◌<◌, ◌≤◌, ℤ, pos, ◌+ℤ◌, ◌-ℤ◌, List, [], ◌∷◌, ◌++◌, length, take, drop, set, sym, ap, ◌∙◌, subst, arith, get_or, to_z, of_z, w64, unsigned_abs, fits_signed_from_abs, to_z-of_z, add-mod, mod-mod, get_or-take, get_or-drop, get_or_past, get_or-set_same, get_or-set_other, length-map, length-take, map-append, sum_at, price_in, sums_on}
 use Rattle.std.proofs.Math.ListN.{get_or-map}
-use Rattle.std.proofs.Math.Nat.{add-mod, mod-mod}
-use Rattle.std.proofs.lemmas.List.{get_or-take, get_or-drop, get_or_past, get_or-set_same, get_or-set_other, length-map, length-take, map-append}
-use Rattle.price_sums.specs.Along.{sum_at, price_in}
-use Rattle.price_sums.specs.Days.{sums_on}
 use Rattle.price_sums.proofs.Prices.{next_sum}
 
 -- so many slots behind a slot

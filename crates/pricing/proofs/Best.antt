@@ -1,11 +1,5 @@
 -- One break more: the best rest so far, or the best one that begins with this break.
-use Rattle.std.proofs.Common.{◌≡◌, inl, inr, ℤ, ◌+ℤ◌, ◌≤ℤ◌, true, false, ◌&&◌, List, [], ◌∷◌, sym, ◌∙◌, arith}
-use Rattle.std.proofs.lemmas.Int.{ints}
-use Rattle.std.proofs.lemmas.Bool.{and_parts, or_cases, or_left, false≢true, cases_Bool}
-use Rattle.break_rules.specs.declared.Break.{Break}
-use Rattle.break_rules.specs.Breaks.{same_break, is_less_list, is_less_break}
-use Rattle.break_rules.proofs.Ordered.{less_apart}
-use Rattle.break_layers.specs.Rests.{IsBestRest}
+use Rattle.pricing.proofs.Common.{◌≡◌, inl, inr, ℤ, ◌+ℤ◌, ◌≤ℤ◌, true, false, ◌&&◌, List, [], ◌∷◌, sym, ◌∙◌, arith, ints, and_parts, or_cases, or_left, false≢true, cases_Bool, Break, same_break, is_less_list, is_less_break, less_apart, IsBestRest}
 
 -- where a list is less than another, the other isn't less than it
 pub not_less : (xs ys : List Break) → is_less_list xs ys ≡ true → is_less_list ys xs ≡ false

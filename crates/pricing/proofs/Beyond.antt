@@ -1,22 +1,6 @@
 -- The breaks that may come next behind some breaks, and the best lists that go on with one.
-use Rattle.std.proofs.Common.{◌≡◌, ◌⊎◌, inl, inr, ℕ, zero, suc, ◌+◌, ◌<◌, ◌≤◌, get_or, ℤ, pos, ◌+ℤ◌, ◌≤ℤ◌, true, false, List, [], ◌∷◌, ◌++◌, length, take, refl, sym, ap, ◌∙◌, subst, arith, append_assoc, Option}
-use Rattle.std.proofs.lemmas.Int.{ints}
-use Rattle.std.proofs.lemmas.Bool.{false≢true, false_from_ne_true}
-use Rattle.break_rules.specs.declared.Break.{Break}
-use Rattle.break_rules.specs.declared.Rule.{Rule}
-use Rattle.break_rules.specs.Breaks.{is_legal, is_live, begins_with}
-use Rattle.break_rules.specs.Bonuses.{bonus_of}
-use Rattle.break_rules.specs.Ranges.{IsRule}
-use Rattle.std.specs.Prelude.{Result, Ok, Err, IfOk}
-use Rattle.break_rules.specs.Lists.{Has}
-use Rattle.break_rules.proofs.Lists.{any_some}
-use Rattle.break_rules.proofs.LegalLists.{live_from}
-use Rattle.pricing.specs.declared.found.Found.{Found}
-use Rattle.price_sums.specs.Along.{Completes, price_in, earned_from}
-use Rattle.break_layers.specs.Rests.{IsBestRest, IsBestFrom, IsBestList, Priced, rest_worth}
-use Rattle.pricing.specs.Values.{IsValue}
-use Rattle.pricing.specs.Found.{IsLegal, worth_of, IsFound, Covers, Keeps, CoversFrom, CoversAlong, IsBestFound, leads_further}
-use Rattle.pricing.specs.Keeping.{AreBeginnings}
+use Rattle.pricing.proofs.Common.{◌≡◌, ◌⊎◌, inl, inr, ℕ, zero, suc, ◌+◌, ◌<◌, ◌≤◌, get_or, ℤ, pos, ◌+ℤ◌, ◌≤ℤ◌, true, false, List, [], ◌∷◌, ◌++◌, length, take, refl, sym, ap, ◌∙◌, subst, arith, append_assoc, Option, ints, false≢true, false_from_ne_true, Break, Rule, is_legal, is_live, begins_with, bonus_of, IsRule, IfOk, Has, any_some, live_from, Found, Completes, price_in, earned_from, IsBestRest, IsBestFrom, IsBestList, Priced, rest_worth, IsValue, IsLegal, worth_of, IsFound, Covers, Keeps, CoversFrom, CoversAlong, IsBestFound, leads_further, AreBeginnings}
+use Rattle.std.specs.Prelude.{Result, Ok, Err}
 use Rattle.pricing.proofs.Best.{best_more}
 use Rattle.pricing.proofs.ByEdges.{same_worth}
 use Rattle.pricing.proofs.Covered.{keeps_from, best_found, covers_on}

@@ -1,35 +1,5 @@
 -- The best rest of a list that stands at a node, by the edges of the node.
-use Rattle.std.proofs.Common.{◌≡◌, ◌≢◌, inl, inr, ℕ, suc, ◌+◌, ◌*◌, ◌<◌, ◌≤◌, ℤ, pos, ◌+ℤ◌, ◌-ℤ◌, ◌≤ℤ◌, true, false, ◌&&◌, ◌==◌, List, [], ◌∷◌, ◌++◌, length, map, refl, sym, ap, ◌∙◌, subst, arith, append_assoc, append-nil, Some, FitsSigned, get_or}
-use Rattle.std.specs.Prelude.{slice_get}
-use Rattle.std.specs.Ordering.{int_eq}
-use Rattle.std.specs.Int.{w64}
-use Rattle.std.specs.Int.RustNames.{unsigned_abs}
-use Rattle.std.proofs.lemmas.Int.{ints, fits_signed_from_abs}
-use Rattle.std.proofs.lemmas.List.Sums.{fold-append}
-use Rattle.std.proofs.lemmas.Bool.{false≢true, cases_Bool, or_left, ne_eqb, cases_lt}
-use Rattle.std.proofs.Math.ListN.{get_or-append}
-use Rattle.std.proofs.Math.Seq.{get_or-append_seam}
-use Rattle.std.proofs.lemmas.Bool.Decides.{Decides-int_eq}
-use Rattle.break_rules.specs.declared.Break.{Break}
-use Rattle.break_rules.specs.declared.Rule.{Rule}
-use Rattle.break_rules.specs.Breaks.{end_of, is_legal, is_live, is_less_break, is_less_list, same_break}
-use Rattle.break_rules.specs.Ranges.{IsRule}
-use Rattle.break_rules.specs.Walk.{end_of_all, nexts_of, spot_of}
-use Rattle.break_rules.specs.Lists.{Has, Sorted}
-use Rattle.break_rules.proofs.Lists.{Has-append_cases, Has-map, from_map, Has-filter}
-use Rattle.break_rules.proofs.LegalLists.{no_longer_list}
-use Rattle.break_rules.proofs.Ordered.{Sorted-filter, Sorted-breaks, IsLessBreak}
-use Rattle.break_rules.proofs.Reaching.{rest_first, has_middle}
-use Rattle.break_rules.proofs.Steps.{bounds, from_next}
-use Rattle.break_graph.specs.declared.Edge.{Edge}
-use Rattle.break_graph.specs.declared.Node.{Node}
-use Rattle.break_graph.specs.Graph.{IsGraph, StandsAt, node_at}
-use Rattle.price_sums.specs.Along.{sum_at, price_in, AreSums, resumes, earned_from, Completes}
-use Rattle.break_layers.specs.Rests.{IsBestRest}
-use Rattle.pricing.specs.Values.{IsValue, AreValues, reach_of, AreFit, IsMostReached, IsFirstWith, LeadsOn}
-use Rattle.break_layers.specs.Rests.{rest_worth, IsBestTail}
-use Rattle.price_sums.proofs.Stretches.{earned_more, earned_end, earned_small, spaced_rest, resumes_behind}
-use Rattle.break_rules.proofs.Sizes.{abs_add}
+use Rattle.pricing.proofs.Common.{◌≡◌, ◌≢◌, inl, inr, ℕ, suc, ◌+◌, ◌*◌, ◌<◌, ◌≤◌, ℤ, pos, ◌+ℤ◌, ◌-ℤ◌, ◌≤ℤ◌, true, false, ◌&&◌, ◌==◌, List, [], ◌∷◌, ◌++◌, length, map, refl, sym, ap, ◌∙◌, subst, arith, append_assoc, append-nil, Some, FitsSigned, get_or, slice_get, int_eq, w64, unsigned_abs, ints, fits_signed_from_abs, fold-append, false≢true, cases_Bool, or_left, ne_eqb, cases_lt, get_or-append, get_or-append_seam, Decides-int_eq, Break, Rule, end_of, is_legal, is_live, is_less_break, is_less_list, same_break, IsRule, end_of_all, nexts_of, spot_of, Has, Sorted, Has-append_cases, Has-map, from_map, Has-filter, no_longer_list, Sorted-filter, Sorted-breaks, IsLessBreak, rest_first, has_middle, bounds, from_next, Edge, Node, IsGraph, StandsAt, node_at, sum_at, price_in, AreSums, resumes, earned_from, Completes, IsBestRest, IsValue, AreValues, reach_of, AreFit, IsMostReached, IsFirstWith, LeadsOn, rest_worth, IsBestTail, earned_more, earned_end, earned_small, spaced_rest, resumes_behind, abs_add}
 use Rattle.pricing.proofs.Best.{Behind, best_more, best_allowed, not_less, less_rests}
 
 module _ (rule : Rule) (len : ℕ) (list : List Break) (b : Break) where
@@ -57,11 +27,7 @@ module _ (rule : Rule) (len : ℕ) (list : List Break) (b : Break) where
       (best_more (Completes rule len (list ++ b ∷ [])) (rest_worth sums rule len (list ++ b ∷ [])) (λ bs. rest_worth sums rule len list (b ∷ bs)) v (c +ℤ v) c tail
       (λ bs h. worth_more sums bs r (sym (longer bs) ∙ h)) refl t)
 
--- a break stands in rising order between those before and those behind it
-before_less : (xs : List Break) (b : Break) (ys : List Break) → Sorted IsLessBreak (xs ++ b ∷ ys) → (x : Break) → Has xs x → is_less_break x b ≡ true
-before_less [] b ys s x m = absurd m
-before_less (z ∷ zs) b ys s x m = elim m [ inl e ↦ subst (λ (y : Break). is_less_break y b ≡ true) e (s.0 b (has_middle zs ys b)) | inr t ↦ before_less zs b ys s.1 x t ]
-
+-- a break of a list in rising order is less than each behind it
 less_behind_it : (xs : List Break) (b : Break) (ys : List Break) → Sorted IsLessBreak (xs ++ b ∷ ys) → (y : Break) → Has ys y → is_less_break b y ≡ true
 less_behind_it [] b ys s y m = s.0 y m
 less_behind_it (z ∷ zs) b ys s y m = less_behind_it zs b ys s.1 y m
@@ -291,11 +257,3 @@ values_more rule len sums nodes k values x many known here j list less st =
 
 pub behind_node : (rule : Rule) (len : ℕ) (nodes : List Node) (k : ℕ) (list : List Break) → IsGraph rule len nodes → StandsAt rule len nodes k list → (e : Edge) → Has (node_at nodes k).edges e → StandsAt rule len nodes e.next (list ++ e.stop ∷ [])
 behind_node rule len nodes k list g st e m = let p = has_place (node_at nodes k).edges e m in g.behind k p.0 e list st p.1
-
-pub not_legal : (rule : Rule) (len : ℕ) (nodes : List Node) (k : ℕ) (list : List Break) → IsGraph rule len nodes → StandsAt rule len nodes k list → (node_at nodes k).edges ≢ [] → is_legal rule len list ≡ false
-not_legal rule len nodes k list g st some =
-    sym (g.ends k list st) ∙ by (node_at nodes k).edges some
-  where
-    by : (es : List Edge) → es ≢ [] → (length es == 0) ≡ false
-    by [] h = absurd (h refl)
-    by (e ∷ es) h = some_has (e ∷ es) e (inl refl)

@@ -1,17 +1,6 @@
 -- Prices after changes, and the last offset that they reach.
-use Rattle.std.proofs.Common.{◌≡◌, inl, inr, ℕ, ◌≤◌, ◌==◌, ℤ, pos, true, false, List, [], ◌∷◌, length, refl, sym, ◌∙◌, arith, Some, eq-eqb}
-use Rattle.std.specs.Prelude.{slice_set, All}
-use Rattle.std.specs.List.{list_any}
-use Rattle.std.specs.Int.RustNames.{unsigned_abs}
-use Rattle.std.proofs.lemmas.Bool.{false≢true, cases_Bool, or_parts, cases_lt}
-use Rattle.std.proofs.lemmas.List.{length-set, get_or-set_other}
-use Rattle.std.proofs.lemmas.List.Elements.{All-set, All-tail}
-use Rattle.shift_instance.specs.declared.Shift.{Shift}
-use Rattle.shift_instance.specs.Problem.{Problem, slot_of}
-use Rattle.shift_instance.specs.Worth.{price_of}
-use Rattle.price_sums.specs.Along.{AreSmallPrices}
-use Rattle.pricing.specs.Tables.{repriced, is_named, NameNone, NameNoneAbove}
-use Rattle.pricing.specs.Keeping.{HaveSamePrice, IsLastChange}
+use Rattle.pricing.proofs.Common.{◌≡◌, inl, inr, ℕ, ◌≤◌, ◌==◌, ℤ, pos, true, false, List, [], ◌∷◌, length, refl, sym, ◌∙◌, arith, Some, eq-eqb, slice_set, All, list_any, unsigned_abs, false≢true, cases_Bool, or_parts, cases_lt, length-set, get_or-set_other, All-set, All-tail, Shift, Problem, slot_of, price_of, AreSmallPrices, repriced, NameNone, NameNoneAbove, HaveSamePrice, IsLastChange}
+use Rattle.pricing.specs.Tables.{is_named}
 
 abbrev change_to : List ℤ → ℕ × ℤ → List ℤ
 change_to list change = slice_set list change.0 change.1

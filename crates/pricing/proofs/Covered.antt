@@ -1,20 +1,5 @@
 -- What was found, and the lists that it covers.
-use Rattle.std.proofs.Common.{◌≡◌, inl, inr, ℤ, pos, ◌+ℤ◌, ◌≤ℤ◌, Bool, true, false, ◌&&◌, List, ◌++◌, sym, ap, ◌∙◌, subst, arith, Option, Some, None, int_lt, to_z, of_z, ◌*◌, ◌^◌, ◌≤◌}
-use Rattle.std.specs.Ordering.{int_eq}
-use Rattle.std.specs.Int.{w64}
-use Rattle.std.specs.Int.RustNames.{unsigned_abs}
-use mir.Syntax.{w128}
-use Rattle.break_rules.specs.Bonuses.{bonus_of}
-use Rattle.price_sums.proofs.Prices.{kept_worth}
-use Rattle.std.proofs.lemmas.Int.{ints}
-use Rattle.std.proofs.lemmas.Bool.{false≢true, cases_Bool, or_cases, or_parts, and_parts}
-use Rattle.std.proofs.lemmas.Bool.Decides.{Decides-int_eq}
-use Rattle.break_rules.specs.declared.Break.{Break}
-use Rattle.break_rules.specs.Breaks.{is_legal, is_less_list}
-use Rattle.pricing.specs.declared.found.Found.{Found}
-use Rattle.price_sums.specs.Along.{price_in, earned_from}
-use Rattle.break_layers.specs.Rests.{Priced}
-use Rattle.pricing.specs.Found.{IsLegal, worth_of, IsFound, Covers, is_better, Keeps, CoversFrom, IsBestFound}
+use Rattle.pricing.proofs.Common.{◌≡◌, inl, inr, ℤ, pos, ◌+ℤ◌, ◌≤ℤ◌, Bool, true, false, ◌&&◌, List, ◌++◌, sym, ap, ◌∙◌, subst, arith, Option, Some, None, int_lt, to_z, of_z, ◌*◌, ◌^◌, ◌≤◌, int_eq, w64, unsigned_abs, w128, bonus_of, kept_worth, ints, false≢true, cases_Bool, or_cases, or_parts, and_parts, Decides-int_eq, Break, is_legal, is_less_list, Found, price_in, earned_from, Priced, IsLegal, worth_of, IsFound, Covers, is_better, Keeps, CoversFrom, IsBestFound}
 use Rattle.pricing.proofs.Best.{not_less}
 use Rattle.pricing.proofs.Lesser.{not_less_on, not_less_itself}
 

@@ -1,22 +1,5 @@
 -- What the best rest of no breaks earns is what the best duty of a shift on a day earns.
-use Rattle.std.proofs.Common.{◌≡◌, ℕ, zero, suc, ◌+◌, ◌-◌, ◌<◌, ◌≤◌, ℤ, pos, false, get_or, List, [], ◌∷◌, length, refl, sym, ap, ◌∙◌, subst, arith, Option, Some}
-use Rattle.std.specs.Prelude.{slice_get, IsSomeAnd}
-use Rattle.std.specs.Option.{option_map_or}
-use Rattle.break_rules.specs.declared.Break.{Break}
-use Rattle.break_rules.specs.declared.Rule.{Rule}
-use Rattle.break_rules.specs.Breaks.{is_legal}
-use Rattle.shift_instance.specs.declared.Shift.{Shift}
-use Rattle.shift_instance.specs.Problem.{Problem, shift_list, slots}
-use Rattle.shift_instance.specs.Rota.{is_list_of}
-use Rattle.shift_instance.specs.Valid.{IsValid, IsShift}
-use Rattle.break_graph.specs.declared.Node.{Node}
-use Rattle.break_graph.specs.Graph.{IsGraph, StandsAt}
-use Rattle.price_sums.specs.Along.{sum_at, ArePricesOf, AreSums}
-use Rattle.price_sums.specs.Days.{sums_on, AreSumsByDay}
-use Rattle.price_sums.proofs.Prices.{some_at}
-use Rattle.break_layers.specs.Rests.{Priced}
-use Rattle.pricing.specs.Values.{IsValue, AreValues}
-use Rattle.pricing.specs.Days.{IsMostOn, AreMostByDay}
+use Rattle.pricing.proofs.Common.{◌≡◌, ℕ, zero, suc, ◌+◌, ◌-◌, ◌<◌, ◌≤◌, ℤ, pos, false, get_or, List, [], ◌∷◌, length, refl, sym, ap, ◌∙◌, subst, arith, Option, Some, slice_get, IsSomeAnd, option_map_or, Break, Rule, is_legal, Shift, Problem, shift_list, slots, is_list_of, IsValid, IsShift, Node, IsGraph, StandsAt, sum_at, ArePricesOf, AreSums, sums_on, AreSumsByDay, some_at, Priced, IsValue, AreValues, IsMostOn, AreMostByDay}
 use Rattle.pricing.proofs.Beyond.{best_prices, none_legal}
 use Rattle.pricing.proofs.Worths.{some_of, short_shift, best_is}
 use Rattle.pricing.proofs.Followed.{sums_of_days}

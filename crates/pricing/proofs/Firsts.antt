@@ -1,19 +1,5 @@
 -- The beginnings of the prefixes of bonuses.
-use Rattle.std.proofs.Common.{◌≡◌, ◌⊎◌, inl, inr, ℕ, ◌+◌, ◌<◌, ◌≤◌, ℤ, pos, Bool, true, false, cond, ◌||◌, append-nil, List, [], ◌∷◌, ◌++◌, map, length, take, drop, get_or, refl, sym, ap, ◌∙◌, subst, arith, add-one}
-use Rattle.std.specs.List.{list_any, IsDistinct, AllByRecursion}
-use Rattle.std.proofs.lemmas.Bool.{cond_both}
-use Rattle.std.proofs.lemmas.List.{take-append-drop}
-use Rattle.std.proofs.lemmas.Map.Keys.{IsDistinct-head, IsDistinct-tail}
-use Rattle.indexmap.specs.IndexSet.{insert_key}
-use Rattle.break_rules.specs.declared.Break.{Break}
-use Rattle.break_rules.specs.Breaks.{begins_with}
-use Rattle.break_rules.specs.Bonuses.{share_of, bonus_of}
-use Rattle.break_rules.proofs.Sums.{int_sum_by-same}
-use Rattle.break_rules.specs.Lists.{Has}
-use Rattle.break_rules.proofs.Lists.{Has-map, Has-append_cases, Has-append_left, Has-append_right, any_at, any_some}
-use Rattle.break_rules.proofs.LegalLists.{begins_from}
-use Rattle.pricing.specs.Found.{leads_further}
-use Rattle.pricing.specs.Keeping.{IsBeginning, HaveFirst, AreBeginnings}
+use Rattle.pricing.proofs.Common.{◌≡◌, ◌⊎◌, inl, inr, ℕ, ◌+◌, ◌<◌, ◌≤◌, ℤ, pos, Bool, true, false, cond, ◌||◌, append-nil, List, [], ◌∷◌, ◌++◌, map, length, take, drop, get_or, refl, sym, ap, ◌∙◌, subst, arith, add-one, list_any, IsDistinct, AllByRecursion, cond_both, take-append-drop, IsDistinct-head, IsDistinct-tail, insert_key, Break, begins_with, share_of, bonus_of, int_sum_by-same, Has, Has-map, Has-append_cases, Has-append_left, Has-append_right, any_at, any_some, begins_from, leads_further, IsBeginning, HaveFirst, AreBeginnings}
 use Rattle.pricing.proofs.Leaving.{first_of, place_in}
 use Rattle.pricing.proofs.Most.{has_at}
 use Rattle.pricing.proofs.ByEdges.{map-append}

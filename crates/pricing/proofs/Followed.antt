@@ -1,22 +1,5 @@
 -- The lists that are followed along a graph, day by day, are the best ones.
-use Rattle.std.proofs.Common.{◌≡◌, inl, inr, ℕ, ◌+◌, ◌<◌, ◌≤◌, ℤ, get_or, List, [], ◌∷◌, ◌++◌, length, sym, ap, ◌∙◌, subst, arith, Some}
-use Rattle.std.specs.Prelude.{slice_get, IsSomeAnd}
-use Rattle.std.proofs.Math.ListN.{get_or-append}
-use Rattle.std.proofs.Math.Seq.{get_or-append_seam}
-use Rattle.std.proofs.lemmas.Bool.{cases_lt}
-use Rattle.break_rules.specs.declared.Break.{Break}
-use Rattle.break_rules.specs.declared.Rule.{Rule}
-use Rattle.break_rules.specs.Ranges.{IsRule}
-use Rattle.shift_instance.specs.declared.Shift.{Shift}
-use Rattle.shift_instance.specs.Problem.{Problem, shift_list}
-use Rattle.shift_instance.specs.Valid.{IsValid, IsShift}
-use Rattle.break_graph.specs.declared.Node.{Node}
-use Rattle.break_graph.specs.Graph.{IsGraph}
-use Rattle.price_sums.specs.Along.{AreSums}
-use Rattle.price_sums.specs.Days.{sums_on, AreSumsByDay}
-use Rattle.price_sums.proofs.Prices.{some_at}
-use Rattle.pricing.specs.Values.{AreValues, AreBestRests}
-use Rattle.pricing.specs.Days.{AreBestByDay, IsBestBy, best_at}
+use Rattle.pricing.proofs.Common.{◌≡◌, inl, inr, ℕ, ◌+◌, ◌<◌, ◌≤◌, ℤ, get_or, List, [], ◌∷◌, ◌++◌, length, sym, ap, ◌∙◌, subst, arith, Some, slice_get, IsSomeAnd, get_or-append, get_or-append_seam, cases_lt, Break, Rule, IsRule, Shift, Problem, shift_list, IsValid, IsShift, Node, IsGraph, AreSums, sums_on, AreSumsByDay, some_at, AreValues, AreBestRests, AreBestByDay, IsBestBy, best_at}
 use Rattle.pricing.proofs.Worths.{some_of, short_shift, best_is}
 
 -- what holds of each of some elements by its place, and of one more behind them

@@ -1,23 +1,6 @@
 -- The best list by layers is the best one by prices alone.
-use Rattle.std.proofs.Common.{◌≡◌, inl, inr, ℕ, ℤ, pos, ◌+ℤ◌, true, false, List, [], ◌∷◌, Option, Some, None, refl, ap, subst, ◌∙◌, arith}
-use Rattle.std.specs.Prelude.{MatchOption, IsTrue}
-use Rattle.std.proofs.lemmas.Bool.{cases_Bool}
-use Rattle.std.proofs.lemmas.Int.{ints}
-use Rattle.break_rules.specs.declared.Break.{Break}
-use Rattle.break_rules.specs.declared.Rule.{Rule}
-use Rattle.break_rules.specs.declared.Spot.{Spot}
-use Rattle.break_rules.specs.Breaks.{is_legal, is_live, is_less_list, legal_lists}
-use Rattle.break_rules.specs.Walk.{is_walk, spot_of}
-use Rattle.break_rules.specs.Lists.{Has, Sorted}
-use Rattle.break_rules.proofs.LegalLists.{Has-legal_lists, from_legal_lists}
-use Rattle.break_rules.proofs.Ordered.{IsLess, Sorted-legal_lists}
-use Rattle.price_sums.specs.Along.{price_in, earned_from}
-use Rattle.break_layers.specs.Rests.{IsBestFrom, IsBestList, IsMostEarned, Priced, rest_worth}
+use Rattle.pricing.proofs.Common.{◌≡◌, inl, inr, ℕ, ℤ, pos, ◌+ℤ◌, true, false, List, [], ◌∷◌, Option, Some, None, refl, ap, subst, ◌∙◌, arith, MatchOption, IsTrue, cases_Bool, ints, Break, Rule, Spot, is_legal, is_live, is_less_list, legal_lists, is_walk, spot_of, Has, Sorted, Has-legal_lists, from_legal_lists, IsLess, Sorted-legal_lists, price_in, earned_from, IsBestFrom, IsBestList, IsMostEarned, Priced, rest_worth, same_or, IsValue, worth_of, IsBestBy}
 use Rattle.break_layers.proofs.Following.{best_whole, none_legal}
-use Rattle.break_layers.proofs.Reach.{same_or}
-use Rattle.pricing.specs.Values.{IsValue}
-use Rattle.pricing.specs.Found.{worth_of}
-use Rattle.pricing.specs.Days.{IsBestBy}
 use Rattle.pricing.proofs.Best.{best_more, not_less}
 
 pub plain_best : (rule : Rule) (len : ℕ) (sums : List ℤ) (list : List Break) (value wide : ℤ) → wide ≡ value → IsBestList rule len sums (list, value) → IsBestBy rule len sums (list, wide)

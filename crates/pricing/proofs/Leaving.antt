@@ -1,23 +1,5 @@
 -- Lists that leave the prefixes of bonuses.
-use Rattle.std.proofs.Common.{◌≡◌, ◌⊎◌, inl, inr, ℕ, suc, ◌+◌, ◌<◌, ℤ, pos, ◌+ℤ◌, ◌-ℤ◌, ◌≤ℤ◌, true, false, cond, List, [], ◌∷◌, ◌++◌, length, take, drop, get_or, refl, sym, ap, ◌∙◌, subst, arith, append_assoc, append-nil, length-append, Option}
-use Rattle.std.proofs.lemmas.Int.{ints}
-use Rattle.std.proofs.lemmas.Bool.{false≢true, cases_Bool}
-use Rattle.std.proofs.lemmas.List.{take_at}
-use Rattle.break_rules.specs.declared.Break.{Break}
-use Rattle.break_rules.specs.declared.Rule.{Rule}
-use Rattle.break_rules.specs.Breaks.{is_legal, begins_with}
-use Rattle.break_rules.specs.Ranges.{IsRule}
-use Rattle.break_rules.specs.Walk.{end_of_all}
-use Rattle.break_rules.specs.Lists.{Has}
-use Rattle.break_rules.proofs.Lists.{any_none, same_tests}
-use Rattle.break_rules.proofs.LegalLists.{begins_rest, begins_from}
-use Rattle.break_rules.proofs.Sums.{int_sum_by-same}
-use Rattle.break_rules.specs.Bonuses.{bonus_of, share_of}
-use Rattle.pricing.specs.declared.found.Found.{Found}
-use Rattle.price_sums.specs.Along.{sum_at, price_in, earned_from, resumes, Completes}
-use Rattle.break_layers.specs.Rests.{Priced}
-use Rattle.break_layers.specs.Rests.{rest_worth, IsBestTail}
-use Rattle.pricing.specs.Found.{IsLegal, Covers, CoversFrom, IsLeaving, leads_further}
+use Rattle.pricing.proofs.Common.{◌≡◌, ◌⊎◌, inl, inr, ℕ, suc, ◌+◌, ◌<◌, ℤ, pos, ◌+ℤ◌, ◌-ℤ◌, ◌≤ℤ◌, true, false, cond, List, [], ◌∷◌, ◌++◌, length, take, drop, get_or, refl, sym, ap, ◌∙◌, subst, arith, append_assoc, append-nil, length-append, Option, ints, false≢true, cases_Bool, take_at, Break, Rule, is_legal, begins_with, IsRule, end_of_all, Has, any_none, same_tests, begins_rest, begins_from, int_sum_by-same, bonus_of, share_of, Found, sum_at, price_in, earned_from, resumes, Completes, Priced, rest_worth, IsBestTail, IsLegal, Covers, CoversFrom, IsLeaving, leads_further}
 use Rattle.pricing.proofs.Lesser.{less_behind}
 use Rattle.pricing.proofs.ByEdges.{worth_more}
 use Rattle.pricing.proofs.Covered.{covers_on}

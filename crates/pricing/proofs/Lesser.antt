@@ -1,9 +1,6 @@
 -- Break lists in their order.
-use Rattle.std.proofs.Common.{◌≡◌, ◌⊎◌, inl, inr, ◌<◌, Bool, true, false, ◌&&◌, ◌==◌, List, [], ◌∷◌, ◌++◌, refl, sym, ◌∙◌, subst, arith, nat_lt, eq-eqb}
-use Rattle.std.proofs.lemmas.Bool.{and_parts, and_from, ltb-true, lt-ltb, eqb-true, false≢true, or_cases, or_left, or_right, or_from, or_parts, and_left, cases_order}
-use Rattle.break_rules.specs.declared.Break.{Break}
-use Rattle.break_rules.specs.Breaks.{same_break, is_less_break, is_less_list}
-use Rattle.break_rules.proofs.LegalLists.{same_break_decides}
+use Rattle.pricing.proofs.Common.{◌≡◌, ◌⊎◌, inl, inr, ◌<◌, Bool, true, false, ◌&&◌, ◌==◌, List, [], ◌∷◌, ◌++◌, refl, sym, ◌∙◌, subst, arith, nat_lt, eq-eqb, and_parts, and_from, ltb-true, lt-ltb, false≢true, or_cases, or_left, or_right, or_from, or_parts, and_left, cases_order, Break, same_break, is_less_break, is_less_list, same_break_decides}
+use Rattle.std.proofs.lemmas.Bool.{eqb-true}
 use Rattle.break_rules.proofs.Lesser.{less_once}
 use Rattle.pricing.proofs.Best.{less_rests}
 

@@ -1,3 +1,4 @@
+pub mod Common
 pub mod Best
 pub mod ByEdges
 pub mod Walks
@@ -8,7 +9,6 @@ pub mod Leaving
 pub mod Tries
 pub mod Beyond
 pub mod Worths
-pub mod Behind
 mod Daily
 pub mod Followed
 pub mod Changes

@@ -1,16 +1,5 @@
 -- The best lists that go on from some breaks, and what covers them.
-use Rattle.std.proofs.Common.{◌≡◌, ◌⊎◌, inl, inr, ℤ, true, false, List, [], ◌∷◌, ◌++◌, refl, sym, ap, ◌∙◌, subst, append_assoc, append-nil, Option}
-use Rattle.std.proofs.lemmas.Bool.{false≢true}
-use Rattle.break_rules.specs.declared.Break.{Break}
-use Rattle.break_rules.specs.Breaks.{is_legal, is_live}
-use Rattle.break_rules.specs.Ranges.{IsRule}
-use Rattle.break_rules.specs.Lists.{Has}
-use Rattle.break_rules.proofs.Lists.{Has-append_cases}
-use Rattle.break_rules.proofs.LegalLists.{live_rest, no_longer_list}
-use Rattle.break_rules.proofs.Reaching.{rest_first, live_back, live_legal}
-use Rattle.break_layers.specs.Rests.{Priced}
-use Rattle.pricing.specs.declared.found.Found.{Found}
-use Rattle.pricing.specs.Found.{IsLegal, Covers, CoversFrom, AreBestAround}
+use Rattle.pricing.proofs.Common.{◌≡◌, ◌⊎◌, inl, inr, ℤ, true, false, List, [], ◌∷◌, ◌++◌, refl, sym, ap, ◌∙◌, subst, append_assoc, append-nil, Option, false≢true, Break, is_legal, is_live, IsRule, Has, Has-append_cases, live_rest, no_longer_list, rest_first, live_back, live_legal, Priced, Found, IsLegal, Covers, CoversFrom, AreBestAround}
 use Rattle.pricing.proofs.Beyond.{covers_next}
 
 module _ (p : Priced) (front : List Break) where

@@ -1,27 +1,6 @@
 -- How many nodes and beginnings there are, each counted once.
-use Rattle.std.proofs.Common.{◌≡◌, inl, inr, ℕ, suc, ◌+◌, ◌-◌, ◌<◌, ◌≤◌, Bool, true, false, List, [], ◌∷◌, ◌++◌, map, filter, length, take, cond, get_or, refl, sym, ap, ◌∙◌, subst, arith, nat_le, length-append, leb-true, ℤ}
-use Rattle.std.specs.Arc.{arc_value}
-use Rattle.std.specs.List.{count_by, IsDistinct, AllByRecursion}
-use Rattle.std.proofs.lemmas.Bool.{false≢true, cond_both}
-use Rattle.std.proofs.lemmas.List.{length-map}
-use Rattle.std.proofs.lemmas.List.Sums.{length-filter, sum_by-take-drop}
-use Rattle.std.proofs.lemmas.Map.Keys.{IsDistinct-head, IsDistinct-tail}
-use Rattle.break_rules.specs.declared.Break.{Break}
-use Rattle.break_rules.specs.declared.Rule.{Rule}
-use Rattle.break_rules.specs.declared.Spot.{Spot}
-use Rattle.break_rules.specs.Breaks.{same_list}
+use Rattle.pricing.proofs.Common.{◌≡◌, inl, inr, ℕ, suc, ◌+◌, ◌-◌, ◌<◌, ◌≤◌, Bool, true, false, List, [], ◌∷◌, ◌++◌, map, filter, length, take, cond, get_or, refl, sym, ap, ◌∙◌, subst, arith, nat_le, length-append, leb-true, ℤ, arc_value, count_by, IsDistinct, AllByRecursion, false≢true, cond_both, length-map, length-filter, sum_by-take-drop, IsDistinct-head, IsDistinct-tail, Break, Rule, Spot, same_list, end_of_all, spot_of, Has, Has-append_cases, Has-append_left, Has-append_right, from_map, from_filter, same_list_decides, Node, IsGraph, node_at, leads_further, HaveSpotsUpTo, HaveBeginnings, AreStepsUpTo, KeptSearch, OverGraph, ByLayers, AreBeginnings, IsGraphKept, nodes_of}
 use Rattle.break_rules.specs.Live.{place_of}
-use Rattle.break_rules.specs.Walk.{end_of_all, spot_of}
-use Rattle.break_rules.specs.Lists.{Has}
-use Rattle.break_rules.proofs.Lists.{Has-append_cases, Has-append_left, Has-append_right, from_map, from_filter}
-use Rattle.break_rules.proofs.LegalLists.{same_list_decides}
-use Rattle.break_graph.specs.declared.Node.{Node}
-use Rattle.break_graph.specs.Graph.{IsGraph, node_at}
-use Rattle.pricing.specs.Found.{leads_further}
-use Rattle.pricing.specs.Tables.{HaveSpotsUpTo, HaveBeginnings, AreStepsUpTo}
-use Rattle.pricing.specs.declared.anew.Kept.{Kept}
-use Rattle.pricing.specs.declared.anew.Kept.TheVariants.{OverGraph, ByLayers}
-use Rattle.pricing.specs.Keeping.{AreBeginnings, IsGraphKept, nodes_of}
 use Rattle.pricing.proofs.Leaving.{place_in}
 
 -- the first elements that pass a test are no more than all that do
@@ -125,12 +104,12 @@ beginnings_within kept bonus beginnings lists are same have =
     subst (Has lists) (sym e.2) (have e.0 e.1 (subst (λ (l : List Break). leads_further bonus l ≡ true) e.2 (same list e.3))))
 
 -- so are those of a graph that is kept
-kept_within : (rule : Rule) (len last : ℕ) (kept : Kept) (spots : List Spot) → IsGraphKept rule len kept → HaveSpotsUpTo rule len last spots → count_by (λ n. nat_le n.spot.offset last) (nodes_of kept) ≤ length spots
+kept_within : (rule : Rule) (len last : ℕ) (kept : KeptSearch) (spots : List Spot) → IsGraphKept rule len kept → HaveSpotsUpTo rule len last spots → count_by (λ n. nat_le n.spot.offset last) (nodes_of kept) ≤ length spots
 kept_within rule len last (OverGraph graph values) spots is have = nodes_within rule len last (arc_value graph) spots is have
 kept_within rule len last ByLayers spots is have = omega arith
 
 -- steps for the nodes up to an offset and for the beginnings
-pub steps_within : (rule : Rule) (len last bound : ℕ) (kept : Kept) (entries bonus : List (List Break × ℤ)) (beginnings : List (List Break)) (old new : ℕ) → IsGraphKept rule len kept → last ≤ bound
+pub steps_within : (rule : Rule) (len last bound : ℕ) (kept : KeptSearch) (entries bonus : List (List Break × ℤ)) (beginnings : List (List Break)) (old new : ℕ) → IsGraphKept rule len kept → last ≤ bound
     → AreBeginnings entries beginnings → ((front : List Break) → leads_further entries front ≡ true → leads_further bonus front ≡ true)
     → new ≤ old + (count_by (λ n. nat_le n.spot.offset last) (nodes_of kept) + length beginnings) → AreStepsUpTo rule len bound bonus (new - old)
 steps_within rule len last bound kept entries bonus beginnings old new graph low are same steps spots lists have has =

@@ -1,20 +1,5 @@
 -- Values that no changed price reaches.
-use Rattle.std.proofs.Common.{◌≡◌, ℕ, ◌-◌, ◌<◌, ◌≤◌, ℤ, ◌≤ℤ◌, pos, cond, List, length, sym, ap, ◌∙◌, subst, arith}
-use Rattle.std.specs.List.{range_with_len}
-use Rattle.break_rules.specs.declared.Break.{Break}
-use Rattle.break_rules.specs.declared.Rule.{Rule}
-use Rattle.break_rules.specs.declared.Spot.{Spot}
-use Rattle.break_rules.specs.Breaks.{works_at}
-use Rattle.break_rules.specs.Walk.{end_of_all}
-use Rattle.break_rules.proofs.Lists.{from_range}
-use Rattle.break_rules.proofs.Sums.{int_sum_by-same}
-use Rattle.break_graph.specs.declared.Node.{Node}
-use Rattle.break_graph.specs.Graph.{node_at}
-use Rattle.price_sums.specs.Along.{sum_at, price_in, resumes}
-use Rattle.price_sums.proofs.Stretches.{resumes_skip}
-use Rattle.pricing.specs.Values.{IsValue, AreValues}
-use Rattle.break_layers.specs.Rests.{rest_worth}
-use Rattle.pricing.specs.Keeping.{AreValuesAbove}
+use Rattle.pricing.proofs.Common.{◌≡◌, ℕ, ◌-◌, ◌<◌, ◌≤◌, ℤ, ◌≤ℤ◌, pos, cond, List, length, sym, ap, ◌∙◌, subst, arith, range_with_len, Break, Rule, Spot, works_at, end_of_all, from_range, int_sum_by-same, Node, node_at, sum_at, price_in, resumes, resumes_skip, IsValue, AreValues, rest_worth, AreValuesAbove}
 
 module _ (rule : Rule) (len : ℕ) (sums other : List ℤ) (list : List Break) (same : (o : ℕ) → end_of_all list ≤ o → o < len → price_in other o ≡ price_in sums o) where
   -- a rest is worth as much where the prices behind the list are the same

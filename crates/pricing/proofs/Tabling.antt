@@ -1,30 +1,5 @@
 -- What tables say of the best list, and what stays when prices change.
-use Rattle.std.proofs.Common.{◌≡◌, ℕ, zero, suc, ◌+◌, ◌-◌, ◌<◌, ◌≤◌, ℤ, ◌+ℤ◌, ◌≤ℤ◌, true, false, nat_le, List, [], ◌∷◌, length, fold, refl, sym, ap, ◌∙◌, subst, arith, Option, Some, None}
-use Rattle.std.specs.Prelude.{slice_get, All}
-use Rattle.std.specs.Arc.{arc_value}
-use Rattle.std.specs.List.{count_by}
-use Rattle.std.specs.Int.RustNames.{unsigned_abs}
-use Rattle.std.proofs.lemmas.Bool.{and_parts}
-use Rattle.break_rules.specs.declared.Break.{Break}
-use Rattle.break_rules.specs.declared.Rule.{Rule}
-use Rattle.break_rules.specs.Breaks.{end_of}
-use Rattle.break_rules.specs.Walk.{may_follow, is_walk_from, end_of_all}
-use Rattle.break_rules.specs.declared.Spot.{Spot}
-use Rattle.break_rules.proofs.Steps.{bounds}
-use Rattle.break_graph.specs.declared.Node.{Node}
-use Rattle.break_graph.specs.Graph.{node_at}
-use Rattle.shift_instance.specs.declared.Duty.{Duty}
-use Rattle.shift_instance.specs.declared.Shift.{Shift}
-use Rattle.shift_instance.specs.Problem.{shift_list, slots}
-use Rattle.shift_instance.specs.Rota.{is_list_of}
-use Rattle.shift_instance.specs.Worth.{IsBest, worth, earned}
-use Rattle.price_sums.specs.Along.{ArePricesOf, AreSmallPrices, price_in}
-use Rattle.pricing.specs.declared.found.Found.{Found}
-use Rattle.pricing.specs.declared.anew.Kept.{Kept}
-use Rattle.pricing.specs.declared.anew.Kept.TheVariants.{OverGraph, ByLayers}
-use Rattle.pricing.specs.Found.{IsBestFound}
-use Rattle.pricing.specs.Tables.{Tabled, MeanTheSame, IsShiftOf, repriced, NameNone, NameNoneAbove, AreStepsUpTo}
-use Rattle.pricing.specs.Keeping.{AreTables, AreValuesAbove, AreKeptAbove, AreRestsKept, IsGraphKept, IsFoundAt, IsLastChange, nodes_of}
+use Rattle.pricing.proofs.Common.{◌≡◌, ℕ, zero, suc, ◌+◌, ◌-◌, ◌<◌, ◌≤◌, ℤ, ◌+ℤ◌, ◌≤ℤ◌, true, false, nat_le, List, [], ◌∷◌, length, fold, refl, sym, ap, ◌∙◌, subst, arith, Option, Some, None, slice_get, All, arc_value, count_by, unsigned_abs, and_parts, Break, Rule, end_of, may_follow, is_walk_from, end_of_all, Spot, bounds, Node, node_at, Duty, Shift, shift_list, slots, is_list_of, IsBest, worth, earned, ArePricesOf, AreSmallPrices, price_in, Found, KeptSearch, OverGraph, ByLayers, IsBestFound, Tabled, MeanTheSame, IsShiftOf, repriced, NameNone, NameNoneAbove, AreStepsUpTo, AreTables, AreValuesAbove, AreKeptAbove, AreRestsKept, IsGraphKept, IsFoundAt, IsLastChange, nodes_of}
 use Rattle.pricing.proofs.Changes.{length-repriced, small_repriced, some_named, last_within}
 use Rattle.pricing.proofs.Reached.{steps_within}
 use Rattle.pricing.proofs.Reused.{values_above}
@@ -48,16 +23,16 @@ some_got (x ∷ xs) zero l = (x, refl)
 some_got (x ∷ xs) (suc i) l = some_got xs i (omega arith)
 
 -- the graph that is kept with right values
-pub graph_kept : (rule : Rule) (len : ℕ) (sums : List ℤ) (kept : Kept) → AreRestsKept rule len sums kept → IsGraphKept rule len kept
+pub graph_kept : (rule : Rule) (len : ℕ) (sums : List ℤ) (kept : KeptSearch) → AreRestsKept rule len sums kept → IsGraphKept rule len kept
 graph_kept rule len sums (OverGraph graph values) rests = rests.graph
 graph_kept rule len sums ByLayers rests = tt
 
 -- the kept values behind an offset stay right where the prices there stay
-rests_above : (rule : Rule) (len last : ℕ) (sums other : List ℤ) (kept : Kept) → ((o : ℕ) → last < o → o < len → price_in other o ≡ price_in sums o) → AreRestsKept rule len sums kept → AreKeptAbove rule len other last kept
+rests_above : (rule : Rule) (len last : ℕ) (sums other : List ℤ) (kept : KeptSearch) → ((o : ℕ) → last < o → o < len → price_in other o ≡ price_in sums o) → AreRestsKept rule len sums kept → AreKeptAbove rule len other last kept
 rests_above rule len last sums other (OverGraph graph values) same rests = values_above rule len last sums other values.items (arc_value graph) same rests.known
 rests_above rule len last sums other ByLayers same rests = tt
 
-module _ (t : Tabled) (lists : List (List Break)) (kept : Kept) (best : Option Found) (h : AreTables t lists kept best) where
+module _ (t : Tabled) (lists : List (List Break)) (kept : KeptSearch) (best : Option Found) (h : AreTables t lists kept best) where
   pub best_some : (f : Found) → best ≡ Some f → IsBest t.instance t.shift t.day t.prices t.bonus f.list f.value
   best_some f is =
       let s = some_got (shift_list t.instance) t.shift h.shift in
@@ -105,7 +80,7 @@ module _ (t : Tabled) (lists : List (List Break)) (kept : Kept) (best : Option F
     }
 
     -- what was found anew
-    pub anew_after : All (λ change. unsigned_abs change.1 ≤ 10000000000) changes → (kept' : Kept) (best' : Option Found)
+    pub anew_after : All (λ change. unsigned_abs change.1 ≤ 10000000000) changes → (kept' : KeptSearch) (best' : Option Found)
         → ((x : Shift × Rule) → IsShiftOf t.instance t.shift x → IsFoundAt t.instance x t.day (repriced t.prices changes) t.bonus kept' best')
         → AreTables (record { instance = t.instance; shift = t.shift; day = t.day; prices = repriced t.prices changes; bonus = t.bonus }) lists kept' best'
     anew_after small kept' best' found = record {
@@ -143,6 +118,6 @@ none_above rule len sums nodes kept k list above st =
     absurd (omega (arith, above, end, within))
 
 -- and all that is kept of nodes there is right
-pub none_kept_above : (rule : Rule) (len : ℕ) (sums : List ℤ) (kept : Kept) → AreKeptAbove rule len sums len kept
+pub none_kept_above : (rule : Rule) (len : ℕ) (sums : List ℤ) (kept : KeptSearch) → AreKeptAbove rule len sums len kept
 none_kept_above rule len sums (OverGraph graph values) = none_above rule len sums (arc_value graph) values.items
 none_kept_above rule len sums ByLayers = tt

@@ -1,17 +1,6 @@
 -- Bonuses that are added one after another.
-use Rattle.std.proofs.Common.{◌≡◌, ◌⊎◌, inl, inr, ℕ, ◌+◌, ◌<◌, ℤ, pos, ◌+ℤ◌, Bool, true, false, cond, ◌||◌, List, [], ◌∷◌, ◌++◌, length, take, get_or, refl, sym, ap, ◌∙◌, arith}
-use Rattle.std.specs.List.{list_any}
-use Rattle.std.proofs.lemmas.Int.{ints}
-use Rattle.std.proofs.lemmas.Bool.{cases_Bool, cond-true, cond-false, cond_both, or_cases, or_left, or_right, false≢true}
-use Rattle.std.proofs.lemmas.List.{take_more}
+use Rattle.pricing.proofs.Common.{◌≡◌, ◌⊎◌, inl, inr, ℕ, ◌+◌, ◌<◌, ℤ, pos, ◌+ℤ◌, Bool, true, false, cond, ◌||◌, List, [], ◌∷◌, ◌++◌, length, take, get_or, refl, sym, ap, ◌∙◌, arith, list_any, ints, cases_Bool, cond-true, cond-false, cond_both, or_cases, or_left, or_right, false≢true, take_more, Break, same_list, begins_with, same_list_decides, int_sum_by-cons, int_sum_by-append, with_added, share_of, bonus_of, leads_further}
 use Rattle.std.proofs.lemmas.List.Folds.{list_any-append}
-use Rattle.break_rules.specs.declared.Break.{Break}
-use Rattle.break_rules.specs.Breaks.{same_list, begins_with}
-use Rattle.break_rules.proofs.LegalLists.{same_list_decides}
-use Rattle.break_rules.proofs.Sums.{int_sum_by-cons, int_sum_by-append}
-use Rattle.patterns.specs.Bonuses.{with_added}
-use Rattle.break_rules.specs.Bonuses.{share_of, bonus_of}
-use Rattle.pricing.specs.Found.{leads_further}
 
 share_sum : (list prefix : List Break) (a b : ℤ) → share_of list (prefix, a +ℤ b) ≡ share_of list (prefix, a) +ℤ share_of list (prefix, b)
 share_sum list prefix a b = by (begins_with list prefix)

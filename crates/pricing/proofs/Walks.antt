@@ -1,22 +1,6 @@
 -- A best list, one edge after another.
-use Rattle.std.proofs.Common.{◌≡◌, ℕ, ◌*◌, ◌<◌, ℤ, ◌+ℤ◌, ◌-ℤ◌, true, List, [], ◌∷◌, ◌++◌, length, sym, ◌∙◌, subst, arith, append_assoc, append-nil, Option, Some, None, FitsSigned}
-use Rattle.std.specs.Prelude.{MatchOption}
-use Rattle.std.specs.Int.{w64}
-use Rattle.std.proofs.lemmas.Int.{fits_signed_from_abs}
-use Rattle.break_rules.specs.declared.Break.{Break}
-use Rattle.break_rules.specs.declared.Rule.{Rule}
-use Rattle.break_rules.specs.Breaks.{is_legal}
-use Rattle.break_rules.specs.Ranges.{IsRule}
-use Rattle.break_rules.specs.Walk.{end_of_all}
-use Rattle.break_rules.specs.Lists.{Has}
-use Rattle.break_graph.specs.declared.Edge.{Edge}
-use Rattle.break_graph.specs.declared.Node.{Node}
-use Rattle.break_graph.specs.Graph.{IsGraph, StandsAt, node_at}
-use Rattle.price_sums.specs.Along.{sum_at, AreSums, resumes}
-use Rattle.pricing.specs.Values.{AreValues, reach_of, AreFit, IsFirstWith, LeadsOn}
-use Rattle.break_layers.specs.Rests.{IsBestTail, IsBestFrom}
+use Rattle.pricing.proofs.Common.{◌≡◌, ℕ, ◌*◌, ◌<◌, ℤ, ◌+ℤ◌, ◌-ℤ◌, true, List, [], ◌∷◌, ◌++◌, length, sym, ◌∙◌, subst, arith, append_assoc, append-nil, Option, Some, None, FitsSigned, MatchOption, w64, fits_signed_from_abs, Break, Rule, is_legal, IsRule, end_of_all, Has, Edge, Node, IsGraph, StandsAt, node_at, sum_at, AreSums, resumes, AreValues, reach_of, AreFit, IsFirstWith, LeadsOn, IsBestTail, IsBestFrom, abs_add}
 use Rattle.pricing.proofs.ByEdges.{fits, leads_by, legal_without, best_at_end, value_size, has_place}
-use Rattle.break_rules.proofs.Sizes.{abs_add}
 
 module _ (rule : Rule) (len : ℕ) (sums : List ℤ) (nodes : List Node) (k : ℕ) (values : List ℤ) (list : List Break)
     (r : IsRule rule) (g : IsGraph rule len nodes) (s : AreSums len sums) (known : AreValues rule len sums nodes (length nodes) values) (st : StandsAt rule len nodes k list) where

@@ -1,30 +1,7 @@
 -- The best of the ways on behind some breaks, by what their best rests reach.
-use Rattle.std.proofs.Common.{◌≡◌, inl, inr, ℕ, zero, suc, ◌*◌, ◌<◌, ◌≤◌, ℤ, pos, ◌+ℤ◌, ◌-ℤ◌, ◌≤ℤ◌, Bool, true, false, cond, ◌&&◌, List, [], ◌∷◌, ◌++◌, map, take, drop, length, get_or, refl, sym, ap, ◌∙◌, subst, arith, append_assoc, append-nil, int_lt, Option, Some, None}
-use Rattle.std.specs.Prelude.{MatchOption, FitsSigned}
-use Rattle.std.specs.Option.{unwrap_or}
-use Rattle.std.specs.Int.{w64}
-use Rattle.std.specs.Int.RustNames.{unsigned_abs}
-use Rattle.std.proofs.lemmas.Int.{ints, fits_signed_from_abs}
-use Rattle.std.proofs.lemmas.Bool.{cases_Bool, false≢true, false_from_ne_true, or_left, or_from, and_left}
-use Rattle.break_rules.specs.declared.Break.{Break}
-use Rattle.break_rules.specs.Breaks.{is_legal, is_live, is_less_break, is_less_list, same_break, same_list, begins_with}
-use Rattle.break_rules.specs.Bonuses.{bonus_of, share_of}
-use Rattle.break_rules.specs.Ranges.{IsRule}
-use Rattle.break_rules.specs.Walk.{end_of_all, nexts_of, spot_of}
-use Rattle.break_rules.specs.Lists.{Has, Sorted}
-use Rattle.break_rules.proofs.Lists.{Has-map, Has-append_cases, Has-append_left, Has-append_right, Has-filter, any_at, any_none, any_some, same_tests}
-use Rattle.break_rules.proofs.LegalLists.{begins_from, begins_rest, same_break_decides, same_list_decides}
-use Rattle.break_rules.proofs.Ordered.{IsLessBreak, less_apart}
-use Rattle.break_rules.proofs.Reaching.{rest_first}
-use Rattle.break_rules.proofs.Sums.{int_sum_by-same}
-use Rattle.break_rules.proofs.Sizes.{abs_add}
-use Rattle.price_sums.specs.Along.{AreSums, sum_at, price_in, resumes, earned_from, Completes}
-use Rattle.break_layers.specs.Rests.{IsBestFrom, IsBestRest, IsMostEarned, Priced, rest_worth}
-use Rattle.break_layers.specs.Ways.{live_stops}
-use Rattle.break_layers.proofs.Reach.{worth_size}
-use Rattle.pricing.specs.declared.found.Found.{Found}
-use Rattle.pricing.specs.Found.{IsLegal, Covers, CoversFrom, AreBestAround, leads_further}
-use Rattle.pricing.specs.Keeping.{AreBeginnings, AreEnoughAround, IsBestBy, IsBestStop, Reaches, better_way, is_named}
+use Rattle.pricing.proofs.Common.{◌≡◌, inl, inr, ℕ, zero, suc, ◌*◌, ◌<◌, ◌≤◌, ℤ, pos, ◌+ℤ◌, ◌-ℤ◌, ◌≤ℤ◌, Bool, true, false, cond, ◌&&◌, List, [], ◌∷◌, ◌++◌, map, take, drop, length, get_or, refl, sym, ap, ◌∙◌, subst, arith, append_assoc, append-nil, int_lt, Option, Some, None, MatchOption, unwrap_or, w64, unsigned_abs, ints, fits_signed_from_abs, cases_Bool, false≢true, false_from_ne_true, or_left, or_from, and_left, Break, is_legal, is_live, is_less_break, is_less_list, same_break, same_list, begins_with, bonus_of, share_of, IsRule, end_of_all, nexts_of, spot_of, Has, Sorted, Has-map, Has-append_cases, Has-append_left, Has-append_right, Has-filter, any_at, any_none, any_some, same_tests, begins_from, begins_rest, same_break_decides, same_list_decides, IsLessBreak, less_apart, rest_first, int_sum_by-same, abs_add, AreSums, sum_at, price_in, resumes, earned_from, Completes, IsBestFrom, IsBestRest, IsMostEarned, Priced, rest_worth, live_stops, worth_size, Found, IsLegal, Covers, CoversFrom, AreBestAround, leads_further, AreBeginnings, AreEnoughAround, IsBestStop, Reaches, better_way, is_named}
+use Rattle.std.specs.Prelude.{FitsSigned}
+use Rattle.pricing.specs.Keeping.{IsBestBy}
 use Rattle.pricing.proofs.Best.{less_rests}
 use Rattle.pricing.proofs.ByEdges.{worth_more}
 use Rattle.pricing.proofs.Covered.{covers_on}

@@ -1,27 +1,8 @@
 -- The best list of a shift's rule and length is the best one of the shift.
-use Rattle.std.proofs.Common.{◌≡◌, ℕ, ◌-◌, ◌*◌, ◌≤◌, ℤ, pos, ◌+ℤ◌, ◌≤ℤ◌, false, cond, List, refl, sym, ap, ◌∙◌, subst, arith, Option, Some, None}
-use Rattle.std.specs.Prelude.{slice_get, IsSomeAnd}
-use Rattle.std.specs.Option.{option_map_or}
-use Rattle.std.specs.List.{range_with_len}
+use Rattle.pricing.proofs.Common.{◌≡◌, ℕ, ◌-◌, ◌*◌, ◌≤◌, ℤ, pos, ◌+ℤ◌, ◌≤ℤ◌, false, cond, List, refl, sym, ap, ◌∙◌, subst, arith, Option, Some, None, slice_get, IsSomeAnd, option_map_or, range_with_len, Break, Rule, is_legal, works_at, from_below, int_sum_by-same, Shift, Duty, Problem, shift_list, slots, day_slots, below, is_list_of, IsValid, IsShift, earned, worth, IsBest, bonus_of, Found, price_in, earned_from, ArePricesOf, IsBestRest, Priced, IsLegal, worth_of, IsBestFound}
 use Rattle.std.proofs.Math.Nat.{mul-le-mul_right}
-use Rattle.break_rules.specs.declared.Break.{Break}
-use Rattle.break_rules.specs.declared.Rule.{Rule}
-use Rattle.break_rules.specs.Breaks.{is_legal, works_at}
 use Rattle.break_rules.specs.Sums.{int_sum_by}
-use Rattle.break_rules.proofs.Lists.{from_below}
-use Rattle.break_rules.proofs.Sums.{int_sum_by-same}
-use Rattle.shift_instance.specs.declared.Shift.{Shift}
-use Rattle.shift_instance.specs.declared.Duty.{Duty}
-use Rattle.shift_instance.specs.Problem.{Problem, shift_list, slots, day_slots, below}
-use Rattle.shift_instance.specs.Rota.{is_list_of}
-use Rattle.shift_instance.specs.Valid.{IsValid, IsShift}
-use Rattle.shift_instance.specs.Worth.{earned, worth, IsBest}
 use Rattle.shift_instance.proofs.Offsets.{earned_by_offsets}
-use Rattle.break_rules.specs.Bonuses.{bonus_of}
-use Rattle.pricing.specs.declared.found.Found.{Found}
-use Rattle.price_sums.specs.Along.{price_in, earned_from, ArePricesOf}
-use Rattle.break_layers.specs.Rests.{IsBestRest, Priced}
-use Rattle.pricing.specs.Found.{IsLegal, worth_of, IsBestFound}
 
 pub some_of : (o : Option (Shift × Rule)) (P : Shift × Rule → Type 0) → IsSomeAnd o P → (x : Shift × Rule) × (o ≡ Some x)
 some_of None P h = absurd h

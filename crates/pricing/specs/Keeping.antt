@@ -18,8 +18,8 @@ use Rattle.shift_instance.specs.Problem.{Problem, shift_list, slots, slot_of}
 use Rattle.shift_instance.specs.Worth.{price_of}
 use Rattle.price_sums.specs.Along.{sum_at, ArePricesOf, AreSmallPrices}
 use Rattle.pricing.specs.declared.found.Found.{Found}
-use Rattle.pricing.specs.declared.anew.Kept.{Kept}
-use Rattle.pricing.specs.declared.anew.Kept.TheVariants.{OverGraph, ByLayers}
+use Rattle.pricing.specs.declared.anew.KeptSearch.{KeptSearch}
+use Rattle.pricing.specs.declared.anew.KeptSearch.TheVariants.{OverGraph, ByLayers}
 use Rattle.pricing.specs.Values.{IsValue, AreBestRests, PricedNodes, priced_of}
 use Rattle.pricing.specs.Found.{leads_further, Covers, CoversFrom, IsBestFound, IsLegal}
 use Rattle.pricing.specs.Tables.{Tabled, IsShiftOf}
@@ -54,34 +54,34 @@ AreValuesAbove rule len sums nodes last values =
     (k : ℕ) (list : List Break) → last < (node_at nodes k).spot.offset → StandsAt rule len nodes k list → IsValue rule len sums list (sum_at values k)
 
 -- the nodes of a graph that is kept, and none where none is
-abbrev pub nodes_of : Kept → List Node
+abbrev pub nodes_of : KeptSearch → List Node
 nodes_of (OverGraph graph values) = arc_value graph
 nodes_of ByLayers = []
 
 -- a graph that is kept is the one of a rule and a length
-abbrev pub IsGraphKept : Rule → ℕ → Kept → Type 0
+abbrev pub IsGraphKept : Rule → ℕ → KeptSearch → Type 0
 IsGraphKept rule len (OverGraph graph values) = IsGraph rule len (arc_value graph)
 IsGraphKept rule len ByLayers = Unit {0}
 
 -- the values that are kept of the nodes behind an offset are right, by the sums of prices
-abbrev pub AreKeptAbove : Rule → ℕ → List ℤ → ℕ → Kept → Type 0
+abbrev pub AreKeptAbove : Rule → ℕ → List ℤ → ℕ → KeptSearch → Type 0
 AreKeptAbove rule len sums last (OverGraph graph values) = AreValuesAbove rule len sums (arc_value graph) last values.items
 AreKeptAbove rule len sums last ByLayers = Unit {0}
 
 -- the values that are kept of all nodes are right
-abbrev pub AreRestsKept : Rule → ℕ → List ℤ → Kept → Type 0
+abbrev pub AreRestsKept : Rule → ℕ → List ℤ → KeptSearch → Type 0
 AreRestsKept rule len sums (OverGraph graph values) = AreBestRests rule len (arc_value graph) sums values.items
 AreRestsKept rule len sums ByLayers = Unit {0}
 
 -- what is known of a shift at some prices: by the sums of the prices, the values of the nodes of a graph that is kept, and the best list
-pub record IsFoundAt (i : Problem) (x : Shift × Rule) (day : ℕ) (prices : List ℤ) (bonus : List (List Break × ℤ)) (kept : Kept) (best : Option Found) : Type 0 where
+pub record IsFoundAt (i : Problem) (x : Shift × Rule) (day : ℕ) (prices : List ℤ) (bonus : List (List Break × ℤ)) (kept : KeptSearch) (best : Option Found) : Type 0 where
   pub sums : List ℤ
   pub sums_of : ArePricesOf i x.0 day prices sums
   pub rests : AreRestsKept x.1 x.0.len sums kept
   pub is_best : IsBestFound (record { rule = x.1; len = x.0.len; sums = sums }) bonus best
 
 -- what tables keep
-pub record AreTables (t : Tabled) (lists : List (List Break)) (kept : Kept) (best : Option Found) : Type 0 where
+pub record AreTables (t : Tabled) (lists : List (List Break)) (kept : KeptSearch) (best : Option Found) : Type 0 where
   pub shift : t.shift < length (shift_list t.instance)
   pub count : length t.prices ≡ slots t.instance
   pub small : AreSmallPrices t.prices

@@ -1,6 +1,5 @@
 pub mod Values
 pub mod Found
 pub mod Days
-pub mod Spots
 pub mod Tables
 pub mod Keeping

@@ -29,7 +29,7 @@ use std::sync::ledger::Ledger;
 
 /// What is kept of a search for the best list, for later prices.
 #[derive(Drop)]
-pub enum Kept {
+pub enum KeptSearch {
     /// The search went along the graph of the shift that the instance keeps.
     OverGraph {
         /// The graph.
@@ -45,7 +45,7 @@ pub enum Kept {
 #[derive(Drop)]
 pub struct AtPrices {
     /// What is kept of the search.
-    pub kept: Kept,
+    pub kept: KeptSearch,
     /// The best list, if some list is legal.
     pub best: Option<Found>,
 }
@@ -90,18 +90,22 @@ pub fn last_change(
     last
 }
 
-impl Kept {
+impl KeptSearch {
     /// What is kept for a shift before its first search.
-    pub fn before_all(alloc: Global, instance: &Instance, shift: u16) -> Result<Kept, NoMemory>
+    pub fn before_all(
+        alloc: Global,
+        instance: &Instance,
+        shift: u16,
+    ) -> Result<KeptSearch, NoMemory>
         requires { shift < length (shift_list instance.now) }
         ensures { IfOk result (λ kept. (x : Shift × Rule) → IsShiftOf instance.now shift x → IsGraphKept x.1 x.0.len kept) }
     {
         match instance.shared_graph(shift)? {
             Some(graph) => {
                 let values = Vec::new(alloc);
-                Ok(Kept::OverGraph { graph, values })
+                Ok(KeptSearch::OverGraph { graph, values })
             }
-            None => Ok(Kept::ByLayers),
+            None => Ok(KeptSearch::ByLayers),
         }
     }
 }
@@ -114,7 +118,7 @@ impl AtPrices {
         instance: &Instance,
         subject: &Subject,
         prices: &[i64],
-        kept: &Kept,
+        kept: &KeptSearch,
         last: u16,
         steps: &mut Steps<L>,
     ) -> Result<AtPrices, NoMemory>
@@ -131,12 +135,12 @@ impl AtPrices {
         let len = instance.shift(subject.shift).len;
         let sums = price_sums(alloc, instance, subject.shift, subject.day, prices)?;
         match kept {
-            Kept::OverGraph { graph, values } => {
+            KeptSearch::OverGraph { graph, values } => {
                 let graph = Arc::try_clone(graph)?;
                 let values = values_anew(alloc, rule, len, &graph, &sums, values, last, steps)?;
                 AtPrices::over_graph(alloc, rule, len, graph, sums, values, subject, steps)
             }
-            Kept::ByLayers => AtPrices::by_layers(alloc, rule, len, sums, subject, steps),
+            KeptSearch::ByLayers => AtPrices::by_layers(alloc, rule, len, sums, subject, steps),
         }
     }
 
@@ -160,7 +164,7 @@ impl AtPrices {
         let rests = BestRests::with_values(rule, len, &graph, sums, values);
         let best = best_by_beginnings(alloc, &rests, &subject.trie, &subject.beginnings, steps)?;
         let values = rests.into_values();
-        let kept = Kept::OverGraph { graph, values };
+        let kept = KeptSearch::OverGraph { graph, values };
         Ok(AtPrices { kept, best })
     }
 
@@ -182,7 +186,7 @@ impl AtPrices {
     {
         let rests = LayerRests::new(alloc, rule, len, sums)?;
         let best = best_by_beginnings(alloc, &rests, &subject.trie, &subject.beginnings, steps)?;
-        let kept = Kept::ByLayers;
+        let kept = KeptSearch::ByLayers;
         Ok(AtPrices { kept, best })
     }
 }

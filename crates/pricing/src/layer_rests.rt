@@ -1,6 +1,6 @@
 //! The best rests of break lists by layers of spots.
 
-ghost use Rattle.std.specs.Prelude.{◌≡◌, ◌*◌, ◌≤◌, ◌++◌, List, [], ◌∷◌, IfOk, MatchOption, true, false};
+ghost use Rattle.std.specs.Prelude.{◌≡◌, ◌++◌, List, [], ◌∷◌, IfOk, true, false};
 ghost use Rattle.break_rules.specs.declared.Break.{Break};
 ghost use Rattle.break_rules.specs.Breaks.{is_legal, is_live};
 ghost use Rattle.break_rules.specs.Ranges.{IsRule};

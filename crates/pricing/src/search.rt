@@ -1,10 +1,8 @@
 //! The search for the best break list of a duty.
 
-ghost use Rattle.std.specs.Prelude.{◌≡◌, ◌≢◌, ◌+◌, ◌^◌, ◌<◌, ◌≤◌, List, [], length, take, All, IfOk, IsSomeAnd, MatchOption, true, false, slice_get};
+ghost use Rattle.std.specs.Prelude.{◌≡◌, ◌+◌, ◌^◌, ◌<◌, ◌≤◌, List, [], length, All, IfOk, IsSomeAnd, MatchOption, true, false, slice_get};
 ghost use Rattle.std.specs.Int.RustNames.{unsigned_abs};
 ghost use Rattle.break_rules.specs.declared.Break.{Break};
-ghost use Rattle.break_rules.specs.Breaks.{begins_with};
-ghost use Rattle.break_rules.specs.Ranges.{IsRule};
 ghost use Rattle.break_rules.specs.Lists.{Has};
 ghost use Rattle.break_graph.specs.Graph.{IsGraph};
 ghost use Rattle.break_rules.specs.Bonuses.{bonus_of};

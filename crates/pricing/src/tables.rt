@@ -11,7 +11,7 @@ ghost use Rattle.shift_instance.specs.Worth.{IsBest};
 ghost use Rattle.price_sums.specs.Along.{AreSmallPrices};
 ghost use Rattle.pricing.specs.Tables.{IsShiftOf, MeanTheSame, repriced, NameNone, NameNoneAbove, AreStepsUpTo};
 
-use crate::anew::{AtPrices, Kept, changed_prices, last_change};
+use crate::anew::{AtPrices, KeptSearch, changed_prices, last_change};
 use crate::steps::Steps;
 use crate::subject::Subject;
 use break_rules::{Break, Breaks, NoMemory};
@@ -24,8 +24,8 @@ use std::sync::ledger::Ledger;
 /// What is known of a shift on a day at prices and bonuses, kept while prices change: only what changed prices reach is found
 /// anew. Where the instance keeps a graph of the shift, tables hold a value for each of its nodes. Where it keeps none, no
 /// graph is made: tables hold the best list alone, found by layers of spots, and find it anew where a price of the shift's
-/// duties on the day changed. A step is a node's value that is found, or a beginning of a bonus's prefix from which lists go
-/// on: the making of layers counts none.
+/// duties on the day changed. A step of pricing is a graph node's value that is found, or a beginning of a bonus's prefix
+/// from which lists go on: the making of layers counts none.
 #[derive(Drop)]
 pub struct Tables {
     alloc: Global,
@@ -72,7 +72,7 @@ impl Tables {
         let subject = Subject::new(alloc, shift, day, bonus)?;
         let prices = Vec::from_slice(alloc, prices)?;
         let len = instance.shift(shift).len;
-        let kept = Kept::before_all(alloc, instance, shift)?;
+        let kept = KeptSearch::before_all(alloc, instance, shift)?;
         let found = AtPrices::find(alloc, instance, &subject, &prices, &kept, len, steps)?;
         Ok(Tables {
             alloc,

@@ -1,6 +1,6 @@
 //! The values of the nodes of a graph: what the best rests of the break lists that stand there earn.
 
-ghost use Rattle.std.specs.Prelude.{◌≡◌, ◌≢◌, ◌<◌, ◌≤◌, ◌++◌, ◌+ℤ◌, ◌-ℤ◌, ◌+◌, [], List, MatchOption, count_by, nat_le, length, IfOk, FitsSigned, Some, slice_get};
+ghost use Rattle.std.specs.Prelude.{◌≡◌, ◌≢◌, ◌<◌, ◌≤◌, ◌+ℤ◌, ◌-ℤ◌, ◌+◌, [], List, MatchOption, count_by, nat_le, length, IfOk, FitsSigned, Some, slice_get};
 ghost use Rattle.std.specs.Int.{w64};
 ghost use Rattle.break_rules.specs.declared.Break.{Break};
 ghost use Rattle.break_rules.specs.Ranges.{IsRule};

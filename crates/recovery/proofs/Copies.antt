@@ -1,10 +1,6 @@
 -- A copy equals what it is made of, part by part.
-use Rattle.std.proofs.Common.{◌≡◌, ◌∙◌, ℕ, ℤ, List, ap}
-use Rattle.std.specs.List.{AllZip}
-use Rattle.std.proofs.lemmas.List.Elements.{same_from_all_zip}
+use Rattle.recovery.proofs.Common.{◌≡◌, ◌∙◌, ℕ, ℤ, List, ap, AllZip, same_from_all_zip, Class, Prices}
 use Rattle.break_rules.specs.declared.Break.{Break}
-use Rattle.head_splits.specs.declared.Class.{Class}
-use Rattle.head_splits.specs.declared.Prices.{Prices}
 
 pub same_items : {X : Type 0} (xs ys : List X) → AllZip (λ (x y : X). y ≡ x) xs ys → ys ≡ xs
 same_items {X} xs ys z = same_from_all_zip (λ (x y : X). y ≡ x) xs ys z (λ x y e. e)

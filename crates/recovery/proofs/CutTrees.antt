@@ -1,15 +1,5 @@
 -- The nodes that a tree of cuts keeps: one by one, and after a further division.
-use Rattle.std.proofs.Common.{◌≡◌, ◌⊎◌, inl, inr, ℕ, zero, suc, ◌+◌, ◌-◌, ◌*◌, ◌/◌, ◌%◌, ◌<◌, ◌≤◌, Bool, true, false, cond, ◌&&◌, ◌==◌, nat_lt, List, [], ◌∷◌, ◌++◌, length, fold, reverse, refl, sym, ap, ◌∙◌, subst, append_assoc, arith, Option, Some}
-use Rattle.std.specs.Prelude.{slice_get}
-use Rattle.std.specs.Option.{option_map_or}
-use Rattle.std.proofs.lemmas.Bool.{eqb-true, eqb-false, lt-ltb}
-use Rattle.std.proofs.lemmas.List.{length-append, append-nil}
-use Rattle.std.proofs.lemmas.List.Sums.{fold-append}
-use Rattle.head_splits.specs.declared.Class.{Class}
-use Rattle.head_splits.specs.declared.Cut.{Cut}
-use Rattle.recovery.specs.declared.cut_tree.Division.{Division}
-use Rattle.recovery.specs.CutTree.{cut_of, nodes_in, AreOlder}
-use Rattle.recovery.specs.NodeCuts.{cuts_at, divided, with_parts}
+use Rattle.recovery.proofs.Common.{◌≡◌, ◌⊎◌, inl, inr, ℕ, zero, suc, ◌+◌, ◌-◌, ◌*◌, ◌/◌, ◌%◌, ◌<◌, ◌≤◌, Bool, true, false, cond, ◌&&◌, ◌==◌, nat_lt, List, [], ◌∷◌, ◌++◌, length, fold, reverse, refl, sym, ap, ◌∙◌, subst, append_assoc, arith, Option, Some, slice_get, option_map_or, eqb-true, eqb-false, lt-ltb, length-append, append-nil, fold-append, Class, Cut, Division, cut_of, nodes_in, AreOlder, cuts_at, divided, with_parts}
 
 -- ---- lists
 

@@ -1,30 +1,7 @@
 -- Records that were read, folded one after another.
-use Rattle.std.proofs.Common.{◌≡◌, ℕ, zero, suc, ◌+◌, ◌<◌, ◌≤◌, List, [], ◌∷◌, ◌++◌, length, map, take, drop, get_or, refl, sym, ap, ◌∙◌, subst, append_assoc, arith, Option, Some, Vec, Global}
-use Rattle.std.specs.Prelude.{slice_get, IfErr, IfOk, IsSomeAnd, MatchResult, Result, Ok, Err}
-use Rattle.std.specs.List.{AllZip}
-use Rattle.std.proofs.lemmas.List.{append-nil, length-append, take_all}
-use Rattle.std.proofs.lemmas.Option.{get_or_from_slice_get, slice_get_read}
-use Rattle.shift_instance.specs.Problem.{Problem}
+use Rattle.recovery.proofs.Common.{◌≡◌, ℕ, zero, suc, ◌+◌, ◌<◌, ◌≤◌, List, [], ◌∷◌, ◌++◌, length, map, take, drop, get_or, refl, sym, ap, ◌∙◌, subst, append_assoc, arith, Option, Some, Vec, Global, slice_get, IfErr, IfOk, IsSomeAnd, MatchResult, Result, Ok, Err, AllZip, append-nil, length-append, take_all, get_or_from_slice_get, slice_get_read, Problem, Cut, PriceWidth, Post, SpellsBy, one_list_by, none_spelled, Book, opening, StateView, Takes, Why, RebuildFault, NoMemory, fault_at, RecordStops, TakesRecord, nodes_of, AreFoundIn, all_posts, posts_in, AreAllFound, AreReads, IsReadOf, Outcome, MakeBookBy, RefusesBy}
 use Rattle.shift_instance.proofs.Shifts.{get_or_some}
-use Rattle.head_splits.specs.declared.Cut.{Cut}
-use Rattle.post_codec.specs.declared.price_width.PriceWidth.{PriceWidth}
-use Rattle.post_codec.specs.declared.post.Post.{Post}
 use Rattle.post_codec.specs.Fields.{IsFaultOf}
-use Rattle.post_codec.specs.Spelling.{SpellsBy}
-use Rattle.post_codec.proofs.Formats.{one_list_by}
-use Rattle.post_codec.proofs.Batches.{none_spelled}
-use Rattle.search_core.specs.Book.{Book, opening}
-use Rattle.search_core.specs.State.{StateView}
-use Rattle.search_core.specs.Taking.{Takes}
-use Rattle.recovery.specs.declared.fault.Why.{Why}
-use Rattle.recovery.specs.declared.fault.RebuildFault.{RebuildFault}
-use Rattle.recovery.specs.declared.fault.RebuildFault.TheVariants.{NoMemory}
-use Rattle.recovery.specs.Folding.{fault_at, RecordStops, TakesRecord}
-use Rattle.recovery.specs.NodeCuts.{nodes_of}
-use Rattle.recovery.specs.Findings.{AreFoundIn}
-use Rattle.recovery.specs.Reads.{all_posts, posts_in, AreAllFound, AreReads, IsReadOf, Outcome}
-use Rattle.recovery.specs.Records.{MakeBookBy}
-use Rattle.recovery.specs.Refusals.{RefusesBy}
 use Rattle.recovery.proofs.Rebuilt.{rebuilt_more, rebuilt_stops, Rebuilt}
 use Rattle.recovery.proofs.Unspelled.{never_rejected}
 

@@ -1,35 +1,11 @@
 -- What workers found holds of the nodes of a book.
-use Rattle.std.proofs.Common.{◌≡◌, inl, inr, ℕ, zero, suc, ◌+◌, ◌<◌, ◌≤◌, max, Bool, true, false, cond, ◌&&◌, not, List, [], ◌∷◌, ◌++◌, length, take, get_or, refl, sym, ap, ◌∙◌, subst, append_assoc, arith, nat_le, nat_lt, Option, Some, None}
-use Rattle.std.specs.Prelude.{slice_get, IfSome, IsSome, IsTrue}
-use Rattle.std.proofs.lemmas.Bool.{and_from, false≢true, le-leb, lt-ltb}
-use Rattle.std.proofs.lemmas.List.{take_more}
-use Rattle.std.proofs.lemmas.Option.{slice_get_within}
-use Rattle.shift_instance.specs.Problem.{Problem}
-use Rattle.shift_instance.specs.Valid.{IsValid}
-use Rattle.head_splits.specs.declared.Class.{Class}
-use Rattle.head_splits.specs.declared.Cut.{Cut}
-use Rattle.head_splits.specs.declared.Prices.{Prices}
-use Rattle.head_splits.specs.Bound.{are_prices, bound_of}
-use Rattle.head_splits.specs.Cuts.{low, high}
-use Rattle.head_splits.specs.Nodes.{settled_floor, with_floor, with_split, Node}
-use Rattle.head_splits.specs.Settled.{is_live_class, is_settled}
+use Rattle.recovery.proofs.Common.{◌≡◌, inl, inr, ℕ, zero, suc, ◌+◌, ◌<◌, ◌≤◌, max, Bool, true, false, cond, ◌&&◌, not, List, [], ◌∷◌, ◌++◌, length, take, get_or, refl, sym, ap, ◌∙◌, subst, append_assoc, arith, nat_le, nat_lt, Option, Some, None, slice_get, IfSome, IsSome, IsTrue, and_from, false≢true, le-leb, lt-ltb, take_more, slice_get_within, Problem, IsValid, Class, Cut, Prices, are_prices, bound_of, low, high, settled_floor, with_floor, with_split, Node, is_live_class, is_settled, Post, Plan, Priced, Settled, Split, at_node, is_open, priced, settled, step, book_after, book_of, opening, Book, value_of, StateView, book_after-append, Taking, option_and_then, option_map_or, cuts_at, nodes_of, is_ready, AreFoundIn, Divides, IsBound, IsFoundAt, IsFoundIn, IsSettledAt}
 use Rattle.dual_bound.specs.Proved.{IsProved, Proving}
-use Rattle.post_codec.specs.declared.post.Post.{Post}
-use Rattle.post_codec.specs.declared.post.Post.TheVariants.{Plan, Priced, Settled, Split}
-use Rattle.search_core.specs.Book.{at_node, divided, is_open, priced, settled, step, book_after, book_of, opening, Book}
-use Rattle.search_core.specs.State.{value_of, StateView}
-use Rattle.search_core.proofs.Runs.{book_after-append}
-use Rattle.search_core.proofs.Taking.{Taking}
-use Rattle.std.specs.Option.{option_and_then, option_map_or}
-use Rattle.recovery.specs.NodeCuts.{cuts_at, nodes_of}
-use Rattle.recovery.specs.Findings.{is_ready, AreFoundIn, Divides, IsBound, IsFoundAt, IsFoundIn, IsSettledAt}
+use Rattle.search_core.specs.Book.{divided}
 use Rattle.recovery.proofs.CutTrees.{get_more, get_seam}
 use Rattle.recovery.proofs.NodesOf.{cuts_known}
 
 -- ---- one more bound
-
-pub no_findings : (i : Problem) (nodes : List (List Cut)) (posts : List Post) → AreFoundIn i nodes posts []
-no_findings i nodes posts at post bound e f = absurd (cc)
 
 found_one : (i : Problem) (nodes : List (List Cut)) (posts : List Post) (bounds : List (Option ℕ)) (post : Post) (found : Option ℕ)
     → length posts ≡ length bounds → AreFoundIn i nodes posts bounds → IfSome found (IsFoundIn i nodes post) → AreFoundIn i nodes (posts ++ post ∷ []) (bounds ++ found ∷ [])
@@ -156,22 +132,3 @@ found_allowed i b (Settled worker k) found is ready =
     let p = if_some (slice_get b.nodes k) (λ n. IsSettledAt i n.cuts found) n t.1 is in
     let new = with_floor b.nodes k n (settled_floor i n.cuts) in
     makes b k (settled i b k) n new t.1 (ap (λ c. cond c (Some new) None) (and_from (not n.split) (is_settled i n.cuts) t.2 p.0))
-
--- the number that was found of prices or of a settled node goes with its post
-pub priced_value : (i : Problem) (b : Book) (worker k : ℕ) (prices : Prices) (found : ℕ) → IsFoundAt i b (Priced worker k prices) found → IsTrue (is_ready b (Priced worker k prices)) → found ≡ value_of i b (Priced worker k prices)
-priced_value i b worker k prices found is ready =
-    let t = there (λ n. not n.split) (slice_get b.nodes k) ready in
-    let p = if_some (slice_get b.nodes k) (λ n. IsBound i n.cuts prices found) t.0 t.1 is in
-    p.1 ∙ sym (ap (λ (o : Option Node). option_map_or (λ n. bound_of i n.cuts prices) o 0) t.1)
-
-pub settled_value : (i : Problem) (b : Book) (worker k : ℕ) (found : ℕ) → IsFoundAt i b (Settled worker k) found → IsTrue (is_ready b (Settled worker k)) → found ≡ value_of i b (Settled worker k)
-settled_value i b worker k found is ready =
-    let t = there (λ n. not n.split) (slice_get b.nodes k) ready in
-    let p = if_some (slice_get b.nodes k) (λ n. IsSettledAt i n.cuts found) t.0 t.1 is in
-    p.1 ∙ sym (ap (λ (o : Option Node). option_map_or (λ n. settled_floor i n.cuts) o 0) t.1)
-
--- the node of a split that a book is ready for is there
-pub split_there : (b : Book) (worker k : ℕ) (class : Class) (m : ℕ) → IsTrue (is_ready b (Split worker k class m)) → k < length b.nodes
-split_there b worker k class m ready =
-    let t = there (is_open b) (slice_get b.nodes k) ready in
-    slice_get_within b.nodes k t.0 t.1

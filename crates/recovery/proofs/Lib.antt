@@ -1,3 +1,4 @@
+pub mod Common
 pub mod Copies
 pub mod CutTrees
 pub mod Folds
@@ -5,6 +6,5 @@ pub mod Found
 pub mod NodesOf
 pub mod Migrated
 pub mod Rebuilt
-pub mod Taking
 pub mod Trees
 pub mod Unspelled

@@ -1,27 +1,7 @@
 -- Records that make a book by the former spelling have a spelling with prices of five bytes, which makes the same book.
-use Rattle.std.proofs.Common.{◌≡◌, ℕ, ◌<◌, max, not, List, [], ◌∷◌, ◌++◌, length, map, take, get_or, ◌+◌, Some, sym, ap, subst, ◌∙◌, ◌&&◌, Vec, Global}
-use Rattle.std.specs.Prelude.{All}
-use Rattle.std.specs.List.{AllZip, AllByRecursion}
-use Rattle.std.proofs.lemmas.Bool.{and_parts}
-use Rattle.std.proofs.lemmas.List.{map_more, map-append}
-use Rattle.std.proofs.lemmas.List.Elements.{All-from_recursion, recursion_from_All}
+use Rattle.recovery.proofs.Common.{◌≡◌, ℕ, ◌<◌, max, not, List, [], ◌∷◌, ◌++◌, length, map, take, get_or, ◌+◌, Some, sym, ap, subst, ◌∙◌, ◌&&◌, Vec, Global, All, AllZip, AllByRecursion, and_parts, map_more, map-append, All-from_recursion, recursion_from_All, Problem, IsValid, are_prices, bound_of, with_floor, Five, Eight, Post, Plan, Priced, Split, Settled, joined, CanSpellPost, CountsFitRow, FitsPost, FitsRow, Spells, SpellsBy, one_list_by, Book, book_after, book_of, opening, priced, step, after_parts, at_node_some, bind_some, cond_some, CanRespell, SpellSame, MakeBook, MakeBookBy}
 use Rattle.shift_instance.specs.declared.Row.{Row}
-use Rattle.shift_instance.specs.Problem.{Problem}
-use Rattle.shift_instance.specs.Valid.{IsValid}
-use Rattle.head_splits.specs.Bound.{are_prices, bound_of}
-use Rattle.head_splits.specs.Nodes.{with_floor}
-use Rattle.post_codec.specs.declared.price_width.PriceWidth.TheVariants.{Five, Eight}
-use Rattle.post_codec.specs.declared.post.Post.{Post}
-use Rattle.post_codec.specs.declared.post.Post.TheVariants.{Plan, Priced, Split, Settled}
-use Rattle.post_codec.specs.Batches.{joined}
-use Rattle.post_codec.specs.Spelling.{CanSpellPost, CountsFitRow, FitsPost, FitsRow, Spells, SpellsBy}
-use Rattle.post_codec.proofs.Formats.{one_list_by}
-use Rattle.search_core.specs.Book.{Book, book_after, book_of, opening, priced, step}
-use Rattle.search_core.proofs.Closed.{after_parts}
-use Rattle.search_core.proofs.Sound.{at_node_some, bind_some, cond_some}
 use Rattle.search_core.proofs.Spelled.{prices_spell}
-use Rattle.recovery.specs.Migrating.{CanRespell, SpellSame}
-use Rattle.recovery.specs.Records.{MakeBook, MakeBookBy}
 
 -- ---- each record has a spelling
 rows_can : (rows : List Row) → AllByRecursion FitsRow rows → AllByRecursion CountsFitRow rows

@@ -1,25 +1,8 @@
 -- The nodes of a book have the cuts that its posts' splits make, also where further posts follow.
-use Rattle.std.proofs.Common.{◌≡◌, ℕ, zero, suc, ◌+◌, ◌<◌, ◌≤◌, max, true, false, cond, ◌&&◌, not, List, [], ◌∷◌, ◌++◌, length, map, fold, set, refl, sym, ap, ◌∙◌, append_assoc, arith, nat_le, nat_lt, Option, Some}
-use Rattle.std.specs.Prelude.{slice_get}
-use Rattle.std.specs.Option.{option_map_or}
-use Rattle.std.proofs.lemmas.Bool.{and_parts, ltb-true}
-use Rattle.std.proofs.lemmas.List.{append-nil, length-map, map-append}
-use Rattle.std.proofs.lemmas.List.Sums.{fold-append}
-use Rattle.std.proofs.lemmas.Option.{slice_get_within}
-use Rattle.shift_instance.specs.Problem.{Problem}
-use Rattle.shift_instance.specs.Valid.{IsValid}
-use Rattle.head_splits.specs.declared.Cut.{Cut}
+use Rattle.recovery.proofs.Common.{◌≡◌, ℕ, zero, suc, ◌+◌, ◌<◌, ◌≤◌, max, true, false, cond, ◌&&◌, not, List, [], ◌∷◌, ◌++◌, length, map, fold, set, refl, sym, ap, ◌∙◌, append_assoc, arith, nat_le, nat_lt, Option, Some, slice_get, option_map_or, and_parts, ltb-true, append-nil, length-map, map-append, fold-append, slice_get_within, Problem, IsValid, Cut, low, high, are_prices, bound_of, is_live_class, is_settled, Node, child, with_floor, with_split, settled_floor, Post, Plan, Priced, Settled, Split, Book, opening, is_open, priced, settled, is_better, step, book_after, book_of, cond_some, bind_some, at_node_some, cuts_at, nodes_after, nodes_of}
+use Rattle.search_core.specs.Book.{divided as divided_nodes}
 use Rattle.head_splits.specs.declared.Side.TheVariants.{AtMost, AtLeast}
-use Rattle.head_splits.specs.Cuts.{low, high}
-use Rattle.head_splits.specs.Bound.{are_prices, bound_of}
-use Rattle.head_splits.specs.Settled.{is_live_class, is_settled}
-use Rattle.head_splits.specs.Nodes.{Node, child, with_floor, with_split, settled_floor}
 use Rattle.head_splits.proofs.Splits.{high_most}
-use Rattle.post_codec.specs.declared.post.Post.{Post}
-use Rattle.post_codec.specs.declared.post.Post.TheVariants.{Plan, Priced, Settled, Split}
-use Rattle.search_core.specs.Book.{Book, opening, is_open, priced, divided as divided_nodes, settled, is_better, step, book_after, book_of}
-use Rattle.search_core.proofs.Sound.{cond_some, bind_some, at_node_some}
-use Rattle.recovery.specs.NodeCuts.{cuts_at, nodes_after, nodes_of}
 use Rattle.recovery.proofs.CutTrees.{get_front, there_divided}
 
 -- ---- one post

@@ -1,24 +1,7 @@
 -- Records taken into a state one after another, and where they stop.
-use Rattle.std.proofs.Common.{◌≡◌, inl, inr, ℕ, zero, suc, ◌+◌, ◌<◌, List, [], ◌∷◌, length, map, take, get_or, Option, Some, refl, sym, ◌∙◌, ap, subst, arith}
-use Rattle.std.specs.Prelude.{slice_get}
-use Rattle.std.specs.Option.{option_and_then}
-use Rattle.std.proofs.lemmas.List.{take-map}
-use Rattle.shift_instance.specs.Problem.{Problem}
-use Rattle.post_codec.specs.declared.price_width.PriceWidth.{PriceWidth}
-use Rattle.post_codec.specs.declared.post.Post.{Post}
-use Rattle.post_codec.specs.declared.fault.CodecFault.TheVariants.{Departs, NoMemory as NoMemoryForPosts}
+use Rattle.recovery.proofs.Common.{◌≡◌, inl, inr, ℕ, zero, suc, ◌+◌, ◌<◌, List, [], ◌∷◌, length, map, take, get_or, Option, Some, refl, sym, ◌∙◌, ap, subst, arith, slice_get, option_and_then, take-map, Problem, PriceWidth, Post, Departs, Book, opening, book_after, book_of, StateView, book_after-append, Why, Codec, Step, MakeBookBy, SpellPostsBy, IsCause, IsFirstRejectedBy, RefusesBy, fault_at, RecordStops, TakesRecord, Takes, none_spelled, spell_next}
+use Rattle.post_codec.specs.declared.fault.CodecFault.TheVariants.{NoMemory as NoMemoryForPosts}
 use Rattle.search_core.specs.declared.fault.StepFault.TheVariants.{NotLegal, WrongCost, NotBetter, NoNode, IsSplit, NotOpen, NotLive, OutOfRange, NotSettled, Price, NoMemory}
-use Rattle.search_core.specs.Book.{Book, opening, book_after, book_of}
-use Rattle.search_core.specs.State.{StateView}
-use Rattle.search_core.proofs.Runs.{book_after-append}
-use Rattle.recovery.specs.declared.fault.Why.{Why}
-use Rattle.recovery.specs.declared.fault.Why.TheVariants.{Codec, Step}
-use Rattle.recovery.specs.Records.{MakeBookBy}
-use Rattle.post_codec.specs.Batches.{SpellPostsBy}
-use Rattle.recovery.specs.Refusals.{IsCause, IsFirstRejectedBy, RefusesBy}
-use Rattle.recovery.specs.Folding.{fault_at, RecordStops, TakesRecord}
-use Rattle.search_core.specs.Taking.{Takes}
-use Rattle.post_codec.proofs.Batches.{none_spelled, spell_next}
 
 -- ---- lists
 

@@ -1,11 +1,5 @@
 -- The tree of the posts of records, one post and one record after another.
-use Rattle.std.proofs.Common.{◌≡◌, ℕ, ◌+◌, ◌<◌, List, [], ◌∷◌, ◌++◌, length, take, get_or, fold, sym, ap, ◌∙◌}
-use Rattle.std.proofs.lemmas.List.{append-nil, take_more}
-use Rattle.std.proofs.lemmas.List.Sums.{fold-append}
-use Rattle.head_splits.specs.declared.Cut.{Cut}
-use Rattle.post_codec.specs.declared.post.Post.{Post}
-use Rattle.recovery.specs.NodeCuts.{nodes_after, nodes_of}
-use Rattle.recovery.specs.Reads.{all_posts, posts_in, Outcome}
+use Rattle.recovery.proofs.Common.{◌≡◌, ℕ, ◌+◌, ◌<◌, List, [], ◌∷◌, ◌++◌, length, take, get_or, fold, sym, ap, ◌∙◌, append-nil, take_more, fold-append, Cut, Post, nodes_after, nodes_of, all_posts, posts_in, Outcome}
 use Rattle.recovery.proofs.Folds.{all_posts-append}
 
 -- one post more

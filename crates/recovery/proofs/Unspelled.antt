@@ -1,24 +1,7 @@
 -- Records of which one is rejected make no book.
-use Rattle.std.proofs.Common.{◌≡◌, ℕ, zero, suc, List, [], ◌∷◌, take, Some, refl, sym, ◌∙◌, ap, subst}
-use Rattle.std.specs.Prelude.{slice_get}
-use Rattle.std.specs.List.{AllZip}
-use Rattle.shift_instance.specs.Problem.{Problem}
-use Rattle.post_codec.specs.declared.price_width.PriceWidth.{PriceWidth}
-use Rattle.post_codec.specs.declared.post.Post.{Post}
-use Rattle.post_codec.specs.declared.fault.CodecFault.TheVariants.{Departs, NoMemory as NoMemoryForPosts}
-use Rattle.post_codec.specs.Spelling.{SpellsBy, EachSpellsOnce}
+use Rattle.recovery.proofs.Common.{◌≡◌, ℕ, zero, suc, List, [], ◌∷◌, take, Some, refl, sym, ◌∙◌, ap, subst, slice_get, AllZip, Problem, PriceWidth, Post, Departs, SpellsBy, EachSpellsOnce, Book, opening, book_after, book_of, after_parts, not_next, Why, Codec, Step, RebuildFault, Rejected, NoMemory, MakeBookBy, joined, IsRefused, IsCause, RefusesBy}
+use Rattle.post_codec.specs.declared.fault.CodecFault.TheVariants.{NoMemory as NoMemoryForPosts}
 use Rattle.search_core.specs.declared.fault.StepFault.{StepFault}
-use Rattle.search_core.specs.Book.{Book, opening, book_after, book_of}
-use Rattle.search_core.proofs.Closed.{after_parts}
-use Rattle.search_core.proofs.Events.{not_next}
-use Rattle.recovery.specs.declared.fault.Why.{Why}
-use Rattle.recovery.specs.declared.fault.Why.TheVariants.{Codec, Step}
-use Rattle.recovery.specs.declared.fault.RebuildFault.{RebuildFault}
-use Rattle.recovery.specs.declared.fault.RebuildFault.TheVariants.{Rejected, NoMemory}
-use Rattle.recovery.specs.Records.{MakeBookBy}
-use Rattle.post_codec.specs.Batches.{joined}
-use Rattle.search_core.specs.Running.{IsRefused}
-use Rattle.recovery.specs.Refusals.{IsCause, RefusesBy}
 
 -- ---- posts of which one is refused
 

@@ -9,7 +9,7 @@ use Rattle.post_codec.specs.Spelling.{SpellsBy}
 use Rattle.post_codec.specs.Fields.{DepartAt}
 use Rattle.search_core.specs.declared.fault.StepFault.{StepFault}
 use Rattle.search_core.specs.Book.{Book}
-use Rattle.search_core.specs.Running.{IsRefused}
+use Rattle.search_core.specs.Taking.{IsRefused}
 use Rattle.recovery.specs.declared.fault.Why.{Why}
 use Rattle.recovery.specs.declared.fault.Why.TheVariants.{Codec, Step}
 use Rattle.recovery.specs.declared.fault.RebuildFault.{RebuildFault}

@@ -1,5 +1,5 @@
 //! Records read as posts, each by itself.
-ghost use Rattle.std.specs.Prelude.{◌≡◌, length, slice_get, IsSomeAnd, ⊤};
+ghost use Rattle.std.specs.Prelude.{length, slice_get, IsSomeAnd, ⊤};
 
 use job_pieces::Jobs;
 use post_codec::{CodecFault, Post, PriceWidth, read_by};

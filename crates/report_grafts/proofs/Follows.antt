@@ -1,21 +1,6 @@
 -- A tree into which a run is grafted, line by line beside the run's own tree.
-use Rattle.std.proofs.Common.{◌≡◌, inl, inr, ℕ, zero, suc, ◌+◌, ◌*◌, ◌<◌, ◌≤◌, max, true, false, cond, ◌&&◌, not, List, [], ◌∷◌, ◌++◌, length, map, set, refl, sym, ap, ◌∙◌, subst, append_assoc, arith, Some, None}
-use Rattle.std.specs.Prelude.{slice_get}
-use Rattle.std.proofs.lemmas.Bool.{cases_eq, eq-eqb, ne_eqb}
-use Rattle.std.proofs.lemmas.List.{length-set, length_push}
-use Rattle.std.proofs.lemmas.Option.{slice_get_within}
-use Rattle.shift_instance.specs.Problem.{Problem}
-use Rattle.head_splits.specs.declared.Class.{Class}
-use Rattle.head_splits.specs.declared.Cut.{Cut}
+use Rattle.report_grafts.proofs.Common.{◌≡◌, inl, inr, ℕ, zero, suc, ◌+◌, ◌*◌, ◌<◌, ◌≤◌, max, true, false, cond, ◌&&◌, not, List, [], ◌∷◌, ◌++◌, length, map, set, refl, sym, ap, ◌∙◌, subst, append_assoc, arith, Some, None, slice_get, cases_eq, eq-eqb, ne_eqb, length-set, length_push, slice_get_within, Problem, Class, Cut, AtMost, AtLeast, are_prices, bound_of, is_settled, Node, new_node, child, with_floor, with_split, settled_floor, Line, Split, Priced, Settled, is_split, node_line, node_of, nodes_after, grafted_number, grafted_line}
 use Rattle.head_splits.specs.declared.Side.{Side}
-use Rattle.head_splits.specs.declared.Side.TheVariants.{AtMost, AtLeast}
-use Rattle.head_splits.specs.Bound.{are_prices, bound_of}
-use Rattle.head_splits.specs.Settled.{is_settled}
-use Rattle.head_splits.specs.Nodes.{Node, new_node, child, with_floor, with_split, settled_floor}
-use Rattle.certificate.specs.declared.proof_lines.Line.{Line}
-use Rattle.certificate.specs.declared.proof_lines.Line.TheVariants.{Split, Priced, Settled}
-use Rattle.certificate.specs.Accepted.{is_split, node_line, node_of, nodes_after}
-use Rattle.report_grafts.specs.Grafted.{grafted_number, grafted_line}
 use Rattle.report_grafts.proofs.Places.{front_get, last_get, set_same, set_other, pushed_get, same_some}
 use Rattle.report_grafts.proofs.Lines.{Good, cond_some, first_good, one_good}
 

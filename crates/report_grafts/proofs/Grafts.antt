@@ -1,21 +1,6 @@
 -- A run that is grafted: its lines fit, and the certificate is accepted.
-use Rattle.std.proofs.Common.{◌≡◌, ℕ, suc, ◌+◌, ◌*◌, ◌^◌, ◌<◌, ◌≤◌, true, List, [], ◌∷◌, ◌++◌, length, map, sym, ap, ◌∙◌, subst, append_assoc, arith, Some}
-use Rattle.std.specs.Prelude.{All}
-use Rattle.std.specs.List.{AllByRecursion}
-use Rattle.std.proofs.lemmas.Bool.{and_parts, and_from}
+use Rattle.report_grafts.proofs.Common.{◌≡◌, ℕ, suc, ◌+◌, ◌*◌, ◌^◌, ◌<◌, ◌≤◌, true, List, [], ◌∷◌, ◌++◌, length, map, sym, ap, ◌∙◌, subst, append_assoc, arith, Some, All, AllByRecursion, and_parts, and_from, Problem, Cut, Node, new_node, Cert, Line, Split, Priced, Settled, node_of, nodes_after, nodes_of, least_floor, is_bound, is_plan, is_accepted, Branch, Run, IsSound, divisions, branches_of, MakeNodes, HasEnd, HasOpenEnd, nodes_made, grafted_line, grafted_lines, grafted_plan, found_by, AreGood}
 use Rattle.std.proofs.lemmas.List.Elements.{All-from_recursion}
-use Rattle.shift_instance.specs.Problem.{Problem}
-use Rattle.head_splits.specs.declared.Cut.{Cut}
-use Rattle.head_splits.specs.Nodes.{Node, new_node}
-use Rattle.certificate.specs.declared.Cert.{Cert}
-use Rattle.certificate.specs.declared.proof_lines.Line.{Line}
-use Rattle.certificate.specs.declared.proof_lines.Line.TheVariants.{Split, Priced, Settled}
-use Rattle.certificate.specs.Accepted.{node_of, nodes_after, nodes_of, least_floor, is_bound, is_plan, is_accepted}
-use Rattle.report_grafts.specs.declared.branches.Branch.{Branch}
-use Rattle.report_grafts.specs.Run.{Run, IsSound, divisions}
-use Rattle.report_grafts.specs.Branches.{branches_of, MakeNodes}
-use Rattle.report_grafts.specs.Faults.{HasEnd, HasOpenEnd}
-use Rattle.report_grafts.specs.Grafted.{nodes_made, grafted_line, grafted_lines, grafted_plan, found_by, AreGood}
 use Rattle.report_grafts.proofs.Lines.{counted_lines, divisions_cons, named_lines}
 use Rattle.report_grafts.proofs.Trees.{branches_counted}
 use Rattle.report_grafts.proofs.Plans.{graft_good, found_is, found_bounds, plan_kept}

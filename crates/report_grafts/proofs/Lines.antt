@@ -1,29 +1,6 @@
 -- Good proof lines, one by one and one after another.
-use Rattle.std.proofs.Common.{◌≡◌, inl, inr, ℕ, ◌+◌, ◌*◌, ◌<◌, ◌≤◌, min, max, Bool, true, false, cond, ◌&&◌, not, List, [], ◌∷◌, ◌++◌, length, set, refl, sym, ap, ◌∙◌, subst, arith, Option, Some, None}
-use Rattle.std.specs.Prelude.{slice_get}
-use Rattle.std.specs.List.{AllByRecursion}
-use Rattle.std.specs.Option.{option_and_then}
-use Rattle.std.proofs.lemmas.Bool.{and_parts, not-true, not-false, cases_Bool}
-use Rattle.std.proofs.lemmas.List.{length-set, length-append}
+use Rattle.report_grafts.proofs.Common.{◌≡◌, inl, inr, ℕ, ◌+◌, ◌*◌, ◌<◌, ◌≤◌, min, max, Bool, true, false, cond, ◌&&◌, not, List, [], ◌∷◌, ◌++◌, length, set, refl, sym, ap, ◌∙◌, subst, arith, Option, Some, None, slice_get, AllByRecursion, option_and_then, and_parts, not-true, not-false, cases_Bool, length-set, length-append, slice_get_within, Has, Has-append_cases, Duty, TOP, Problem, cost, is_legal_rota, Cut, AtMost, AtLeast, meets, are_prices, bound_of, is_settled, is_empty, settled_plan, Node, child, with_floor, with_split, settled_floor, NodesSound, Has-slice_get, from_set, priced_sound, settled_sound, split_sound, floor_at, floor_from, Line, Split, Priced, Settled, is_split, node_line, node_of, nodes_after, least_floor, is_division, divisions, floor_up_to}
 use Rattle.std.proofs.lemmas.List.Sums.{sum_by-cons}
-use Rattle.std.proofs.lemmas.Option.{slice_get_within}
-use Rattle.break_rules.specs.Lists.{Has}
-use Rattle.break_rules.proofs.Lists.{Has-append_cases}
-use Rattle.shift_instance.specs.declared.Duty.{Duty}
-use Rattle.shift_instance.specs.declared.TheConstants.{TOP}
-use Rattle.shift_instance.specs.Problem.{Problem}
-use Rattle.shift_instance.specs.Rota.{cost, is_legal_rota}
-use Rattle.head_splits.specs.declared.Cut.{Cut}
-use Rattle.head_splits.specs.declared.Side.TheVariants.{AtMost, AtLeast}
-use Rattle.head_splits.specs.Cuts.{meets}
-use Rattle.head_splits.specs.Bound.{are_prices, bound_of}
-use Rattle.head_splits.specs.Settled.{is_settled, is_empty, settled_plan}
-use Rattle.head_splits.specs.Nodes.{Node, child, with_floor, with_split, settled_floor}
-use Rattle.head_splits.proofs.Nodes.{NodesSound, Has-slice_get, from_set, priced_sound, settled_sound, split_sound, floor_at, floor_from}
-use Rattle.certificate.specs.declared.proof_lines.Line.{Line}
-use Rattle.certificate.specs.declared.proof_lines.Line.TheVariants.{Split, Priced, Settled}
-use Rattle.certificate.specs.Accepted.{is_split, node_line, node_of, nodes_after, least_floor}
-use Rattle.report_grafts.specs.Run.{is_division, divisions, floor_up_to}
 
 pub cond_some : {X : Type 0} (c : Bool) (x y : X) → cond c (Some x) None ≡ Some y → (c ≡ true) × (x ≡ y)
 cond_some true x y e = let same : x ≡ y = cc in (refl, same)

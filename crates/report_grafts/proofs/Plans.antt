@@ -1,29 +1,8 @@
 -- The certificate of a run that is grafted into another certificate is accepted, and has no lesser bound.
-use Rattle.std.proofs.Common.{◌≡◌, ◌⊎◌, inl, inr, ℕ, ◌+◌, ◌*◌, ◌<◌, ◌≤◌, Bool, true, false, cond, ◌==◌, nat_le, nat_lt, List, [], ◌∷◌, length, map, refl, sym, ap, ◌∙◌, subst, arith, Option, Some, None}
-use Rattle.std.specs.Prelude.{slice_get, IsSomeAnd, IfSome}
-use Rattle.std.specs.Option.{option_map_or, option_and_then, option_or, unwrap_or}
-use Rattle.std.proofs.lemmas.Bool.{and_parts, and_from, leb-true, le-leb, lt-leb, eqb-true, eqb-false, eq-eqb, ltb-true, ltb-false, cases_Bool, cond_both, false≢true}
-use Rattle.shift_instance.specs.declared.Row.{Row}
-use Rattle.shift_instance.specs.declared.TheConstants.{TOP}
-use Rattle.shift_instance.specs.Problem.{Problem}
-use Rattle.shift_instance.specs.Rota.{cost, rota_of, are_legal_rows, is_legal_rota}
+use Rattle.report_grafts.proofs.Common.{◌≡◌, ◌⊎◌, inl, inr, ℕ, ◌+◌, ◌*◌, ◌<◌, ◌≤◌, Bool, true, false, cond, ◌==◌, nat_le, nat_lt, List, [], ◌∷◌, length, map, refl, sym, ap, ◌∙◌, subst, arith, Option, Some, None, slice_get, IsSomeAnd, IfSome, option_map_or, option_and_then, option_or, unwrap_or, and_parts, and_from, leb-true, le-leb, lt-leb, eqb-true, eqb-false, eq-eqb, ltb-true, ltb-false, cases_Bool, cond_both, false≢true, Row, TOP, Problem, cost, rota_of, are_legal_rows, is_legal_rota, Cut, Node, new_node, root_sound, Cert, Optimal, Stopped, Line, nodes_after, nodes_of, least_floor, is_bound, is_plan, is_accepted, Refused, BadSplit, BadPrice, NotSettled, BoundTooHigh, BadPlan, WrongCost, NoMemory, bad_line, line_cause, bound_cause, plan_cause, cause_of, IsRefused, Run, IsBest, divisions, branches_of, MakeNodes, HasEnd, TellsBound, nodes_made, grafted_line, grafted_lines, grafted_plan, found_by, status_of, AreGood}
 use Rattle.rota_cost.specs.Costed.{Costing, IsCosted}
-use Rattle.head_splits.specs.declared.Cut.{Cut}
-use Rattle.head_splits.specs.Nodes.{Node, new_node}
-use Rattle.head_splits.proofs.Nodes.{root_sound}
-use Rattle.certificate.specs.declared.Cert.{Cert}
-use Rattle.certificate.specs.declared.CertStatus.TheVariants.{Optimal, Stopped}
-use Rattle.certificate.specs.declared.proof_lines.Line.{Line}
-use Rattle.certificate.specs.Accepted.{nodes_after, nodes_of, least_floor, is_bound, is_plan, is_accepted}
 use Rattle.certificate.specs.Text.{AgreesWith}
 use Rattle.certificate.proofs.Acceptance.{bounds, plans}
-use Rattle.cert_check.specs.declared.judged.Refused.{Refused}
-use Rattle.cert_check.specs.declared.judged.Refused.TheVariants.{BadSplit, BadPrice, NotSettled, BoundTooHigh, BadPlan, WrongCost, NoMemory}
-use Rattle.cert_check.specs.Judged.{bad_line, line_cause, bound_cause, plan_cause, cause_of, IsRefused}
-use Rattle.report_grafts.specs.Run.{Run, IsBest, divisions}
-use Rattle.report_grafts.specs.Branches.{branches_of, MakeNodes}
-use Rattle.report_grafts.specs.Faults.{HasEnd, TellsBound}
-use Rattle.report_grafts.specs.Grafted.{nodes_made, grafted_line, grafted_lines, grafted_plan, found_by, status_of, AreGood}
 use Rattle.report_grafts.proofs.Lines.{FloorsFrom, first_good, after_append, lines_sound, lines_from, floors_of, least_top, least_from, counted_lines, one_good}
 use Rattle.report_grafts.proofs.Follows.{follows_root, follows_lines}
 use Rattle.report_grafts.proofs.Trees.{made_lines}

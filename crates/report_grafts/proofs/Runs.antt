@@ -1,12 +1,5 @@
 -- What a sound run shows of the legal rotas that meet its cuts.
-use Rattle.std.proofs.Common.{◌≡◌, ◌≤◌, true, List, [], ◌∷◌, arith}
-use Rattle.std.proofs.lemmas.Bool.{eqb-true}
-use Rattle.shift_instance.specs.declared.Duty.{Duty}
-use Rattle.shift_instance.specs.Rota.{cost, is_legal_rota}
-use Rattle.head_splits.specs.Cuts.{meets}
-use Rattle.head_splits.specs.Nodes.{new_node}
-use Rattle.head_splits.proofs.Nodes.{root_sound, floor_at}
-use Rattle.report_grafts.specs.Run.{Run, IsSound, floor_up_to, top, is_finished}
+use Rattle.report_grafts.proofs.Common.{◌≡◌, ◌≤◌, true, List, [], ◌∷◌, arith, eqb-true, Duty, cost, is_legal_rota, meets, new_node, root_sound, floor_at, Run, IsSound, floor_up_to, top, is_finished}
 use Rattle.report_grafts.proofs.Lines.{lines_sound}
 
 -- each legal rota that meets the run's cuts costs at least the floor

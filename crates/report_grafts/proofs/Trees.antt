@@ -1,23 +1,6 @@
 -- The nodes that good lines make, by the splits among them.
-use Rattle.std.proofs.Common.{◌≡◌, inl, inr, ℕ, zero, suc, ◌+◌, ◌-◌, ◌*◌, ◌/◌, ◌%◌, ◌<◌, ◌≤◌, Bool, true, false, cond, ◌&&◌, ◌||◌, ◌==◌, not, nat_lt, nat_le, List, [], ◌∷◌, ◌++◌, length, set, reverse, refl, sym, ap, ◌∙◌, subst, append_assoc, arith, Option, Some}
-use Rattle.std.specs.Prelude.{slice_get}
-use Rattle.std.specs.List.{list_any}
-use Rattle.std.specs.Option.{option_map_or}
-use Rattle.std.proofs.lemmas.Bool.{and_parts, leb-true, cases_eq, cases_lt, eq-eqb, ne_eqb, eqb-true, eqb-false, cond_both, or_left, or_right}
-use Rattle.std.proofs.lemmas.List.{length-set, length-append, length_push, append-nil, reverse-append}
+use Rattle.report_grafts.proofs.Common.{◌≡◌, inl, inr, ℕ, zero, suc, ◌+◌, ◌-◌, ◌*◌, ◌/◌, ◌%◌, ◌<◌, ◌≤◌, Bool, true, false, cond, ◌&&◌, ◌||◌, ◌==◌, not, nat_lt, nat_le, List, [], ◌∷◌, ◌++◌, length, set, reverse, refl, sym, ap, ◌∙◌, subst, append_assoc, arith, Option, Some, slice_get, list_any, option_map_or, and_parts, leb-true, cases_eq, cases_lt, eq-eqb, ne_eqb, eqb-true, eqb-false, cond_both, or_left, or_right, length-set, length-append, length_push, append-nil, reverse-append, slice_get_within, slice_get_past, Problem, shift_list, Class, Cut, AtMost, AtLeast, Node, new_node, child, with_split, Line, Split, Priced, Settled, is_split, nodes_after, divisions, Branch, branches_of, cuts_at, is_split_at, at_most, at_least, MadeParts, MakeNodes, AreBranches}
 use Rattle.std.proofs.lemmas.List.Folds.{list_any-append}
-use Rattle.std.proofs.lemmas.Option.{slice_get_within, slice_get_past}
-use Rattle.shift_instance.specs.Problem.{Problem, shift_list}
-use Rattle.head_splits.specs.declared.Class.{Class}
-use Rattle.head_splits.specs.declared.Cut.{Cut}
-use Rattle.head_splits.specs.declared.Side.TheVariants.{AtMost, AtLeast}
-use Rattle.head_splits.specs.Nodes.{Node, new_node, child, with_split}
-use Rattle.certificate.specs.declared.proof_lines.Line.{Line}
-use Rattle.certificate.specs.declared.proof_lines.Line.TheVariants.{Split, Priced, Settled}
-use Rattle.certificate.specs.Accepted.{is_split, nodes_after}
-use Rattle.report_grafts.specs.Run.{divisions}
-use Rattle.report_grafts.specs.declared.branches.Branch.{Branch}
-use Rattle.report_grafts.specs.Branches.{branches_of, cuts_at, is_split_at, at_most, at_least, MadeParts, MakeNodes, AreBranches}
 use Rattle.report_grafts.proofs.Places.{last_get, set_same, set_other, pushed_get, part_after_set, part_in_front}
 use Rattle.report_grafts.proofs.Lines.{Lifted, cond_some, divisions_cons, first_good, priced_lifts, settled_lifts}
 

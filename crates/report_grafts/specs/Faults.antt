@@ -1,7 +1,8 @@
 -- Why nothing is exported from a certificate or grafted into it. Source: this project's profile.
-use Rattle.std.specs.Prelude.{◌≡◌, ◌≢◌, ◌≤◌, ⊤, ℕ, IsTrue, IsFalse, IsSomeAnd, List, length, take, Some, slice_get}
+use Rattle.std.specs.Prelude.{◌≡◌, ◌≤◌, ⊤, ℕ, IsTrue, IsFalse, IsSomeAnd, List, length, Some, slice_get}
 use Rattle.shift_instance.specs.Problem.{Problem}
 use Rattle.head_splits.specs.declared.Cut.{Cut}
+use Rattle.head_splits.specs.Cuts.{DifferAt}
 use Rattle.head_splits.specs.Nodes.{Node}
 use Rattle.certificate.specs.declared.Cert.{Cert}
 use Rattle.certificate.specs.Accepted.{is_accepted}
@@ -11,10 +12,6 @@ use Rattle.cert_check.specs.Judged.{cause_of}
 use Rattle.report_grafts.specs.Grafted.{nodes_made}
 use Rattle.report_grafts.specs.declared.fault.GraftFault.{GraftFault}
 use Rattle.report_grafts.specs.declared.fault.GraftFault.TheVariants.{Refused, NoNode, IsSplit, OtherCuts, NoRows, NoMemory}
-
--- the first place at which two lists differ, and the length of the shorter where it begins the other
-abbrev pub DifferAt : {A : Type 0} → List A → List A → ℕ → Type 0
-DifferAt xs ys at = (take at xs ≡ take at ys) × (slice_get xs at ≢ slice_get ys at)
 
 -- a tree has an unsplit node of that number, with these cuts
 abbrev pub HasEnd : List Node → ℕ → List Cut → Type 0

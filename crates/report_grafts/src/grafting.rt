@@ -5,13 +5,13 @@ ghost use Rattle.certificate.specs.Text.{AgreesWith};
 ghost use Rattle.report_grafts.specs.Faults.{HasOpenEnd, IsGraftFault, TellsBound};
 ghost use Rattle.report_grafts.specs.Grafted.{found_by, grafted_line, grafted_lines, grafted_number, grafted_plan, status_of, AreGood};
 
-use crate::differing::first_difference;
 use crate::exporting::{end_cuts, judged_branches};
 use crate::fault::GraftFault;
 use crate::sub_run::SubRun;
 use break_rules::NoMemory;
 use cert_check::{Refused, check};
 use certificate::{Cert, CertStatus, Line, Lines};
+use head_splits::first_difference;
 use rota_cost::Costed;
 use shift_instance::{Instance, Rows};
 use std::alloc::{AllocError, Global};

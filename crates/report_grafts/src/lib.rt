@@ -3,7 +3,6 @@
 #![tactic(auto)]
 
 mod branches;
-mod differing;
 mod exporting;
 mod fault;
 mod grafting;

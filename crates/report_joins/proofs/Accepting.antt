@@ -1,13 +1,5 @@
 -- When a certificate is accepted whose nodes are known.
-use Rattle.std.proofs.Common.{◌≡◌, ◌⊎◌, ℕ, ◌<◌, ◌≤◌, Bool, true, false, ◌&&◌, nat_le, List, [], ◌∷◌, refl, sym, ap, ◌∙◌, subst, arith, Option, Some, None}
-use Rattle.std.specs.Prelude.{IsFalse, IsTrue}
-use Rattle.std.specs.Option.{option_map, option_map_or}
-use Rattle.std.proofs.lemmas.Bool.{and_from, and_parts, cases_Bool, le-leb, leb-true, lt-leb}
-use Rattle.shift_instance.specs.Problem.{Problem}
-use Rattle.shift_instance.specs.declared.Row.{Row}
-use Rattle.head_splits.specs.Nodes.{Node, new_node}
-use Rattle.certificate.specs.declared.Cert.{Cert}
-use Rattle.certificate.specs.Accepted.{is_accepted, is_bound, is_plan, least_floor, nodes_of}
+use Rattle.report_joins.proofs.Common.{◌≡◌, ◌⊎◌, ℕ, ◌<◌, ◌≤◌, Bool, true, false, ◌&&◌, nat_le, List, [], ◌∷◌, refl, sym, ap, ◌∙◌, subst, arith, Option, Some, None, IsFalse, IsTrue, option_map, option_map_or, and_from, and_parts, cases_Bool, le-leb, leb-true, lt-leb, Problem, Row, Node, new_node, Cert, is_accepted, is_bound, is_plan, least_floor, nodes_of}
 use Rattle.cert_check.specs.declared.judged.Refused.{Refused}
 use Rattle.cert_check.specs.declared.judged.Refused.TheVariants.{BadSplit, BadPrice, NotSettled, BoundTooHigh, BadPlan, WrongCost, NoMemory}
 use Rattle.cert_check.specs.Judged.{cause_of, IsRefused}
@@ -21,12 +13,6 @@ both i c (BoundTooHigh claimed found) refused other = refused
 both i c (BadPlan row) refused other = refused
 both i c (WrongCost claimed found) refused other = refused
 both i c NoMemory refused other = absurd (other refl)
-
-pub refused_cause : (i : Problem) (c : Cert) (why : Refused) → IsRefused i c why → (why ≡ NoMemory → ⊥) → cause_of i c ≡ Some why
-refused_cause i c why refused other = (both i c why refused other).0
-
-pub refused_not : (i : Problem) (c : Cert) (why : Refused) → IsRefused i c why → (why ≡ NoMemory → ⊥) → is_accepted i c ≡ false
-refused_not i c why refused other = (both i c why refused other).1
 
 pub not_both : (b : Bool) → b ≡ true → b ≡ false → ⊥
 not_both true t f = absurd (cc)
@@ -45,10 +31,6 @@ and_left : (a b : Bool) → a ≡ false → (a && b) ≡ false
 and_left true b e = absurd (cc)
 and_left false b e = refl
 
-and_right : (a b : Bool) → b ≡ false → (a && b) ≡ false
-and_right true b e = e
-and_right false b e = refl
-
 pub bad_lines : (i : Problem) (c : Cert) → nodes_of i c.lines ≡ None → is_accepted i c ≡ false
 bad_lines i c e =
     let bad : is_bound i c.lines c.bound ≡ false = ap (λ (o : Option (List Node)). option_map_or (λ ns. nat_le c.bound (least_floor ns)) o false) e in
@@ -58,15 +40,9 @@ pub bad_bound : (i : Problem) (c : Cert) (nodes : List Node) → nodes_of i c.li
 bad_bound i c nodes e high =
     and_left (is_bound i c.lines c.bound) (is_plan i c.plan) (bound_is i c nodes e ∙ lt-leb c.bound (least_floor nodes) high)
 
-pub bad_plan : (i : Problem) (c : Cert) → is_plan i c.plan ≡ false → is_accepted i c ≡ false
-bad_plan i c e = and_right (is_bound i c.lines c.bound) (is_plan i c.plan) e
-
 -- an accepted certificate's plan
 pub plan_of : (i : Problem) (c : Cert) → is_accepted i c ≡ true → is_plan i c.plan ≡ true
 plan_of i c h = (and_parts (is_bound i c.lines c.bound) (is_plan i c.plan) h).1
-
-pub accepted_bound : (i : Problem) (c : Cert) (nodes : List Node) → is_accepted i c ≡ true → nodes_of i c.lines ≡ Some nodes → c.bound ≤ least_floor nodes
-accepted_bound i c nodes h e = leb-true c.bound (least_floor nodes) (sym (bound_is i c nodes e) ∙ (and_parts (is_bound i c.lines c.bound) (is_plan i c.plan) h).0)
 
 -- a certificate without lines that claims nothing is accepted by its plan alone
 pub bare_plan : (i : Problem) (c : Cert) → c.lines ≡ [] → c.bound ≡ 0 → is_accepted i c ≡ is_plan i c.plan

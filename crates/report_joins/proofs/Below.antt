@@ -1,23 +1,8 @@
 -- A run of a node alone, and the same run in a tree in which that node stands.
-use Rattle.std.proofs.Common.{◌≡◌, ℕ, zero, suc, ◌+◌, ◌*◌, ◌<◌, ◌≤◌, max, Bool, true, false, cond, ◌&&◌, not, List, [], ◌∷◌, ◌++◌, length, map, set, refl, sym, ap, ◌∙◌, append_assoc, arith, Option, Some, None}
-use Rattle.std.specs.Prelude.{slice_get}
-use Rattle.std.specs.Option.{option_and_then, option_map}
-use Rattle.std.proofs.lemmas.Bool.{ne_eqb}
-use Rattle.std.proofs.lemmas.List.{append-nil, length-set}
-use Rattle.std.proofs.lemmas.Option.{slice_get_within}
-use Rattle.shift_instance.specs.Problem.{Problem}
+use Rattle.report_joins.proofs.Common.{◌≡◌, ℕ, zero, suc, ◌+◌, ◌*◌, ◌<◌, ◌≤◌, max, Bool, true, false, cond, ◌&&◌, not, List, [], ◌∷◌, ◌++◌, length, map, set, refl, sym, ap, ◌∙◌, append_assoc, arith, Option, Some, None, slice_get, option_and_then, option_map, ne_eqb, append-nil, length-set, slice_get_within, Problem, Node, new_node, child, with_floor, with_split, settled_floor, Line, Split, Priced, Settled, is_split, node_line, node_of, nodes_after, nodes_of, grafted_line, grafted_lines, grafted_number, divisions, after_append, counted_lines, front_get, set_same, with_below}
 use Rattle.head_splits.specs.declared.Side.TheVariants.{AtMost, AtLeast}
 use Rattle.head_splits.specs.Bound.{are_prices, bound_of}
 use Rattle.head_splits.specs.Settled.{is_settled}
-use Rattle.head_splits.specs.Nodes.{Node, new_node, child, with_floor, with_split, settled_floor}
-use Rattle.certificate.specs.declared.proof_lines.Line.{Line}
-use Rattle.certificate.specs.declared.proof_lines.Line.TheVariants.{Split, Priced, Settled}
-use Rattle.certificate.specs.Accepted.{is_split, node_line, node_of, nodes_after, nodes_of}
-use Rattle.report_grafts.specs.Grafted.{grafted_line, grafted_lines, grafted_number}
-use Rattle.report_grafts.specs.Run.{divisions}
-use Rattle.report_grafts.proofs.Lines.{after_append, counted_lines}
-use Rattle.report_grafts.proofs.Places.{front_get, set_same}
-use Rattle.report_nodes.specs.Made.{with_below}
 
 -- ---- places of lists
 

@@ -1,35 +1,10 @@
 -- What holds of a certificate with a further part.
-use Rattle.std.proofs.Common.{◌≡◌, ◌⊎◌, inl, inr, ℕ, zero, suc, ◌+◌, ◌*◌, ◌<◌, ◌≤◌, ◌^◌, Bool, true, false, cond, nat_lt, ◌==◌, List, [], ◌∷◌, ◌++◌, length, map, set, refl, sym, ap, ◌∙◌, subst, append_assoc, arith, Option, Some, None}
-use Rattle.std.specs.Prelude.{slice_get, IsSomeAnd}
-use Rattle.std.specs.Option.{option_map, unwrap_or}
-use Rattle.std.specs.List.{list_any}
-use Rattle.std.proofs.lemmas.Bool.{cond_both, eq-eqb, eqb-true, false≢true}
-use Rattle.std.proofs.lemmas.List.{append-nil, length-append, length-map, length-set}
-use Rattle.std.proofs.lemmas.Option.{slice_get_within}
-use Rattle.break_rules.specs.Lists.{Has}
+use Rattle.report_joins.proofs.Common.{◌≡◌, ◌⊎◌, inl, inr, ℕ, zero, suc, ◌+◌, ◌*◌, ◌<◌, ◌≤◌, ◌^◌, Bool, true, false, cond, nat_lt, ◌==◌, List, [], ◌∷◌, ◌++◌, length, map, set, refl, sym, ap, ◌∙◌, subst, append_assoc, arith, Option, Some, None, slice_get, IsSomeAnd, option_map, unwrap_or, list_any, cond_both, eq-eqb, eqb-true, false≢true, append-nil, length-append, length-map, length-set, slice_get_within, Has, Row, Problem, Node, new_node, root_sound, Cert, Line, is_accepted, is_bound, is_plan, least_floor, nodes_after, nodes_of, divisions, grafted_line, grafted_lines, nodes_made, status_of, FloorsFrom, counted_lines, floors_of, least_from, least_top, lines_from, lines_sound, front_get, set_other, found_is, made_is, with_below, Joined, GoesOn, IsJoinedCert, IsJoining, IsPart, IsPlanBelow, JoinsPart, alone, cheaper_plan, with_part, IsEnd, IsLineFault, IsPartFault, IsReadFault, IsRefusal, PartFault, Refused, OtherLines, NothingFurther, NoEnd, OtherNode, OtherPlan, SameNode, TooMany, NoMemory, IsReadPart, IsRunOf, MakesBelow}
 use Rattle.break_rules.proofs.Lists.{Has-append_left, Has-append_right, any_none, any_some}
-use Rattle.shift_instance.specs.declared.Row.{Row}
 use Rattle.shift_instance.specs.declared.TheConstants.{TOP}
-use Rattle.shift_instance.specs.Problem.{Problem}
 use Rattle.head_splits.specs.declared.Cut.{Cut}
-use Rattle.head_splits.specs.Nodes.{Node, new_node}
-use Rattle.head_splits.proofs.Nodes.{root_sound}
-use Rattle.certificate.specs.declared.Cert.{Cert}
-use Rattle.certificate.specs.declared.proof_lines.Line.{Line}
-use Rattle.certificate.specs.Accepted.{is_accepted, is_bound, is_plan, least_floor, nodes_after, nodes_of}
-use Rattle.report_grafts.specs.Run.{divisions}
 use Rattle.report_grafts.specs.Faults.{HasEnd, HasOpenEnd}
-use Rattle.report_grafts.specs.Grafted.{grafted_line, grafted_lines, nodes_made, status_of}
-use Rattle.report_grafts.proofs.Lines.{FloorsFrom, after_append, counted_lines, floors_of, least_from, least_top, lines_from, lines_sound}
-use Rattle.report_grafts.proofs.Places.{front_get, same_some, set_other}
-use Rattle.report_grafts.proofs.Plans.{found_is, made_is}
-use Rattle.report_nodes.specs.Made.{with_below}
-use Rattle.report_joins.specs.Joined.{Joined, GoesOn, IsJoinedCert, IsJoining, IsPart, IsPlanBelow, JoinsPart, alone, cheaper_plan, with_part}
-use Rattle.report_joins.specs.Faults.{IsEnd, IsLineFault, IsPartFault, IsReadFault, IsRefusal}
-use Rattle.report_joins.specs.declared.fault.PartFault.{PartFault}
-use Rattle.report_joins.specs.declared.fault.PartFault.TheVariants.{Refused, OtherLines, NothingFurther, NoEnd, OtherNode, OtherPlan, SameNode, TooMany, NoMemory}
-use Rattle.report_joins.specs.Runs.{IsReadPart, IsRunOf, MakesBelow}
-use Rattle.report_joins.proofs.Accepting.{accepted_bound, accepted_by, plan_of}
+use Rattle.report_joins.proofs.Accepting.{accepted_by, plan_of}
 use Rattle.report_joins.proofs.Below.{grafted_after, grafted_nodes}
 
 -- ---- plans
@@ -241,24 +216,3 @@ joined_cert ends tree j c h lines plan bound status =
       bound = bound ∙ sym (found_is j.instance c.lines tree made);
       status = status;
     }
-
-pub joined_short : (ends tree : List Node) (j : Joined) (lines : List Line) → IsJoining ends tree j → lines ≡ j.lines → length lines ≤ 2 ^ 30
-joined_short ends tree j lines h same =
-    let e : length lines ≡ length j.lines = ap (λ (ls : List Line). length ls) same in
-    let short : length j.lines ≤ 2 ^ 30 = h.short in
-    omega (arith, e, short)
-
--- a certificate alone
-pub joining_alone : (i : Problem) (whole : Cert) (tree : List Node) (j : Joined) → is_accepted i whole ≡ true → nodes_of i whole.lines ≡ Some tree → length whole.lines ≤ 2 ^ 28 → j ≡ alone i whole → IsJoining tree tree j
-joining_alone i whole tree j accepted made few same =
-    subst (IsJoining tree tree) (sym same) (record {
-      accepted = accepted;
-      few = few;
-      ends = made;
-      begins = ([], sym (append-nil whole.lines));
-      tree = made;
-      low = accepted_bound i whole tree accepted made;
-      kept = λ k less free. refl;
-      plan = plan_of i whole accepted;
-      short = omega (arith, few);
-    })

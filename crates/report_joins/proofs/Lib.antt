@@ -1,3 +1,4 @@
+pub mod Common
 pub mod Below
 pub mod Accepting
 pub mod Joins

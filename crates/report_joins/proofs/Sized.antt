@@ -1,30 +1,8 @@
 -- A part, judged below its node alone.
-use Rattle.std.proofs.Common.{◌≡◌, ◌⊎◌, inl, inr, ℕ, zero, suc, ◌+◌, ◌-◌, ◌*◌, ◌/◌, ◌<◌, ◌≤◌, ◌^◌, true, false, List, [], ◌∷◌, ◌++◌, length, map, take, get_or, refl, sym, ap, ◌∙◌, subst, arith, Option, Some, None}
-use Rattle.std.specs.Prelude.{slice_get, All, IsSomeAnd}
-use Rattle.std.specs.List.{AllByRecursion}
-use Rattle.std.specs.Option.{option_map}
-use Rattle.std.proofs.lemmas.List.{length-append, length-map}
+use Rattle.report_joins.proofs.Common.{◌≡◌, ◌⊎◌, inl, inr, ℕ, zero, suc, ◌+◌, ◌-◌, ◌*◌, ◌/◌, ◌<◌, ◌≤◌, ◌^◌, true, false, List, [], ◌∷◌, ◌++◌, length, map, take, get_or, refl, sym, ap, ◌∙◌, subst, arith, Option, Some, None, slice_get, All, IsSomeAnd, AllByRecursion, option_map, length-append, length-map, slice_get_within, Has, Problem, Node, new_node, Has-slice_get, Cert, Line, is_accepted, is_plan, least_floor, node_of, nodes_after, nodes_of, grafted_line, grafted_lines, divisions, branches_of, branches_few, branches_number, counted_lines, named_lines, HasRoom, with_below, PartFault, IsJoining, Joined, IsEnd, IsLineFault, IsReadFault, IsRefusal, IsReadPart, IsRunOf, MakesBelow}
 use Rattle.std.proofs.lemmas.List.Elements.{All-from_recursion}
-use Rattle.std.proofs.lemmas.Option.{slice_get_within}
-use Rattle.break_rules.specs.Lists.{Has}
-use Rattle.shift_instance.specs.Problem.{Problem}
-use Rattle.head_splits.specs.Nodes.{Node, new_node}
-use Rattle.head_splits.proofs.Nodes.{Has-slice_get}
-use Rattle.certificate.specs.declared.Cert.{Cert}
-use Rattle.certificate.specs.declared.proof_lines.Line.{Line}
-use Rattle.certificate.specs.Accepted.{is_accepted, is_plan, least_floor, node_of, nodes_after, nodes_of}
-use Rattle.report_grafts.specs.Grafted.{grafted_line, grafted_lines}
-use Rattle.report_grafts.specs.Run.{divisions}
-use Rattle.report_grafts.specs.Branches.{branches_of}
-use Rattle.report_grafts.proofs.Grafts.{branches_few, branches_number}
-use Rattle.report_grafts.proofs.Lines.{counted_lines, named_lines}
-use Rattle.report_nodes.specs.Made.{HasRoom, with_below}
 use Rattle.report_nodes.proofs.Grown.{CutsWithin, within_lines}
-use Rattle.report_joins.specs.declared.fault.PartFault.{PartFault}
-use Rattle.report_joins.specs.Joined.{IsJoining, Joined}
-use Rattle.report_joins.specs.Faults.{IsEnd, IsLineFault, IsReadFault, IsRefusal}
-use Rattle.report_joins.specs.Runs.{IsReadPart, IsRunOf, MakesBelow}
-use Rattle.report_joins.proofs.Accepting.{accepted_by, bad_bound, bad_lines, bad_plan}
+use Rattle.report_joins.proofs.Accepting.{accepted_by, bad_bound, bad_lines}
 use Rattle.report_joins.proofs.Joins.{fault_is, part_nodes}
 
 -- a node is there
@@ -62,14 +40,6 @@ alone_room i lines ends node all made few a =
     of_place zero d less small = small
     of_place (suc k) d less small = absurd (omega (arith, less))
 
--- a run is no longer than the part
-pub run_short : (known lines : List Line) (node : ℕ) (run : List Line) → lines ≡ grafted_lines known node run → length run ≤ length lines
-run_short known lines node run is =
-    let a : length lines ≡ length (known ++ map (grafted_line node (divisions known)) run) = ap (λ (ls : List Line). length ls) is in
-    let b : length (known ++ map (grafted_line node (divisions known)) run) ≡ length known + length (map (grafted_line node (divisions known)) run) = length-append known (map (grafted_line node (divisions known)) run) in
-    let c : length (map (grafted_line node (divisions known)) run) ≡ length run = length-map run (grafted_line node (divisions known)) in
-    omega (arith, a, b, c)
-
 below_of : (i : Problem) (ends : List Node) (node : ℕ) (run : List Line) (all : List Node) (next : Option (List Node)) → (a : IsAlone ends node all) → next ≡ nodes_after i all run → nodes_after i (a.top ∷ []) run ≡ next
 below_of i ends node run all next a is = ap (λ (ns : List Node). nodes_after i ns run) (sym a.alone) ∙ sym is
 
@@ -89,9 +59,6 @@ pub part_high : (i : Problem) (whole part : Cert) (ends : List Node) (node : ℕ
     → IsAlone ends node all → next ≡ nodes_after i all run → next ≡ Some below → floor ≡ least_floor (with_below ends node below) → floor < part.bound → is_accepted i part ≡ false
 part_high i whole part ends node run all next below floor made r a is some low high =
     bad_bound i part (with_below ends node below) (part_made i whole part ends node run all next below made r a is some) (omega (arith, low, high))
-
-pub part_plan : (i : Problem) (part : Cert) (b : _) → b ≡ is_plan i part.plan → b ≡ false → is_accepted i part ≡ false
-part_plan i part b is f = bad_plan i part (sym is ∙ f)
 
 -- else it is accepted
 pub part_read : (i : Problem) (whole part : Cert) (ends : List Node) (node : ℕ) (run : List Line) (all : List Node) (next : Option (List Node)) (below : List Node) (floor : ℕ) (b : _) → nodes_of i whole.lines ≡ Some ends → IsRunOf ends whole.lines part.lines node run
@@ -136,39 +103,10 @@ joined_fits i ends node run below lines tree nodes m made short is =
     All-from_recursion (λ line. node_of line + nodes ≤ 2 ^ 32) run
     (within_most nodes (length below) run (omega (arith, counted, all, few, others, short, is)) (named_lines i (m.top ∷ []) below run (length below) m.made (omega arith)))
 
--- half of the nodes but the root are splits
-pub splits_are : (lines : List Line) (nodes splits : ℕ) → nodes ≡ 2 * divisions lines + 1 → splits ≡ (nodes - 1) / 2 → splits ≡ divisions lines
-splits_are lines nodes splits counted is = omega (arith, counted, is)
-
-wider : (nodes splits : ℕ) (run : List Line) → 2 * splits + 1 ≡ nodes → All (λ line. node_of line + nodes ≤ 2 ^ 32) run → All (λ line. node_of line + 2 * splits < 2 ^ 32) run
-wider nodes splits run e h = λ k d less. let one : node_of (get_or run k d) + nodes ≤ 2 ^ 32 = h k d less in omega (arith, one, e)
-
-pub place_fits : (lines run : List Line) (nodes splits : ℕ) → nodes ≡ 2 * divisions lines + 1 → splits ≡ (nodes - 1) / 2 → All (λ line. node_of line + nodes ≤ 2 ^ 32) run → All (λ line. node_of line + 2 * splits < 2 ^ 32) run
-place_fits lines run nodes splits counted is h = wider nodes splits run (omega (arith, counted, is)) h
-
-pub grafted_is : (lines run more : List Line) (node nodes splits : ℕ) → nodes ≡ 2 * divisions lines + 1 → splits ≡ (nodes - 1) / 2 → more ≡ lines ++ map (grafted_line node splits) run → more ≡ grafted_lines lines node run
-grafted_is lines run more node nodes splits counted is so = so ∙ ap (λ n. lines ++ map (grafted_line node n) run) (splits_are lines nodes splits counted is)
-
 -- ---- the report's own lines
-
-take_own : {X : Type 0} (xs ys : List X) → take (length xs) (xs ++ ys) ≡ xs
-take_own [] ys = refl
-take_own (x ∷ xs) ys = ap (λ zs. x ∷ zs) (take_own xs ys)
-
-pub whole_short : (ends tree : List Node) (j : Joined) (n : ℕ) → IsJoining ends tree j → n ≡ length j.whole.lines → n ≤ length j.lines
-whole_short ends tree j n h is =
-    let a : length j.lines ≡ length (j.whole.lines ++ h.begins.0) = ap (λ (ls : List Line). length ls) h.begins.1 in
-    let b : length (j.whole.lines ++ h.begins.0) ≡ length j.whole.lines + length h.begins.0 = length-append j.whole.lines h.begins.0 in
-    omega (arith, a, b, is)
-
-pub whole_first : (ends tree : List Node) (j : Joined) (n : ℕ) → IsJoining ends tree j → n ≡ length j.whole.lines → take n j.lines ≡ j.whole.lines
-whole_first ends tree j n h is = ap (λ k. take k j.lines) is ∙ ap (take (length j.whole.lines)) h.begins.1 ∙ take_own j.whole.lines h.begins.0
 
 pub known_counted : (i : Problem) (lines known : List Line) (ends : List Node) → nodes_of i lines ≡ Some ends → known ≡ lines → length ends ≡ 2 * divisions known + 1
 known_counted i lines known ends made same = subst (λ (ls : List Line). length ends ≡ 2 * divisions ls + 1) (sym same) (tree_counted i lines ends made)
-
-pub known_run : (ends : List Node) (lines known all : List Line) (node : ℕ) (run : List Line) → known ≡ lines → IsRunOf ends known all node run → IsRunOf ends lines all node run
-known_run ends lines known all node run same r = subst (λ (ls : List Line). IsRunOf ends ls all node run) same r
 
 -- a part that is none
 pub known_fault : (i : Problem) (whole part : Cert) (ends : List Node) (known : List Line) (fault why : PartFault) → is_accepted i whole ≡ true → nodes_of i whole.lines ≡ Some ends → known ≡ whole.lines → IsLineFault ends known part.lines fault

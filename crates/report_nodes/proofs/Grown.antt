@@ -1,7 +1,5 @@
 -- Nodes that grow line by line.
-use Rattle.std.proofs.Common.{◌≡◌, inl, inr, ℕ, zero, suc, ◌+◌, ◌*◌, ◌<◌, ◌≤◌, ◌^◌, max, Bool, true, false, cond, ◌&&◌, not, List, [], ◌∷◌, ◌++◌, length, get_or, drop, set, refl, sym, ap, ◌∙◌, subst, append_assoc, arith, Option, Some, None}
-use Rattle.std.specs.Prelude.{slice_get, IsSomeAnd}
-use Rattle.std.specs.Option.{option_and_then, option_map, option_map_or}
+use Rattle.report_nodes.proofs.Common.{◌≡◌, inl, inr, ℕ, zero, suc, ◌+◌, ◌*◌, ◌<◌, ◌≤◌, ◌^◌, max, Bool, true, false, cond, ◌&&◌, not, List, [], ◌∷◌, ◌++◌, length, get_or, drop, set, refl, sym, ap, ◌∙◌, subst, append_assoc, arith, Option, Some, None, slice_get, IsSomeAnd, option_and_then, option_map, option_map_or, AtMost, AtLeast, Node, new_node, child, with_floor, with_split, Line, is_accepted, is_split, node_line, node_of, nodes_after, OpenNode, is_open, listed, open_from, top_of}
 use Rattle.std.proofs.lemmas.Bool.{cases_Bool}
 use Rattle.std.proofs.lemmas.List.{append-nil, drop_all, length_push}
 use Rattle.std.proofs.Math.Seq.{drop-cons}
@@ -13,14 +11,10 @@ use Rattle.head_splits.specs.declared.Class.{Class}
 use Rattle.head_splits.specs.declared.Cut.{Cut}
 use Rattle.head_splits.specs.declared.Prices.{Prices}
 use Rattle.head_splits.specs.declared.Side.{Side}
-use Rattle.head_splits.specs.declared.Side.TheVariants.{AtMost, AtLeast}
 use Rattle.head_splits.specs.Bound.{are_prices, bound_of}
-use Rattle.head_splits.specs.Nodes.{Node, new_node, child, with_floor, with_split}
 use Rattle.head_splits.proofs.Nodes.{Has-slice_get, Has-get_or, Has-place, from_set}
 use Rattle.certificate.specs.declared.Cert.{Cert}
-use Rattle.certificate.specs.declared.proof_lines.Line.{Line}
 use Rattle.certificate.specs.declared.proof_lines.Line.TheVariants.{Split, Priced, Settled}
-use Rattle.certificate.specs.Accepted.{is_accepted, is_split, node_line, node_of, nodes_after}
 use Rattle.dual_bound.specs.declared.PriceFault.{PriceFault}
 use Rattle.dual_bound.specs.declared.PriceFault.TheVariants.{NoMemory}
 use Rattle.dual_bound.specs.Faults.{price_causes, Answers}
@@ -32,8 +26,6 @@ use Rattle.report_grafts.proofs.Grafts.{branches_few, branches_number}
 use Rattle.report_grafts.proofs.Lines.{Good, cond_some, counted_lines, first_good, one_good, priced_lifts, settled_lifts}
 use Rattle.report_grafts.proofs.Places.{same_some}
 use Rattle.report_grafts.proofs.Plans.{made_is, tree_of}
-use Rattle.report_nodes.specs.declared.listing.OpenNode.{OpenNode}
-use Rattle.report_nodes.specs.Listed.{is_open, listed, open_from, top_of}
 use Rattle.report_nodes.specs.Made.{HasFewCuts, HasRoom}
 
 -- prices with a fault that isn't running out of memory aren't a price set
@@ -244,21 +236,6 @@ grows_more i start lines left rest nodes next line g e made =
       counted = omega (arith, counted, long);
       deep = λ n there. let w : length n.cuts ≤ 2 ^ 32 + g.read + 1 = wide n there in omega (arith, w);
     }
-
--- a line that isn't good leaves nothing
-none_after : (i : Problem) (nodes : List Node) (line : Line) (lines : List Line) → nodes_after i nodes (line ∷ []) ≡ None → nodes_after i nodes (line ∷ lines) ≡ None
-none_after i nodes line lines e = of_made (option_and_then (λ n. node_line i nodes n line) (slice_get nodes (node_of line))) e
-  where
-    of_made : (made : Option (List Node)) → option_and_then (λ next. nodes_after i next []) made ≡ None → option_and_then (λ next. nodes_after i next lines) made ≡ None
-    of_made None h = refl
-    of_made (Some next) h = absurd (cc)
-
-pub grows_none : (i : Problem) (start : List Node) (lines left rest : List Line) (nodes : List Node) (line : Line) → Grows i start lines left nodes → left ≡ line ∷ rest → nodes_after i nodes (line ∷ []) ≡ None → nodes_after i start lines ≡ None
-grows_none i start lines left rest nodes line g e bad = sym g.rest ∙ ap (nodes_after i nodes) e ∙ none_after i nodes line rest bad
-
--- at the end the nodes are those that all lines make
-pub grows_last : (i : Problem) (start : List Node) (lines left : List Line) (nodes : List Node) → Grows i start lines left nodes → left ≡ [] → nodes_after i start lines ≡ Some nodes
-grows_last i start lines left nodes g e = sym g.rest ∙ ap (nodes_after i nodes) e
 
 -- what an accepted certificate's lines make
 pub accepted_nodes : (i : Problem) (c : Cert) → is_accepted i c ≡ true → nodes_after i (new_node [] ∷ []) c.lines ≡ None → ⊥

@@ -1,20 +1,5 @@
 -- How many duties legal rows have, and what sums and counts over them are.
-use Rattle.std.proofs.Common.{◌≡◌, inl, inr, ℕ, zero, suc, ◌+◌, ◌*◌, ◌<◌, ◌≤◌, true, ◌&&◌, List, [], ◌∷◌, length, take, drop, get_or, replicate, refl, sym, ap, ◌∙◌, subst, arith, sum_by, nat_lt}
-use Rattle.std.specs.List.{list_all, zip}
-use Rattle.std.proofs.lemmas.Bool.{and_parts, false≢true}
-use Rattle.std.proofs.lemmas.List.Sums.{sum_by_more, sum_by_more_le}
-use Rattle.std.proofs.lemmas.List.{take_all}
-use Rattle.break_rules.specs.Lists.{Has}
-use Rattle.break_rules.proofs.Lists.{Has-flat_map, all_at, from_below}
-use Rattle.break_rules.proofs.Counts.{sum_by_same}
-use Rattle.shift_instance.specs.declared.Duty.{Duty}
-use Rattle.shift_instance.specs.declared.Row.{Row}
-use Rattle.shift_instance.specs.Problem.{Problem, shift_list, slots, below}
-use Rattle.shift_instance.specs.Rota.{is_legal_rota, rota_of, duty_of, cover, slot_cost, shifts_used, cost, are_legal_rows, is_before}
-use Rattle.shift_instance.specs.Valid.{IsValid}
-use Rattle.shift_instance.proofs.Rotas.{legal_duties, LegalDuty}
-use Rattle.shift_instance.proofs.RowCounts.{cover_rows}
-use Rattle.rota_cost.specs.Working.{working}
+use Rattle.rota_cost.proofs.Common.{◌≡◌, inl, inr, ℕ, zero, suc, ◌+◌, ◌*◌, ◌<◌, ◌≤◌, true, ◌&&◌, List, [], ◌∷◌, length, take, drop, get_or, replicate, refl, sym, ap, ◌∙◌, subst, arith, sum_by, nat_lt, list_all, zip, and_parts, false≢true, sum_by_more, sum_by_more_le, take_all, Has, Has-flat_map, all_at, from_below, sum_by_same, Duty, Row, Problem, shift_list, slots, below, is_legal_rota, rota_of, duty_of, cover, slot_cost, shifts_used, cost, are_legal_rows, is_before, IsValid, legal_duties, LegalDuty, cover_rows, working}
 use Rattle.rota_cost.proofs.Coverage.{few_at_once}
 
 pub Has_copy : {X : Type 0} (n : ℕ) (x : X) → nat_lt 0 n ≡ true → Has (replicate n x) x

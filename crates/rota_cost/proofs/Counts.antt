@@ -1,20 +1,7 @@
 -- The numbers that a cover keeps, after one duty more or less.
-use Rattle.std.proofs.Common.{◌≡◌, inl, inr, ℕ, ◌+◌, ◌-◌, ◌*◌, ◌^◌, ◌<◌, ◌≤◌, Bool, true, false, cond, ◌==◌, List, [], ◌∷◌, ◌++◌, length, take, drop, append-nil, get_or, set, replicate, refl, sym, ap, ◌∙◌, subst, arith, eq-eqb, length-set, get_or-set_same, get_or-set_other}
-use Rattle.std.proofs.Math.Nat.{mul-le-mul, mul-le-mul_left}
-use Rattle.std.proofs.lemmas.Bool.{cases_eq, ne_eqb}
-use Rattle.std.proofs.lemmas.List.{get_or-replicate, length-replicate, drop_all, take_all}
-use Rattle.std.proofs.lemmas.List.Sums.{count_by-le-length}
-use Rattle.std.proofs.lemmas.List.FromFn.{length-range_with_len}
-use Rattle.break_rules.proofs.Counts.{count_by_none, any_by_count, any_from_count}
-use Rattle.break_rules.proofs.Lists.{any_at, Has-below}
-use Rattle.shift_instance.specs.declared.Duty.{Duty}
-use Rattle.shift_instance.specs.Problem.{Problem, shift_list, slots, below}
-use Rattle.shift_instance.specs.Rota.{count_of, cover, works, is_used, shifts_used, cost}
-use Rattle.shift_instance.specs.Valid.{IsValid}
+use Rattle.rota_cost.proofs.Common.{◌≡◌, inl, inr, ℕ, ◌+◌, ◌-◌, ◌*◌, ◌^◌, ◌<◌, ◌≤◌, Bool, true, false, cond, ◌==◌, List, [], ◌∷◌, ◌++◌, length, take, drop, append-nil, get_or, set, replicate, refl, sym, ap, ◌∙◌, subst, arith, eq-eqb, length-set, get_or-set_same, get_or-set_other, mul-le-mul, mul-le-mul_left, cases_eq, ne_eqb, get_or-replicate, length-replicate, drop_all, take_all, count_by-le-length, length-range_with_len, count_by_none, any_by_count, any_from_count, any_at, Has-below, Duty, Problem, shift_list, slots, below, count_of, cover, works, is_used, shifts_used, cost, IsValid, without, IsCounted, changed, duties_of, shift_cost, slots_cost}
 use Rattle.rota_cost.specs.declared.cover.Change.{Change}
 use Rattle.rota_cost.specs.declared.cover.Change.TheVariants.{More, Less}
-use Rattle.rota_cost.specs.Cover.{without}
-use Rattle.rota_cost.specs.Counted.{IsCounted, changed, duties_of, shift_cost, slots_cost}
 use Rattle.rota_cost.proofs.Counting.{cost_from}
 use Rattle.rota_cost.proofs.Duties.{IsWith, with_pushed, with_removed, with_length, used_same, used_more}
 use Rattle.rota_cost.proofs.Sums.{slots_most}
@@ -38,12 +25,6 @@ pub working_few : (i : Problem) (duties : List Duty) (working shifts : List ℕ)
 working_few i duties working shifts a b h t small =
     let e : get_or working t 0 ≡ cover i duties t = h.covered t small in
     let l : cover i duties t ≤ length duties = count_by-le-length (λ d. works i d t) duties in
-    omega arith
-
-pub shifts_few : (i : Problem) (duties : List Duty) (working shifts : List ℕ) (a b : ℕ) → IsCounted i duties working shifts a b → (s : ℕ) → s < length (shift_list i) → get_or shifts s 0 ≤ length duties
-shifts_few i duties working shifts a b h s small =
-    let e : get_or shifts s 0 ≡ duties_of duties s = h.manned s small in
-    let l : duties_of duties s ≤ length duties = count_by-le-length (λ d. d.shift == s) duties in
     omega arith
 
 -- the two parts are the cost

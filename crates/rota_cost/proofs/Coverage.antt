@@ -1,26 +1,5 @@
 -- How many duties of a legal rota work at once, and that no legal rota costs much.
-use Rattle.std.proofs.Common.{◌≡◌, inl, inr, ℕ, zero, suc, ◌+◌, ◌-◌, ◌*◌, ◌/◌, ◌%◌, ◌<◌, ◌≤◌, Bool, true, false, cond, ◌&&◌, ◌==◌, List, [], ◌∷◌, length, refl, sym, ap, ◌∙◌, arith, sum_by, count_by, nat_lt, eq-eqb, Option, Some, None}
-use Rattle.std.specs.Prelude.{slice_get}
-use Rattle.std.specs.Option.{option_map_or}
-use Rattle.std.specs.List.{list_any}
-use Rattle.std.proofs.lemmas.Bool.{and_parts, and_from, lt-ltb, le-ltb, eqb-true, false≢true, cases_Bool, cases_order, ne_eqb, and_right}
-use Rattle.std.proofs.lemmas.List.Sums.{sum_by-cons, count_by-le-length}
-use Rattle.std.proofs.lemmas.List.FromFn.{length-range_with_len}
-use Rattle.std.proofs.lemmas.Nat.{mul-add-lt, div-mul-add}
-use Rattle.std.proofs.Math.Nat.{mul-le-mul, mul-le-mul_right}
-use Rattle.break_rules.specs.declared.Rule.{Rule}
-use Rattle.break_rules.specs.Breaks.{works_at}
-use Rattle.break_rules.specs.Lists.{Has}
-use Rattle.break_rules.proofs.Lists.{any_some, any_none, from_below}
-use Rattle.break_rules.proofs.Counts.{count_by_none, count_by_at_most, count_by_same}
-use Rattle.shift_instance.specs.declared.Shift.{Shift}
-use Rattle.shift_instance.specs.declared.Duty.{Duty}
-use Rattle.shift_instance.specs.Problem.{Problem, shift_list, slots, day_slots, slot_of, need_at, need_max_at, below}
-use Rattle.shift_instance.specs.Rota.{works, is_on, heads_on, is_legal_rota, cover, slot_cost, shifts_used, is_used, cost}
-use Rattle.shift_instance.specs.Valid.{IsValid}
-use Rattle.shift_instance.proofs.Offsets.{same_offset}
-use Rattle.shift_instance.proofs.Rotas.{heads_within, legal_duties}
-use Rattle.shift_instance.proofs.Shifts.{Has_at, shift_within}
+use Rattle.rota_cost.proofs.Common.{◌≡◌, inl, inr, ℕ, zero, suc, ◌+◌, ◌-◌, ◌*◌, ◌/◌, ◌%◌, ◌<◌, ◌≤◌, Bool, true, false, cond, ◌&&◌, ◌==◌, List, [], ◌∷◌, length, refl, sym, ap, ◌∙◌, arith, sum_by, count_by, nat_lt, eq-eqb, Option, Some, None, slice_get, option_map_or, list_any, and_parts, and_from, lt-ltb, le-ltb, eqb-true, false≢true, cases_Bool, cases_order, ne_eqb, and_right, sum_by-cons, count_by-le-length, length-range_with_len, mul-add-lt, div-mul-add, mul-le-mul, mul-le-mul_right, Rule, works_at, Has, any_some, any_none, from_below, count_by_none, count_by_at_most, count_by_same, Shift, Duty, Problem, shift_list, slots, day_slots, slot_of, need_at, need_max_at, below, works, is_on, heads_on, is_legal_rota, cover, slot_cost, shifts_used, is_used, cost, IsValid, same_offset, heads_within, legal_duties, Has_at, shift_within}
 
 pub split_count : {X : Type 0} (p q r : X → Bool) (xs : List X) → ((x : X) → ◌≡◌ {A = ℕ} (cond (p x) 1 0) (cond (q x) 1 0 + cond (r x) 1 0)) → count_by p xs ≡ count_by q xs + count_by r xs
 split_count p q r [] h = refl

@@ -1,16 +1,5 @@
 -- What one duty more changes.
-use Rattle.std.proofs.Common.{◌≡◌, inl, inr, ℕ, ◌+◌, ◌<◌, Bool, true, false, cond, ◌||◌, ◌==◌, List, [], ◌∷◌, ◌++◌, length, refl, sym, ap, ◌∙◌, subst, arith, count_by}
-use Rattle.std.specs.List.{list_any}
-use Rattle.std.proofs.lemmas.Bool.{cases_Bool, cases_eq, ne_eqb, eqb-true}
-use Rattle.std.proofs.lemmas.List.Sums.{sum_by-cons, sum_by_push}
-use Rattle.break_rules.proofs.Counts.{count_by_same, count_by-below, any_by_count, any_from_count}
-use Rattle.break_rules.proofs.Lists.{same_tests}
-use Rattle.shift_instance.specs.declared.Duty.{Duty}
-use Rattle.shift_instance.specs.Problem.{Problem, shift_list, below}
-use Rattle.shift_instance.specs.Rota.{same_duty, count_of, is_used, shifts_used}
-use Rattle.shift_instance.proofs.Alike.{same_duty_decides}
-use Rattle.rota_cost.specs.Cover.{without}
-use Rattle.rota_cost.specs.Counted.{duties_of}
+use Rattle.rota_cost.proofs.Common.{◌≡◌, inl, inr, ℕ, ◌+◌, ◌<◌, Bool, true, false, cond, ◌||◌, ◌==◌, List, [], ◌∷◌, ◌++◌, length, refl, sym, ap, ◌∙◌, subst, arith, count_by, list_any, cases_Bool, cases_eq, ne_eqb, eqb-true, sum_by-cons, sum_by_push, count_by_same, count_by-below, any_by_count, any_from_count, same_tests, Duty, Problem, shift_list, below, same_duty, count_of, is_used, shifts_used, same_duty_decides, without, duties_of}
 use Rattle.rota_cost.proofs.Coverage.{split_count}
 use Rattle.rota_cost.proofs.Seen.{one_more, or_true, or_false}
 
@@ -103,12 +92,4 @@ used_more i before d after h known none =
     ap (λ b. cond b 1 0) (with_used before d after h s)
     ∙ one_more (is_used before s) (d.shift == s) (λ e. ap (is_used before) (sym (eqb-true d.shift s e)) ∙ unused)) in
     let once : count_by (λ s. d.shift == s) (below n) ≡ 1 = count_by-below d.shift n known in
-    omega arith
-
--- a duty is there that was added last but one
-pub is_there : (before after last : List Duty) (d e : Duty) → after ≡ before ++ d ∷ [] → last ≡ after ++ e ∷ [] → 0 < count_of last d
-is_there before after last d e first second =
-    let a : count_of after d ≡ count_of before d + cond (same_duty d d) 1 0 = ap (λ (ds : List Duty). count_of ds d) first ∙ (with_pushed before d).each (same_duty d) in
-    let b : count_of last d ≡ count_of after d + cond (same_duty d e) 1 0 = ap (λ (ds : List Duty). count_of ds d) second ∙ (with_pushed after e).each (same_duty d) in
-    let c : ◌≡◌ {A = ℕ} (cond (same_duty d d) 1 0) 1 = ap (λ b. cond b 1 0) ((same_duty_decides d d).1 refl) in
     omega arith

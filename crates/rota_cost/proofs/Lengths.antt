@@ -1,14 +1,5 @@
 -- How many duties a legal rota can have.
-use Rattle.std.proofs.Common.{◌≡◌, inl, inr, ℕ, ◌+◌, ◌*◌, ◌/◌, ◌%◌, ◌<◌, ◌≤◌, Bool, true, cond, ◌==◌, List, [], ◌∷◌, length, refl, sym, ap, ◌∙◌, arith, count_by, nat_lt, eq-eqb}
-use Rattle.std.proofs.lemmas.Bool.{and_from, lt-ltb, eqb-true}
-use Rattle.std.proofs.lemmas.List.Sums.{sum_by-cons}
-use Rattle.std.proofs.lemmas.Nat.{mul-add-lt, div-mul-add, mod-mul-add}
-use Rattle.break_rules.specs.Lists.{Has}
-use Rattle.break_rules.proofs.Counts.{count_by_at_most}
-use Rattle.shift_instance.specs.declared.Duty.{Duty}
-use Rattle.shift_instance.specs.Problem.{Problem, shift_list}
-use Rattle.shift_instance.specs.Rota.{is_on, heads_on, is_legal_rota}
-use Rattle.shift_instance.proofs.Rotas.{heads_within, legal_duties}
+use Rattle.rota_cost.proofs.Common.{◌≡◌, inl, inr, ℕ, ◌+◌, ◌*◌, ◌/◌, ◌%◌, ◌<◌, ◌≤◌, Bool, true, cond, ◌==◌, List, [], ◌∷◌, length, refl, sym, ap, ◌∙◌, arith, count_by, nat_lt, eq-eqb, and_from, lt-ltb, eqb-true, sum_by-cons, mul-add-lt, div-mul-add, mod-mul-add, Has, count_by_at_most, Duty, Problem, shift_list, is_on, heads_on, is_legal_rota, heads_within, legal_duties}
 use Rattle.rota_cost.proofs.Coverage.{count_below}
 
 -- where at most m elements have each number below n, at most n times m have a number below n
@@ -23,7 +14,7 @@ count_all {X} p (x ∷ xs) h =
     let c : count_by p xs ≡ length xs = count_all p xs (λ y i. h y (inr i)) in
     omega arith
 
--- at most so many duties as there are shifts, days and heads
+-- at most as many duties as each shift may have on each day
 pub legal_length : (i : Problem) (rota : List Duty) → is_legal_rota i rota ≡ true → length rota ≤ length (shift_list i) * i.days * i.heads
 legal_length i rota h =
     let key : Duty → ℕ = λ d. d.shift * i.days + d.day in

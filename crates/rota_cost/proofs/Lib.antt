@@ -1,3 +1,4 @@
+pub mod Common
 pub mod Coverage
 pub mod Lengths
 pub mod Counting

@@ -1,21 +1,6 @@
 -- Counts of slots after the offsets of a duty's shift so far.
-use Rattle.std.proofs.Common.{◌≡◌, inl, inr, ℕ, ◌+◌, ◌*◌, ◌<◌, ◌≤◌, Bool, true, false, cond, ◌&&◌, ◌||◌, ◌==◌, List, length, get_or, set, refl, sym, ap, ◌∙◌, subst, arith, Some, eq-eqb, length-set, get_or-set_same, get_or-set_other}
-use Rattle.std.specs.Prelude.{slice_get, IsSomeAnd}
-use Rattle.std.specs.Option.{option_map_or}
-use Rattle.std.specs.List.{list_any}
-use Rattle.std.proofs.lemmas.Bool.{and_parts, and_left, eqb-true, cases_Bool, cases_eq, ne_eqb, and_right}
+use Rattle.rota_cost.proofs.Common.{◌≡◌, inl, inr, ℕ, ◌+◌, ◌*◌, ◌<◌, ◌≤◌, Bool, true, false, cond, ◌&&◌, ◌||◌, ◌==◌, List, length, get_or, set, refl, sym, ap, ◌∙◌, subst, arith, Some, eq-eqb, length-set, get_or-set_same, get_or-set_other, slice_get, IsSomeAnd, option_map_or, list_any, and_parts, and_left, eqb-true, cases_Bool, cases_eq, ne_eqb, and_right, Rule, works_at, any_some, from_below, Shift, Duty, Problem, shift_list, slots, day_slots, slot_of, below, works, IsValid, same_offset, some_at, is_some_and_at, Has_at, shift_short, any_below_more}
 use Rattle.break_rules.specs.declared.Break.{Break}
-use Rattle.break_rules.specs.declared.Rule.{Rule}
-use Rattle.break_rules.specs.Breaks.{works_at}
-use Rattle.break_rules.proofs.Lists.{any_some, from_below}
-use Rattle.shift_instance.specs.declared.Shift.{Shift}
-use Rattle.shift_instance.specs.declared.Duty.{Duty}
-use Rattle.shift_instance.specs.Problem.{Problem, shift_list, slots, day_slots, slot_of, below}
-use Rattle.shift_instance.specs.Rota.{works}
-use Rattle.shift_instance.specs.Valid.{IsValid}
-use Rattle.shift_instance.proofs.Offsets.{same_offset}
-use Rattle.shift_instance.proofs.Shifts.{some_at, is_some_and_at, Has_at, shift_short}
-use Rattle.shift_instance.proofs.Ranges.{any_below_more}
 
 -- whether a duty works at an offset of its shift that stands at a slot
 abbrev pub at : Problem → Shift × Rule → Duty → ℕ → ℕ → Bool
@@ -39,9 +24,6 @@ tested i d shift rule list o x h e =
     ap (λ q. works_at q shift.len list o) (is_some_and_at _ (λ x. rule ≡ x.1) x e h.is_rule)
     ∙ ap (λ (q : Shift). works_at x.1 q.len list o) (is_some_and_at _ (λ x. shift ≡ x.0) x e h.is_shift)
     ∙ ap (λ bs. works_at x.1 x.0.len bs o) h.breaks
-
-pub marked_none : (i : Problem) (d : Duty) (f : ℕ → ℕ) (old : List ℕ) → IsMarked i d f old old 0
-marked_none i d f old = record { counts = λ x e t small. refl; same = refl }
 
 or_false : (b : Bool) → (b || false) ≡ b
 or_false true = refl

@@ -1,22 +1,9 @@
 -- Rows have no fault exactly where they are legal.
-use Rattle.std.proofs.Common.{◌≡◌, inl, inr, ℕ, zero, suc, ◌+◌, ◌<◌, ◌≤◌, Bool, true, cond, ◌==◌, List, [], ◌∷◌, ◌++◌, length, drop, get_or, replicate, refl, sym, ap, ◌∙◌, subst, arith, sum_by, nat_le, nat_lt, Option, Some, None, append_assoc}
-use Rattle.std.specs.Prelude.{Result, Ok, Err, MatchResult, IsOk, IsTrue, ◌↔◌}
-use Rattle.std.specs.List.{list_all, zip}
-use Rattle.std.specs.Option.{option_or}
-use Rattle.std.proofs.lemmas.Bool.{and_parts, and_from, le-leb, ltb-true, ltb-false, lt-ltb, le-ltb, eqb-true, false≢true, cases_Bool, not-false, not_from_true}
+use Rattle.rota_cost.proofs.Common.{◌≡◌, inl, inr, ℕ, zero, suc, ◌+◌, ◌<◌, ◌≤◌, Bool, true, cond, ◌==◌, List, [], ◌∷◌, ◌++◌, length, drop, get_or, replicate, refl, sym, ap, ◌∙◌, subst, arith, sum_by, nat_le, nat_lt, Option, Some, None, append_assoc, Result, Ok, Err, MatchResult, IsOk, IsTrue, ◌↔◌, list_all, zip, option_or, and_parts, and_from, le-leb, ltb-true, ltb-false, lt-ltb, le-ltb, eqb-true, false≢true, cases_Bool, not-false, not_from_true, sum_by_push, sum_by-append, list_all-append, Has-append_right, Has-flat_map, all_at, all_from, Row, Problem, shift_list, is_list_of, is_on, heads_on, is_legal_duty, is_legal_rota, rota_of, duty_of, is_before, are_legal_rows, heads_within, legal_duties, heads_of, is_in_order, row_causes, fault_from, row_fault, heads_rows}
 use Rattle.std.proofs.lemmas.List.{append-nil}
-use Rattle.std.proofs.lemmas.List.Sums.{sum_by_push, sum_by-append}
-use Rattle.std.proofs.lemmas.List.Folds.{list_all-append}
 use Rattle.break_rules.specs.Causes.{first_cause}
 use Rattle.break_rules.proofs.Causes.{no_cause, none_from_no_cause}
-use Rattle.break_rules.proofs.Lists.{Has-append_right, Has-flat_map, all_at, all_from}
-use Rattle.shift_instance.specs.declared.Row.{Row}
-use Rattle.shift_instance.specs.Problem.{Problem, shift_list}
-use Rattle.shift_instance.specs.Rota.{is_list_of, is_on, heads_on, is_legal_duty, is_legal_rota, rota_of, duty_of, is_before, are_legal_rows}
-use Rattle.shift_instance.proofs.Rotas.{heads_within, legal_duties}
 use Rattle.rota_cost.specs.declared.RowFault.{RowFault}
-use Rattle.rota_cost.specs.RowFaults.{heads_of, is_in_order, row_causes, fault_from, row_fault}
-use Rattle.shift_instance.proofs.RowCounts.{heads_rows}
 use Rattle.rota_cost.proofs.Counting.{LegalRows, legal_rows_parts, Has_copy}
 
 or_none : {E : Type 0} (a b : Option E) → option_or a b ≡ None → (a ≡ None) × (b ≡ None)

@@ -1,20 +1,7 @@
 -- The running count of a shift and day, while rows are in order.
-use Rattle.std.proofs.Common.{◌≡◌, inl, inr, ℕ, ◌+◌, ◌<◌, ◌≤◌, true, false, cond, ◌&&◌, ◌||◌, ◌==◌, List, [], ◌∷◌, ◌++◌, refl, sym, ap, ◌∙◌, arith, nat_lt}
-use Rattle.std.proofs.lemmas.Bool.{and_parts, eqb-true, ltb-true, or_cases, cases_lt, ne_eqb, and_left, and_right}
-use Rattle.break_rules.specs.Breaks.{is_less_list}
-use Rattle.shift_instance.specs.declared.Row.{Row}
-use Rattle.shift_instance.specs.Rota.{is_on, duty_of, is_before}
+use Rattle.rota_cost.proofs.Common.{◌≡◌, inl, inr, ℕ, ◌+◌, ◌<◌, ◌≤◌, true, false, cond, ◌&&◌, ◌||◌, ◌==◌, List, [], ◌∷◌, ◌++◌, refl, sym, ap, ◌∙◌, arith, nat_lt, and_parts, eqb-true, ltb-true, or_cases, cases_lt, ne_eqb, and_left, and_right, is_less_list, Row, is_on, duty_of, is_before, heads_of, is_in_order, IsLater, IsRun}
 use Rattle.rota_cost.specs.declared.judging.Run.{Run}
-use Rattle.rota_cost.specs.RowFaults.{heads_of, is_in_order}
-use Rattle.rota_cost.specs.Run.{IsLater, IsRun}
 use Rattle.rota_cost.proofs.RowLaw.{order_push, heads_push}
-
-pub run_none : IsRun [] (record { shift = 0; day = 0; heads = 0 })
-run_none = record {
-  heads = refl;
-  later = λ s day l. refl;
-  order = λ r e l. elim l [ inl a ↦ absurd (omega arith) | inr b ↦ absurd (omega (arith, b.1)) ];
-}
 
 -- where a row isn't of a shift and day, they have the duties that they had
 push_off : (before : List Row) (r : Row) (s day : ℕ) → is_on s day (duty_of r) ≡ false → heads_of (before ++ r ∷ []) s day ≡ heads_of before s day

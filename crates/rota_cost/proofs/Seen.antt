@@ -1,17 +1,5 @@
 -- Which shifts the rows so far have, and how many.
-use Rattle.std.proofs.Common.{◌≡◌, inl, inr, ℕ, ◌+◌, ◌<◌, ◌≤◌, Bool, true, false, cond, ◌||◌, ◌==◌, List, [], ◌∷◌, ◌++◌, length, take, get_or, set, replicate, refl, sym, ap, ◌∙◌, subst, arith, count_by, eq-eqb, length-set, get_or-set_same, get_or-set_other}
-use Rattle.std.specs.List.{list_any}
-use Rattle.std.proofs.lemmas.Bool.{cases_eq, ne_eqb, eqb-true}
-use Rattle.std.proofs.lemmas.List.{get_or-replicate, length-replicate, take_all, take_more}
-use Rattle.std.proofs.lemmas.List.Folds.{list_any-append}
-use Rattle.break_rules.proofs.Counts.{count_by_none, count_by_same, count_by-below}
-use Rattle.shift_instance.specs.declared.Row.{Row}
-use Rattle.shift_instance.specs.Problem.{Problem, shift_list, below}
-use Rattle.shift_instance.specs.Rota.{rota_of, shifts_used, are_legal_rows, is_used}
-use Rattle.shift_instance.proofs.RowCounts.{any_rows}
-use Rattle.shift_instance.specs.Valid.{IsValid}
-use Rattle.std.proofs.lemmas.List.Sums.{count_by-le-length}
-use Rattle.std.proofs.lemmas.List.FromFn.{length-range_with_len}
+use Rattle.rota_cost.proofs.Common.{◌≡◌, inl, inr, ℕ, ◌+◌, ◌<◌, ◌≤◌, Bool, true, false, cond, ◌||◌, ◌==◌, List, [], ◌∷◌, ◌++◌, length, take, get_or, set, replicate, refl, sym, ap, ◌∙◌, subst, arith, count_by, eq-eqb, length-set, get_or-set_same, get_or-set_other, list_any, cases_eq, ne_eqb, eqb-true, get_or-replicate, length-replicate, take_all, take_more, list_any-append, count_by_none, count_by_same, count_by-below, Row, Problem, shift_list, below, rota_of, shifts_used, are_legal_rows, is_used, any_rows, IsValid, count_by-le-length, length-range_with_len}
 use Rattle.rota_cost.proofs.Counting.{legal_rows_parts, RowAt}
 use Rattle.rota_cost.proofs.Coverage.{split_count}
 

@@ -1,15 +1,5 @@
 -- Sums over slots whose counts change one at a time.
-use Rattle.std.proofs.Common.{◌≡◌, inl, inr, ℕ, zero, suc, ◌+◌, ◌-◌, ◌*◌, ◌<◌, ◌≤◌, List, length, get_or, set, sym, ap, ◌∙◌, arith, sum_by, add-one, get_or-set_same, get_or-set_other}
-use Rattle.std.proofs.Math.Nat.{mul-le-mul, mul-le-mul_right}
-use Rattle.std.proofs.lemmas.Bool.{cases_eq}
-use Rattle.std.proofs.lemmas.List.FromFn.{length-range_with_len}
-use Rattle.break_rules.proofs.Counts.{sum_by_same}
-use Rattle.break_rules.proofs.Lists.{from_below}
-use Rattle.shift_instance.specs.Problem.{Problem, slots, need_at, need_max_at, below}
-use Rattle.shift_instance.specs.Rota.{slot_cost}
-use Rattle.shift_instance.specs.Valid.{IsValid}
-use Rattle.rota_cost.specs.Counted.{slots_cost}
-use Rattle.shift_instance.proofs.Ranges.{sum_below_more}
+use Rattle.rota_cost.proofs.Common.{◌≡◌, inl, inr, ℕ, zero, suc, ◌+◌, ◌-◌, ◌*◌, ◌<◌, ◌≤◌, List, length, get_or, set, sym, ap, ◌∙◌, arith, sum_by, add-one, get_or-set_same, get_or-set_other, mul-le-mul, mul-le-mul_right, cases_eq, length-range_with_len, sum_by_same, from_below, Problem, slots, need_at, need_max_at, below, slot_cost, IsValid, slots_cost, sum_below_more}
 use Rattle.rota_cost.proofs.Coverage.{sum_few}
 
 -- one of the numbers that are summed is no more than the sum

@@ -1,5 +1,5 @@
 //! The running cover of a rota that grows and shrinks.
-ghost use Rattle.std.specs.Prelude.{◌≡◌, ℕ, ◌+◌, ◌*◌, ◌^◌, ◌<◌, ◌≤◌, ◌++◌, ◌∷◌, [], length, slice_index, slice_set, IfOk, if◌then◌else◌};
+ghost use Rattle.std.specs.Prelude.{◌≡◌, ℕ, ◌+◌, ◌*◌, ◌^◌, ◌<◌, ◌≤◌, ◌++◌, ◌∷◌, [], length, replicate, slice_index, slice_set, IfOk, if◌then◌else◌};
 ghost use Rattle.shift_instance.specs.Problem.{shift_list, slots};
 ghost use Rattle.shift_instance.specs.Rota.{cost, count_of, cover, works};
 ghost use Rattle.shift_instance.specs.Valid.{IsValid};
@@ -174,6 +174,20 @@ impl Cover {
             self.slot_part,
         );
         self.covered = Covered::with(&self.covered, duty);
+    }
+
+    /// Adds a duty that often. It takes no memory.
+    pub fn add_often(&mut self, instance: &Instance, duty: &Duty, often: u16)
+        requires instance { self.old.instance ≡ instance.now }
+        requires shift { duty.now.shift < length (shift_list instance.now) }
+        requires day { duty.now.day < instance.now.days }
+        requires room { length self.old.duties + often ≤ 2 ^ 31 }
+        ensures instance { self.new.instance ≡ self.old.instance }
+        ensures duties { self.new.duties ≡ self.old.duties ++ replicate often duty.now }
+    {
+        for _ in 0..often {
+            self.add(instance, duty);
+        }
     }
 
     /// Takes a duty away that is in the cover: the first of those that are the same. It takes no memory.

@@ -1,13 +1,8 @@
 -- Counts of the duties of rows, one row more at a time.
-use Rattle.std.proofs.Common.{◌≡◌, ℕ, ◌+◌, ◌<◌, ◌≤◌, Bool, true, cond, List, length, get_or, take, replicate, count_by, ap, ◌∙◌, arith}
+use Rattle.rota_sheets.proofs.Common.{◌≡◌, ℕ, ◌+◌, ◌<◌, ◌≤◌, Bool, true, cond, List, length, get_or, take, replicate, count_by, ap, ◌∙◌, arith, Duty, Row, Problem, shift_list, are_legal_rows, duty_of, rota_of, row_at}
 use Rattle.std.proofs.lemmas.List.Sums.{count_by-le-length}
 use Rattle.break_rules.proofs.Counts.{count_by-append, count_by-replicate}
-use Rattle.shift_instance.specs.declared.Duty.{Duty}
-use Rattle.shift_instance.specs.declared.Row.{Row}
-use Rattle.shift_instance.specs.Problem.{Problem, shift_list}
-use Rattle.shift_instance.specs.Rota.{are_legal_rows, duty_of, rota_of}
 use Rattle.shift_instance.specs.Valid.{IsValid}
-use Rattle.plan_tables.proofs.RowDuties.{row_at}
 
 -- a row of legal rows: its shift is in the shift list, and its duties add to a count of those before it where they pass
 pub record CountsRow (i : Problem) (p : Duty → Bool) (rows : List Row) (k : ℕ) (r : Row) : Type 0 where

@@ -1,18 +1,7 @@
 -- The used shifts among one number more.
-use Rattle.std.proofs.Common.{◌≡◌, ℕ, ◌+◌, Bool, true, false, cond, Option, None, Some, List, [], ◌∷◌, ◌++◌, filter, sym, ap, ◌∙◌, append-nil}
-use Rattle.std.specs.Prelude.{IsSomeAnd, slice_get}
-use Rattle.std.specs.List.{flat_map}
-use Rattle.std.specs.Option.{option_map_or}
-use Rattle.std.proofs.lemmas.List.{flat_map_more}
+use Rattle.rota_sheets.proofs.Common.{◌≡◌, ℕ, ◌+◌, Bool, true, false, cond, Option, None, Some, List, [], ◌∷◌, ◌++◌, filter, sym, ap, ◌∙◌, append-nil, IsSomeAnd, slice_get, flat_map, option_map_or, flat_map_more, Rule, Duty, Shift, Problem, below, shift_list, is_used, UsedShift, shift_with_number}
 use Rattle.std.proofs.lemmas.List.Elements.{filter-append}
-use Rattle.break_rules.specs.declared.Rule.{Rule}
-use Rattle.shift_instance.specs.declared.Duty.{Duty}
-use Rattle.shift_instance.specs.declared.Shift.{Shift}
-use Rattle.shift_instance.specs.Problem.{Problem, below, shift_list}
-use Rattle.shift_instance.specs.Rota.{is_used}
 use Rattle.shift_instance.proofs.Ranges.{below_next}
-use Rattle.rota_sheets.specs.declared.heads.UsedShift.{UsedShift}
-use Rattle.rota_sheets.specs.Heads.{shift_with_number}
 
 -- the used shifts of the numbers below one
 abbrev pub used_below : Problem → List Duty → ℕ → List UsedShift

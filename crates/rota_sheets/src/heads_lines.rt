@@ -1,4 +1,4 @@
-//! A table of heads by shift and day, as lines of text.
+//! A table of how many duties each shift has on each day, as lines of text.
 ghost use Rattle.std.specs.Prelude.{◌≡◌, IfOk, IsTrue, length};
 ghost use Rattle.shift_instance.specs.Rota.{are_legal_rows};
 
@@ -19,7 +19,7 @@ struct DayColumn {
     width: usize,
 }
 
-/// The columns of a table of heads.
+/// The columns of a table of duties by shift and day.
 #[derive(Drop)]
 struct Columns {
     /// How wide the names of types are.

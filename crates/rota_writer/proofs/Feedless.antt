@@ -1,18 +1,9 @@
 -- No part of a line of the table has a line feed in it.
-use Rattle.std.proofs.Common.{◌≡◌, ℕ, zero, suc, ◌+◌, ◌*◌, ◌/◌, ◌%◌, ◌≤◌, Bool, true, false, ◌==◌, ◌&&◌, not, List, [], ◌∷◌, ◌++◌, length, refl, subst, arith, nat_lt, nat_le, Option, Some, None, codes, eqb}
-use Rattle.std.specs.Prelude.{slice_get}
-use Rattle.std.specs.Option.{option_map_or}
-use Rattle.std.specs.List.{flat_map, list_all}
-use Rattle.std.specs.Fmt.{decimal, digits, digits_onto, digit_glyph}
+use Rattle.rota_writer.proofs.Common.{◌≡◌, ℕ, zero, suc, ◌+◌, ◌*◌, ◌/◌, ◌%◌, ◌≤◌, Bool, true, false, ◌==◌, ◌&&◌, not, List, [], ◌∷◌, ◌++◌, length, refl, subst, arith, nat_lt, nat_le, Option, Some, None, codes, eqb, slice_get, option_map_or, flat_map, list_all, decimal, digits, digits_onto, digit_glyph, All-nil, All-cons, All-append, All-get_or, Problem, Kind, IsKind, IsValid, IsLine, two_digits, clock, period_text, break_text, breaks_text, name_of}
 use Rattle.std.proofs.lemmas.Bool.{and_parts, leb-true, cond_both}
-use Rattle.std.proofs.lemmas.List.Elements.{All-nil, All-cons, All-append, All-get_or}
 use Rattle.std.proofs.lemmas.Option.{slice_get_within, get_or_from_slice_get}
 use Rattle.break_rules.specs.declared.Break.{Break}
 use Rattle.shift_instance.specs.Names.{is_name_byte}
-use Rattle.shift_instance.specs.Problem.{Problem, Kind}
-use Rattle.shift_instance.specs.Valid.{IsKind, IsValid}
-use Rattle.certificate.specs.Departing.{IsLine}
-use Rattle.rota_writer.specs.Table.{two_digits, clock, period_text, break_text, breaks_text, name_of}
 
 -- a byte that is no line feed
 abbrev IsOther : ℕ → Type 0

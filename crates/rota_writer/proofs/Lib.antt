@@ -1,2 +1,3 @@
 mod Feedless
+pub mod Common
 pub mod Notes

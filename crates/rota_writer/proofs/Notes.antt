@@ -1,22 +1,13 @@
 -- A table is lines of notes, so the text of a certificate with a table behind it is a text of that certificate.
-use Rattle.std.proofs.Common.{ℕ, List, [], ◌∷◌, ◌++◌, refl, sym, ap, ◌∙◌, Option, Some, None, codes}
-use Rattle.std.specs.Prelude.{slice_get}
-use Rattle.std.specs.Option.{option_map_or}
-use Rattle.std.specs.Fmt.{decimal}
+use Rattle.rota_writer.proofs.Common.{ℕ, List, [], ◌∷◌, ◌++◌, refl, sym, ap, ◌∙◌, Option, Some, None, codes, slice_get, option_map_or, decimal, All-nil, All-cons, All-append, Row, Problem, shift_list, IsValid, IsLine, IsNote, Spells, period_text, breaks_text, day_number, name_of, crew_text, line_of, row_table_line, table_text}
 use Rattle.std.proofs.lemmas.Grind.{flat_map-append}
 use Rattle.std.proofs.lemmas.List.{append-nil}
-use Rattle.std.proofs.lemmas.List.Elements.{All-nil, All-cons, All-append}
 use Rattle.break_rules.specs.declared.Rule.{Rule}
-use Rattle.shift_instance.specs.declared.Row.{Row}
 use Rattle.shift_instance.specs.declared.Shift.{Shift}
-use Rattle.shift_instance.specs.Problem.{Problem, shift_list}
-use Rattle.shift_instance.specs.Valid.{IsValid}
 use Rattle.certificate.specs.declared.Cert.{Cert}
-use Rattle.certificate.specs.Departing.{IsLine, IsNote, Spells}
 use Rattle.certificate.specs.LineText.{Line, line_text, lines_text}
 use Rattle.certificate.specs.Text.{HasText, cert_lines, cert_text}
 use Rattle.rota_writer.specs.Notes.{AreNotes, TablesAreNotes, TextsTakeTables}
-use Rattle.rota_writer.specs.Table.{period_text, breaks_text, day_number, name_of, crew_text, line_of, row_table_line, table_text}
 use Rattle.rota_writer.proofs.Feedless.{plain, joins, decimal_line, period_line, breaks_line, name_line}
 
 -- ---- notes behind one another

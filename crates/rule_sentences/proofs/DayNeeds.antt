@@ -11,15 +11,6 @@ use Rattle.rule_sentences.specs.declared.needs.DayNeed.{DayNeed}
 use Rattle.rule_sentences.specs.declared.needs.NeedRange.{NeedRange}
 use Rattle.rule_sentences.specs.Needs.{IsRangeOf}
 
-pub one_need : (n wanted : ℕ) → wanted ≡ n → IsRangeOf (n ∷ []) (record { least = n; greatest = n; wanted = wanted })
-one_need n wanted e = record {
-  least = λ m h. elim h [ inl s ↦ (let z : n ≡ m = s in omega arith) | inr none ↦ absurd none ];
-  some_least = inl refl;
-  greatest = λ m h. elim h [ inl s ↦ (let z : n ≡ m = s in omega arith) | inr none ↦ absurd none ];
-  some_greatest = inl refl;
-  wanted = e ∙ sym (sum_by-cons (λ (x : ℕ). x) n [] ∙ add-zero n);
-}
-
 pub one_more : (needs : List ℕ) (d e : NeedRange) (n : ℕ) → IsRangeOf needs d → e.least ≡ min d.least n → e.greatest ≡ max d.greatest n → e.wanted ≡ d.wanted + n → IsRangeOf (needs ++ n ∷ []) e
 one_more needs d e n h low high all = record {
   least = λ m at. elim (Has-append_cases needs (n ∷ []) m at) [
@@ -61,23 +52,3 @@ next_need f first offset need d e h few is small more =
   where
     small_sum : (a b c n k : ℕ) → a ≡ c + n → b ≡ c → b ≤ k * 10000 → n ≤ 10000 → a ≤ (k + 1) * 10000
     small_sum a b c n k e f g h = omega arith
-
--- elements of a list that grows at its end
-get_old : {X : Type 0} (xs ys : List X) (k : ℕ) → k < length xs → slice_get (xs ++ ys) k ≡ slice_get xs k
-get_old [] ys k h = absurd (omega arith)
-get_old (x ∷ xs) ys zero h = refl
-get_old (x ∷ xs) ys (suc k) h = get_old xs ys k (omega arith)
-
-get_new : {X : Type 0} (xs : List X) (y : X) → slice_get (xs ++ y ∷ []) (length xs) ≡ Some y
-get_new [] y = refl
-get_new (x ∷ xs) y = get_new xs y
-
-pub each_more : (P : ℕ → DayNeed → Type 0) (xs : List DayNeed) (y : DayNeed) (n : ℕ) → length xs ≡ n → ((k : ℕ) → k < n → IsSomeAnd (slice_get xs k) (P k)) → P n y → (k : ℕ) → k < n + 1 → IsSomeAnd (slice_get (xs ++ y ∷ []) k) (P k)
-each_more P xs y n e each last k h = elim (cases_lt k n) [
-  | inl old ↦ subst (λ (o : Option DayNeed). IsSomeAnd o (P k)) (sym (get_old xs (y ∷ []) k (omega arith))) (each k old)
-  | inr new ↦
-      let same : n ≡ k = omega arith in
-      subst (λ (j : ℕ). IsSomeAnd (slice_get (xs ++ y ∷ []) j) (P j)) same
-      (subst (λ (j : ℕ). IsSomeAnd (slice_get (xs ++ y ∷ []) j) (P n)) e
-      (subst (λ (o : Option DayNeed). IsSomeAnd o (P n)) (sym (get_new xs y)) last))
-]

@@ -1,10 +1,10 @@
 //! What is said of a shift type, part by part.
 ghost use Rattle.std.specs.Prelude.{◌≡◌, ◌&&◌, ◌||◌, ◌++◌, [], ◌∷◌, nat_lt, nat_le, IfOk, OnOk};
 ghost use Rattle.std.specs.List.{flat_map, list_any};
-ghost use Rattle.break_rules.specs.Breaks.{total_in, total_of};
+ghost use Rattle.break_rules.specs.Breaks.{total_of};
 ghost use Rattle.rule_sentences.specs.Clauses.{is_later, has_no_break, later_total, limits_sizes, sizes, applies, lunch_clause, lunch_clauses, lunchless, most_work, least_work, rest, ends, resettling, work_clauses, break_clauses, clauses_of};
 
-use break_rules::{Lunch, NoMemory};
+use break_rules::{Lunch, NoMemory, total_among};
 use shift_instance::TypeParts;
 use std::alloc::Global;
 
@@ -84,19 +84,6 @@ pub enum Clause {
     Resettling {
         slots: u16,
     },
-}
-
-/// The break time by a table of totals at a length: that of the last entry from a length on that it reaches, and else 0.
-pub fn total_among(totals: &[(u16, u16)], len: u16) -> u16
-    ensures { result ≡ total_in totals.now len }
-{
-    let mut total = 0;
-    for entry in totals {
-        if entry.0 <= len {
-            total = entry.1;
-        }
-    }
-    total
 }
 
 /// The break time of the shortest shifts of a type.

@@ -11,7 +11,7 @@ mod times;
 mod weights;
 mod wrapping;
 
-pub use kinds::{Clause, clauses, has_no_break, total_among};
+pub use kinds::{Clause, clauses, has_no_break};
 pub use needs::{DayNeed, NeedRange, day_needs};
 pub use saying::Said;
 pub use telling::{rule_lines, rules_text, type_sentence};

@@ -8,7 +8,7 @@ use crate::instances::day_instance;
 use crate::small_rules::{eighth, judge, short};
 use break_layers::LayerValues;
 use break_rules::{NoMemory, Rule, Spot};
-use list_walks::{ListWalks, Way};
+use list_walks::{ListWalks, WalkWay};
 use shift_instance::Instance;
 use std::alloc::Global;
 use std::process::Abort;
@@ -78,7 +78,7 @@ fn layers_of_no_list_lead_nowhere(rt: HostRuntime) -> Result<(), Fail> {
 }
 
 /// The ways on from the start of a shift.
-fn first_ways(alloc: Global, walks: &ListWalks<'_>) -> Result<Vec<Way>, NoMemory> {
+fn first_ways(alloc: Global, walks: &ListWalks<'_>) -> Result<Vec<WalkWay>, NoMemory> {
     match walks.opening() {
         Some(at) => walks.ways(alloc, at),
         None => Ok(Vec::new(alloc)),
@@ -86,7 +86,7 @@ fn first_ways(alloc: Global, walks: &ListWalks<'_>) -> Result<Vec<Way>, NoMemory
 }
 
 /// The ways on from the start of a shift of an instance.
-fn ways_of_shift(alloc: Global, instance: &Instance, shift: u16) -> Result<Vec<Way>, NoMemory>
+fn ways_of_shift(alloc: Global, instance: &Instance, shift: u16) -> Result<Vec<WalkWay>, NoMemory>
     requires { shift < length (shift_list instance.now) }
 {
     let walks = ListWalks::of_shift(alloc, instance, shift)?;
@@ -94,7 +94,7 @@ fn ways_of_shift(alloc: Global, instance: &Instance, shift: u16) -> Result<Vec<W
 }
 
 /// Stops the test where these ways don't lead to four short breaks, from offset 2 on.
-fn judge_breaks(rt: &impl Abort, ways: &[Way]) {
+fn judge_breaks(rt: &impl Abort, ways: &[WalkWay]) {
     assert_eq!(rt; ways.len(), 4);
     for (start, way) in (2u16..6).zip(ways) {
         assert!(rt; way.stop == short(start) && way.at.spot.offset == start.wrapping_add(1));

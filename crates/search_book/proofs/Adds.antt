@@ -1,12 +1,6 @@
 -- A book after one more record.
-use Rattle.std.proofs.Common.{◌≡◌, ⊎_elim, ℕ, ◌+◌, ◌*◌, ◌≤◌, List, [], ◌∷◌, ◌++◌, length, sym, ap, subst, arith, length-append}
-use Rattle.std.proofs.lemmas.List.{append-nil}
-use Rattle.std.proofs.lemmas.Bool.{cases_lt}
-use Rattle.std.specs.Prelude.{Option, None, Some, OnSome}
-use Rattle.plan_base.specs.Disk.{TellsAlike, HoldsThroughout}
-use Rattle.gated_journal.specs.Format.{StandsFor, IsBeforeOrAfter}
-use Rattle.gated_journal.specs.View.{JournalView, IsSettled}
-use Rattle.search_book.specs.Prefix.{HoldsPrefix}
+use Rattle.search_book.proofs.Common.{◌≡◌, ⊎_elim, ℕ, ◌+◌, ◌*◌, ◌≤◌, List, [], ◌∷◌, ◌++◌, length, sym, ap, subst, arith, length-append, append-nil, cases_lt, OnSome, TellsAlike, HoldsThroughout, StandsFor, IsBeforeOrAfter, JournalView, IsSettled, HoldsPrefix}
+use Rattle.std.specs.Prelude.{Option, None, Some}
 use Rattle.search_book.proofs.Prefixes.{longer_run, whole_run, either_run}
 
 module _ {D : Type 0} (calls : D → ℕ) (since : D → ℕ → List ℕ → Type 0) (images : D → List ℕ → Type 0) (only_now : (d : D) (c : List ℕ) → since d (calls d) c → images d c) where

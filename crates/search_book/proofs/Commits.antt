@@ -1,27 +1,6 @@
 -- A log of posts after a commit.
-use Rattle.std.proofs.Common.{◌≡◌, ℕ, ◌+◌, ◌<◌, ◌≤◌, ◌^◌, List, [], ◌∷◌, ◌++◌, length, refl, sym, ◌∙◌, ap, subst, arith, Option, None, Some}
-use Rattle.std.specs.Prelude.{IsSome}
-use Rattle.std.specs.Option.{option_and_then}
-use Rattle.std.proofs.lemmas.List.{append-nil, append_assoc}
-use Rattle.post_codec.specs.declared.post.Post.{Post}
-use Rattle.post_codec.specs.Spelling.{Spells}
-use Rattle.shift_instance.specs.Problem.{Problem}
+use Rattle.search_book.proofs.Common.{◌≡◌, ℕ, ◌+◌, ◌<◌, ◌≤◌, ◌^◌, List, [], ◌∷◌, ◌++◌, length, refl, sym, ◌∙◌, ap, subst, arith, Option, None, Some, IsSome, option_and_then, append-nil, append_assoc, Post, Spells, Problem, canonical_text, end_after, bytes_of, Book, book_after, book_of, opening, Makes, StateView, Shutting, DiskFault, Full, book_after-append, PostLogView, bytes_used, joined, SpellPosts, IsPostLogInside, ShutIn, LogView, zip_right}
 use Rattle.shift_instance.specs.Valid.{IsValid}
-use Rattle.instance_json.specs.Canonical.{canonical_text}
-use Rattle.gated_journal.specs.Format.{end_after}
-use Rattle.search_core.specs.Board.{bytes_of}
-use Rattle.search_core.specs.Book.{Book, book_after, book_of, opening}
-use Rattle.search_core.specs.Drafting.{Makes}
-use Rattle.search_core.specs.State.{StateView}
-use Rattle.search_core.specs.declared.board.Shutting.{Shutting}
-use Rattle.search_core.specs.declared.board.Shutting.TheVariants.{DiskFault, Full}
-use Rattle.search_core.proofs.Runs.{book_after-append}
-use Rattle.search_book.specs.PostLog.{PostLogView}
-use Rattle.search_book.specs.Posts.{bytes_used}
-use Rattle.post_codec.specs.Batches.{joined, SpellPosts}
-use Rattle.search_book.specs.Recorded.{IsPostLogInside, ShutIn}
-use Rattle.search_book.specs.Records.{LogView}
-use Rattle.post_codec.proofs.Batches.{zip_right}
 use Rattle.search_book.proofs.Few.{few_nodes, few_posts}
 use Rattle.search_book.proofs.Used.{end_is}
 use Rattle.search_book.proofs.Recording.{bytes_are, joined_more, recorded_first, recorded_more, recorded_spells, used_with}

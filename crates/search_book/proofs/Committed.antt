@@ -1,36 +1,12 @@
 -- What a commit makes of a book, and why it is refused.
-use Rattle.std.proofs.Common.{◌≡◌, ℕ, zero, suc, ◌==◌, ◌<◌, ◌≤◌, ◌+◌, List, [], ◌∷◌, ◌++◌, length, Option, None, Some, Bool, false, refl, sym, ◌∙◌, ap, subst, arith, length-set}
-use Rattle.std.specs.Prelude.{is_some, IsSome, slice_set}
-use Rattle.std.specs.Option.{option_map_or}
-use Rattle.std.proofs.lemmas.List.{append-nil}
-use Rattle.std.proofs.lemmas.Bool.{false≢true}
-use Rattle.gated_journal.specs.declared.fault.JournalFault.{JournalFault}
-use Rattle.gated_journal.specs.declared.fault.JournalFault.TheVariants.{DiskFault as DiskFails, NoMemory as JournalsMemory, NotAJournal as IsNone, Damaged as IsDamaged, Full as IsFull, OldVersion}
-use Rattle.post_codec.specs.declared.post.Post.{Post}
-use Rattle.shift_instance.specs.Problem.{Problem}
+use Rattle.search_book.proofs.Common.{◌≡◌, ℕ, zero, suc, ◌==◌, ◌<◌, ◌≤◌, ◌+◌, List, [], ◌∷◌, ◌++◌, length, Option, None, Some, Bool, false, refl, sym, ◌∙◌, ap, subst, arith, length-set, is_some, IsSome, slice_set, option_map_or, append-nil, false≢true, JournalFault, OldVersion, DifferAt, Post, Problem, StepPosts, ByPrice, batches_of, book_at, bytes_of, floor_of_node, leaves_open, posts_at, records_of, BoardView, CommitRefuses, Commits, HasPosts, HoldsStep, Book, book_after, book_of, is_node_and, is_open, HoldsApart, Drafts, LeavesOpen, Makes, cuts_in, after_step, book_then, is_cheaper, posts_of, makes_fold, book_is, front_folds, commit_fault_of, step_posts, MayCommit, MayNot, RecordsStep, StepFails, Follows, PostLogView, joined, RecordFails, Records, board_at, KeepsSearch}
+use Rattle.gated_journal.specs.declared.fault.JournalFault.TheVariants.{DiskFault as DiskFails, NoMemory as JournalsMemory, NotAJournal as IsNone, Damaged as IsDamaged, Full as IsFull}
+use Rattle.search_core.specs.declared.board.Shutting.TheVariants.{Full as ByLimit}
 use Rattle.search_core.specs.declared.board.CommitFault.{CommitFault}
 use Rattle.search_core.specs.declared.board.CommitFault.TheVariants.{DiskFault, Full, NotHeld, Shut, NotClosing, OtherCuts, NoMemory}
 use Rattle.search_core.specs.declared.board.Kept.{Kept}
-use Rattle.search_core.specs.declared.board.Shutting.TheVariants.{Full as ByLimit}
-use Rattle.search_core.specs.declared.drafting.Draft.{Draft}
-use Rattle.search_core.specs.declared.step_posts.StepPosts.{StepPosts}
-use Rattle.search_core.specs.declared.step_posts.Close.TheVariants.{ByPrice}
-use Rattle.search_core.specs.Board.{batches_of, book_at, bytes_of, floor_of_node, leaves_open, posts_at, records_of, BoardView, CommitRefuses, Commits, DifferAt, HasPosts, HoldsStep}
-use Rattle.search_core.specs.Book.{Book, book_after, book_of, is_node_and, is_open}
-use Rattle.search_core.specs.Core.{HoldsApart}
-use Rattle.search_core.specs.Drafting.{Drafts, LeavesOpen, Makes}
-use Rattle.search_core.specs.Kept.{cuts_in}
-use Rattle.search_core.specs.Steps.{after_step, book_then, is_cheaper, posts_of}
-use Rattle.search_core.proofs.Appends.{makes_fold}
+use Rattle.search_core.specs.declared.drafting.StepDraft.{StepDraft}
 use Rattle.search_core.proofs.Boards.{others_held_after}
-use Rattle.search_core.proofs.Outlines.{book_is}
-use Rattle.search_core.proofs.Runs.{front_folds}
-use Rattle.search_book.specs.Committing.{commit_fault_of, step_posts, MayCommit, MayNot, RecordsStep, StepFails}
-use Rattle.search_book.specs.Listing.{Follows}
-use Rattle.search_book.specs.PostLog.{PostLogView}
-use Rattle.post_codec.specs.Batches.{joined}
-use Rattle.search_book.specs.Recorded.{RecordFails, Records}
-use Rattle.search_book.specs.Search.{board_at, KeepsSearch}
 use Rattle.search_book.proofs.Commits.{fold_more}
 use Rattle.search_book.proofs.Following.{step_follows}
 use Rattle.search_book.proofs.Handing.{emptied_counted}
@@ -217,7 +193,7 @@ no_batch : (posts : List Post) → length posts ≡ 0 → posts ≡ []
 no_batch [] e = refl
 no_batch (p ∷ posts) e = absurd (omega arith)
 
-module _ {D : Type 0} (calls : D → ℕ) (old new : PostLogView D) (w : ℕ) (step : StepPosts) (d : Draft) (drafts : Drafts old.instance old.book w step d) where
+module _ {D : Type 0} (calls : D → ℕ) (old new : PostLogView D) (w : ℕ) (step : StepPosts) (d : StepDraft) (drafts : Drafts old.instance old.book w step d) where
   pub step_recorded : (kept : Kept) → Records calls old new d.posts.items new.book → Makes old.instance old.book d.posts.items d.values.items new.book → 0 < length d.posts.items
       → kept.records ≡ 1 → kept.plan ≡ is_cheaper step.plan old.book → kept.best ≡ d.best → kept.floor ≡ d.floor → RecordsStep calls w step old new kept
   step_recorded kept records makes some count plan best floor =
@@ -259,7 +235,7 @@ module _ {D : Type 0} (calls : D → ℕ) (old new : PostLogView D) (w : ℕ) (s
       failed (IsFull end most) h = (there, subst (λ (l : List Post). length l ≤ 4) drafts.posts drafts.few, allowed, h)
 
 -- where there are no posts
-pub step_idle : {D : Type 0} (calls : D → ℕ) (old : PostLogView D) (w : ℕ) (step : StepPosts) (d : Draft) (kept : Kept) → Drafts old.instance old.book w step d → length d.posts.items ≡ 0 → kept.records ≡ 0 → kept.plan ≡ is_cheaper step.plan old.book → kept.best ≡ d.best → kept.floor ≡ d.floor → RecordsStep calls w step old old kept
+pub step_idle : {D : Type 0} (calls : D → ℕ) (old : PostLogView D) (w : ℕ) (step : StepPosts) (d : StepDraft) (kept : Kept) → Drafts old.instance old.book w step d → length d.posts.items ≡ 0 → kept.records ≡ 0 → kept.plan ≡ is_cheaper step.plan old.book → kept.best ≡ d.best → kept.floor ≡ d.floor → RecordsStep calls w step old old kept
 step_idle calls old w step d kept drafts none count plan best floor =
     let posts = step_posts w step old in
     let empty : posts ≡ [] = sym drafts.posts ∙ no_batch d.posts.items none in

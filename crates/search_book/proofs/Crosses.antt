@@ -1,6 +1,5 @@
 -- A book may go to another thread where its disk may.
-use denote.RattleType.{RattleType}
-use denote.Param.Send.{recorded_send, sendable, struct_send, view_send, IsSend}
+use Rattle.search_book.proofs.Common.{RattleType, recorded_send, sendable, struct_send, view_send, IsSend}
 use denote.Struct.Declared.{shape}
 use Rattle.plan_base.specs.declared.disk.Disk.{Ghosts}
 use Rattle.gated_journal.proofs.journal.Journal.TheSendSync as journal

@@ -1,18 +1,5 @@
 -- A journal of a small file has few posts.
-use Rattle.std.proofs.Common.{◌≡◌, ℕ, zero, suc, set, Some, sym, ◌∙◌, ◌+◌, ◌*◌, ◌≤◌, List, [], ◌∷◌, ◌++◌, length, refl, ap, arith, length-append}
-use Rattle.std.specs.List.{AllZip, flat_map}
-use Rattle.std.proofs.lemmas.List.Concat.{flat_map-append}
-use Rattle.gated_journal.specs.Format.{gated}
-use Rattle.post_codec.specs.declared.price_width.PriceWidth.TheVariants.{Five}
-use Rattle.post_codec.specs.declared.post.Post.{Post}
-use Rattle.post_codec.specs.declared.post.Post.TheVariants.{Plan, Priced, Split, Settled}
-use Rattle.post_codec.specs.Spelling.{breaks_bytes, class_bytes, post_bytes, prices_bytes, row_bytes, rows_bytes, spelling, Spells, u16_bytes, u32_bytes, u64_bytes}
-use Rattle.head_splits.specs.declared.Class.{Class}
-use Rattle.shift_instance.specs.Problem.{Problem}
-use Rattle.search_core.specs.Book.{Book, book_after, book_of, divided, is_better, opening, priced, settled, step}
-use Rattle.search_core.proofs.Sound.{at_node_some, bind_some, cond_some}
-use Rattle.search_book.specs.Posts.{bytes_used}
-use Rattle.post_codec.specs.Batches.{joined, SpellPosts}
+use Rattle.search_book.proofs.Common.{◌≡◌, ℕ, zero, suc, set, Some, sym, ◌∙◌, ◌+◌, ◌*◌, ◌≤◌, List, [], ◌∷◌, ◌++◌, length, refl, ap, arith, length-append, AllZip, flat_map, flat_map-append, gated, Five, Post, Plan, Priced, Split, Settled, breaks_bytes, class_bytes, post_bytes, prices_bytes, row_bytes, rows_bytes, spelling, Spells, u16_bytes, u32_bytes, u64_bytes, Class, Problem, Book, book_after, book_of, divided, is_better, opening, priced, settled, step, at_node_some, bind_some, cond_some, bytes_used, joined, SpellPosts}
 
 u16_size : (n : ℕ) → length (u16_bytes n) ≡ 2
 unfolding u16_bytes

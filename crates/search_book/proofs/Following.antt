@@ -1,30 +1,16 @@
 -- What the posts of a step leave of a book beside its node.
-use Rattle.std.proofs.Common.{◌≡◌, ◌≢◌, ℕ, zero, suc, ◌+◌, ◌<◌, ◌≤◌, max, Bool, true, false, cond, ◌&&◌, ◌==◌, not, List, [], ◌∷◌, ◌++◌, length, set, refl, sym, ap, ◌∙◌, subst, arith, nat_le, nat_lt, Option, Some, None}
-use Rattle.std.specs.Prelude.{slice_get}
-use Rattle.std.proofs.lemmas.Bool.{and_parts, ltb-true}
+use Rattle.search_book.proofs.Common.{◌≡◌, ◌≢◌, ℕ, zero, suc, ◌+◌, ◌<◌, ◌≤◌, max, Bool, true, false, cond, ◌&&◌, ◌==◌, not, List, [], ◌∷◌, ◌++◌, length, set, refl, sym, ap, ◌∙◌, subst, arith, nat_le, nat_lt, Option, Some, None, slice_get, and_parts, ltb-true, Problem, Class, low, high, Node, child, with_floor, with_split, settled_floor, Post, Plan, Priced, Split, Settled, StepPosts, ByPrice, Book, is_open, is_node_and, priced, divided, settled, is_better, step, book_after, close_posts, plan_of, plan_posts, posts_of, where_open, slice_get_front, slice_get_other, at_node_some, bind_some, cond_some, Follows}
+use Rattle.search_core.specs.declared.step_posts.Close.TheVariants.{Split as CloseBySplit, Settled as CloseAsSettled}
 use Rattle.std.proofs.lemmas.List.{length-append, length-set}
 use Rattle.shift_instance.specs.declared.Row.{Row}
-use Rattle.shift_instance.specs.Problem.{Problem}
 use Rattle.shift_instance.specs.Rota.{are_legal_rows, cost, rota_of}
 use Rattle.rota_cost.specs.Costed.{Costing}
-use Rattle.head_splits.specs.declared.Class.{Class}
 use Rattle.head_splits.specs.declared.Prices.{Prices}
 use Rattle.head_splits.specs.declared.Side.TheVariants.{AtMost, AtLeast}
-use Rattle.head_splits.specs.Cuts.{low, high}
 use Rattle.head_splits.specs.Bound.{are_prices, bound_of}
-use Rattle.head_splits.specs.Nodes.{Node, child, with_floor, with_split, settled_floor}
 use Rattle.head_splits.specs.Settled.{is_live_class, is_settled}
-use Rattle.post_codec.specs.declared.post.Post.{Post}
-use Rattle.post_codec.specs.declared.post.Post.TheVariants.{Plan, Priced, Split, Settled}
-use Rattle.search_core.specs.declared.step_posts.StepPosts.{StepPosts}
 use Rattle.search_core.specs.declared.step_posts.Close.{Close}
-use Rattle.search_core.specs.declared.step_posts.Close.TheVariants.{ByPrice, Split as CloseBySplit, Settled as CloseAsSettled}
-use Rattle.search_core.specs.Book.{Book, is_open, is_node_and, priced, divided, settled, is_better, step, book_after}
-use Rattle.search_core.specs.Steps.{close_posts, plan_of, plan_posts, posts_of, where_open}
-use Rattle.search_core.proofs.Closed.{parts, Parts}
-use Rattle.search_core.proofs.Runs.{slice_get_front, slice_get_other}
-use Rattle.search_core.proofs.Sound.{at_node_some, bind_some, cond_some}
-use Rattle.search_book.specs.Listing.{Follows}
+use Rattle.search_core.proofs.Closed.{parts}
 
 pub node_at : {X : Type 0} (xs : List X) (j : ℕ) → j < length xs → (x : X) × (slice_get xs j ≡ Some x)
 node_at [] j h = absurd (omega (arith, h))

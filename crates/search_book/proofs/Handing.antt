@@ -1,19 +1,8 @@
 -- The hands of workers over a book.
-use Rattle.std.proofs.Common.{◌≡◌, inl, inr, ℕ, ◌<◌, ◌≤◌, ◌^◌, Bool, true, false, ◌&&◌, not, List, [], ◌∷◌, length, map, set, refl, ap, ◌∙◌, subst, arith, nat_le, nat_lt, Option, Some, None, ◌||◌, sym}
-use Rattle.std.specs.Prelude.{Err, IfOk, IsSomeAnd, Ok, Result, slice_get}
-use Rattle.std.specs.Option.{option_map_or}
-use Rattle.std.specs.List.{list_all, list_any}
-use Rattle.std.proofs.lemmas.Bool.{and_parts, false≢true, le-leb, lt-leb, ltb-false, ltb-true, not-true}
+use Rattle.search_book.proofs.Common.{◌≡◌, inl, inr, ℕ, ◌<◌, ◌≤◌, ◌^◌, Bool, true, false, ◌&&◌, not, List, [], ◌∷◌, length, map, set, refl, ap, ◌∙◌, subst, arith, nat_le, nat_lt, Option, Some, None, ◌||◌, sym, Err, IfOk, IsSomeAnd, Ok, Result, slice_get, option_map_or, list_all, list_any, and_parts, false≢true, le-leb, lt-leb, ltb-false, ltb-true, not-true, Node, is_free, Book, is_node_and, is_open, hand, is_node, cuts_in, state_of, hand_set}
 use Rattle.shift_instance.proofs.Rotas.{slice_get_below}
 use Rattle.head_splits.specs.declared.Cut.{Cut}
-use Rattle.head_splits.specs.Nodes.{Node}
 use Rattle.search_core.specs.declared.outline.NodeState.{NodeState}
-use Rattle.search_core.specs.Board.{is_free}
-use Rattle.search_core.specs.Book.{Book, is_node_and, is_open}
-use Rattle.search_core.specs.Core.{hand, is_node}
-use Rattle.search_core.specs.Kept.{cuts_in}
-use Rattle.search_core.specs.State.{state_of}
-use Rattle.search_core.proofs.Runs.{hand_set}
 
 -- ---- the nodes in the hands are unsplit
 abbrev pub AreUnsplit : Book → List (Option ℕ) → Type 0
@@ -52,9 +41,6 @@ node_there (Some n) p h = (n, refl)
 
 pub is_there : (b : Book) (k : ℕ) (p : Node → Bool) → is_node_and b k p ≡ true → k < length b.nodes
 is_there b k p h = let n = node_there (slice_get b.nodes k) p h in slice_get_below b.nodes k n.0 n.1
-
-pub free_there : (b : Book) (hands : List (Option ℕ)) (k : ℕ) → is_free b hands k ≡ true → k < length b.nodes
-free_there b hands k free = is_there b k (is_open b) (and_parts (is_node_and b k (is_open b)) (not (list_any (is_node k) hands)) free).0
 
 -- ---- the cuts of the node in a hand
 pub cuts_are : (o : Option Node) (cuts : List Cut) → IsSomeAnd o (λ n. cuts ≡ n.cuts) → cuts ≡ option_map_or (λ n. n.cuts) o []

@@ -1,11 +1,8 @@
--- Why a head isn't found on a disk.
-use Rattle.std.proofs.Common.{◌≡◌, ◌≢◌, ℕ, ◌≤◌, List, [], length, ◌∙◌, ap, arith}
-use Rattle.std.specs.Prelude.{Option, None, Some, IfSome}
-use Rattle.plan_base.specs.Causes.{Rose}
+-- Why a header isn't found on a disk.
+use Rattle.search_book.proofs.Common.{◌≡◌, ◌≢◌, ℕ, ◌≤◌, List, [], length, ◌∙◌, ap, arith, IfSome, Rose, JournalFault, NoMemory, NotAJournal, Damaged, OldVersion, of_journal_fault, HeadCause, IsDamagedFile}
 use Rattle.gated_journal.specs.Faults.{OpenFails as JournalFails}
-use Rattle.gated_journal.specs.declared.fault.JournalFault.{JournalFault}
-use Rattle.gated_journal.specs.declared.fault.JournalFault.TheVariants.{DiskFault, NoMemory, NotAJournal, Damaged, Full, OldVersion}
-use Rattle.search_book.specs.Head.{of_journal_fault, HeadCause, IsDamagedFile}
+use Rattle.std.specs.Prelude.{Option, None, Some}
+use Rattle.gated_journal.specs.declared.fault.JournalFault.TheVariants.{DiskFault, Full}
 
 some_file : (file : List ℕ) (len : ℕ) → len ≡ length file → (len ≡ 0 → ⊥) → file ≢ []
 some_file file len is some e = some (is ∙ ap length e)

@@ -1,21 +1,10 @@
 -- The free nodes of a book, as they are listed.
-use Rattle.std.proofs.Common.{◌≡◌, ◌≢◌, ◌⊎◌, inl, inr, ℕ, zero, suc, ◌+◌, ◌<◌, ◌≤◌, Bool, true, false, cond, ◌&&◌, ◌||◌, ◌==◌, not, nat_lt, List, [], ◌∷◌, length, set, replicate, refl, sym, ap, ◌∙◌, subst, arith, eq-eqb, Option, Some, None}
-use Rattle.std.specs.Prelude.{slice_get, IfSome, MatchOption}
-use Rattle.std.specs.Option.{is_some, option_and_then, option_map_or}
-use Rattle.std.specs.List.{filter, list_all, list_any}
+use Rattle.search_book.proofs.Common.{◌≡◌, ◌≢◌, ◌⊎◌, inl, inr, ℕ, zero, suc, ◌+◌, ◌<◌, ◌≤◌, Bool, true, false, cond, ◌&&◌, ◌||◌, ◌==◌, not, nat_lt, List, [], ◌∷◌, length, set, replicate, refl, sym, ap, ◌∙◌, subst, arith, eq-eqb, Option, Some, None, slice_get, IfSome, MatchOption, option_and_then, option_map_or, filter, list_all, list_any, and_from, and_parts, cases_Bool, cases_eq, cases_lt, eqb-true, false≢true, lt-ltb, ltb-true, not-true, or_cases, or_left, or_right, Node, has_node, is_before, is_listed, with_entry, Entry, OpenView, Rises, floor_of_node, is_free, IsNext, NoneIsFree, Book, is_finished, is_node_and, is_open, full_hands, empty_hands, hand, is_node, AreApart, hand_set, hand_some, with_open, Follows, HoldsOpen, ListsAllFree, ListsBelow, ListsFree, ListsOnlyFree}
+use Rattle.std.specs.Option.{is_some}
 use Rattle.std.proofs.lemmas.List.Filters.{length-filter_both}
 use Rattle.std.proofs.lemmas.List.Sums.{sum_by-cons}
-use Rattle.std.proofs.lemmas.Bool.{and_from, and_parts, cases_Bool, cases_eq, cases_lt, eqb-true, false≢true, lt-ltb, ltb-true, not-true, or_cases, or_left, or_right}
-use Rattle.head_splits.specs.Nodes.{Node}
-use Rattle.open_nodes.specs.Listed.{has_node, is_before, is_listed, with_entry, Entry, OpenView, Rises}
 use Rattle.open_nodes.proofs.Orders.{before_cases, first_or_after, is_it, it_is, it_itself, listed_filter, listed_with, not_there, once_listed}
-use Rattle.search_core.specs.Board.{floor_of_node, is_free, IsNext, NoneIsFree}
-use Rattle.search_core.specs.Book.{Book, is_finished, is_node_and, is_open}
-use Rattle.search_core.specs.Calls.{full_hands}
-use Rattle.search_core.specs.Core.{empty_hands, hand, is_node, AreApart}
 use Rattle.search_core.proofs.FewNodes.{sum_set}
-use Rattle.search_core.proofs.Runs.{hand_set, hand_some}
-use Rattle.search_book.specs.Listing.{with_open, Follows, HoldsOpen, ListsAllFree, ListsBelow, ListsFree, ListsOnlyFree}
 use Rattle.search_book.proofs.Handing.{is_there, AreUnsplit}
 
 -- whether a node is there and open
@@ -172,9 +161,6 @@ all_below b entries l = record {
   only = λ f k h. let r = l.only f k h in (free_from b empty_hands k r.1 (none_in 16 k), r.2);
   all = λ k free. let p = free_parts b empty_hands k free in l.all k (is_there b k (is_open b) p.0) p.0;
 }
-
-pub none_below : (b : Book) → ListsBelow b 0 []
-none_below b = record { only = λ f k h. absurd (false≢true h); all = λ k low. absurd (omega (arith, low)) }
 
 pub one_below : (b : Book) (n : ℕ) (entries : List Entry) → ListsBelow b n entries → ListsBelow b (n + 1) (with_open b entries n)
 one_below b n entries l = record {
@@ -524,10 +510,6 @@ most_full (Some x ∷ hands) =
     let e : full_hands (Some x ∷ hands) ≡ 1 + full_hands hands = sum_by-cons fill (Some x) hands in
     omega (arith, e, most_full hands)
 
-pub none_full : (n : ℕ) → full_hands (replicate n None) ≡ 0
-none_full zero = refl
-none_full (suc n) = omega (arith, none_full n)
-
 -- the nodes listed once a step is followed, as they are read
 pub followed_as : (b c told : Book) (x : ℕ) (after : Follows x 2 b c) (entries before new : List Entry) (count : ℕ) → told ≡ c → before ≡ entries → count ≡ length b.nodes
     → new ≡ with_open told (with_open told (filter (λ e. nat_lt e.0 told.cost) before) count) (count + 1) → new ≡ followed b c x after entries
@@ -545,26 +527,6 @@ opens_held b hands w = option_map_or (λ k. is_node_and b k (is_open b)) (hand h
 open_of : (b : Book) (h : Option ℕ) → option_map_or (λ k. is_node_and b k (is_open b)) h false ≡ true → (k : ℕ) × (h ≡ Some k) × (opens b k ≡ true)
 open_of b None e = absurd (false≢true e)
 open_of b (Some k) e = (k, refl, e)
-
-pub holds_one : (b : Book) (hands : List (Option ℕ)) (w : ℕ) → opens_held b hands w ≡ true → HoldsOpen b hands
-holds_one b hands w e = let r = open_of b (hand hands w) e in (w, r.0, r.1, r.2)
-
-hand_below : (hands : List (Option ℕ)) (w k : ℕ) → hand hands w ≡ Some k → w < length hands
-hand_below [] w k e = absurd (cc)
-hand_below (z ∷ hands) zero k e = omega arith
-hand_below (z ∷ hands) (suc w) k e = omega (arith, hand_below hands w k e)
-
-pub holds_none : (b : Book) (hands : List (Option ℕ)) (n : ℕ) → length hands ≤ n → ((w : ℕ) → w < n → opens_held b hands w ≡ false) → HoldsOpen b hands → ⊥
-holds_none b hands n few none h =
-    let low = hand_below hands h.0 h.1 h.2 in
-    false≢true (sym (none h.0 (omega (arith, low, few))) ∙ ap (λ (o : Option ℕ). option_map_or (λ k. is_node_and b k (is_open b)) o false) h.2 ∙ h.3)
-
-pub none_more : (b : Book) (hands : List (Option ℕ)) (n : ℕ) → ((w : ℕ) → w < n → opens_held b hands w ≡ false) → opens_held b hands n ≡ false → (w : ℕ) → w < n + 1 → opens_held b hands w ≡ false
-none_more b hands n none here w low =
-    elim (cases_lt w n) [
-      | inl less ↦ none w less
-      | inr most ↦ let same : n ≡ w = omega (arith, low, most) in subst (λ z. opens_held b hands z ≡ false) same here
-    ]
 
 -- ---- a worker lets go of what it holds, if it holds something
 

@@ -1,9 +1,6 @@
 -- What an opening finds, and why it finds nothing.
-use Rattle.std.proofs.Common.{◌≡◌, ◌⊎◌, inl, inr, ℕ, List, [], ◌∷◌, refl}
-use Rattle.std.specs.Prelude.{Option, None, Some, IfSome}
-use Rattle.plan_base.specs.Disk.{TellsAlike}
-use Rattle.gated_journal.specs.Format.{fresh}
-use Rattle.search_book.specs.Opening.{IsFound}
+use Rattle.search_book.proofs.Common.{◌≡◌, ◌⊎◌, inl, inr, ℕ, List, [], ◌∷◌, refl, IfSome, TellsAlike, fresh, IsFound}
+use Rattle.std.specs.Prelude.{Option, None, Some}
 
 pub found_content : (limit : ℕ) (head : List ℕ) (records : List (List ℕ)) (o o' : Option (List ℕ)) → TellsAlike o o' → IfSome o (IsFound limit head records o') → (o' ≡ o) ⊎ ((o ≡ Some []) × (o' ≡ Some (fresh head)) × (records ≡ []))
 found_content limit head records None None alike found = inl refl

@@ -1,27 +1,11 @@
 -- What the opening of a log of posts finds, and why none is opened.
-use Rattle.std.proofs.Common.{◌≡◌, ◌≢◌, ◌⊎◌, inl, inr, ℕ, ◌<◌, ◌^◌, List, [], ◌∷◌, refl, ◌∙◌, ap, subst}
-use Rattle.std.specs.Prelude.{Option, None, Some, IfSome, slice_get}
-use Rattle.plan_base.specs.Disk.{TellsAlike}
-use Rattle.gated_journal.specs.Format.{StandsFor}
-use Rattle.gated_journal.proofs.Once.{stands_once, stands_journal, stands_new, stands_whole}
-use Rattle.instance_json.specs.Canonical.{canonical_text}
-use Rattle.post_codec.specs.declared.price_width.PriceWidth.TheVariants.{Five}
-use Rattle.post_codec.specs.declared.post.Post.{Post}
-use Rattle.post_codec.specs.Spelling.{EachSpellsOnce}
-use Rattle.recovery.specs.declared.fault.RebuildFault.{RebuildFault}
+use Rattle.search_book.proofs.Common.{◌≡◌, ◌≢◌, ◌⊎◌, inl, inr, ℕ, ◌<◌, ◌^◌, List, [], ◌∷◌, refl, ◌∙◌, ap, subst, IfSome, slice_get, TellsAlike, StandsFor, stands_once, stands_journal, stands_new, stands_whole, canonical_text, Five, Post, EachSpellsOnce, MakeBook, SpellPosts, Refuses, Book, Problem, HasOtherHead, HeadCause, KeepsHead, IsFound, IsOpenedFrom, bytes_used, none_spelled, posts_once}
 use Rattle.recovery.specs.declared.fault.RebuildFault.TheVariants.{Rejected as IsRejected, NoMemory as RebuildsMemory}
-use Rattle.recovery.specs.Records.{MakeBook}
-use Rattle.post_codec.specs.Batches.{SpellPosts}
-use Rattle.recovery.specs.Refusals.{Refuses}
-use Rattle.search_core.specs.Book.{Book}
-use Rattle.shift_instance.specs.Problem.{Problem}
+use Rattle.std.specs.Prelude.{Option, None, Some}
+use Rattle.recovery.specs.declared.fault.RebuildFault.{RebuildFault}
 use Rattle.search_book.specs.declared.open_fault.OpenFault.{OpenFault}
 use Rattle.search_book.specs.declared.open_fault.OpenFault.TheVariants.{DiskFault, NotAJournal, OtherInstance, Damaged, Rejected, NoMemory, OldVersion}
-use Rattle.search_book.specs.Head.{HasOtherHead, HeadCause, KeepsHead}
 use Rattle.search_book.specs.Opened.{HoldsBook, of_rebuild_fault}
-use Rattle.search_book.specs.Opening.{IsFound, IsOpenedFrom}
-use Rattle.search_book.specs.Posts.{bytes_used}
-use Rattle.post_codec.proofs.Batches.{none_spelled, posts_once}
 use Rattle.search_book.proofs.Used.{used_fresh}
 use Rattle.search_book.proofs.Openings.{found_content, may_be_new, no_posts_left}
 

@@ -1,17 +1,6 @@
 -- What a commit makes of a log of posts, as contracts see it.
-use Rattle.std.proofs.Common.{◌≡◌, ℕ, ◌+◌, ◌<◌, ◌≤◌, List, [], ◌∷◌, ◌++◌, length, ◌∙◌, ap, subst, Option, Some}
-use Rattle.plan_base.specs.Causes.{Rose}
+use Rattle.search_book.proofs.Common.{◌≡◌, ℕ, ◌+◌, ◌<◌, ◌≤◌, List, [], ◌∷◌, ◌++◌, length, ◌∙◌, ap, subst, Option, Some, Rose, Post, Spells, bytes_of, StateView, Shutting, DiskFault, Full, PostLogView, bytes_used, RecordFails, Records, LogView}
 use Rattle.gated_journal.specs.declared.fault.JournalFault.TheVariants.{DiskFault as DiskFails, Full as IsFull}
-use Rattle.post_codec.specs.declared.post.Post.{Post}
-use Rattle.post_codec.specs.Spelling.{Spells}
-use Rattle.search_core.specs.Board.{bytes_of}
-use Rattle.search_core.specs.State.{StateView}
-use Rattle.search_core.specs.declared.board.Shutting.{Shutting}
-use Rattle.search_core.specs.declared.board.Shutting.TheVariants.{DiskFault, Full}
-use Rattle.search_book.specs.PostLog.{PostLogView}
-use Rattle.search_book.specs.Posts.{bytes_used}
-use Rattle.search_book.specs.Recorded.{RecordFails, Records}
-use Rattle.search_book.specs.Records.{LogView}
 use Rattle.search_book.proofs.Commits.{view_of}
 use Rattle.search_book.proofs.Recording.{used_with}
 

@@ -1,8 +1,5 @@
 -- Fronts of a run that grows.
-use Rattle.std.proofs.Common.{⊎_elim, ℕ, ◌≤◌, List, [], ◌∷◌, ◌++◌, length, sym, subst, arith, length-append}
-use Rattle.std.proofs.lemmas.List.{take_all, take-append-le}
-use Rattle.gated_journal.specs.Format.{StandsFor, IsBeforeOrAfter}
-use Rattle.search_book.specs.Prefix.{HoldsPrefix}
+use Rattle.search_book.proofs.Common.{⊎_elim, ℕ, ◌≤◌, List, [], ◌∷◌, ◌++◌, length, sym, subst, arith, length-append, take_all, take-append-le, StandsFor, IsBeforeOrAfter, HoldsPrefix}
 
 module _ (limit : ℕ) (head : List ℕ) where
   -- a front of the run is one of a longer run

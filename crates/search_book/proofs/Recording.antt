@@ -1,28 +1,5 @@
 -- The records of a journal, and the batches of posts that they spell.
-use Rattle.std.proofs.Common.{◌≡◌, ◌≢◌, ℕ, suc, ◌+◌, ◌-◌, ◌*◌, ◌<◌, ◌≤◌, List, [], ◌∷◌, ◌++◌, length, take, drop, refl, sym, ◌∙◌, ap, subst, arith, length-append, Option, None, Some}
-use Rattle.std.specs.Prelude.{IfSome, IsSome, OnSome}
-use Rattle.std.specs.List.{AllZip}
-use Rattle.std.proofs.lemmas.List.{take-append-drop, append-nil, append_assoc}
-use Rattle.std.proofs.lemmas.List.Concat.{flat_map-append}
-use Rattle.plan_base.specs.Causes.{Rose}
-use Rattle.gated_journal.specs.Format.{StandsFor}
-use Rattle.gated_journal.specs.View.{IsStored, JournalView}
-use Rattle.instance_json.specs.Canonical.{canonical_text}
-use Rattle.post_codec.specs.declared.post.Post.{Post}
-use Rattle.post_codec.specs.Spelling.{Spells}
-use Rattle.shift_instance.specs.Problem.{Problem}
-use Rattle.search_core.specs.Board.{bytes_of}
-use Rattle.search_core.specs.Book.{book_of}
-use Rattle.search_core.specs.declared.board.Shutting.{Shutting}
-use Rattle.search_core.specs.declared.board.Shutting.TheVariants.{DiskFault, Full}
-use Rattle.search_core.proofs.Runs.{front_folds}
-use Rattle.search_book.specs.Keeping.{HoldsBatches, IsKeptPosts, ShutOf}
-use Rattle.search_book.specs.PostLog.{PostLogView}
-use Rattle.search_book.specs.Posts.{bytes_used}
-use Rattle.post_codec.specs.Batches.{joined, SpellPosts}
-use Rattle.search_book.specs.Prefix.{HoldsPrefix}
-use Rattle.search_book.specs.Recorded.{IsRecorded, ShutIn}
-use Rattle.post_codec.proofs.Batches.{zip_length, zip_take, zip_append, zip_right}
+use Rattle.search_book.proofs.Common.{◌≡◌, ◌≢◌, ℕ, suc, ◌+◌, ◌-◌, ◌*◌, ◌<◌, ◌≤◌, List, [], ◌∷◌, ◌++◌, length, take, drop, refl, sym, ◌∙◌, ap, subst, arith, length-append, Option, None, Some, IfSome, IsSome, OnSome, AllZip, take-append-drop, append-nil, append_assoc, flat_map-append, Rose, StandsFor, IsStored, JournalView, canonical_text, Post, Spells, Problem, bytes_of, book_of, Shutting, DiskFault, Full, front_folds, HoldsBatches, IsKeptPosts, ShutOf, PostLogView, bytes_used, joined, SpellPosts, HoldsPrefix, IsRecorded, ShutIn, zip_length, zip_take, zip_append, zip_right}
 use Rattle.search_book.proofs.Used.{used_more}
 
 -- ---- batches, joined

@@ -1,6 +1,5 @@
 -- A journal has at least five bytes for each record.
-use Rattle.std.proofs.Common.{ℕ, ◌*◌, ◌≤◌, List, [], ◌∷◌, length, arith, length-append}
-use Rattle.gated_journal.specs.Format.{gated, spelled}
+use Rattle.search_book.proofs.Common.{ℕ, ◌*◌, ◌≤◌, List, [], ◌∷◌, length, arith, length-append, gated, spelled}
 
 gated_size : (records : List (List ℕ)) → 5 * length records ≤ length (gated records)
 gated_size [] = omega arith

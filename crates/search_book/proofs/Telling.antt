@@ -1,6 +1,6 @@
 -- Disks that tell their content alike.
+use Rattle.search_book.proofs.Common.{TellsAlike}
 use Rattle.std.specs.Prelude.{ℕ, List, Option, Some, None}
-use Rattle.plan_base.specs.Disk.{TellsAlike}
 
 -- a disk tells like itself
 pub tells_like_itself : (reads : Option (List ℕ)) → TellsAlike reads reads

@@ -1,7 +1,5 @@
 -- The bytes that a journal uses.
-use Rattle.std.proofs.Common.{◌≡◌, ℕ, ◌+◌, List, [], ◌∷◌, ◌++◌, length, arith, length-append}
-use Rattle.gated_journal.specs.Format.{gated, fresh, end_after}
-use Rattle.search_book.specs.Posts.{bytes_used}
+use Rattle.search_book.proofs.Common.{◌≡◌, ℕ, ◌+◌, List, [], ◌∷◌, ◌++◌, length, arith, length-append, gated, fresh, end_after, bytes_used}
 
 gated_more : (records : List (List ℕ)) (bytes : List ℕ) → length (gated (records ++ bytes ∷ [])) ≡ length (gated records) + 5 + length bytes
 gated_more [] bytes = omega (arith, length-append bytes (gated []))

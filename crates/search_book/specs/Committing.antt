@@ -2,12 +2,13 @@
 use Rattle.std.specs.Prelude.{◌≡◌, ◌≢◌, ⊤, ℕ, ◌+◌, ◌*◌, ◌<◌, ◌≤◌, ◌^◌, List, [], ◌++◌, length, not, Option, Some, None, IsSome, true}
 use Rattle.gated_journal.specs.declared.fault.JournalFault.{JournalFault}
 use Rattle.gated_journal.specs.declared.fault.JournalFault.TheVariants.{DiskFault as DiskFails, NoMemory as JournalsMemory, NotAJournal as NoJournal, Damaged as IsDamaged, Full as IsFull, OldVersion}
+use Rattle.head_splits.specs.Cuts.{DifferAt}
 use Rattle.post_codec.specs.declared.post.Post.{Post}
 use Rattle.search_core.specs.declared.step_posts.StepPosts.{StepPosts}
 use Rattle.search_core.specs.declared.board.Kept.{Kept}
 use Rattle.search_core.specs.declared.board.CommitFault.{CommitFault}
 use Rattle.search_core.specs.declared.board.CommitFault.TheVariants.{DiskFault, Full, NotHeld, Shut, NotClosing, OtherCuts, NoMemory}
-use Rattle.search_core.specs.Board.{batches_of, bytes_of, floor_of_node, records_of, DifferAt}
+use Rattle.search_core.specs.Board.{batches_of, bytes_of, floor_of_node, records_of}
 use Rattle.search_core.specs.Book.{book_of, is_node_and}
 use Rattle.search_core.specs.Core.{hand}
 use Rattle.search_core.specs.Kept.{cuts_in}

@@ -6,11 +6,11 @@ use Rattle.gated_journal.specs.Faults.{IsDamagedAt}
 use Rattle.gated_journal.specs.declared.fault.JournalFault.{JournalFault}
 use Rattle.gated_journal.specs.declared.fault.JournalFault.TheVariants.{DiskFault as JournalsDisk, NoMemory as JournalsMemory, NotAJournal as NoJournal, Damaged as IsDamaged, Full, OldVersion as IsOld}
 use Rattle.gated_journal.specs.Format.{StandsFor, fresh}
-use Rattle.search_core.specs.Board.{DifferAt}
+use Rattle.head_splits.specs.Cuts.{DifferAt}
 use Rattle.search_book.specs.declared.open_fault.OpenFault.{OpenFault}
 use Rattle.search_book.specs.declared.open_fault.OpenFault.TheVariants.{DiskFault, NotAJournal, OtherInstance, Damaged, Rejected, NoMemory, OldVersion}
 
--- a journal whose head differs from a text, first at that place
+-- a journal whose header differs from a text, first at that place
 pub record HasOtherHead (limit : ℕ) (text : List ℕ) (at : ℕ) (file : List ℕ) : Type 0 where
   pub head : List ℕ
   pub records : List (List ℕ)
@@ -25,8 +25,8 @@ IsDamagedFile limit at file = (IsNoJournal file → ⊥) × IsDamagedAt limit fi
 abbrev pub IsNoneFile : List ℕ → Type 0
 IsNoneFile file = (IsOldVersion file → ⊥) × IsNoJournal file
 
--- why no journal with that head is opened, where the file isn't empty: the disk failed, or the file is of the first version, or none, or damaged,
--- or has another head, or no memory is left
+-- why no journal with that header is opened, where the file isn't empty: the disk failed, or the file is of the first version, or none, or damaged,
+-- or has another header, or no memory is left
 abbrev pub HeadCause : ℕ → List ℕ → Option (List ℕ) → ℕ → ℕ → OpenFault → Type 0
 HeadCause limit text reads before now DiskFault = Rose before now
 HeadCause limit text reads before now OldVersion = IfSome reads IsOldVersion

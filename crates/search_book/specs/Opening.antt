@@ -7,7 +7,7 @@ use Rattle.shift_instance.specs.Problem.{Problem}
 use Rattle.search_book.specs.Posts.{IsJournalOf}
 use Rattle.search_book.specs.PostLog.{PostLogView}
 
--- the records of a journal with this head that a file holds, or of the new one that an empty file becomes
+-- the records of a journal with this header that a file holds, or of the new one that an empty file becomes
 pub record IsFound (limit : ℕ) (head : List ℕ) (records : List (List ℕ)) (after : Option (List ℕ)) (file : List ℕ) : Type 0 where
   pub new : file ≡ [] → (records ≡ []) × (after ≡ Some (fresh head))
   pub old : file ≢ [] → StandsFor limit head records file × (after ≡ Some file)

@@ -22,7 +22,7 @@ posts_told (Some posts) = posts.value.items
 unfoldable pub bytes_used : List ℕ → List (List ℕ) → ℕ
 bytes_used head records = length (spelled head records) + 1
 
--- a journal's file whose head is the instance's canonical text and whose records spell the posts, with the bytes that it uses
+-- a journal's file whose header is the instance's canonical text and whose records spell the posts, with the bytes that it uses
 pub record IsJournalOf (limit : ℕ) (i : Problem) (posts : List Post) (used : ℕ) (file : List ℕ) : Type 0 where
   pub records : List (List ℕ)
   pub spells : SpellPosts records posts

@@ -1,18 +1,17 @@
 //! How a worker's step is committed: whether it may be, and its posts recorded.
 ghost use Rattle.std.specs.Prelude.{◌≡◌, ◌↔◌, ℕ, ◌<◌, ◌^◌, false, true, None, not, Some, IfErr, IfOk, IsTrue, length};
-ghost use Rattle.search_core.specs.Board.{leaves_open};
 ghost use Rattle.search_core.specs.Book.{is_node_and, Book};
 ghost use Rattle.search_core.specs.Core.{hand};
 ghost use Rattle.search_core.specs.Kept.{cuts_in};
 ghost use Rattle.search_core.specs.Steps.{is_cheaper, Fits};
 ghost use Rattle.search_book.specs.Committing.{commit_fault_of, MayCommit, MayNot, RecordsStep, StepFails};
 
-use crate::differing::first_difference;
 use crate::post_log::PostLog;
 use gated_journal::JournalFault;
+use head_splits::first_difference;
 use plan_base::Disk;
 use rota_cost::Costed;
-use search_core::{CommitFault, Draft, Hands, Kept, StepPosts};
+use search_core::{CommitFault, Hands, Kept, StepDraft, StepPosts};
 
 /// Whether a hand holds that node.
 fn holds(held: Option<u32>, node: u32) -> bool
@@ -91,7 +90,7 @@ pub(crate) fn record_step<D: Disk>(
     let Ok(draft) = log.state().draft(worker, step) else {
         return Err(CommitFault::NoMemory);
     };
-    let Draft {
+    let StepDraft {
         posts,
         values,
         best,

@@ -2,7 +2,7 @@
 ghost use Rattle.std.specs.Prelude.{◌≡◌, ◌+◌, ◌^◌, ◌≤◌, ◌<◌, [], length, map, Some, IfOk, IfErr, IfSome, OnSome, MatchOption};
 ghost use Rattle.plan_base.specs.Disk.{HoldsThroughout, TellsAlike};
 ghost use Rattle.gated_journal.specs.View.{IsSettled};
-ghost use Rattle.search_core.specs.Board.{DifferAt};
+ghost use Rattle.head_splits.specs.Cuts.{DifferAt};
 ghost use Rattle.search_book.specs.Head.{HeadCause, KeepsHead};
 ghost use Rattle.search_book.specs.Opening.{IsFound, IsOldOrShort};
 
@@ -28,7 +28,7 @@ fn difference(text: &[u8], other: &[u8]) -> Option<usize>
     Some(at)
 }
 
-/// Opens the journal with this head, or creates it in an empty file by four calls, and reads its records.
+/// Opens the journal with this header, or creates it in an empty file by four calls, and reads its records.
 pub(crate) fn open_head<D: Disk>(
     alloc: Global,
     disk: &mut D,

@@ -7,7 +7,6 @@ mod batched;
 mod book;
 mod book_opening;
 mod committing;
-mod differing;
 mod head;
 mod laws;
 mod listing;

@@ -16,7 +16,7 @@ pub enum OpenFault {
     DiskFault,
     /// The file isn't of the first version, and no journal.
     NotAJournal,
-    /// The journal's head isn't the instance's canonical text: they differ first at this byte, which is the length of the
+    /// The journal's header isn't the instance's canonical text: they differ first at this byte, which is the length of the
     /// shorter where that begins the other.
     OtherInstance { at: u64 },
     /// The journal is damaged at this byte of its file.

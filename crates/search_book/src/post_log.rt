@@ -1,5 +1,5 @@
 //! The posts of a search in the records of a disk's journal, with the book that they make.
-ghost use Rattle.std.specs.Prelude.{◌≡◌, ◌+◌, ◌^◌, ◌<◌, ◌≤◌, [], ◌∷◌, length, All, None, Some, OnOk, IfErr, IfOk};
+ghost use Rattle.std.specs.Prelude.{◌≡◌, ◌+◌, ◌^◌, ◌<◌, ◌≤◌, [], length, All, None, Some, OnOk, IfErr, IfOk};
 ghost use Rattle.gated_journal.specs.View.{IsSettled};
 ghost use Rattle.instance_json.specs.Canonical.{canonical_text};
 ghost use Rattle.post_codec.specs.Spelling.{CanSpellPost, Spells};

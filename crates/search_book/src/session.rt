@@ -1,5 +1,5 @@
 //! The posts of a search on a disk, with the hands of its workers and its steps.
-ghost use Rattle.std.specs.Prelude.{◌≡◌, ◌↔◌, ℕ, ◌^◌, ◌<◌, ◌≤◌, ◌++◌, false, true, length, not, slice_set, IfErr, IfOk, IsSome, IsTrue, None, Some};
+ghost use Rattle.std.specs.Prelude.{◌≡◌, ◌↔◌, ℕ, ◌^◌, ◌<◌, ◌≤◌, ◌++◌, false, true, length, not, IfErr, IfOk, IsSome, IsTrue, None, Some};
 ghost use Rattle.search_core.specs.Board.{yields, CommitRefuses, Commits, Gives, TakeMakes};
 ghost use Rattle.search_core.specs.Book.{book_of, is_finished, is_node_and};
 ghost use Rattle.search_core.specs.Calls.{full_hands};

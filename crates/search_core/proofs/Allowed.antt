@@ -1,21 +1,5 @@
 -- Where no fault of a plan applies, it is allowed.
-use Rattle.std.proofs.Common.{◌≡◌, ◌∙◌, ◌<◌, ℕ, Bool, true, false, cond, ◌&&◌, ◌==◌, not, List, refl, sym, ap, subst, nat_le, nat_lt, Option, Some, None}
-use Rattle.std.specs.Prelude.{IsSome, IsSomeAnd, slice_get}
-use Rattle.std.specs.Option.{option_map, option_map_or, option_or}
-use Rattle.std.proofs.lemmas.Bool.{and_from, lt-ltb, leb-false}
-use Rattle.shift_instance.specs.declared.Row.{Row}
-use Rattle.shift_instance.specs.Problem.{Problem}
-use Rattle.shift_instance.specs.Rota.{cost, rota_of, are_legal_rows}
-use Rattle.head_splits.specs.declared.Cut.{Cut}
-use Rattle.head_splits.specs.Nodes.{Node, settled_floor}
-use Rattle.rota_cost.specs.RowFaults.{row_fault}
-use Rattle.rota_cost.proofs.RowLaw.{legal_from_none}
-use Rattle.post_codec.specs.declared.post.Post.TheVariants.{Plan}
-use Rattle.search_core.specs.declared.fault.StepFault.{StepFault}
-use Rattle.search_core.specs.declared.fault.StepFault.TheVariants.{NotLegal, WrongCost, NotBetter, NoNode, IsSplit, NotOpen, NotLive, OutOfRange, NotSettled, Price, NoMemory}
-use Rattle.search_core.specs.Book.{Book, is_better, step}
-use Rattle.search_core.specs.Faults.{plan_fault, Refuses}
-use Rattle.search_core.specs.State.{number_at}
+use Rattle.search_core.proofs.Common.{◌≡◌, ◌∙◌, ◌<◌, ℕ, Bool, true, false, cond, ◌&&◌, ◌==◌, not, List, refl, sym, ap, subst, nat_le, nat_lt, Option, Some, None, IsSome, IsSomeAnd, slice_get, option_map, option_map_or, option_or, and_from, lt-ltb, leb-false, Row, Problem, cost, rota_of, are_legal_rows, Cut, Node, settled_floor, row_fault, legal_from_none, Plan, StepFault, NotLegal, WrongCost, NotBetter, NoNode, IsSplit, NotOpen, NotLive, OutOfRange, NotSettled, Price, NoMemory, Book, is_better, step, plan_fault, Refuses, number_at}
 
 -- ---- causes
 

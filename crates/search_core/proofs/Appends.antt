@@ -1,16 +1,6 @@
 -- Posts appended to a state one after another.
-use Rattle.std.proofs.Common.{◌≡◌, ℕ, ◌+◌, ◌-◌, ◌<◌, ◌≤◌, List, [], ◌∷◌, ◌++◌, length, refl, sym, ◌∙◌, ap, subst, arith, length-append, Option, Some}
-use Rattle.std.specs.Prelude.{All, IsSome, slice_get}
-use Rattle.std.specs.List.{AllByRecursion}
-use Rattle.std.proofs.lemmas.List.Elements.{All-from_recursion}
-use Rattle.std.specs.Option.{option_and_then}
-use Rattle.std.proofs.lemmas.List.{append-nil, append_assoc}
-use Rattle.shift_instance.specs.Problem.{Problem}
-use Rattle.post_codec.specs.declared.post.Post.{Post}
-use Rattle.post_codec.specs.Spelling.{CanSpellPost}
-use Rattle.search_core.specs.Book.{Book, step, book_after}
-use Rattle.search_core.specs.Drafting.{Makes}
-use Rattle.search_core.specs.State.{StateView, value_of}
+use Rattle.search_core.proofs.Common.{◌≡◌, ℕ, ◌+◌, ◌-◌, ◌<◌, ◌≤◌, List, [], ◌∷◌, ◌++◌, length, refl, sym, ◌∙◌, ap, subst, arith, Option, Some, All, IsSome, slice_get, AllByRecursion, All-from_recursion, option_and_then, append-nil, append_assoc, Problem, Post, CanSpellPost, Book, step, book_after, Makes, StateView, value_of}
+use Rattle.std.proofs.Common.{length-append}
 
 -- one post more
 pub makes_push : (i : Problem) (b : Book) (posts : List Post) (values : List ℕ) (c n : Book) (p : Post) (v : ℕ) → Makes i b posts values c → step i c p ≡ Some n → v ≡ value_of i c p → CanSpellPost p → Makes i b (posts ++ p ∷ []) (values ++ v ∷ []) n
@@ -57,21 +47,6 @@ pub record Appending (all : List Post) (values : List ℕ) (old : StateView) (pa
   pub more : (c : Book) × Makes old.instance now.book left rest c
   pub now_is : now ≡ record old { history = old.history ++ passed; book = now.book; spare = now.spare }
   pub room : old.spare ≡ now.spare + at
-
-pub appending_start : (all left : List Post) (values : List ℕ) (old : StateView) → left ≡ all → length all ≤ old.spare → (c : Book) × Makes old.instance old.book all values c → Appending all values old [] left 0 old
-appending_start all left values old e fits m = record {
-  split = e;
-  done = [];
-  rest = values;
-  numbers = refl;
-  count = refl;
-  size = refl;
-  fits = fits;
-  makes = refl;
-  more = subst (λ (l : List Post). (c : Book) × Makes old.instance old.book l values c) (sym e) m;
-  now_is = ap (λ (h : List Post). record old { history = h }) (sym (append-nil old.history));
-  room = omega arith;
-}
 
 same_instance : (all : List Post) (values : List ℕ) (old : StateView) (passed left : List Post) (at : ℕ) (mid : StateView) → Appending all values old passed left at mid → old.instance ≡ mid.instance
 same_instance all values old passed left at mid a = sym (ap (λ (v : StateView). v.instance) a.now_is)
@@ -141,21 +116,3 @@ appending_more all values old passed left next at mid new p a e s is =
           ∙ ap (λ (n : ℕ). record old { history = old.history ++ (passed ++ p ∷ []); book = new.book; spare = n }) (sym spare);
       room = omega (arith, a.room, spare, may.0);
     }
-
-nothing_left : (i : Problem) (b : Book) (rest : List ℕ) (c : Book) → Makes i b [] rest c → rest ≡ []
-nothing_left i b [] c m = refl
-nothing_left i b (v ∷ values) c m = absurd m
-
-pub appending_all : (all : List Post) (values : List ℕ) (old : StateView) (passed left : List Post) (at : ℕ) (now : StateView) → Appending all values old passed left at now → left ≡ []
-    → Makes old.instance old.book all values now.book × (now ≡ record old { history = old.history ++ all; book = now.book; spare = old.spare - length all })
-appending_all all values old passed left at now a none =
-    let whole : passed ≡ all = sym (append-nil passed) ∙ ap (λ (l : List Post). passed ++ l) (sym none) ∙ a.split in
-    let size : length passed ≡ length all = ap length whole in
-    let spare : now.spare ≡ old.spare - length all = omega (arith, a.room, a.size) in
-    let empty : a.rest ≡ [] = nothing_left old.instance now.book a.rest a.more.0 (subst (λ (l : List Post). Makes old.instance now.book l a.rest a.more.0) none a.more.1) in
-    let numbers : a.done ≡ values = sym (append-nil a.done) ∙ ap (λ (l : List ℕ). a.done ++ l) (sym empty) ∙ a.numbers in (
-      subst (λ (l : List Post). Makes old.instance old.book l values now.book) whole (subst (λ (ns : List ℕ). Makes old.instance old.book passed ns now.book) numbers a.makes),
-      a.now_is
-          ∙ ap (λ (l : List Post). record old { history = old.history ++ l; book = now.book; spare = now.spare }) whole
-          ∙ ap (λ (n : ℕ). record old { history = old.history ++ all; book = now.book; spare = n }) spare,
-    )

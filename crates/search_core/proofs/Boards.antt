@@ -1,29 +1,9 @@
 -- A board's takes, commits and yields are events of its core; what else it answers leaves the core.
-use Rattle.std.proofs.Common.{◌≡◌, inl, inr, ℕ, ◌<◌, Bool, true, false, cond, ◌&&◌, ◌==◌, not, List, [], ◌∷◌, ◌++◌, length, set, refl, sym, ap, ◌∙◌, subst, nat_lt, Option, Some, None, eq-eqb}
-use Rattle.std.specs.Prelude.{is_none}
-use Rattle.std.specs.Option.{option_map_or}
-use Rattle.std.specs.List.{list_all, list_any}
-use Rattle.std.proofs.lemmas.Bool.{and_parts, and_from, lt-ltb}
+use Rattle.search_core.proofs.Common.{◌≡◌, inl, inr, ℕ, ◌<◌, Bool, true, false, cond, ◌&&◌, ◌==◌, not, List, [], ◌∷◌, ◌++◌, length, set, refl, sym, ap, ◌∙◌, subst, nat_lt, Option, Some, None, eq-eqb, is_none, option_map_or, list_all, list_any, and_parts, and_from, lt-ltb, Problem, Costing, Post, Plan, Priced, Split, Settled, Kept, Taken, Closed, Finished, Halted, Spent, Idle, CommitFault, DiskFault, Full, NotHeld, Shut, NotClosing, OtherCuts, Take, Commit, Yield, StepPosts, Close, ByPrice, BoardView, book_at, core_of, is_free, posts_at, yields, Commits, CommitRefuses, IsSoundBoard, TakeMakes, Book, book_after, book_of, is_node_and, is_open, opening, gives_node, hand, happens, is_node, is_of, may_commit, may_take, HoldsApart, book_or_opening, after_step, book_then, close_posts, plan_of, plan_posts, posts_of, where_open}
+use Rattle.search_core.specs.declared.step_posts.Close.TheVariants.{Split as CloseBySplit, Settled as CloseAsSettled}
 use Rattle.std.proofs.lemmas.List.Folds.{list_all-append}
-use Rattle.shift_instance.specs.Problem.{Problem}
-use Rattle.rota_cost.specs.Costed.{Costing}
-use Rattle.post_codec.specs.declared.post.Post.{Post}
-use Rattle.post_codec.specs.declared.post.Post.TheVariants.{Plan, Priced, Split, Settled}
-use Rattle.search_core.specs.declared.board.Kept.{Kept}
-use Rattle.search_core.specs.declared.board.Taken.{Taken}
-use Rattle.search_core.specs.declared.board.Taken.TheVariants.{Closed, Finished, Halted, Spent, Node, Idle}
-use Rattle.search_core.specs.declared.board.CommitFault.{CommitFault}
-use Rattle.search_core.specs.declared.board.CommitFault.TheVariants.{DiskFault, Full, NotHeld, Shut, NotClosing, OtherCuts, NoMemory}
-use Rattle.search_core.specs.declared.event.Event.TheVariants.{Take, Commit, Yield}
-use Rattle.search_core.specs.declared.step_posts.StepPosts.{StepPosts}
-use Rattle.search_core.specs.declared.step_posts.Close.{Close}
-use Rattle.search_core.specs.declared.step_posts.Close.TheVariants.{ByPrice, Split as CloseBySplit, Settled as CloseAsSettled}
-use Rattle.search_core.specs.Board.{BoardView, book_at, core_of, is_free, posts_at, yields, Commits, CommitRefuses, IsSoundBoard, TakeMakes}
-use Rattle.search_core.specs.Book.{Book, book_after, book_of, is_node_and, is_open, opening}
-use Rattle.search_core.specs.Calls.{gives_node}
-use Rattle.search_core.specs.Core.{hand, happens, is_node, is_of, may_commit, may_take, HoldsApart}
-use Rattle.search_core.specs.State.{book_or_opening}
-use Rattle.search_core.specs.Steps.{after_step, book_then, close_posts, plan_of, plan_posts, posts_of, where_open}
+use Rattle.search_core.specs.declared.board.Taken.TheVariants.{Node}
+use Rattle.search_core.specs.declared.board.CommitFault.TheVariants.{NoMemory}
 use Rattle.search_core.proofs.Runs.{dropped, hand_set, posts_keep}
 
 -- ---- the posts of a step are its worker's, for its node

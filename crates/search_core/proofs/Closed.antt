@@ -1,27 +1,6 @@
 -- Nodes that aren't open stay so under the posts of a step.
-use Rattle.std.proofs.Common.{◌≡◌, inl, inr, ℕ, zero, suc, ◌+◌, ◌<◌, ◌≤◌, Bool, true, false, cond, ◌&&◌, ◌==◌, not, List, [], ◌∷◌, ◌++◌, set, refl, sym, ap, ◌∙◌, subst, arith, max, nat_le, nat_lt, Option, Some, None}
-use Rattle.std.specs.Prelude.{slice_get}
-use Rattle.std.specs.Option.{option_map_or}
-use Rattle.std.proofs.lemmas.Bool.{and_parts, not-true, false≢true, ltb-true, ltb-false, le-ltb, cases_eq}
-use Rattle.std.proofs.lemmas.List.{append-nil}
-use Rattle.shift_instance.specs.declared.Row.{Row}
-use Rattle.shift_instance.specs.Problem.{Problem}
-use Rattle.shift_instance.specs.Rota.{are_legal_rows, cost, rota_of}
-use Rattle.rota_cost.specs.Costed.{Costing}
-use Rattle.head_splits.specs.declared.Class.{Class}
-use Rattle.head_splits.specs.declared.Prices.{Prices}
-use Rattle.head_splits.specs.declared.Side.TheVariants.{AtMost, AtLeast}
-use Rattle.head_splits.specs.Cuts.{low, high}
-use Rattle.head_splits.specs.Bound.{are_prices, bound_of}
-use Rattle.head_splits.specs.Nodes.{Node, child, with_floor, with_split, settled_floor}
-use Rattle.head_splits.specs.Settled.{is_live_class, is_settled}
-use Rattle.post_codec.specs.declared.post.Post.{Post}
-use Rattle.post_codec.specs.declared.post.Post.TheVariants.{Plan, Priced, Split, Settled}
-use Rattle.search_core.specs.declared.step_posts.StepPosts.{StepPosts}
-use Rattle.search_core.specs.declared.step_posts.Close.{Close}
-use Rattle.search_core.specs.declared.step_posts.Close.TheVariants.{ByPrice, Split as CloseBySplit, Settled as CloseAsSettled}
-use Rattle.search_core.specs.Book.{Book, is_open, is_node_and, priced, divided, settled, is_better, step, book_after}
-use Rattle.search_core.specs.Steps.{book_then, close_posts, plan_of, plan_posts, posts_of, where_open}
+use Rattle.search_core.proofs.Common.{◌≡◌, inl, inr, ℕ, zero, suc, ◌+◌, ◌<◌, ◌≤◌, Bool, true, false, cond, ◌&&◌, ◌==◌, not, List, [], ◌∷◌, ◌++◌, set, refl, sym, ap, ◌∙◌, subst, arith, max, nat_le, nat_lt, Option, Some, None, slice_get, option_map_or, and_parts, not-true, false≢true, ltb-true, ltb-false, le-ltb, cases_eq, append-nil, Row, Problem, are_legal_rows, cost, rota_of, Costing, Class, Prices, AtMost, AtLeast, low, high, are_prices, bound_of, Node, child, with_floor, with_split, settled_floor, is_live_class, is_settled, Post, Plan, Priced, Split, Settled, StepPosts, Close, ByPrice, Book, is_open, is_node_and, priced, divided, settled, is_better, step, book_after, book_then, close_posts, plan_of, plan_posts, posts_of, where_open}
+use Rattle.search_core.specs.declared.step_posts.Close.TheVariants.{Split as CloseBySplit, Settled as CloseAsSettled}
 use Rattle.search_core.proofs.Sound.{cond_some, bind_some, at_node_some}
 use Rattle.search_core.proofs.Runs.{book_after-append, slice_get_other, slice_get_front}
 

@@ -1,33 +1,8 @@
 -- A step leaves its node closed, unless it is closed by its bound alone.
-use Rattle.std.proofs.Common.{◌≡◌, ℕ, List, [], length, Option, None, Some, Bool, true, false, cond, ◌&&◌, not, refl, sym, ◌∙◌, ap, subst, arith, ◌<◌, ◌≤◌, nat_lt}
-use Rattle.std.specs.Prelude.{Err, IfOk, IfSome, IsTrue, MatchOption, Ok, Result, slice_get}
-use Rattle.std.specs.Option.{option_map_or}
-use Rattle.std.proofs.lemmas.Bool.{and_parts, false≢true, le-ltb, ltb-false, ltb-true, not-true}
+use Rattle.search_core.proofs.Common.{◌≡◌, ℕ, List, [], length, Option, None, Some, Bool, true, false, cond, ◌&&◌, not, refl, sym, ◌∙◌, ap, subst, arith, ◌<◌, ◌≤◌, nat_lt, Err, IfOk, IfSome, IsTrue, MatchOption, Ok, Result, slice_get, option_map_or, and_parts, false≢true, le-ltb, ltb-false, ltb-true, not-true, IsProved, IsPlan, IsSettledNode, Settling, Class, Cut, are_prices, bound_of, Node, settled_floor, is_empty, is_settled, settled_plan, Post, Priced, Costing, IsCosted, Problem, cost, is_legal_rota, rota_of, IsValid, slice_get_below, TOP, StepPosts, ByPrice, floor_of_node, leaves_open, Book, book_after, is_node_and, is_open, IsSound, cuts_in, StepDraft, after_step, book_then, followed_by, plan_posts, posts_of, where_open, Fits, FitsClose, best_with, floor_with, Drafts, IsAfter, IsDraft, LeavesOpen, Makes}
+use Rattle.search_core.specs.declared.step_posts.Close.TheVariants.{Split as CloseBySplit, Settled as CloseAsSettled}
 use Rattle.dual_bound.proofs.PlanFloor.{plan_floor}
-use Rattle.dual_bound.specs.Proved.{IsProved}
-use Rattle.dual_bound.specs.Settling.{IsPlan, IsSettledNode, Settling}
-use Rattle.head_splits.specs.declared.Class.{Class}
-use Rattle.head_splits.specs.declared.Cut.{Cut}
-use Rattle.head_splits.specs.Bound.{are_prices, bound_of}
-use Rattle.head_splits.specs.Nodes.{Node, settled_floor}
-use Rattle.head_splits.specs.Settled.{is_empty, is_settled, settled_plan}
-use Rattle.post_codec.specs.declared.post.Post.{Post}
-use Rattle.post_codec.specs.declared.post.Post.TheVariants.{Priced}
-use Rattle.rota_cost.specs.Costed.{Costing, IsCosted}
 use Rattle.rota_cost.proofs.Coverage.{costs_below}
-use Rattle.shift_instance.specs.Problem.{Problem}
-use Rattle.shift_instance.specs.Rota.{cost, is_legal_rota, rota_of}
-use Rattle.shift_instance.specs.Valid.{IsValid}
-use Rattle.shift_instance.proofs.Rotas.{slice_get_below}
-use Rattle.shift_instance.specs.declared.TheConstants.{TOP}
-use Rattle.search_core.specs.declared.step_posts.StepPosts.{StepPosts}
-use Rattle.search_core.specs.declared.step_posts.Close.TheVariants.{ByPrice, Split as CloseBySplit, Settled as CloseAsSettled}
-use Rattle.search_core.specs.Board.{floor_of_node, leaves_open}
-use Rattle.search_core.specs.Book.{Book, book_after, is_node_and, is_open, IsSound}
-use Rattle.search_core.specs.Kept.{cuts_in}
-use Rattle.search_core.specs.declared.drafting.Draft.{Draft}
-use Rattle.search_core.specs.Steps.{after_step, book_then, followed_by, plan_posts, posts_of, where_open, Fits, FitsClose}
-use Rattle.search_core.specs.Drafting.{best_with, floor_with, Drafts, IsAfter, IsDraft, LeavesOpen, Makes}
 use Rattle.search_core.proofs.Appends.{makes_fold}
 use Rattle.search_core.proofs.Drafts.{plan_stage, price_stage, settled_stage, split_stage}
 use Rattle.search_core.proofs.Stepped.{plan_instance, posts_as_settled, posts_by_split}
@@ -170,7 +145,7 @@ cost_below i b valid s =
     subst (λ (n : ℕ). n < TOP) s.exact (costs_below i (rota_of b.best) valid legal)
 
 -- ---- a draft of a step over a book
-is_drafted : (i : Problem) (b : Book) (w : ℕ) (step : StepPosts) (d : Draft) (s : Bool) → IsDraft i b step.node step.proved.cuts (posts_of i b w step) d s → length d.posts.items ≤ 4 → Drafts i b w step d
+is_drafted : (i : Problem) (b : Book) (w : ℕ) (step : StepPosts) (d : StepDraft) (s : Bool) → IsDraft i b step.node step.proved.cuts (posts_of i b w step) d s → length d.posts.items ≤ 4 → Drafts i b w step d
 is_drafted i b w step d s m few =
     let posts = posts_of i b w step in
     let folds : book_after i b posts ≡ Some m.made.0 = ap (book_after i b) (sym m.posts_are) ∙ makes_fold i b d.posts.items d.values.items m.made.0 m.made.1 in
@@ -183,7 +158,7 @@ is_drafted i b w step d s m few =
       few = few;
     }
 
-pub drafted : {E : Type 0} (r : Result Draft E) (i : Problem) (b : Book) (w best floor : ℕ) (step : StepPosts)
+pub drafted : {E : Type 0} (r : Result StepDraft E) (i : Problem) (b : Book) (w best floor : ℕ) (step : StepPosts)
     → IfOk r (λ d. (i : Problem) (b : Book) → IsValid i → Fits i step → IsAfter i b step.node step.proved.cuts [] best floor false → (s : Bool) × IsDraft i b step.node step.proved.cuts (posts_of i b w step) d s)
     → IfOk r (λ d. length d.posts.items ≤ 4) → IsValid i → Fits i step → IsAfter i b step.node step.proved.cuts [] best floor false → IfOk r (Drafts i b w step)
 drafted (Err e) i b w best floor step drafts few valid fits after = tt

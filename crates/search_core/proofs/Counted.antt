@@ -1,28 +1,10 @@
 -- How many steps the calls on a board take: each closes a node of its own, or has one in a hand.
-use Rattle.std.proofs.Common.{◌≡◌, ◌⊎◌, inl, inr, ℕ, zero, suc, ◌+◌, ◌-◌, ◌*◌, ◌^◌, ◌<◌, ◌≤◌, Bool, true, false, cond, ◌||◌, not, List, [], ◌∷◌, ◌++◌, length, get_or, set, refl, sym, ap, ◌∙◌, subst, arith, Option, Some, None, eq-eqb}
-use Rattle.std.specs.Prelude.{slice_get}
-use Rattle.std.specs.Option.{is_some, option_and_then}
-use Rattle.std.specs.List.{list_any}
-use Rattle.std.proofs.lemmas.Bool.{and_parts, eqb-true, false≢true, not-true, or_cases, or_from, or_left, or_right}
-use Rattle.std.proofs.lemmas.Option.{slice_get-get_or, slice_get_within}
-use Rattle.std.proofs.Math.Nat.{pow-suc}
-use Rattle.shift_instance.specs.Problem.{Problem}
-use Rattle.head_splits.specs.Nodes.{Node}
-use Rattle.head_splits.specs.Settled.{span}
-use Rattle.post_codec.specs.declared.post.Post.{Post}
-use Rattle.search_core.specs.declared.step_posts.StepPosts.{StepPosts}
-use Rattle.search_core.specs.declared.board.Kept.{Kept}
+use Rattle.search_core.proofs.Common.{◌≡◌, ◌⊎◌, inl, inr, ℕ, zero, suc, ◌+◌, ◌-◌, ◌*◌, ◌^◌, ◌<◌, ◌≤◌, Bool, true, false, cond, ◌||◌, not, List, [], ◌∷◌, ◌++◌, length, get_or, set, refl, sym, ap, ◌∙◌, subst, arith, Option, Some, None, eq-eqb, slice_get, is_some, option_and_then, list_any, and_parts, eqb-true, false≢true, not-true, or_cases, or_from, or_left, or_right, slice_get-get_or, slice_get_within, pow-suc, Problem, Node, span, Post, StepPosts, Kept, Taken, Closed, Finished, Halted, Spent, Idle, CommitFault, DiskFault, Full, NotHeld, Shut, NotClosing, OtherCuts, BoardView, batches_of, book_at, bytes_of, posts_at, yields, Commits, CommitRefuses, IsSoundBoard, TakeMakes, Book, book_after, book_of, is_node_and, is_open, full_hands, steps_enough, AreCalls, IsCall, IsFresh, hand, is_node}
+use Rattle.search_core.specs.declared.board.Taken.TheVariants.{Node as TakenNode}
 use Rattle.search_core.specs.declared.board.Shutting.TheVariants.{DiskFault as ShutByDiskFault, Full as ShutByFull}
-use Rattle.search_core.specs.declared.board.Taken.{Taken}
-use Rattle.search_core.specs.declared.board.Taken.TheVariants.{Closed, Finished, Halted, Spent, Node as TakenNode, Idle}
-use Rattle.search_core.specs.declared.board.CommitFault.{CommitFault}
-use Rattle.search_core.specs.declared.board.CommitFault.TheVariants.{DiskFault, Full, NotHeld, Shut, NotClosing, OtherCuts, NoMemory}
-use Rattle.search_core.specs.Board.{BoardView, batches_of, book_at, bytes_of, posts_at, yields, Commits, CommitRefuses, IsSoundBoard, TakeMakes}
-use Rattle.search_core.specs.Book.{Book, book_after, book_of, is_node_and, is_open}
-use Rattle.search_core.specs.Calls.{full_hands, steps_enough, AreCalls, IsCall, IsFresh}
+use Rattle.search_core.specs.declared.board.CommitFault.TheVariants.{NoMemory}
 use Rattle.search_core.specs.Calls.AreCalls.{none, one_more}
 use Rattle.search_core.specs.Calls.IsCall.{a_commit, a_refusal, a_take, a_yield}
-use Rattle.search_core.specs.Core.{hand, is_node}
 use Rattle.search_core.proofs.Closed.{closed_now, is_closed, is_there, node_is, node_not, some_node, step_keeps}
 use Rattle.search_core.proofs.Counts.{passing, passing_grows, passing_more, passing_most}
 use Rattle.search_core.proofs.FewNodes.{few_nodes, sum_set}

@@ -1,34 +1,13 @@
 -- Drafts with one post more.
-use Rattle.std.proofs.Common.{◌≡◌, ℕ, ◌<◌, ◌≤◌, ◌^◌, Bool, true, false, cond, List, [], ◌∷◌, ◌++◌, length, refl, sym, ◌∙◌, ap, subst, arith, nat_lt, Option, None, Some}
-use Rattle.std.specs.Prelude.{IsTrue, max}
-use Rattle.std.specs.Option.{option_map_or}
-use Rattle.std.proofs.lemmas.List.{append-nil}
-use Rattle.shift_instance.specs.Problem.{Problem}
-use Rattle.shift_instance.specs.Rota.{are_legal_rows}
-use Rattle.shift_instance.specs.Valid.{IsValid}
-use Rattle.rota_cost.specs.Costed.{Costing, IsCosted}
-use Rattle.head_splits.specs.declared.Class.{Class}
-use Rattle.head_splits.specs.declared.Cut.{Cut}
-use Rattle.head_splits.specs.declared.Prices.{Prices}
-use Rattle.head_splits.specs.Bound.{are_prices, bound_of}
-use Rattle.head_splits.specs.Cuts.{low, high}
-use Rattle.head_splits.specs.Nodes.{Node, settled_floor}
-use Rattle.head_splits.specs.Settled.{is_live_class, is_settled}
+use Rattle.search_core.proofs.Common.{◌≡◌, ℕ, ◌<◌, ◌≤◌, ◌^◌, Bool, true, false, cond, List, [], ◌∷◌, ◌++◌, length, refl, sym, ◌∙◌, ap, subst, arith, nat_lt, Option, None, Some, IsTrue, option_map_or, append-nil, Problem, are_legal_rows, IsValid, Costing, IsCosted, Class, Cut, Prices, are_prices, bound_of, low, high, Node, settled_floor, is_live_class, is_settled, Post, Plan, Priced, Split, Settled, CanSpellPost, CanSpellPrices, Book, book_after, step, value_of, followed_by, plan_posts, where_open, StepDraft, best_with, floor_with, IsAfter, IsDraft, Makes}
+use Rattle.std.specs.Prelude.{max}
 use Rattle.head_splits.proofs.Priced.{priced}
-use Rattle.post_codec.specs.declared.post.Post.{Post}
-use Rattle.post_codec.specs.declared.post.Post.TheVariants.{Plan, Priced, Split, Settled}
-use Rattle.post_codec.specs.Spelling.{CanSpellPost, CanSpellPrices}
-use Rattle.search_core.specs.Book.{Book, book_after, step}
-use Rattle.search_core.specs.State.{value_of}
-use Rattle.search_core.specs.Steps.{followed_by, plan_posts, where_open}
-use Rattle.search_core.specs.declared.drafting.Draft.{Draft}
-use Rattle.search_core.specs.Drafting.{best_with, floor_with, IsAfter, IsDraft, Makes}
 use Rattle.search_core.proofs.Appends.{makes_fold, makes_push}
 use Rattle.search_core.proofs.Drafts.{plan_stage, plan_step, price_stage, price_step, price_value, settled_stage, settled_step, split_stage, split_step, then_is, where_is}
 use Rattle.search_core.proofs.Fits.{class_fits, rows_fit}
 use Rattle.search_core.proofs.Spelled.{prices_spell}
 
-module _ (i : Problem) (b : Book) (k : ℕ) (cuts : List Cut) (posts : List Post) (d new : Draft) (dr : IsDraft i b k cuts posts d false) where
+module _ (i : Problem) (b : Book) (k : ℕ) (cuts : List Cut) (posts : List Post) (d new : StepDraft) (dr : IsDraft i b k cuts posts d false) where
   push : (post : Post) (value : ℕ) (more : List Post) (s : Bool) (n : Book) → step i dr.state.after post ≡ Some n → value ≡ value_of i dr.state.after post → CanSpellPost post
       → new.posts.items ≡ d.posts.items ++ post ∷ [] → new.values.items ≡ d.values.items ++ value ∷ [] → more ≡ posts ++ post ∷ [] → IsAfter i b k cuts more new.best new.floor s → IsDraft i b k cuts more new s
   push post value more s n st v f items numbers is after =
@@ -44,8 +23,8 @@ module _ (i : Problem) (b : Book) (k : ℕ) (cuts : List Cut) (posts : List Post
   -- nothing is drafted
   stay : (more : List Post) (s : Bool) → new ≡ d → more ≡ posts ++ [] → IsAfter i b k cuts more new.best new.floor s → IsDraft i b k cuts more new s
   stay more s same is after = record {
-    posts_are = ap (λ (x : Draft). x.posts.items) same ∙ dr.posts_are ∙ sym (append-nil posts) ∙ sym is;
-    made = subst (λ (x : Draft). (c : Book) × Makes i b x.posts.items x.values.items c) (sym same) dr.made;
+    posts_are = ap (λ (x : StepDraft). x.posts.items) same ∙ dr.posts_are ∙ sym (append-nil posts) ∙ sym is;
+    made = subst (λ (x : StepDraft). (c : Book) × Makes i b x.posts.items x.values.items c) (sym same) dr.made;
     state = after;
   }
 
@@ -72,14 +51,14 @@ module _ (i : Problem) (b : Book) (k : ℕ) (cuts : List Cut) (posts : List Post
   drafts_no_plan w p same costed dearer is =
       let more = followed_by i b posts (plan_posts w (Some p)) in
       let stage = plan_stage i b k cuts posts d.best d.floor w (Some p) dr.state costed same in
-      let number : best_with (Some p) d.best ≡ new.best = ap (λ (t : Bool). cond t p.cost d.best) dearer ∙ ap (λ (x : Draft). x.best) (sym is) in
+      let number : best_with (Some p) d.best ≡ new.best = ap (λ (t : Bool). cond t p.cost d.best) dearer ∙ ap (λ (x : StepDraft). x.best) (sym is) in
       stay more false is (plan_more w p false dearer)
-      (subst (λ (n : ℕ). IsAfter i b k cuts more n new.floor false) number (subst (λ (n : ℕ). IsAfter i b k cuts more (best_with (Some p) d.best) n false) (ap (λ (x : Draft). x.floor) (sym is)) stage))
+      (subst (λ (n : ℕ). IsAfter i b k cuts more n new.floor false) number (subst (λ (n : ℕ). IsAfter i b k cuts more (best_with (Some p) d.best) n false) (ap (λ (x : StepDraft). x.floor) (sym is)) stage))
 
   pub drafts_nothing : (w : ℕ) → new ≡ d → IsDraft i b k cuts (followed_by i b posts (plan_posts w None)) new false
   drafts_nothing w is =
       stay (posts ++ []) false is refl
-      (subst (λ (x : Draft). IsAfter i b k cuts (posts ++ []) x.best x.floor false) (sym is) (plan_stage i b k cuts posts d.best d.floor w None dr.state tt tt))
+      (subst (λ (x : StepDraft). IsAfter i b k cuts (posts ++ []) x.best x.floor false) (sym is) (plan_stage i b k cuts posts d.best d.floor w None dr.state tt tt))
 
   pub prices_fit : (prices : Prices) → IsValid i → IsTrue (are_prices i cuts prices) → length cuts < 2 ^ 32 → CanSpellPrices prices
   prices_fit prices valid passes few =
@@ -104,7 +83,7 @@ module _ (i : Problem) (b : Book) (k : ℕ) (cuts : List Cut) (posts : List Post
       let stage = price_stage i b k cuts posts d.best d.floor w prices bound dr.state passes exact in
       let number : floor_with bound d.best d.floor ≡ d.floor = ap (λ (t : Bool). cond t (max d.floor bound) d.floor) closed in
       stay more false is (where_more (Priced w k prices) false closed)
-      (subst (λ (x : Draft). IsAfter i b k cuts more x.best x.floor false) (sym is) (subst (λ (n : ℕ). IsAfter i b k cuts more d.best n false) number stage))
+      (subst (λ (x : StepDraft). IsAfter i b k cuts more x.best x.floor false) (sym is) (subst (λ (n : ℕ). IsAfter i b k cuts more d.best n false) number stage))
 
   pub drafts_split : (w : ℕ) (class : Class) (m : ℕ) → IsValid i → IsTrue (is_live_class i class) → low cuts class ≤ m → m < high i cuts class → nat_lt d.floor d.best ≡ true
       → new.posts.items ≡ d.posts.items ++ Split w k class m ∷ [] → new.values.items ≡ d.values.items ++ d.floor ∷ [] → new.best ≡ d.best → new.floor ≡ d.floor
@@ -125,7 +104,7 @@ module _ (i : Problem) (b : Book) (k : ℕ) (cuts : List Cut) (posts : List Post
       let more = followed_by i b posts (where_open k (Split w k class m)) in
       let s : Bool = nat_lt d.floor d.best in
       let stage = split_stage i b k cuts posts d.best d.floor w class m dr.state live least most in
-      (s, stay more s is (where_more (Split w k class m) false closed) (subst (λ (x : Draft). IsAfter i b k cuts more x.best x.floor s) (sym is) stage))
+      (s, stay more s is (where_more (Split w k class m) false closed) (subst (λ (x : StepDraft). IsAfter i b k cuts more x.best x.floor s) (sym is) stage))
 
   pub drafts_settled : (w f : ℕ) → IsTrue (is_settled i cuts) → f ≡ settled_floor i cuts → nat_lt d.floor d.best ≡ true
       → new.posts.items ≡ d.posts.items ++ Settled w k ∷ [] → new.values.items ≡ d.values.items ++ f ∷ [] → new.best ≡ d.best → new.floor ≡ f
@@ -148,5 +127,5 @@ module _ (i : Problem) (b : Book) (k : ℕ) (cuts : List Cut) (posts : List Post
       let number : cond (nat_lt d.floor d.best) f d.floor ≡ d.floor = ap (λ (t : Bool). cond t f d.floor) closed in (
         false,
         stay more false same (where_more (Settled w k) false closed)
-            (subst (λ (x : Draft). IsAfter i b k cuts more x.best x.floor false) (sym same) (subst (λ (n : ℕ). IsAfter i b k cuts more d.best n false) number stage)),
+            (subst (λ (x : StepDraft). IsAfter i b k cuts more x.best x.floor false) (sym same) (subst (λ (n : ℕ). IsAfter i b k cuts more d.best n false) number stage)),
       )

@@ -1,26 +1,7 @@
 -- The posts of a step, drafted one after another.
-use Rattle.std.proofs.Common.{◌≡◌, ℕ, zero, suc, ◌<◌, ◌≤◌, Bool, true, false, cond, ◌&&◌, not, List, [], ◌∷◌, ◌++◌, set, refl, sym, ◌∙◌, ap, subst, nat_le, nat_lt, Option, None, Some, eq-eqb}
-use Rattle.std.specs.Prelude.{IfSome, IsTrue, max, slice_get, slice_set}
-use Rattle.std.specs.Option.{option_map_or, option_and_then}
-use Rattle.std.proofs.lemmas.Bool.{and_from, lt-ltb, le-leb}
-use Rattle.std.proofs.lemmas.List.{append-nil}
-use Rattle.shift_instance.specs.Problem.{Problem}
-use Rattle.shift_instance.specs.Rota.{are_legal_rows, cost, rota_of}
-use Rattle.rota_cost.specs.Costed.{Costing, IsCosted}
-use Rattle.head_splits.specs.declared.Class.{Class}
-use Rattle.head_splits.specs.declared.Cut.{Cut}
-use Rattle.head_splits.specs.declared.Prices.{Prices}
-use Rattle.head_splits.specs.Bound.{are_prices, bound_of}
-use Rattle.head_splits.specs.Cuts.{low, high}
-use Rattle.head_splits.specs.Nodes.{Node, settled_floor, with_split}
-use Rattle.head_splits.specs.Settled.{is_live_class, is_settled}
-use Rattle.post_codec.specs.declared.post.Post.{Post}
-use Rattle.post_codec.specs.declared.post.Post.TheVariants.{Plan, Priced, Split, Settled}
-use Rattle.search_core.specs.Book.{Book, book_after, divided, is_better, is_node_and, is_open, priced, settled, step}
-use Rattle.search_core.specs.State.{number_at}
-use Rattle.search_core.specs.Steps.{book_then, followed_by, plan_posts, where_open}
+use Rattle.search_core.proofs.Common.{◌≡◌, ℕ, zero, suc, ◌<◌, ◌≤◌, Bool, true, false, cond, ◌&&◌, not, List, [], ◌∷◌, ◌++◌, set, refl, sym, ◌∙◌, ap, subst, nat_le, nat_lt, Option, None, Some, eq-eqb, IfSome, IsTrue, slice_get, slice_set, option_map_or, option_and_then, and_from, lt-ltb, le-leb, append-nil, Problem, are_legal_rows, cost, rota_of, Costing, IsCosted, Class, Cut, Prices, are_prices, bound_of, low, high, Node, settled_floor, with_split, is_live_class, is_settled, Post, Plan, Priced, Split, Settled, Book, book_after, divided, is_better, is_node_and, is_open, priced, settled, step, number_at, book_then, followed_by, plan_posts, where_open, best_with, floor_with, IsAfter}
+use Rattle.std.specs.Prelude.{max}
 use Rattle.search_core.proofs.Runs.{book_after-append, slice_get_front}
-use Rattle.search_core.specs.Drafting.{best_with, floor_with, IsAfter}
 
 -- ---- posts after posts
 pub after_push : (i : Problem) (b : Book) (posts : List Post) (c n : Book) (post : Post) → book_after i b posts ≡ Some c → step i c post ≡ Some n → book_after i b (posts ++ post ∷ []) ≡ Some n

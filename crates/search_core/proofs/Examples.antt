@@ -1,17 +1,7 @@
 -- The definitions, computed on an instance whose costs are known by hand: a shift that is used costs 3, and 8 without it.
-use Rattle.std.proofs.Common.{◌≡◌, ℕ, List, [], ◌∷◌, ◌++◌, replicate, refl, map, length, Some, None, Option}
+use Rattle.search_core.proofs.Common.{◌≡◌, ℕ, List, [], ◌∷◌, ◌++◌, replicate, refl, map, length, Some, None, Option, option_map, whole_class, Node, Prices, Post, Plan, Priced, Split, Settled, Event, Take, Commit, Yield, Crash, book_of, floor_of, Core, start, run}
 use Rattle.std.specs.Prelude.{pos}
-use Rattle.std.specs.Option.{option_map}
 use Rattle.shift_instance.proofs.Examples.{one_morning, row}
-use Rattle.head_splits.specs.Cuts.{whole_class}
-use Rattle.head_splits.specs.Nodes.{Node}
-use Rattle.head_splits.specs.declared.Prices.{Prices}
-use Rattle.post_codec.specs.declared.post.Post.{Post}
-use Rattle.post_codec.specs.declared.post.Post.TheVariants.{Plan, Priced, Split, Settled}
-use Rattle.search_core.specs.declared.event.Event.{Event}
-use Rattle.search_core.specs.declared.event.Event.TheVariants.{Take, Commit, Yield, Crash}
-use Rattle.search_core.specs.Book.{book_of, floor_of}
-use Rattle.search_core.specs.Core.{Core, start, run}
 
 -- the price 2 in the slots from 8 to 12
 abbrev prices : Prices

@@ -1,22 +1,7 @@
--- A book has few nodes: each split lowers the span.
-use Rattle.std.proofs.Common.{◌≡◌, ℕ, zero, suc, ◌+◌, ◌*◌, ◌^◌, ◌<◌, ◌≤◌, max, true, false, cond, ◌&&◌, not, List, [], ◌∷◌, ◌++◌, length, get_or, set, refl, ap, subst, arith, nat_le, nat_lt, Some}
-use Rattle.std.specs.Prelude.{slice_get, sum_by}
-use Rattle.std.proofs.lemmas.Bool.{and_parts, leb-true, ltb-true, not-true}
-use Rattle.std.proofs.lemmas.List.Sums.{sum_by-cons, sum_by-append, sum_by-set}
-use Rattle.std.proofs.lemmas.List.{length-append, length-set}
+-- A book has few nodes: each split lowers the span, and a post adds two nodes at most.
+use Rattle.search_core.proofs.Common.{◌≡◌, ℕ, zero, suc, ◌+◌, ◌*◌, ◌^◌, ◌<◌, ◌≤◌, max, true, false, cond, ◌&&◌, not, List, [], ◌∷◌, ◌++◌, length, get_or, set, refl, ap, subst, arith, nat_le, nat_lt, Some, slice_get, and_parts, leb-true, ltb-true, not-true, sum_by-cons, sum_by-append, sum_by-set, length-append, length-set, pow-le-pow_right, pow-suc, Problem, Class, AtMost, AtLeast, low, high, are_prices, bound_of, is_live_class, is_settled, span, Node, child, with_floor, with_split, settled_floor, span_left, span_right, Post, Plan, Priced, Split, Settled, Book, opening, is_open, priced, divided, settled, is_better, step, book_after, book_of}
+use Rattle.std.specs.Prelude.{sum_by}
 use Rattle.std.proofs.lemmas.Nat.{pow_pos}
-use Rattle.std.proofs.Math.Nat.{pow-le-pow_right, pow-suc}
-use Rattle.shift_instance.specs.Problem.{Problem}
-use Rattle.head_splits.specs.declared.Class.{Class}
-use Rattle.head_splits.specs.declared.Side.TheVariants.{AtMost, AtLeast}
-use Rattle.head_splits.specs.Cuts.{low, high}
-use Rattle.head_splits.specs.Bound.{are_prices, bound_of}
-use Rattle.head_splits.specs.Settled.{is_live_class, is_settled, span}
-use Rattle.head_splits.specs.Nodes.{Node, child, with_floor, with_split, settled_floor}
-use Rattle.head_splits.proofs.Splits.{span_left, span_right}
-use Rattle.post_codec.specs.declared.post.Post.{Post}
-use Rattle.post_codec.specs.declared.post.Post.TheVariants.{Plan, Priced, Split, Settled}
-use Rattle.search_core.specs.Book.{Book, opening, is_open, priced, divided, settled, is_better, step, book_after, book_of}
 use Rattle.search_core.proofs.Sound.{cond_some, bind_some, at_node_some}
 
 -- what an unsplit node weighs: two to the power of its span
@@ -126,3 +111,48 @@ few_nodes i posts b e =
     let c = f.twice in
     let d = light i b.nodes in
     omega arith
+
+-- ---- nodes and posts
+
+abbrev Fewer : List Node → ℕ → Type 0
+Fewer nodes posts = length nodes ≤ 1 + 2 * posts
+
+more_nodes : (i : Problem) (b c : Book) (post : Post) (n : ℕ) → Fewer b.nodes n → step i b post ≡ Some c → Fewer c.nodes (n + 1)
+more_nodes i b c (Plan worker rows m) n f e =
+    let r = cond_some (is_better i b rows m) (record b { best = rows; cost = m }) c e in
+    subst (λ (d : Book). Fewer d.nodes (n + 1)) r.1 (omega (arith, f))
+more_nodes i b c (Priced worker k prices) n f e =
+    let r = at_node_some b c k (priced i b k prices) e in
+    let m = r.0 in
+    let q = cond_some (not m.split && are_prices i m.cuts prices) (with_floor b.nodes k m (max m.floor (bound_of i m.cuts prices))) r.2 r.3 in
+    let l : length (with_floor b.nodes k m (max m.floor (bound_of i m.cuts prices))) ≡ length b.nodes = length-set b.nodes k (record m { floor = max m.floor (bound_of i m.cuts prices) }) in
+    subst (λ (d : Book). Fewer d.nodes (n + 1)) r.4 (subst (λ (xs : List Node). Fewer xs (n + 1)) q.1 (omega (arith, f, l)))
+more_nodes i b c (Split worker k class m) n f e =
+    let r = at_node_some b c k (divided i b k class m) e in
+    let x = r.0 in
+    let q = cond_some (is_open b x && is_live_class i class && nat_le (low x.cuts class) m && nat_lt m (high i x.cuts class)) (with_split b.nodes k x class m) r.2 r.3 in
+    let olds = set b.nodes k (record x { split = true }) in
+    let left = child x class AtMost m in
+    let right = child x class AtLeast (m + 1) in
+    let l : length olds ≡ length b.nodes = length-set b.nodes k (record x { split = true }) in
+    let a : length (olds ++ left ∷ right ∷ []) ≡ length olds + 2 = length-append olds (left ∷ right ∷ []) in
+    subst (λ (d : Book). Fewer d.nodes (n + 1)) r.4 (subst (λ (xs : List Node). Fewer xs (n + 1)) q.1 (omega (arith, f, l, a)))
+more_nodes i b c (Settled worker k) n f e =
+    let r = at_node_some b c k (settled i b k) e in
+    let m = r.0 in
+    let q = cond_some (not m.split && is_settled i m.cuts) (with_floor b.nodes k m (settled_floor i m.cuts)) r.2 r.3 in
+    let l : length (with_floor b.nodes k m (settled_floor i m.cuts)) ≡ length b.nodes = length-set b.nodes k (record m { floor = settled_floor i m.cuts }) in
+    subst (λ (d : Book). Fewer d.nodes (n + 1)) r.4 (subst (λ (xs : List Node). Fewer xs (n + 1)) q.1 (omega (arith, f, l)))
+
+nodes_after : (i : Problem) (b c : Book) (posts : List Post) (n : ℕ) → Fewer b.nodes n → book_after i b posts ≡ Some c → Fewer c.nodes (n + length posts)
+nodes_after i b c [] n f e = let same : b ≡ c = cc in subst (λ (d : Book). Fewer d.nodes (n + 0)) same (omega (arith, f))
+nodes_after i b c (post ∷ posts) n f e =
+    let r = bind_some (λ next. book_after i next posts) (step i b post) c e in
+    let all : Fewer c.nodes (n + 1 + length posts) = nodes_after i r.0 c posts (n + 1) (more_nodes i b r.0 post n f r.1) r.2 in
+    omega (arith, all)
+
+-- a book has at most one node and two for each post
+pub nodes_by_posts : (i : Problem) (posts : List Post) (b : Book) → book_of i posts ≡ Some b → length b.nodes ≤ 1 + 2 * length posts
+nodes_by_posts i posts b e =
+    let all : Fewer b.nodes (0 + length posts) = nodes_after i (opening i) b posts 0 (omega arith) e in
+    omega (arith, all)

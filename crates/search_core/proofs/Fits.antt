@@ -1,34 +1,16 @@
 -- Legal rows of an instance have a spelling.
-use Rattle.std.proofs.Common.{◌≡◌, inl, inr, ℕ, ◌*◌, ◌<◌, ◌≤◌, ◌^◌, true, false, cond, List, [], ◌∷◌, ◌++◌, length, replicate, refl, arith, sum_by, fold, nat_lt, nat_le, Option, Some, None, length-append}
-use Rattle.std.specs.Prelude.{All, IsTrue, slice_get}
-use Rattle.std.specs.Option.{option_map_or}
-use Rattle.std.specs.List.{list_all, AllByRecursion}
-use Rattle.std.proofs.lemmas.Bool.{and_parts, ltb-true, false≢true, cond_both}
-use Rattle.std.proofs.lemmas.List.{length-replicate}
-use Rattle.std.proofs.lemmas.List.Sums.{sum_by-cons}
-use Rattle.std.proofs.lemmas.List.Elements.{All-from_recursion, recursion_from_All}
-use Rattle.std.proofs.Math.Nat.{mul-le-mul}
+use Rattle.search_core.proofs.Common.{◌≡◌, inl, inr, ℕ, ◌*◌, ◌<◌, ◌≤◌, ◌^◌, true, false, cond, List, [], ◌∷◌, ◌++◌, length, replicate, refl, arith, sum_by, fold, nat_lt, nat_le, Option, Some, None, All, IsTrue, slice_get, option_map_or, list_all, AllByRecursion, and_parts, ltb-true, false≢true, cond_both, length-replicate, sum_by-cons, All-from_recursion, recursion_from_All, mul-le-mul, Has, Has-flat_map, all_at, Duty, Row, Problem, shift_list, Class, is_live_class, is_shift_and, is_list_of, is_legal_rota, duty_of, rota_of, are_legal_rows, IsValid, legal_duties, CountsFitRow, CountsFitRows}
+use Rattle.std.proofs.Common.{length-append}
 use Rattle.break_rules.specs.declared.Break.{Break}
 use Rattle.break_rules.specs.declared.Rule.{Rule}
 use Rattle.break_rules.specs.Breaks.{is_legal, is_live, total_in}
 use Rattle.break_rules.specs.Ranges.{IsRule, IsTotal}
-use Rattle.break_rules.specs.Lists.{Has}
-use Rattle.break_rules.proofs.Lists.{Has-flat_map, all_at}
 use Rattle.break_rules.proofs.LegalLists.{legal_parts, live_rest}
 use Rattle.break_rules.proofs.Ranges.{ranges_from_none}
 use Rattle.shift_instance.specs.declared.Shift.{Shift}
-use Rattle.shift_instance.specs.declared.Duty.{Duty}
-use Rattle.shift_instance.specs.declared.Row.{Row}
-use Rattle.shift_instance.specs.Problem.{Problem, shift_list}
-use Rattle.head_splits.specs.declared.Class.{Class}
-use Rattle.head_splits.specs.Settled.{is_live_class}
-use Rattle.shift_instance.specs.Rota.{is_shift_and, is_list_of, is_legal_rota, duty_of, rota_of, are_legal_rows}
-use Rattle.shift_instance.specs.Valid.{IsValid}
-use Rattle.shift_instance.proofs.Rotas.{legal_duties}
 use Rattle.shift_instance.proofs.Shifts.{Has_at, rule_passes}
 use Rattle.rota_cost.proofs.Counting.{Has_copy, legal_rows_parts}
 use Rattle.rota_cost.proofs.Lengths.{legal_length}
-use Rattle.post_codec.specs.Spelling.{CountsFitRow, CountsFitRows}
 
 -- ---- how many breaks a row has
 totals_small : (len : ℕ) (totals : List (ℕ × ℕ)) (t : ℕ) → t ≤ 48 → AllByRecursion IsTotal totals → fold (λ t e. cond (nat_le e.0 len) e.1 t) t totals ≤ 48

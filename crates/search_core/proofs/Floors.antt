@@ -1,16 +1,5 @@
 -- What a sound book says of each legal rota.
-use Rattle.std.proofs.Common.{◌≡◌, ◌⊎◌, inl, inr, ℕ, ◌<◌, ◌≤◌, min, true, false, cond, not, List, [], ◌∷◌, get_or, refl, sym, ap, ◌∙◌, subst, arith, fold, nat_lt}
-use Rattle.std.proofs.lemmas.Bool.{cases_Bool, cases_lt, and_cases, and_from, and_parts, lt-ltb, not-true, ltb-false, false≢true}
-use Rattle.std.specs.Prelude.{Any}
-use Rattle.break_rules.specs.Lists.{Has}
-use Rattle.break_rules.proofs.Lists.{all_at}
-use Rattle.shift_instance.specs.declared.Duty.{Duty}
-use Rattle.shift_instance.specs.Problem.{Problem}
-use Rattle.shift_instance.specs.Rota.{is_legal_rota, cost, rota_of}
-use Rattle.head_splits.specs.Cuts.{meets}
-use Rattle.search_core.specs.Book.{Book, floor_of, is_open, is_finished, IsLeastFloor, IsSound}
-use Rattle.head_splits.specs.Nodes.{Node}
-use Rattle.head_splits.proofs.Nodes.{Has-get_or, Has-place, floor_at, floor_from}
+use Rattle.search_core.proofs.Common.{◌≡◌, ◌⊎◌, inl, inr, ℕ, ◌<◌, ◌≤◌, min, true, false, cond, not, List, [], ◌∷◌, get_or, refl, sym, ap, ◌∙◌, subst, arith, fold, nat_lt, cases_Bool, cases_lt, and_cases, and_from, and_parts, lt-ltb, not-true, ltb-false, false≢true, Any, Has, all_at, Duty, Problem, is_legal_rota, cost, rota_of, meets, Book, floor_of, is_open, is_finished, IsLeastFloor, IsSound, Node, Has-get_or, Has-place, floor_at, floor_from}
 
 -- ---- the least of the best cost and the floors of unsplit nodes
 

@@ -1,14 +1,5 @@
--- Runs that begin at posts: these stay at the head of each history.
-use Rattle.std.proofs.Common.{◌≡◌, ℕ, zero, suc, ◌+◌, ◌≤◌, ◌&&◌, false, List, [], ◌∷◌, ◌++◌, length, take, set, refl, sym, ap, ◌∙◌, subst, arith, nat_le, nat_lt, Some, None}
-use Rattle.std.specs.Option.{option_map_or}
-use Rattle.std.proofs.lemmas.Bool.{and_parts, leb-true}
-use Rattle.std.proofs.lemmas.List.{append-nil, append_assoc, length-append}
-use Rattle.shift_instance.specs.Problem.{Problem}
-use Rattle.post_codec.specs.declared.post.Post.{Post}
-use Rattle.search_core.specs.declared.event.Event.{Event}
-use Rattle.search_core.specs.declared.event.Event.TheVariants.{Take, Commit, Yield, Crash}
-use Rattle.search_core.specs.Book.{Book, book_of}
-use Rattle.search_core.specs.Core.{Core, empty_hands, hand, happens, may_commit, may_take, opened, run, IsFront, IsSoundCore}
+-- Runs that begin at posts: each history begins with these.
+use Rattle.search_core.proofs.Common.{◌≡◌, ℕ, zero, suc, ◌+◌, ◌≤◌, ◌&&◌, false, List, [], ◌∷◌, ◌++◌, length, take, set, refl, sym, ap, ◌∙◌, subst, arith, nat_le, nat_lt, Some, None, option_map_or, and_parts, leb-true, append-nil, append_assoc, length-append, Problem, Post, Event, Take, Commit, Yield, Crash, Book, book_of, Core, empty_hands, hand, happens, may_commit, may_take, opened, run, IsFront, IsSoundCore}
 use Rattle.search_core.proofs.Sound.{cond_some, bind_some, fold_sound}
 use Rattle.search_core.proofs.Runs.{crash_front, no_hand, run_sound}
 

@@ -1,29 +1,6 @@
 -- An outline follows the posts: after each post that is allowed it is that of the new book.
-use Rattle.std.proofs.Common.{◌≡◌, inl, inr, ℕ, zero, suc, ◌+◌, ◌-◌, ◌*◌, ◌/◌, ◌%◌, ◌<◌, ◌≤◌, max, Bool, true, false, ◌&&◌, ◌==◌, not, List, [], ◌∷◌, ◌++◌, length, get_or, map, set, refl, sym, ap, ◌∙◌, subst, arith, nat_le, nat_lt, Option, Some, None}
-use Rattle.std.specs.Prelude.{slice_get, IsSome, IsSomeAnd}
-use Rattle.std.specs.Option.{option_map_or, option_and_then}
-use Rattle.std.proofs.lemmas.Bool.{and_parts, cases_lt, ltb-true, not-true}
-use Rattle.std.proofs.lemmas.List.{length-append, length-set, map-set, map-append}
-use Rattle.std.proofs.lemmas.Option.{slice_get_within, slice_get-map, get_or_from_slice_get}
-use Rattle.shift_instance.specs.declared.Row.{Row}
-use Rattle.shift_instance.specs.Problem.{Problem}
-use Rattle.shift_instance.specs.Rota.{cost, rota_of}
-use Rattle.shift_instance.specs.Valid.{IsValid}
-use Rattle.head_splits.specs.declared.Class.{Class}
-use Rattle.head_splits.specs.declared.Side.TheVariants.{AtMost, AtLeast}
-use Rattle.head_splits.specs.declared.Cut.{Cut}
-use Rattle.head_splits.specs.Cuts.{low, high}
-use Rattle.head_splits.proofs.Splits.{high_most}
-use Rattle.head_splits.specs.Bound.{are_prices, bound_of}
-use Rattle.head_splits.specs.Settled.{is_live_class, is_settled}
-use Rattle.head_splits.specs.Nodes.{Node, child, with_floor, with_split, settled_floor}
-use Rattle.post_codec.specs.declared.post.Post.{Post}
-use Rattle.post_codec.specs.declared.post.Post.TheVariants.{Plan, Priced, Split, Settled}
-use Rattle.search_core.specs.declared.outline.NodeState.{NodeState}
-use Rattle.search_core.specs.Book.{Book, opening, is_open, priced, divided, settled, is_better, step, book_after, book_of}
-use Rattle.search_core.specs.Kept.{rows_in, part_of, best_of, cuts_in, IsPart, IsKept}
-use Rattle.search_core.specs.Outline.{OutlineView, floor_at, unsplit_node, split_node, acted}
-use Rattle.search_core.specs.State.{StateView, state_of, number_at, value_of, book_or_opening}
+use Rattle.search_core.proofs.Common.{◌≡◌, inl, inr, ℕ, zero, suc, ◌+◌, ◌-◌, ◌*◌, ◌/◌, ◌%◌, ◌<◌, ◌≤◌, max, Bool, true, false, ◌&&◌, ◌==◌, not, List, [], ◌∷◌, ◌++◌, length, get_or, map, set, refl, sym, ap, ◌∙◌, subst, arith, nat_le, nat_lt, Option, Some, None, slice_get, IsSome, IsSomeAnd, option_map_or, option_and_then, and_parts, cases_lt, ltb-true, not-true, length-append, length-set, map-set, map-append, slice_get_within, slice_get-map, get_or_from_slice_get, Row, Problem, cost, rota_of, IsValid, Class, AtMost, AtLeast, Cut, low, high, high_most, are_prices, bound_of, is_live_class, is_settled, Node, child, with_floor, with_split, settled_floor, Post, Plan, Priced, Split, Settled, NodeState, Book, opening, is_open, priced, divided, settled, is_better, step, book_after, book_of, rows_in, part_of, best_of, cuts_in, IsPart, IsKept, OutlineView, unsplit_node, split_node, acted, StateView, state_of, number_at, value_of, book_or_opening}
+use Rattle.search_core.specs.Outline.{floor_at}
 use Rattle.search_core.proofs.Sound.{cond_some, bind_some, at_node_some}
 use Rattle.search_core.proofs.Runs.{book_after-append, slice_get_front}
 

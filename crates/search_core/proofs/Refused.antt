@@ -1,25 +1,9 @@
 -- A post for which a fault applies isn't allowed.
-use Rattle.std.proofs.Common.{◌≡◌, ◌≢◌, ◌⊎◌, inl, inr, ℕ, ◌<◌, ◌≤◌, max, Bool, true, false, cond, ◌&&◌, ◌==◌, not, refl, sym, ap, ◌∙◌, arith, nat_le, nat_lt, Option, Some, None}
-use Rattle.std.specs.Option.{option_map, option_map_or, option_and_then, option_or}
-use Rattle.std.proofs.lemmas.Bool.{and_parts, leb-true, ltb-true, not-true}
+use Rattle.search_core.proofs.Common.{◌≡◌, ◌≢◌, ◌⊎◌, inl, inr, ℕ, ◌<◌, ◌≤◌, max, Bool, true, false, cond, ◌&&◌, ◌==◌, not, refl, sym, ap, ◌∙◌, arith, nat_le, nat_lt, Option, Some, None, option_map, option_map_or, option_and_then, option_or, and_parts, leb-true, ltb-true, not-true, Problem, cost, rota_of, are_legal_rows, row_fault, none_from_legal, low, high, are_prices, bound_of, is_live_class, is_settled, split_class, Node, with_floor, with_split, settled_floor, Post, Plan, Priced, Split, Settled, StepFault, NotLegal, WrongCost, NotBetter, NoNode, IsSplit, NotOpen, NotLive, OutOfRange, NotSettled, Price, NoMemory, Book, is_open, priced, divided, settled, is_better, step, step_fault, Refuses}
 use Rattle.break_rules.specs.Causes.{first_cause}
-use Rattle.shift_instance.specs.Problem.{Problem}
-use Rattle.shift_instance.specs.Rota.{cost, rota_of, are_legal_rows}
 use Rattle.rota_cost.specs.declared.RowFault.{RowFault}
-use Rattle.rota_cost.specs.RowFaults.{row_fault}
-use Rattle.rota_cost.proofs.RowLaw.{none_from_legal}
-use Rattle.head_splits.specs.Cuts.{low, high}
-use Rattle.head_splits.specs.Bound.{are_prices, bound_of}
-use Rattle.head_splits.specs.Settled.{is_live_class, is_settled, split_class}
-use Rattle.head_splits.specs.Nodes.{Node, with_floor, with_split, settled_floor}
 use Rattle.dual_bound.specs.Faults.{price_causes}
 use Rattle.dual_bound.proofs.Causes.{faultless}
-use Rattle.post_codec.specs.declared.post.Post.{Post}
-use Rattle.post_codec.specs.declared.post.Post.TheVariants.{Plan, Priced, Split, Settled}
-use Rattle.search_core.specs.declared.fault.StepFault.{StepFault}
-use Rattle.search_core.specs.declared.fault.StepFault.TheVariants.{NotLegal, WrongCost, NotBetter, NoNode, IsSplit, NotOpen, NotLive, OutOfRange, NotSettled, Price, NoMemory}
-use Rattle.search_core.specs.Book.{Book, is_open, priced, divided, settled, is_better, step}
-use Rattle.search_core.specs.Faults.{step_fault, Refuses}
 use Rattle.search_core.proofs.Sound.{cond_some, at_node_some}
 
 -- ---- causes, none of which applies
@@ -96,17 +80,3 @@ none_or_some (Some x) = inr (x, refl)
 pub faulty_refused : (i : Problem) (b : Book) (post : Post) (e : StepFault) → step_fault i b post ≡ Some e → step i b post ≡ None
 faulty_refused i b post e fault =
     elim (none_or_some (step i b post)) [ inl none ↦ none | inr r ↦ let not_both : None ≡ Some e = sym (allowed_faultless i b r.0 post r.1) ∙ fault in absurd (cc) ]
-
--- a refusal other than running out of memory is the first fault
-pub refused_by : (fault : Option StepFault) (e : StepFault) → Refuses fault e → e ≢ NoMemory → fault ≡ Some e
-refused_by fault (NotLegal why) r ne = r
-refused_by fault (WrongCost kept found) r ne = r
-refused_by fault (NotBetter best) r ne = r
-refused_by fault (NoNode node) r ne = r
-refused_by fault (IsSplit node) r ne = r
-refused_by fault (NotOpen floor best) r ne = r
-refused_by fault (NotLive class) r ne = r
-refused_by fault (OutOfRange lo hi) r ne = r
-refused_by fault (NotSettled class) r ne = r
-refused_by fault (Price why) r ne = r
-refused_by fault NoMemory r ne = absurd (ne refl)

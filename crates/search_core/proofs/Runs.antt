@@ -1,21 +1,6 @@
 -- Each core of each run is sound, and a crash keeps what is acknowledged.
-use Rattle.std.proofs.Common.{◌≡◌, ◌≢◌, ◌⊎◌, inl, inr, ℕ, zero, suc, ◌≤◌, Bool, true, false, ◌&&◌, ◌==◌, not, List, [], ◌∷◌, ◌++◌, length, take, drop, set, replicate, refl, sym, ap, ◌∙◌, subst, arith, nat_le, nat_lt, Option, Some, None, eq-eqb}
-use Rattle.std.specs.Prelude.{slice_get, is_none}
-use Rattle.std.specs.Option.{option_map_or, option_and_then}
-use Rattle.std.specs.List.{list_all, list_any}
-use Rattle.std.proofs.lemmas.Bool.{and_parts, leb-true, eqb-true, false≢true, not-true}
-use Rattle.std.proofs.lemmas.List.{take-append-drop, length-append, take-take, length-take}
-use Rattle.break_rules.proofs.Lists.{any_none}
-use Rattle.shift_instance.specs.Problem.{Problem}
-use Rattle.post_codec.specs.declared.post.Post.{Post}
-use Rattle.post_codec.specs.declared.post.Post.TheVariants.{Plan, Priced, Split, Settled}
-use Rattle.search_core.specs.declared.event.Event.{Event}
-use Rattle.search_core.specs.declared.event.Event.TheVariants.{Take, Commit, Yield, Crash}
-use Rattle.search_core.specs.Book.{Book, opening, is_open, is_node_and, priced, divided, settled, is_better, step, book_after, book_of}
-use Rattle.search_core.specs.Core.{Core, start, empty_hands, hand, is_node, is_of, may_take, may_commit, happens, run, AreApart, HoldsApart, IsSoundCore, IsFront}
+use Rattle.search_core.proofs.Common.{◌≡◌, ◌≢◌, ◌⊎◌, inl, inr, ℕ, zero, suc, ◌≤◌, Bool, true, false, ◌&&◌, ◌==◌, not, List, [], ◌∷◌, ◌++◌, length, take, drop, set, replicate, refl, sym, ap, ◌∙◌, subst, arith, nat_le, nat_lt, Option, Some, None, eq-eqb, slice_get, is_none, option_map_or, option_and_then, list_all, list_any, and_parts, leb-true, eqb-true, false≢true, not-true, take-append-drop, length-append, take-take, length-take, any_none, Problem, Post, Plan, Priced, Split, Settled, Event, Take, Commit, Yield, Crash, Book, opening, is_open, is_node_and, priced, divided, settled, is_better, step, book_after, book_of, Core, start, empty_hands, hand, is_node, is_of, may_take, may_commit, happens, run, AreApart, HoldsApart, IsSoundCore, IsFront, Node, Has-slice_get}
 use Rattle.search_core.proofs.Sound.{cond_some, bind_some, at_node_some, fold_sound}
-use Rattle.head_splits.specs.Nodes.{Node}
-use Rattle.head_splits.proofs.Nodes.{Has-slice_get}
 
 -- ---- folds of joined posts
 

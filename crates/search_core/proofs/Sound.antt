@@ -1,18 +1,5 @@
 -- Where a fold is defined, the book is sound.
-use Rattle.std.proofs.Common.{◌≡◌, ℕ, max, Bool, true, false, cond, ◌&&◌, ◌==◌, not, List, [], ◌∷◌, refl, subst, nat_le, nat_lt, Option, Some, None}
-use Rattle.std.specs.Prelude.{slice_get}
-use Rattle.std.specs.Option.{option_and_then}
-use Rattle.std.proofs.lemmas.Bool.{and_parts, eqb-true, not-true}
-use Rattle.shift_instance.specs.Problem.{Problem}
-use Rattle.shift_instance.specs.Rota.{cost, rota_of, are_legal_rows}
-use Rattle.head_splits.specs.Cuts.{low, high}
-use Rattle.head_splits.specs.Bound.{are_prices, bound_of}
-use Rattle.head_splits.specs.Settled.{is_live_class, is_settled}
-use Rattle.post_codec.specs.declared.post.Post.{Post}
-use Rattle.post_codec.specs.declared.post.Post.TheVariants.{Plan, Priced, Split, Settled}
-use Rattle.head_splits.specs.Nodes.{Node, with_floor, with_split, settled_floor}
-use Rattle.head_splits.proofs.Nodes.{NodesSound, root_sound, priced_sound, settled_sound, split_sound, nodes_are}
-use Rattle.search_core.specs.Book.{Book, is_open, opening, priced, divided, settled, at_node, is_better, step, book_after, book_of, IsSound}
+use Rattle.search_core.proofs.Common.{◌≡◌, ℕ, max, Bool, true, false, cond, ◌&&◌, ◌==◌, not, List, [], ◌∷◌, refl, subst, nat_le, nat_lt, Option, Some, None, slice_get, option_and_then, and_parts, eqb-true, not-true, Problem, cost, rota_of, are_legal_rows, low, high, are_prices, bound_of, is_live_class, is_settled, Post, Plan, Priced, Split, Settled, Node, with_floor, with_split, settled_floor, NodesSound, root_sound, priced_sound, settled_sound, split_sound, nodes_are, Book, is_open, opening, priced, divided, settled, at_node, is_better, step, book_after, book_of, IsSound}
 
 -- ---- what a step that is allowed says
 

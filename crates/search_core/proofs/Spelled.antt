@@ -1,22 +1,11 @@
 -- The prices of a price set have a spelling.
-use Rattle.std.proofs.Common.{◌≡◌, ℕ, ◌*◌, ◌≤◌, ℤ, pos, negsuc, neg_ℤ, ◌≤ℤ◌, true, not, ◌||◌, ◌==◌, nat_le, List, [], ◌∷◌, length, arith}
-use Rattle.std.specs.Prelude.{All, int_le}
+use Rattle.search_core.proofs.Common.{◌≡◌, ℕ, ◌*◌, ◌≤◌, ℤ, pos, negsuc, neg_ℤ, ◌≤ℤ◌, true, not, ◌||◌, ◌==◌, nat_le, List, [], ◌∷◌, length, arith, All, int_le, list_all, zip, AllByRecursion, mul-le-mul, and_parts, leb-true, All-from_recursion, Problem, IsValid, Cut, Prices, is_nil, is_slot_price, is_cut_price, are_prices, le_from_test, FitsSlot, FitsCut}
 use Rattle.std.specs.Int.RustNames.{unsigned_abs}
-use Rattle.std.specs.List.{list_all, zip, AllByRecursion}
-use Rattle.std.proofs.Math.Nat.{mul-le-mul}
-use Rattle.std.proofs.lemmas.Bool.{and_parts, leb-true}
 use Rattle.std.proofs.lemmas.Int.{ints}
-use Rattle.std.proofs.lemmas.List.Elements.{All-from_recursion}
 use Rattle.break_rules.proofs.Sizes.{abs_within}
-use Rattle.shift_instance.specs.Problem.{Problem}
-use Rattle.shift_instance.specs.Valid.{IsValid}
-use Rattle.head_splits.specs.declared.Cut.{Cut}
-use Rattle.head_splits.specs.declared.Prices.{Prices}
 use Rattle.head_splits.specs.declared.TheConstants.{CUT_PRICE_MAX}
-use Rattle.head_splits.specs.Bound.{is_nil, is_slot_price, is_cut_price, are_prices}
-use Rattle.head_splits.proofs.Priced.{le_from_test, priced}
+use Rattle.head_splits.proofs.Priced.{priced}
 use Rattle.post_codec.specs.declared.price_width.PriceWidth.TheVariants.{Five}
-use Rattle.post_codec.specs.Spelling.{FitsSlot, FitsCut}
 
 slot_within : (p : ℤ) → unsigned_abs p ≤ 10000000000 → FitsSlot Five p
 slot_within (pos n) small = omega (arith, small)

@@ -1,28 +1,7 @@
 -- The posts of a step, by how it closes its node.
-use Rattle.std.proofs.Common.{◌≡◌, ℕ, List, [], Option, None, Some, false, refl, sym, ◌∙◌, ap, subst, ◌<◌, ◌≤◌, nat_lt}
-use Rattle.std.specs.Prelude.{IfSome, IsTrue, MatchOption}
-use Rattle.std.specs.Option.{option_map_or}
-use Rattle.std.proofs.lemmas.Bool.{le-ltb, lt-ltb}
-use Rattle.dual_bound.specs.Proved.{IsProved}
-use Rattle.head_splits.specs.Bound.{are_prices, bound_of}
-use Rattle.head_splits.specs.Nodes.{Node}
-use Rattle.search_core.specs.Board.{floor_of_node, leaves_open}
+use Rattle.search_core.proofs.Common.{◌≡◌, ℕ, List, [], Option, None, Some, false, refl, sym, ◌∙◌, ap, subst, ◌<◌, ◌≤◌, nat_lt, IfSome, IsTrue, MatchOption, option_map_or, le-ltb, lt-ltb, IsProved, are_prices, bound_of, Node, floor_of_node, leaves_open, append-nil, Problem, Costing, IsCosted, IsPlan, Settling, Cut, Class, Post, Priced, Split, Settled, StepPosts, Close, ByPrice, Book, book_then, Fits, close_posts, followed_by, plan_of, plan_posts, posts_of, where_open, StepDraft, best_with, floor_with, IsAfter, IsDraft, LeavesOpen, Makes}
+use Rattle.search_core.specs.declared.step_posts.Close.TheVariants.{Split as CloseBySplit, Settled as CloseAsSettled}
 use Rattle.search_core.proofs.Drafts.{open_is, plan_stage, price_stage, then_is}
-use Rattle.std.proofs.lemmas.List.{append-nil}
-use Rattle.shift_instance.specs.Problem.{Problem}
-use Rattle.rota_cost.specs.Costed.{Costing, IsCosted}
-use Rattle.dual_bound.specs.Settling.{IsPlan, Settling}
-use Rattle.head_splits.specs.declared.Cut.{Cut}
-use Rattle.head_splits.specs.declared.Class.{Class}
-use Rattle.post_codec.specs.declared.post.Post.{Post}
-use Rattle.post_codec.specs.declared.post.Post.TheVariants.{Priced, Split, Settled}
-use Rattle.search_core.specs.declared.step_posts.StepPosts.{StepPosts}
-use Rattle.search_core.specs.declared.step_posts.Close.{Close}
-use Rattle.search_core.specs.declared.step_posts.Close.TheVariants.{ByPrice, Split as CloseBySplit, Settled as CloseAsSettled}
-use Rattle.search_core.specs.Book.{Book}
-use Rattle.search_core.specs.Steps.{book_then, Fits, close_posts, followed_by, plan_of, plan_posts, posts_of, where_open}
-use Rattle.search_core.specs.declared.drafting.Draft.{Draft}
-use Rattle.search_core.specs.Drafting.{best_with, floor_with, IsAfter, IsDraft, LeavesOpen, Makes}
 
 module _ (i : Problem) (b : Book) (w : ℕ) (step : StepPosts) where
   abbrev priced : Book → List Post
@@ -46,7 +25,7 @@ module _ (i : Problem) (b : Book) (w : ℕ) (step : StepPosts) where
   posts_as_settled node is = sym (ap closed_by is)
 
 -- a draft without posts
-pub draft_start : (i : Problem) (b : Book) (k : ℕ) (cuts : List Cut) (d : Draft) → d.posts.items ≡ [] → d.values.items ≡ [] → IsAfter i b k cuts [] d.best d.floor false → IsDraft i b k cuts [] d false
+pub draft_start : (i : Problem) (b : Book) (k : ℕ) (cuts : List Cut) (d : StepDraft) → d.posts.items ≡ [] → d.values.items ≡ [] → IsAfter i b k cuts [] d.best d.floor false → IsDraft i b k cuts [] d false
 draft_start i b k cuts d none empty after = record {
   posts_are = none;
   made = (b, subst (λ (l : List Post). Makes i b l d.values.items b) (sym none) (subst (λ (ns : List ℕ). Makes i b [] ns b) (sym empty) refl));

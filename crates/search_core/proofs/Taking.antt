@@ -1,26 +1,11 @@
 -- Posts taken into a state one after another, and where they stop.
-use Rattle.std.proofs.Common.{◌≡◌, ◌⊎◌, inl, inr, ℕ, ◌+◌, ◌<◌, ◌≤◌, List, [], ◌∷◌, ◌++◌, length, take, get_or, Option, Some, None, refl, sym, ◌∙◌, ap, subst, append_assoc, arith}
-use Rattle.std.specs.Prelude.{IsSome, slice_get}
-use Rattle.std.specs.Option.{option_and_then}
-use Rattle.std.proofs.lemmas.List.{length-append, take_all, take_more}
+use Rattle.search_core.proofs.Common.{◌≡◌, ◌⊎◌, inl, inr, ℕ, zero, suc, ◌+◌, List, [], ◌∷◌, ◌++◌, length, take, Option, Some, None, refl, sym, ◌∙◌, ap, subst, arith, slice_get, option_and_then, length-append, Problem, Post, StepFault, NotLegal, WrongCost, NotBetter, NoNode, IsSplit, NotOpen, NotLive, OutOfRange, NotSettled, Price, NoMemory, Book, step, book_after, StateView, step_fault, Refuses, Steps}
+use Rattle.std.proofs.Common.{append_assoc}
 use Rattle.std.proofs.Math.Seq.{take-append_seam}
-use Rattle.shift_instance.specs.Problem.{Problem}
-use Rattle.post_codec.specs.declared.post.Post.{Post}
-use Rattle.search_core.specs.declared.fault.StepFault.{StepFault}
-use Rattle.search_core.specs.declared.fault.StepFault.TheVariants.{NotLegal, WrongCost, NotBetter, NoNode, IsSplit, NotOpen, NotLive, OutOfRange, NotSettled, Price, NoMemory}
-use Rattle.search_core.specs.Book.{Book, opening, step, book_after, book_of}
-use Rattle.search_core.specs.State.{StateView}
-use Rattle.search_core.specs.Faults.{step_fault, Refuses, Steps}
-use Rattle.search_core.specs.Running.{IsRefused}
-use Rattle.search_core.specs.Taking.{refused_at, IsStateOf, PostsStop, Takes}
+use Rattle.search_core.specs.Taking.{IsRefused, Takes}
 use Rattle.search_core.proofs.Refused.{faulty_refused}
 use Rattle.search_core.proofs.Runs.{book_after-append}
-
--- ---- options
-
-pub some_is : {X : Type 0} (o : Option X) → IsSome o → (x : X) × (o ≡ Some x)
-some_is None h = absurd (cc)
-some_is (Some x) h = (x, refl)
+use Rattle.search_core.proofs.Sound.{bind_some}
 
 -- ---- refusals
 
@@ -37,19 +22,6 @@ told cause (OutOfRange lo hi) r = inr r
 told cause (NotSettled class) r = inr r
 told cause (Price why) r = inr r
 told cause NoMemory r = inl refl
-
-pub stop_at : (i : Problem) (b : Book) (posts : List Post) (at : ℕ) (why : StepFault) → (why ≡ NoMemory) ⊎ IsRefused i b posts at why → PostsStop i b posts (refused_at at why)
-stop_at i b posts at (NotLegal why) h = elim h [ inl e ↦ absurd (cc) | inr r ↦ r ]
-stop_at i b posts at (WrongCost kept found) h = elim h [ inl e ↦ absurd (cc) | inr r ↦ r ]
-stop_at i b posts at (NotBetter best) h = elim h [ inl e ↦ absurd (cc) | inr r ↦ r ]
-stop_at i b posts at (NoNode node) h = elim h [ inl e ↦ absurd (cc) | inr r ↦ r ]
-stop_at i b posts at (IsSplit node) h = elim h [ inl e ↦ absurd (cc) | inr r ↦ r ]
-stop_at i b posts at (NotOpen floor best) h = elim h [ inl e ↦ absurd (cc) | inr r ↦ r ]
-stop_at i b posts at (NotLive class) h = elim h [ inl e ↦ absurd (cc) | inr r ↦ r ]
-stop_at i b posts at (OutOfRange lo hi) h = elim h [ inl e ↦ absurd (cc) | inr r ↦ r ]
-stop_at i b posts at (NotSettled class) h = elim h [ inl e ↦ absurd (cc) | inr r ↦ r ]
-stop_at i b posts at (Price why) h = elim h [ inl e ↦ absurd (cc) | inr r ↦ r ]
-stop_at i b posts at NoMemory h = tt
 
 -- ---- one post more
 
@@ -108,23 +80,18 @@ taking_stops i all old passed left next number mid post fault j t e r =
       })
     ]
 
--- what a refused post leaves is the state of the posts before it
-pub taking_left : (all : List Post) (old : StateView) (passed left : List Post) (number : ℕ) (mid new : StateView) → Taking all old passed left number mid → new ≡ mid → Takes old (take number all) new
-taking_left all old passed left number mid new t same =
-    let front : take number all ≡ passed = ap (λ (n : ℕ). take n all) t.count ∙ ap (λ (l : List Post). take (length passed) l) (sym t.split) ∙ take-append_seam passed left in
-    subst (λ (s : StateView). Takes old (take number all) s) (sym same) (subst (λ (l : List Post). Takes old l mid) (sym front) t.takes)
-
--- ---- a state made anew
-
--- the state without posts
-abbrev pub opened : Problem → StateView
-opened i = record { instance = i; history = []; book = opening i; spare = 0 }
-
-pub next_taken : (i : Problem) (s new : StateView) (posts : List Post) (k : ℕ) (x y : Post) → Takes (opened i) (take k posts) s → k < length posts → x ≡ get_or posts k x → y ≡ x → Steps s new y → Takes (opened i) (take (k + 1) posts) new
-next_taken i s new posts k x y t less at is steps =
-    subst (λ (l : List Post). Takes (opened i) l new) (ap (λ (z : Post). take k posts ++ z ∷ []) (is ∙ at) ∙ sym (take_more posts k x less)) (takes_more (opened i) s new (take k posts) y t steps)
-
-pub all_taken : (i : Problem) (s : StateView) (posts : List Post) (k : ℕ) → Takes (opened i) (take k posts) s → length posts ≤ k → IsStateOf i posts s
-all_taken i s posts k t far =
-    let whole : take k posts ≡ posts = take_all k posts far in
-    record { instance = t.same; history = t.grows ∙ whole; makes = ap (λ (l : List Post). book_of i l) (sym whole) ∙ t.makes }
+-- posts of which one is refused make no book
+pub not_next : (i : Problem) (b c : Book) (posts : List Post) (count : ℕ) (post : Post) (before : Book)
+    → book_after i b (take count posts) ≡ Some before → slice_get posts count ≡ Some post → step i before post ≡ None → book_after i b posts ≡ Some c → ⊥
+not_next i b c [] count post before taken next refused e = absurd (cc)
+not_next i b c (p ∷ posts) zero post before taken next refused e =
+    let here : b ≡ before = cc in
+    let first : p ≡ post = cc in
+    let r = bind_some (λ d. book_after i d posts) (step i b p) c e in
+    let none : step i b p ≡ None = ap (λ (x : Book). step i x p) here ∙ ap (λ (x : Post). step i before x) first ∙ refused in
+    cc (sym none ∙ r.1)
+not_next i b c (p ∷ posts) (suc count) post before taken next refused e =
+    let r = bind_some (λ d. book_after i d posts) (step i b p) c e in
+    let s = bind_some (λ d. book_after i d (take count posts)) (step i b p) before taken in
+    let same : s.0 ≡ r.0 = cc (sym s.1 ∙ r.1) in
+    not_next i r.0 c posts count post before (subst (λ (d : Book). book_after i d (take count posts) ≡ Some before) same s.2) next refused r.2

@@ -1,7 +1,8 @@
 -- A board: what its calls make of its posts, the hands of its workers and the steps taken. Source: this project's profile.
-use Rattle.std.specs.Prelude.{◌≡◌, ◌≢◌, ℕ, ◌+◌, ◌<◌, ◌≤◌, ◌⊎◌, Bool, true, IsTrue, IsFalse, ◌&&◌, not, List, [], ◌∷◌, ◌++◌, Option, Some, None, IsSome, length, take, slice_get, slice_set}
+use Rattle.std.specs.Prelude.{◌≡◌, ◌≢◌, ℕ, ◌+◌, ◌<◌, ◌≤◌, ◌⊎◌, Bool, true, IsTrue, IsFalse, ◌&&◌, not, List, [], ◌∷◌, ◌++◌, Option, Some, None, IsSome, length, slice_set}
 use Rattle.std.specs.List.{list_any}
 use Rattle.shift_instance.specs.Problem.{Problem}
+use Rattle.head_splits.specs.Cuts.{DifferAt}
 use Rattle.post_codec.specs.declared.post.Post.{Post}
 use Rattle.post_codec.specs.Batches.{joined}
 use Rattle.post_codec.specs.Spelling.{spelling}
@@ -109,10 +110,6 @@ TakeMakes (Node k floor best) w old new =
 TakeMakes Idle w old new = Gives old × NoneIsFree (book_at old) old.hands × (new ≡ old)
 
 -- ---- commit
-
--- the first place at which two lists differ, and the length of the shorter where it begins the other
-abbrev pub DifferAt : {A : Type 0} → List A → List A → ℕ → Type 0
-DifferAt xs ys at = (take at xs ≡ take at ys) × (slice_get xs at ≢ slice_get ys at)
 
 -- a step that a worker may commit: the board isn't shut, the worker holds the step's node, and the prices are for its cuts
 pub record HoldsStep (w : ℕ) (step : StepPosts) (v : BoardView) : Type 0 where

@@ -12,7 +12,7 @@ use Rattle.search_core.specs.Board.{floor_of_node, leaves_open}
 use Rattle.search_core.specs.Book.{Book, book_after, step}
 use Rattle.search_core.specs.State.{value_of}
 use Rattle.search_core.specs.Steps.{after_step, posts_of}
-use Rattle.search_core.specs.declared.drafting.Draft.{Draft}
+use Rattle.search_core.specs.declared.drafting.StepDraft.{StepDraft}
 
 -- the book that posts make: each is allowed after those before it, the number in its place goes with it, and it has a spelling
 abbrev pub Makes : Problem → Book → List Post → List ℕ → Book → Type 0
@@ -22,7 +22,7 @@ Makes i b (p ∷ posts) [] c = ⊥
 Makes i b (p ∷ posts) (v ∷ values) c = (n : Book) × (step i b p ≡ Some n) × (v ≡ value_of i b p) × CanSpellPost p × Makes i n posts values c
 
 -- a worker's step as it is drafted: its posts, with the numbers that go with them, the best cost after them, and the node's floor
-pub record Drafts (i : Problem) (b : Book) (w : ℕ) (step : StepPosts) (draft : Draft) : Type 0 where
+pub record Drafts (i : Problem) (b : Book) (w : ℕ) (step : StepPosts) (draft : StepDraft) : Type 0 where
   pub posts : draft.posts.items ≡ posts_of i b w step
   pub makes : Makes i b draft.posts.items draft.values.items (after_step i b w step)
   pub best : draft.best ≡ (after_step i b w step).cost
@@ -41,7 +41,7 @@ pub record IsAfter (i : Problem) (b : Book) (k : ℕ) (cuts : List Cut) (posts :
   pub split_is : node.split ≡ split
 
 -- a draft of these posts, with the numbers that go with them
-pub record IsDraft (i : Problem) (b : Book) (k : ℕ) (cuts : List Cut) (posts : List Post) (draft : Draft) (split : Bool) : Type 0 where
+pub record IsDraft (i : Problem) (b : Book) (k : ℕ) (cuts : List Cut) (posts : List Post) (draft : StepDraft) (split : Bool) : Type 0 where
   pub posts_are : draft.posts.items ≡ posts
   pub made : (c : Book) × Makes i b draft.posts.items draft.values.items c
   pub state : IsAfter i b k cuts posts draft.best draft.floor split

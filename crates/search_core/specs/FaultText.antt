@@ -1,4 +1,4 @@
--- How a refusal of a post, and of an event, is shown. Source: this project's own format.
+-- How a refusal of a post is shown. Source: this project's own format.
 use Rattle.std.specs.Prelude.{ℕ, List, [], ◌∷◌, ◌++◌, codes}
 use Rattle.std.specs.List.{flat_map}
 use Rattle.std.specs.Fmt.{decimal}
@@ -8,8 +8,6 @@ use Rattle.rota_cost.specs.FaultText.{row_fault_text}
 use Rattle.dual_bound.specs.Faults.{price_fault_text}
 use Rattle.search_core.specs.declared.fault.StepFault.{StepFault}
 use Rattle.search_core.specs.declared.fault.StepFault.TheVariants.{NotLegal, WrongCost, NotBetter, NoNode, IsSplit, NotOpen, NotLive, OutOfRange, NotSettled, Price, NoMemory}
-use Rattle.search_core.specs.declared.event_fault.EventFault.{EventFault}
-use Rattle.search_core.specs.declared.event_fault.EventFault.TheVariants.{NoWorker, HandFull, NotOpen as NotOpenToTake, InHand, HandEmpty, NotOwn, Refused, LeftOpen, NotKept, NoMemory as NoMemoryForEvent}
 
 -- a break as `start+length`
 abbrev pub break_text : Break → List ℕ
@@ -41,16 +39,3 @@ step_fault_text (OutOfRange lo hi) = codes "8 " ++ decimal lo ++ codes " " ++ de
 step_fault_text (NotSettled class) = codes "9 " ++ class_text class
 step_fault_text (Price fault) = codes "10 " ++ price_fault_text fault
 step_fault_text NoMemory = codes "no memory"
-
--- a refusal of an event: its number, and then its fields in their order, or what the refusal in it shows, separated by spaces
-abbrev pub event_fault_text : EventFault → List ℕ
-event_fault_text NoWorker = codes "1"
-event_fault_text HandFull = codes "2"
-event_fault_text NotOpenToTake = codes "3"
-event_fault_text InHand = codes "4"
-event_fault_text HandEmpty = codes "5"
-event_fault_text (NotOwn at) = codes "6 " ++ decimal at
-event_fault_text (Refused at why) = codes "7 " ++ decimal at ++ codes " " ++ step_fault_text why
-event_fault_text LeftOpen = codes "8"
-event_fault_text (NotKept acked len) = codes "9 " ++ decimal acked ++ codes " " ++ decimal len
-event_fault_text NoMemoryForEvent = codes "no memory"

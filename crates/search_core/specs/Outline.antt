@@ -1,11 +1,9 @@
 -- What is kept of a book beside its posts.
-use Rattle.std.specs.Prelude.{◌≡◌, ℕ, ◌-◌, ◌<◌, ◌≤◌, ◌⊎◌, ⊤, Bool, false, true, IsTrue, IsFalse, ◌&&◌, not, nat_lt, MatchOption, List, [], ◌∷◌, ◌++◌, Option, Some, max, length, slice_get, slice_set}
+use Rattle.std.specs.Prelude.{ℕ, ◌-◌, ◌<◌, ⊤, false, true, List, [], ◌∷◌, ◌++◌, Option, Some, max, length, slice_get, slice_set}
 use Rattle.std.specs.Option.{option_map_or}
-use Rattle.std.specs.List.{list_any}
 use Rattle.post_codec.specs.declared.post.Post.{Post}
 use Rattle.post_codec.specs.declared.post.Post.TheVariants.{Plan, Priced, Split, Settled}
 use Rattle.search_core.specs.declared.outline.NodeState.{NodeState}
-use Rattle.search_core.specs.Core.{is_node}
 
 pub record OutlineView : Type 0 where
   -- each node's floor, and whether it is split
@@ -52,16 +50,3 @@ IsThere nodes (Plan worker rows c) = ⊤
 IsThere nodes (Priced worker k prices) = k < length nodes
 IsThere nodes (Split worker k class m) = k < length nodes
 IsThere nodes (Settled worker k) = k < length nodes
-
--- whether the node of that number may be taken: it is there and unsplit, its floor is below a cost, and it is in no hand
-abbrev pub may_be_taken : List NodeState → ℕ → List (Option ℕ) → ℕ → Bool
-may_be_taken nodes cost hands k = option_map_or (λ n. not n.split && nat_lt n.floor cost) (slice_get nodes k) false && not (list_any (is_node k) hands)
-
--- the node of least floor, and among those of least number, of those that may be taken
-pub record IsLeast (nodes : List NodeState) (cost : ℕ) (hands : List (Option ℕ)) (k : ℕ) : Type 0 where
-  pub free : IsTrue (may_be_taken nodes cost hands k)
-  pub least : (j : ℕ) → IsTrue (may_be_taken nodes cost hands j) → (floor_at nodes k < floor_at nodes j) ⊎ ((floor_at nodes k ≡ floor_at nodes j) × (k ≤ j))
-
--- that node, or that there is none
-abbrev pub IsChosen : List NodeState → ℕ → List (Option ℕ) → Option ℕ → Type 0
-IsChosen nodes cost hands next = MatchOption next ((j : ℕ) → IsFalse (may_be_taken nodes cost hands j)) (IsLeast nodes cost hands)

@@ -1,5 +1,4 @@
 //! Classes as text.
-ghost use Rattle.std.specs.Prelude.{◌≡◌};
 ghost use Rattle.std.specs.Fmt.{WritesOnOk};
 ghost use Rattle.search_core.specs.FaultText.{breaks_text, class_text, more_breaks_text};
 

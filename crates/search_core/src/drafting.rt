@@ -22,7 +22,7 @@ use rota_cost::Costed;
 /// The posts that a step makes of a book for a node, the number that goes with each, the best cost after them, and the node's
 /// floor.
 #[derive(Drop)]
-pub struct Draft {
+pub struct StepDraft {
     /// The posts, in their order.
     pub posts: Vec<Post>,
     /// What goes with each: what a plan costs, the bound of prices, the floor of a node that is split, or the floor that a
@@ -62,7 +62,7 @@ pub(crate) fn floor_with(bound: u64, best: u64, floor: u64) -> u64
     }
 }
 
-impl Draft {
+impl StepDraft {
     /// Drafts a post, with the number that goes with it.
     fn keep(&mut self, post: Post, value: u64) -> Result<(), NoMemory>
         ensures post { OnOk result (self.new.posts.items ≡ self.old.posts.items ++ post ∷ []) }

@@ -1,7 +1,8 @@
 //! Events.
 use crate::Posts;
 
-/// What may happen to a search. Each event but a crash is of one worker, by its number, from 0 on.
+/// What may happen to a search. Each event but a crash is of one worker, by its number, from 0 on. It stands in contracts alone; no
+/// value of it is made.
 #[derive(Drop)]
 pub enum Event {
     /// A worker takes an open node, given by its number, into its hand.

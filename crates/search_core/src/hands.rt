@@ -40,13 +40,6 @@ impl Hands {
         self.nodes[worker as usize]
     }
 
-    /// Whether a node is in some hand.
-    pub fn holds(&self, node: u32) -> bool
-        ensures { result ≡ list_any (is_node node) self.now }
-    {
-        self.nodes.iter().any(|held| *held == Some(node))
-    }
-
     /// A worker takes a node that is in no hand.
     pub fn take(&mut self, worker: u32, node: u32)
         requires worker { worker < 16 }

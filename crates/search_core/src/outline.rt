@@ -1,8 +1,7 @@
 //! What a state keeps of its book beside the posts.
-ghost use Rattle.std.specs.Prelude.{◌≡◌, ◌<◌, ◌^◌, ◌∷◌, [], None, false, length, max, fold, min, if◌then◌else◌, IfOk, OnOk, OnErr};
-ghost use Rattle.search_core.specs.Outline.{acted, floor_at, with_best, with_floor, with_split, IsChosen, IsThere};
+ghost use Rattle.std.specs.Prelude.{◌≡◌, ◌<◌, ◌∷◌, [], None, false, length, max, fold, min, if◌then◌else◌, IfOk, OnOk, OnErr};
+ghost use Rattle.search_core.specs.Outline.{acted, floor_at, with_best, with_floor, with_split, IsThere};
 
-use crate::Hands;
 use break_rules::NoMemory;
 use post_codec::Post;
 use std::alloc::Global;
@@ -224,21 +223,4 @@ pub(crate) fn least_floor(nodes: &[NodeState], cost: u64) -> u64
         }
     }
     floor
-}
-
-/// The node to take next, by its number: of those that are unsplit, in no hand and of a floor below a cost the one of least
-/// floor, and among those of least number.
-pub(crate) fn next_node(nodes: &[NodeState], cost: u64, hands: &Hands) -> Option<u32>
-    requires { length nodes.now < 2 ^ 32 }
-    ensures { IsChosen nodes.now cost hands.now result }
-{
-    let mut next = None;
-    let mut floor = cost;
-    for (k, node) in nodes.iter().enumerate() {
-        if !node.split && node.floor < floor && !hands.holds(k as u32) {
-            next = Some(k as u32);
-            floor = node.floor;
-        }
-    }
-    next
 }

@@ -1,7 +1,7 @@
 //! The state of a search.
-ghost use Rattle.std.specs.Prelude.{◌≡◌, ℕ, ◌+◌, ◌-◌, ◌*◌, ◌^◌, ◌<◌, ◌≤◌, ◌++◌, ◌∷◌, [], ◌==◌, None, Some, map, max, not, length, slice_get, false, true, IfOk, IfErr, IfSome, IsSome, IsSomeAnd, MatchOption, OnOk, OnErr};
+ghost use Rattle.std.specs.Prelude.{◌≡◌, ℕ, ◌+◌, ◌-◌, ◌*◌, ◌^◌, ◌<◌, ◌≤◌, ◌++◌, ◌∷◌, [], ◌==◌, None, Some, map, max, not, length, slice_get, false, true, IfOk, IfErr, IfSome, IsSome, IsSomeAnd, OnOk, OnErr};
 ghost use Rattle.shift_instance.specs.Valid.{IsValid};
-ghost use Rattle.search_core.specs.Board.{floor_of_node, leaves_open, IsNext, NoneIsFree};
+ghost use Rattle.search_core.specs.Board.{floor_of_node, leaves_open};
 ghost use Rattle.search_core.specs.Book.{book_of, floor_of, is_node_and, is_open, opening, step, IsSound};
 ghost use Rattle.post_codec.specs.declared.post.Post.TheVariants.{Plan, Priced, Settled, Split};
 ghost use Rattle.search_core.specs.Faults.{open_fault, plan_fault, priced_fault, settled_fault, split_fault, step_fault, unsplit_fault, Refuses, Steps};
@@ -12,13 +12,13 @@ ghost use Rattle.search_core.specs.Kept.{cuts_in, part_of, rows_in};
 ghost use Rattle.search_core.specs.State.{state_of, value_of};
 ghost use Rattle.search_core.specs.Steps.{Fits};
 
-use crate::drafting::Draft;
+use crate::StepPosts;
+use crate::drafting::StepDraft;
 use crate::fault::StepFault;
 use crate::hints::deepened;
 use crate::judging::plan_fault;
-use crate::outline::{NodeState, Outline, least_floor, next_node};
+use crate::outline::{NodeState, Outline, least_floor};
 use crate::stepping::{draft_of, stays_open};
-use crate::{Hands, StepPosts};
 use break_rules::NoMemory;
 use dual_bound::{Buffers, Fixing, Proved, settle};
 use head_splits::{Class, Cut, Cuts, Hint, Prices, Side, is_live_class, range};
@@ -210,14 +210,6 @@ impl State {
         }
     }
 
-    /// The open node that is in no hand, by its number: the one of least floor, and among those of least number.
-    pub fn next_node(&self, hands: &Hands) -> Option<u32>
-        requires { length self.now.history < 2 ^ 24 }
-        ensures { MatchOption result (NoneIsFree self.now.book hands.now) (IsNext self.now.book hands.now) }
-    {
-        next_node(self.outline.nodes(), self.outline.cost(), hands)
-    }
-
     /// How many posts may be appended without memory.
     pub fn spare(&self) -> usize
         ensures { result ≡ self.now.spare }
@@ -282,7 +274,7 @@ impl State {
 
     /// The posts that a worker's step for an unsplit node makes, with the numbers that go with them, the best cost after them and
     /// the node's floor. The state stays as it is.
-    pub fn draft(&self, worker: u16, step: StepPosts) -> Result<Draft, NoMemory>
+    pub fn draft(&self, worker: u16, step: StepPosts) -> Result<StepDraft, NoMemory>
         requires fits { Fits self.now.instance step }
         requires few { length step.proved.cuts < 2 ^ 32 }
         requires cuts { step.proved.cuts ≡ cuts_in self.now.book.nodes step.node }

@@ -9,7 +9,7 @@ ghost use Rattle.search_core.specs.Book.{Book};
 ghost use Rattle.search_core.specs.Steps.{posts_of, Fits};
 ghost use Rattle.search_core.specs.Drafting.{IsAfter, IsDraft, LeavesOpen};
 
-use crate::drafting::{Draft, best_with, floor_with};
+use crate::drafting::{StepDraft, best_with, floor_with};
 use crate::{Close, StepPosts};
 use break_rules::NoMemory;
 use std::alloc::Global;
@@ -21,7 +21,7 @@ pub(crate) fn draft_of(
     floor: u64,
     best: u64,
     step: StepPosts,
-) -> Result<Draft, NoMemory>
+) -> Result<StepDraft, NoMemory>
     requires { length step.proved.cuts < 2 ^ 32 }
     ensures drafts { IfOk result (λ d. (i : Problem) (b : Book) → IsValid i → Fits i step → IsAfter i b step.node step.proved.cuts [] best floor false → (s : Bool) × IsDraft i b step.node step.proved.cuts (posts_of i b worker step) d s) }
     ensures few { IfOk result (λ d. length d.posts.items ≤ 4) }
@@ -32,7 +32,7 @@ pub(crate) fn draft_of(
         proved,
         close,
     } = step;
-    let mut draft = Draft {
+    let mut draft = StepDraft {
         posts: Vec::new(alloc),
         values: Vec::new(alloc),
         best,

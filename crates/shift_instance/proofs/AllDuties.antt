@@ -1,21 +1,7 @@
 -- Every legal duty stands once among all duties, in the order of rows, and rows of numbers of duties.
-use Rattle.std.proofs.Common.{◌≡◌, inl, inr, ℕ, zero, ◌<◌, Bool, true, false, cond, ◌&&◌, ◌||◌, ◌==◌, List, [], ◌∷◌, ◌++◌, map, filter, drop, replicate, length, refl, sym, ap, ◌∙◌, subst, arith, nat_lt, eq-eqb, Option, Some, None}
-use Rattle.std.specs.Prelude.{slice_get}
-use Rattle.std.specs.Option.{option_map_or}
-use Rattle.std.specs.List.{count_by, flat_map, list_all, zip}
-use Rattle.std.proofs.lemmas.Bool.{and_parts, and_from, or_left, or_right, eqb-true, cases_Bool, false≢true, lt-ltb, cond_both, ltb-false}
-use Rattle.break_rules.specs.declared.Break.{Break}
-use Rattle.break_rules.specs.declared.Rule.{Rule}
-use Rattle.break_rules.specs.Breaks.{is_legal, legal_lists, same_list, is_less_list}
-use Rattle.break_rules.specs.Lists.{Has, Sorted}
-use Rattle.break_rules.proofs.Lists.{from_map, Has-map, from_flat_map, Has-flat_map, Has-below, from_below}
-use Rattle.break_rules.proofs.Counts.{count_by_none, sum_by_same, count_by-flat_map, count_by-map, count_by-below}
+use Rattle.shift_instance.proofs.Common.{◌≡◌, inl, inr, ℕ, zero, ◌<◌, Bool, true, false, cond, ◌&&◌, ◌||◌, ◌==◌, List, [], ◌∷◌, ◌++◌, map, filter, drop, replicate, length, refl, sym, ap, ◌∙◌, subst, arith, nat_lt, eq-eqb, Option, Some, None, slice_get, option_map_or, count_by, flat_map, list_all, zip, and_parts, and_from, or_left, or_right, eqb-true, cases_Bool, false≢true, lt-ltb, cond_both, ltb-false, Break, Rule, is_legal, legal_lists, same_list, is_less_list, Has, Sorted, from_map, Has-map, from_flat_map, Has-flat_map, Has-below, from_below, count_by_none, sum_by_same, count_by-flat_map, count_by-map, count_by-below, Shift, Duty, Problem, shift_list, below, same_duty, count_of, lists_of, is_list_of, is_legal_duty, is_before, rota_of}
 use Rattle.break_rules.proofs.Once.{once_legal, count_by_and, cond_same}
 use Rattle.break_rules.proofs.Ordered.{Sorted-map, Sorted-flat_map, Sorted-range, IsLess, Sorted-legal_lists}
-use Rattle.shift_instance.specs.declared.Shift.{Shift}
-use Rattle.shift_instance.specs.declared.Duty.{Duty}
-use Rattle.shift_instance.specs.Problem.{Problem, shift_list, below}
-use Rattle.shift_instance.specs.Rota.{same_duty, count_of, lists_of, is_list_of, is_legal_duty, is_before, rota_of}
 use Rattle.shift_instance.specs.AllDuties.{all_duties, row_of}
 use Rattle.shift_instance.proofs.Alike.{same_duty_decides}
 use Rattle.shift_instance.proofs.Rotas.{legal_duty_parts, from_lists_of}

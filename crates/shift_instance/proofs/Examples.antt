@@ -1,13 +1,6 @@
 -- The definitions, computed on instances and rotas whose answers are known.
-use Rattle.std.proofs.Common.{◌≡◌, ℕ, true, false, List, [], ◌∷◌, ◌++◌, refl, map, replicate}
-use Rattle.break_rules.specs.declared.Break.{Break}
+use Rattle.shift_instance.proofs.Common.{◌≡◌, ℕ, true, false, List, [], ◌∷◌, ◌++◌, refl, map, replicate, Break, Shift, Duty, Row, Kind, Problem, shift_list, slot_of, below, cost, cover, is_legal_rota, are_legal_rows, is_before, rota_of, works}
 use Rattle.break_rules.specs.Plain.{plain_rule}
-use Rattle.shift_instance.specs.declared.Shift.{Shift}
-use Rattle.shift_instance.specs.declared.Duty.{Duty}
-use Rattle.shift_instance.specs.declared.Row.{Row}
-use Rattle.shift_instance.specs.Kind.{Kind}
-use Rattle.shift_instance.specs.Problem.{Problem, shift_list, slot_of, below}
-use Rattle.shift_instance.specs.Rota.{cost, cover, is_legal_rota, are_legal_rows, is_before, rota_of, works}
 
 -- a type of shifts without breaks
 abbrev pub type_of : ℕ → ℕ → ℕ → ℕ → Kind

@@ -1,23 +1,10 @@
 -- An instance's numbers, judged.
-use Rattle.std.proofs.Common.{◌≡◌, inl, inr, ℕ, zero, suc, ◌+◌, ◌*◌, ◌/◌, ◌<◌, ◌≤◌, Bool, true, false, not, ◌&&◌, ◌||◌, ◌==◌, List, [], ◌∷◌, ◌++◌, map, length, take, drop, get_or, sym, ap, ◌∙◌, subst, arith, nat_le, nat_lt, Option, Some, None}
-use Rattle.std.specs.Prelude.{All, if◌then◌else◌, slice_get}
-use Rattle.std.specs.List.{flat_map, enumerate_from, zip}
+use Rattle.shift_instance.proofs.Common.{◌≡◌, inl, inr, ℕ, zero, suc, ◌+◌, ◌*◌, ◌/◌, ◌<◌, ◌≤◌, Bool, true, false, not, ◌&&◌, ◌||◌, ◌==◌, List, [], ◌∷◌, ◌++◌, map, length, take, drop, get_or, sym, ap, ◌∙◌, subst, arith, nat_le, nat_lt, Option, Some, None, All, if◌then◌else◌, slice_get, flat_map, enumerate_from, zip, and_parts, or_cases, or_parts, leb-true, ltb-true, ltb-false, eqb-true, not-false, false≢true, drop_more, All-nil, All-cons, mul-le-mul, first_cause, rule_causes, no_cause, NoCause, none_from_no_cause, first_left, first_right, SlotMinutes, Days, NeedLength, NeedTooLarge, Weight, Heads, Types, StartRange, LengthRange, TooManyShifts, Name, BandLength, Band, NoMemory, Kind, Problem, slots, day_slots, need_at, need_max_at, shift_list, IsValid, IsKind, is_slot_minutes, period_causes, need_cause, band_cause, band_causes, wanted_causes, size_causes, cause_of_kind, kind_causes, types_causes, part_causes, instance_causes, Answers}
 use Rattle.std.specs.Cmp.Lexicographic.{bytes_decides}
-use Rattle.std.proofs.lemmas.Bool.{and_parts, or_cases, or_parts, leb-true, ltb-true, ltb-false, eqb-true, not-false, false≢true}
-use Rattle.std.proofs.lemmas.List.{drop_more}
-use Rattle.std.proofs.lemmas.List.Elements.{All-nil, All-cons}
-use Rattle.std.proofs.Math.Nat.{mul-le-mul}
 use Rattle.break_rules.specs.declared.RuleFault.{RuleFault}
-use Rattle.break_rules.specs.Causes.{first_cause}
-use Rattle.break_rules.specs.RuleFaults.{rule_causes}
-use Rattle.break_rules.proofs.Causes.{no_cause, NoCause, none_from_no_cause, first_left, first_right}
 use Rattle.shift_instance.specs.declared.InstanceFault.{InstanceFault}
-use Rattle.shift_instance.specs.declared.InstanceFault.TheVariants.{SlotMinutes, Days, NeedLength, NeedTooLarge, Weight, Heads, Types, StartRange, LengthRange, Rule, TooManyShifts, Name, BandLength, Band, NoMemory}
-use Rattle.shift_instance.specs.Kind.{Kind}
+use Rattle.shift_instance.specs.declared.InstanceFault.TheVariants.{Rule}
 use Rattle.shift_instance.specs.Names.{is_name, has_name, is_taken}
-use Rattle.shift_instance.specs.Problem.{Problem, slots, day_slots, need_at, need_max_at, shift_list}
-use Rattle.shift_instance.specs.Valid.{IsValid, IsKind}
-use Rattle.shift_instance.specs.Faults.{is_slot_minutes, period_causes, need_cause, band_cause, band_causes, wanted_causes, size_causes, cause_of_kind, kind_causes, types_causes, part_causes, instance_causes, Answers}
 
 -- the slots of a day
 minutes_one : (m k : ℕ) → (m == k) ≡ true → (0 < k) × (24 ≤ 1440 / k) × (1440 / k ≤ 288) → (0 < m) × (24 ≤ 1440 / m) × (1440 / m ≤ 288)
@@ -182,11 +169,6 @@ few_kinds i h =
 -- a need for each slot
 pub need_of_each : (i : Problem) → first_cause (period_causes i) ≡ None → length i.need ≡ slots i
 need_of_each i h = let period = no_cause (period_causes i) h in eqb-true _ _ (not-false _ period.1.1.0)
-
-pub few_sizes : (i : Problem) → first_cause (size_causes i) ≡ None → length i.kinds ≤ 16
-few_sizes i h =
-    let sizes = no_cause (size_causes i) h in
-    leb-true _ _ (and_parts (nat_le 1 (length i.kinds)) (nat_le (length i.kinds) 16) (not-false _ sizes.1.1.0)).1
 
 -- numbers without a fault are valid
 pub valid_from_none : (i : Problem) → first_cause (instance_causes i) ≡ None → IsValid i

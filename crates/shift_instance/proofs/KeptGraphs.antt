@@ -1,18 +1,8 @@
 -- The graphs of break lists that an instance keeps, one more at a time.
-use Rattle.std.proofs.Common.{◌≡◌, ◌⊎◌, inl, inr, ℕ, ◌+◌, ◌-◌, ◌<◌, ◌≤◌, List, [], ◌∷◌, ◌++◌, length, get_or, refl, sym, ap, ◌∙◌, subst, arith, Option, Some, None, MatchOption, Bor}
-use Rattle.std.specs.Prelude.{slice_get, IsSomeAnd, IfSome}
+use Rattle.shift_instance.proofs.Common.{◌≡◌, ◌⊎◌, inl, inr, ℕ, ◌+◌, ◌-◌, ◌<◌, ◌≤◌, List, [], ◌∷◌, ◌++◌, length, get_or, refl, sym, ap, ◌∙◌, subst, arith, Option, Some, None, MatchOption, Bor, slice_get, IsSomeAnd, IfSome, cases_lt, slice_get_within, get_or_from_slice_get, slice_get-get_or, Rule, Node, IsGraph, Shift, Kind, Problem, shift_list, AreGraphsOf, AreGraphs}
 use Rattle.std.proofs.lemmas.List.{length-append}
-use Rattle.std.proofs.lemmas.Bool.{cases_lt}
-use Rattle.std.proofs.lemmas.Option.{slice_get_within, get_or_from_slice_get, slice_get-get_or}
 use Rattle.std.proofs.Math.ListN.{get_or-append}
 use Rattle.std.proofs.Math.Seq.{get_or-append_seam}
-use Rattle.break_rules.specs.declared.Rule.{Rule}
-use Rattle.break_graph.specs.declared.Node.{Node}
-use Rattle.break_graph.specs.Graph.{IsGraph}
-use Rattle.shift_instance.specs.declared.Shift.{Shift}
-use Rattle.shift_instance.specs.Kind.{Kind}
-use Rattle.shift_instance.specs.Problem.{Problem, shift_list}
-use Rattle.shift_instance.specs.Graphs.{AreGraphsOf, AreGraphs}
 use Rattle.shift_instance.proofs.Shifts.{some_at, Has_at, get_or_some, kind_of, is_some_and_from, is_some_and_at}
 
 -- what stands in a list with an element more stood there before, or is that element

@@ -1,23 +1,8 @@
 -- The shift list, made.
-use Rattle.std.proofs.Common.{◌≡◌, ℕ, suc, ◌+◌, ◌-◌, ◌*◌, ◌<◌, ◌≤◌, List, [], ◌∷◌, ◌++◌, map, length, refl, sym, ap, ◌∙◌, subst, arith, None, append_assoc, length-append}
-use Rattle.std.specs.Prelude.{All}
-use Rattle.std.specs.List.{flat_map, enumerate_from, range_with_len}
-use Rattle.std.proofs.lemmas.List.{append-nil, map_push, map-append, length-map}
-use Rattle.std.proofs.lemmas.List.Elements.{All-weaker}
+use Rattle.shift_instance.proofs.Common.{◌≡◌, ℕ, suc, ◌+◌, ◌-◌, ◌*◌, ◌<◌, ◌≤◌, List, [], ◌∷◌, ◌++◌, map, length, refl, sym, ap, ◌∙◌, subst, arith, None, append_assoc, length-append, All, flat_map, enumerate_from, range_with_len, append-nil, map_push, map-append, length-map, All-weaker, Rule, first_cause, ranges_from_none, Node, Shift, Kind, Problem, day_slots, shifts_of_kind, from_to, shift_at, starting, shifts_of, IsListed, AreGraphs, IsValid, IsKind, IsInside, instance_causes}
 use Rattle.std.proofs.lemmas.List.FromFn.{length-range_with_len}
 use Rattle.std.proofs.lemmas.Grind.{flat_map-append}
-use Rattle.break_rules.specs.declared.Rule.{Rule}
-use Rattle.break_rules.specs.Causes.{first_cause}
 use Rattle.break_rules.specs.Ranges.{IsRule}
-use Rattle.break_rules.proofs.Ranges.{ranges_from_none}
-use Rattle.break_graph.specs.declared.Node.{Node}
-use Rattle.shift_instance.specs.declared.Shift.{Shift}
-use Rattle.shift_instance.specs.Kind.{Kind}
-use Rattle.shift_instance.specs.Problem.{Problem, day_slots, shifts_of_kind, from_to}
-use Rattle.shift_instance.specs.Listing.{shift_at, starting, shifts_of, IsListed}
-use Rattle.shift_instance.specs.Graphs.{AreGraphs}
-use Rattle.shift_instance.specs.Valid.{IsValid, IsKind, IsInside}
-use Rattle.shift_instance.specs.Faults.{instance_causes}
 use Rattle.shift_instance.proofs.Judged.{valid_from_none}
 use Rattle.shift_instance.proofs.Ranges.{range_next}
 

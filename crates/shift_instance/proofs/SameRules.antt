@@ -1,7 +1,5 @@
 -- Tests of sameness on the parts of rules.
-use Rattle.std.proofs.Common.{◌≡◌, ℕ, ◌==◌, ◌&&◌, ap, eq-eqb}
-use Rattle.std.specs.Bool.{Decides}
-use Rattle.std.proofs.lemmas.Bool.{and_parts, and_from, eqb-true}
+use Rattle.shift_instance.proofs.Common.{◌≡◌, ℕ, ◌==◌, ◌&&◌, ap, eq-eqb, Decides, and_parts, and_from, eqb-true}
 use Rattle.break_rules.specs.declared.Lunch.{Lunch}
 use Rattle.shift_instance.proofs.KeptGraphs.{same_pair}
 

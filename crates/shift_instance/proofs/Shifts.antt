@@ -1,17 +1,6 @@
 -- The shifts of a shift list.
-use Rattle.std.proofs.Common.{◌≡◌, ℕ, zero, suc, ◌+◌, ◌<◌, ◌≤◌, List, [], ◌∷◌, map, length, get_or, refl, sym, ap, ◌∙◌, subst, arith, inl, inr, Option, Some, None}
-use Rattle.std.specs.Prelude.{slice_get, IsSomeAnd, ◌*◌, ◌%◌, ◌-◌}
-use Rattle.std.proofs.Math.Nat.{mul-le-mul_right}
-use Rattle.std.specs.List.{enumerate_from}
-use Rattle.break_rules.specs.declared.Rule.{Rule}
-use Rattle.break_rules.specs.Lists.{Has}
-use Rattle.break_rules.proofs.Lists.{from_flat_map, from_map, from_range}
-use Rattle.shift_instance.specs.declared.Shift.{Shift}
-use Rattle.shift_instance.specs.Kind.{Kind}
-use Rattle.shift_instance.specs.Valid.{IsValid, IsKind, IsShift}
-use Rattle.break_rules.specs.Causes.{first_cause}
-use Rattle.break_rules.specs.RuleFaults.{rule_causes}
-use Rattle.shift_instance.specs.Problem.{Problem, shift_list, shifts_of_kind, from_to, slots, day_slots, slot_of}
+use Rattle.shift_instance.proofs.Common.{◌≡◌, ℕ, zero, suc, ◌+◌, ◌<◌, ◌≤◌, List, [], ◌∷◌, map, length, get_or, refl, sym, ap, ◌∙◌, subst, arith, inl, inr, Option, Some, None, slice_get, IsSomeAnd, mul-le-mul_right, enumerate_from, Rule, Has, from_flat_map, from_map, from_range, Shift, Kind, IsValid, IsKind, IsShift, first_cause, rule_causes, Problem, shift_list, shifts_of_kind, from_to, slots, day_slots, slot_of}
+use Rattle.std.specs.Prelude.{◌*◌, ◌%◌, ◌-◌}
 
 -- an element that stands at a place
 pub some_at : {X : Type 0} (xs : List X) (k : ℕ) → k < length xs → (x : X) × (slice_get xs k ≡ Some x)
@@ -150,10 +139,3 @@ found_passes j s r valid small found =
     let x = some_at (shift_list j) s small in
     let e : r ≡ x.0.1 = is_some_and_at _ (λ x. r ≡ x.1) x.0 x.1 found in
     ap (λ q. first_cause (rule_causes q)) e ∙ rule_passes j valid x.0 (Has_at (shift_list j) s x.0 x.1)
-
--- the slot of an offset
-pub slot_found : (j : Problem) (s : ℕ) (y : Shift) (day offset n : ℕ) → s < length (shift_list j) → IsSomeAnd (slice_get (shift_list j) s) (λ x. y ≡ x.0) → n ≡ (day * day_slots j + y.start + offset) % slots j → IsSomeAnd (slice_get (shift_list j) s) (λ x. n ≡ slot_of j x.0 day offset)
-slot_found j s y day offset n small found e =
-    let x = some_at (shift_list j) s small in
-    let same : y ≡ x.0.0 = is_some_and_at _ (λ x. y ≡ x.0) x.0 x.1 found in
-    is_some_and_from _ (λ x. n ≡ slot_of j x.0 day offset) x.0 x.1 (e ∙ ap (λ (q : Shift). slot_of j q day offset) same)

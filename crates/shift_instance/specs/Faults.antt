@@ -39,7 +39,7 @@ band_causes i =
 abbrev pub wanted_causes : Problem → List (Bool × InstanceFault)
 wanted_causes i = map need_cause (enumerate_from 0 i.need) ++ band_causes i
 
--- the causes that concern weights, heads and the number of types
+-- the causes that concern weights, the most duties of a shift on a day and the number of types
 abbrev pub size_causes : Problem → List (Bool × InstanceFault)
 size_causes i =
     (nat_lt 1000000 i.excess || nat_lt 1000000 i.shortage || nat_lt 1000000 i.shift, Weight)

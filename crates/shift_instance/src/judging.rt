@@ -89,7 +89,7 @@ fn judge_wanted(parts: &Parts) -> Option<InstanceFault>
     }
 }
 
-/// The first fault of weights, heads and the number of types.
+/// The first fault of weights, of the most duties of a shift on a day and of the number of types.
 fn judge_sizes(parts: &Parts) -> Option<InstanceFault>
     ensures { result ≡ first_cause (size_causes parts.now) }
 {

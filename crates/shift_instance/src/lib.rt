@@ -14,6 +14,7 @@ ghost use Rattle.break_rules.specs.RuleFaults.{rule_causes};
 ghost use Rattle.break_rules.specs.Ranges.{IsRule};
 ghost use Rattle.break_graph.specs.Graph.{IsGraph};
 ghost use Rattle.shift_instance.specs.Problem.{need_at, need_max_at, shift_list, slot_of, slots, day_slots};
+ghost use Rattle.shift_instance.specs.AllDuties.{row_of};
 ghost use Rattle.shift_instance.specs.Faults.{instance_causes, Answers};
 ghost use Rattle.shift_instance.specs.Valid.{IsValid, IsShift};
 
@@ -227,10 +228,25 @@ impl Model for Instance {
     ghost invariant = { λ i. IsInside i.parts i.shifts.items i.graphs.items };
 }
 
+impl Row {
+    /// The row of one duty. It takes no memory.
+    pub fn of_one(duty: Duty) -> Row
+        ensures row { result ≡ row_of duty 1 }
+    {
+        let Duty { shift, day, breaks } = duty;
+        Row {
+            shift,
+            day,
+            breaks,
+            count: 1,
+        }
+    }
+}
+
 impl Instance {
     /// The instance of these numbers, or their first fault: first those of the slots' length, the days, the needs, the bands, the
-    /// weights, the heads and the number of types, then of each type in order its name, its starts, its lengths and its
-    /// rule, and at last the number of shifts. Where no fault applies, the only refusal left is running out of memory.
+    /// weights, the most duties of a shift on a day and the number of types, then of each type in order its name, its starts,
+    /// its lengths and its rule, and at last the number of shifts. Where no fault applies, the only refusal left is running out of memory.
     pub fn new(alloc: Global, parts: Parts) -> Result<Instance, InstanceFault>
         ensures ok { IfOk result (λ i. i ≡ parts) }
         ensures fault { MatchResult result (λ _. first_cause (instance_causes parts) ≡ None) (λ e. Answers e (first_cause (instance_causes parts))) }

@@ -1,6 +1,6 @@
 //! Tables that are read as a document, and the tables of a document.
 
-use instance_tables::{Table, TableTexts, Tables, exported, imported};
+use instance_tables::{Table, TableBytes, TableTexts, exported, imported};
 use planning_runs::{PlanRefusal, read_table, say};
 use planning_searches::{hours_wanted, read_instance};
 use planning_words::{TableWords, make_folder, write_kept};
@@ -56,7 +56,7 @@ fn tables_in(rt: HostRuntime, folder: &str) -> Result<TableFiles, PlanRefusal> {
 
 /// The instance of tables.
 fn instance_of(alloc: Global, files: &TableFiles) -> Result<Instance, PlanRefusal> {
-    let tables = Tables {
+    let tables = TableBytes {
         settings: files.settings.as_slice(),
         need: files.need.as_slice(),
         types: files.types.as_slice(),

@@ -8,4 +8,4 @@ mod tables;
 
 pub use bonuses::{Bonus, Found, begins_with, bonus_of};
 pub use lists::{LANES, Lane, ListGraph, PAUSES, Pauses};
-pub use tables::{DutyPlace, LostWork, Tables};
+pub use tables::{DutyPlace, LostWork, ShiftTables};

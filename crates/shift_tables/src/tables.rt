@@ -40,7 +40,7 @@ pub struct LostWork {
 
 /// What a search reads of an instance.
 #[derive(Drop)]
-pub struct Tables {
+pub struct ShiftTables {
     /// The slots of the planning period.
     pub slots: usize,
     /// The slots of a day.
@@ -124,16 +124,16 @@ fn greatest_needs(alloc: Global, instance: &Instance) -> Result<Vec<i32>, NoMemo
     Ok(most)
 }
 
-impl Tables {
+impl ShiftTables {
     /// The tables of an instance.
-    pub fn new(alloc: Global, instance: &Instance) -> Result<Tables, NoMemory> {
+    pub fn new(alloc: Global, instance: &Instance) -> Result<ShiftTables, NoMemory> {
         let (excess, shortage, weight) = instance.weights();
         let slots = instance.slots();
         let days = usize::from(instance.days());
         let need = needs(alloc, instance)?;
         let need_max = greatest_needs(alloc, instance)?;
         let banded = need.as_slice() != need_max.as_slice();
-        let mut tables = Tables {
+        let mut tables = ShiftTables {
             slots,
             day_slots: slots.checked_div(days).unwrap_or(0),
             days,

@@ -1,16 +1,8 @@
 -- The least cover of one slot more.
-use Rattle.std.proofs.Common.{◌≡◌, ℕ, ◌+◌, ◌<◌, ◌≤◌, Bool, true, false, cond, nat_le, nat_lt, Option, None, Some, List, [], ◌∷◌, ◌++◌, All, Contains, sym, ap, ◌∙◌, subst, arith, refl, add-one, append-nil}
-use Rattle.std.specs.Prelude.{IfSome}
-use Rattle.std.specs.Option.{option_map_or}
+use Rattle.short_cover.proofs.Common.{◌≡◌, ℕ, ◌+◌, ◌<◌, ◌≤◌, Bool, true, false, cond, nat_le, nat_lt, Option, None, Some, List, [], ◌∷◌, ◌++◌, All, Contains, sym, ap, ◌∙◌, subst, arith, refl, add-one, append-nil, IfSome, option_map_or, le-ltb, leb-false, leb-true, lt-ltb, Duty, Problem, need_at, cover, LeastCover, IsLeastAmong, IsLeastCover, wanted_slots}
 use Rattle.std.specs.List.{range_with_len}
-use Rattle.std.proofs.lemmas.Bool.{le-ltb, leb-false, leb-true, lt-ltb}
 use Rattle.std.proofs.lemmas.List.Elements.{All-nil, All-push, All-same, All-weaker, Contains-append_left, Contains-push, filter-append}
-use Rattle.shift_instance.specs.declared.Duty.{Duty}
-use Rattle.shift_instance.specs.Problem.{Problem, need_at}
-use Rattle.shift_instance.specs.Rota.{cover}
 use Rattle.shift_instance.proofs.Ranges.{range_next}
-use Rattle.short_cover.specs.declared.least.LeastCover.{LeastCover}
-use Rattle.short_cover.specs.LeastCovers.{IsLeastAmong, IsLeastCover, wanted_slots}
 
 -- a slot with its need and its cover
 abbrev pub cover_at : Problem → List Duty → ℕ → LeastCover

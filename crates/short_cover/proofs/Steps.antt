@@ -1,11 +1,6 @@
 -- The short slots of one slot more.
-use Rattle.std.proofs.Common.{◌≡◌, ℕ, ◌+◌, ◌<◌, ◌≤◌, Bool, true, false, cond, List, [], ◌∷◌, ◌++◌, map, filter, sym, ap, ◌∙◌, subst, zero-add, append-nil}
-use Rattle.std.proofs.lemmas.Bool.{le-ltb, lt-ltb}
+use Rattle.short_cover.proofs.Common.{◌≡◌, ℕ, ◌+◌, ◌<◌, ◌≤◌, Bool, true, false, cond, List, [], ◌∷◌, ◌++◌, map, filter, sym, ap, ◌∙◌, subst, zero-add, append-nil, le-ltb, lt-ltb, Duty, Problem, below, ShortSlot, is_short, short_slot}
 use Rattle.std.proofs.lemmas.List.FromFn.{filter_of_map_range_with_len_more}
-use Rattle.shift_instance.specs.declared.Duty.{Duty}
-use Rattle.shift_instance.specs.Problem.{Problem, below}
-use Rattle.short_cover.specs.declared.short.ShortSlot.{ShortSlot}
-use Rattle.short_cover.specs.ShortSlots.{is_short, short_slot}
 
 -- one slot more that is short
 pub short_more : (i : Problem) (rota : List Duty) (t : ℕ) (s : ShortSlot) → s ≡ short_slot i rota t → s.working < s.wanted → filter is_short (map (short_slot i rota) (below (t + 1))) ≡ filter is_short (map (short_slot i rota) (below t)) ++ s ∷ []

@@ -1,2 +1,3 @@
 mod OneMore
+pub mod Common
 pub mod Ones

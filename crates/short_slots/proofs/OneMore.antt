@@ -1,19 +1,10 @@
 -- What a rota costs with one more duty in a slot that is short.
-use Rattle.std.proofs.Common.{◌≡◌, inl, inr, ℕ, zero, suc, ◌+◌, ◌-◌, ◌*◌, ◌<◌, ◌≤◌, Bool, true, false, cond, ◌==◌, nat_le, List, [], ◌∷◌, ◌++◌, length, refl, ap, ◌∙◌, subst, arith, sum_by, count_by}
+use Rattle.short_slots.proofs.Common.{◌≡◌, inl, inr, ℕ, zero, suc, ◌+◌, ◌-◌, ◌*◌, ◌<◌, ◌≤◌, Bool, true, false, cond, ◌==◌, nat_le, List, [], ◌∷◌, ◌++◌, length, refl, ap, ◌∙◌, subst, arith, sum_by, count_by, cases_Bool, cases_lt, and_parts, and_from, eqb-true, le-leb, sum_by-cons, mul-le-mul_left, Has-append_cases, all_at, all_from, Duty, Problem, slots, need_at, need_max_at, shift_list, below, works, cover, slot_cost, shifts_used, cost, is_on, heads_on, is_legal_duty, is_legal_rota, heads_within, legal_duty_parts, worked_slots, IsMostWorked, enough_shortage}
 use Rattle.std.specs.List.{list_all}
-use Rattle.std.proofs.lemmas.Bool.{cases_Bool, cases_lt, and_parts, and_from, eqb-true, le-leb}
-use Rattle.std.proofs.lemmas.List.Sums.{sum_by-cons}
-use Rattle.std.proofs.Math.Nat.{mul-le-mul_left}
 use Rattle.break_rules.proofs.Counts.{count_by-below}
-use Rattle.break_rules.proofs.Lists.{Has-append_cases, all_at, all_from}
-use Rattle.shift_instance.specs.declared.Duty.{Duty}
-use Rattle.shift_instance.specs.Problem.{Problem, slots, need_at, need_max_at, shift_list, below}
-use Rattle.shift_instance.specs.Rota.{works, cover, slot_cost, shifts_used, cost, is_on, heads_on, is_legal_duty, is_legal_rota}
-use Rattle.shift_instance.proofs.Rotas.{heads_within, legal_duty_parts}
 use Rattle.rota_cost.specs.Counted.{duties_of}
 use Rattle.rota_cost.proofs.Duties.{with_pushed, used_same, used_more}
 use Rattle.short_slots.specs.Cheapest.{IsCheapest, Helps}
-use Rattle.short_slots.specs.Worked.{worked_slots, IsMostWorked, enough_shortage}
 
 -- a product whose second factor grows by one at most, and by one
 at_most_more : (e x y : ℕ) → x ≤ y + 1 → e * x ≤ e * y + e

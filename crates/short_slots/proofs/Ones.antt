@@ -1,28 +1,14 @@
 -- What duties are worth at prices of 1 for all slots.
-use Rattle.std.proofs.Common.{◌≡◌, ◌⊎◌, inl, inr, max, to_z, of_z, w64, ℕ, ◌+◌, ◌<◌, ◌≤◌, ℤ, pos, ◌+ℤ◌, ◌≤ℤ◌, Bool, true, false, cond, nat_lt, List, [], ◌∷◌, length, get_or, refl, sym, ap, ◌∙◌, subst, arith, count_by}
-use Rattle.std.specs.Prelude.{unsigned_abs}
-use Rattle.std.proofs.lemmas.Bool.{cases_lt, false≢true, and_from, lt-ltb}
+use Rattle.short_slots.proofs.Common.{◌≡◌, ◌⊎◌, inl, inr, max, to_z, of_z, w64, ℕ, ◌+◌, ◌<◌, ◌≤◌, ℤ, pos, ◌+ℤ◌, ◌≤ℤ◌, Bool, true, false, cond, nat_lt, List, [], ◌∷◌, length, get_or, refl, sym, ap, ◌∙◌, subst, arith, count_by, unsigned_abs, cases_lt, false≢true, and_from, lt-ltb, sum_by-cons, Break, from_below, Duty, Problem, slots, shift_list, below, works, is_list_of, is_legal_duty, legal_duty_parts, AreMostByDay, IsMostOn, worked_slots, ones, IsMostOf, IsMostWorked}
 use Rattle.std.proofs.lemmas.Int.{ints, fits_signed_from_abs, to_z-of_z}
 use Rattle.std.proofs.lemmas.List.{get_or-replicate}
 use Rattle.std.proofs.lemmas.List.FromFn.{length-range_with_len}
 use Rattle.std.proofs.lemmas.List.Elements.{All-replicate}
-use Rattle.std.proofs.lemmas.List.Sums.{sum_by-cons}
-use Rattle.break_rules.specs.declared.Break.{Break}
 use Rattle.break_rules.specs.Sums.{int_sum_by}
-use Rattle.break_rules.proofs.Lists.{from_below}
 use Rattle.break_rules.proofs.Sums.{int_sum_by-same, int_sum_by-cons}
 use Rattle.price_sums.specs.Along.{AreSmallPrices}
-use Rattle.shift_instance.specs.declared.Duty.{Duty}
-use Rattle.shift_instance.specs.Problem.{Problem, slots, shift_list, below}
-use Rattle.shift_instance.specs.Rota.{works, is_list_of, is_legal_duty}
 use Rattle.shift_instance.specs.Valid.{IsValid}
 use Rattle.shift_instance.specs.Worth.{price_of, earned, worth, IsBest}
-use Rattle.shift_instance.proofs.Rotas.{legal_duty_parts}
-use Rattle.pricing.specs.Days.{AreMostByDay, IsMostOn}
-use Rattle.short_slots.specs.Worked.{worked_slots, ones, IsMostOf, IsMostWorked}
-
-pub ones_small : (i : Problem) → AreSmallPrices (ones i)
-ones_small i = All-replicate (λ p. unsigned_abs p ≤ 10000000000) (slots i) (pos 1) (omega arith)
 
 counted : (f : ℕ → Bool) (xs : List ℕ) → int_sum_by (λ t. pos (cond (f t) 1 0)) xs ≡ pos (count_by f xs)
 counted f [] = refl
@@ -88,15 +74,6 @@ most_of_values i s most values by each least = record {
     under : (a b c : ℕ) → a ≡ b → b ≤ c → a ≤ c
     under a b c e h = omega arith
 
--- where no list of a shift is legal, none of its duties works
-pub most_of_none : (i : Problem) (s : ℕ) → ((list : List Break) → is_list_of i s list ≡ false) → IsMostOf i s 0
-most_of_none i s none = record {
-  each = λ d legal of.
-      let l = legal_duty_parts i d legal in
-      absurd (false≢true (sym (none d.breaks) ∙ subst (λ (k : ℕ). is_list_of i k d.breaks ≡ true) of l.breaks));
-  least = λ n above. omega arith;
-}
-
 -- no duty works in more slots than there are
 few_worked : (i : Problem) (d : Duty) → worked_slots i d ≤ slots i
 few_worked i d = few (λ t. works i d t) (below (slots i)) (slots i) (length-range_with_len 0 (slots i))
@@ -143,9 +120,6 @@ greatest_each f k most value next e is each n h =
 pub record IsMostBelow (i : Problem) (shifts most : ℕ) : Type 0 where
   pub each : (d : Duty) → is_legal_duty i d ≡ true → d.shift < shifts → worked_slots i d ≤ most
   pub least : (n : ℕ) → ((d : Duty) → is_legal_duty i d ≡ true → d.shift < shifts → worked_slots i d ≤ n) → most ≤ n
-
-pub none_below : (i : Problem) → IsMostBelow i 0 0
-none_below i = record { each = λ d legal h. absurd (omega arith); least = λ n above. omega arith }
 
 pub one_below : (i : Problem) (s most of next : ℕ) → IsMostBelow i s most → IsMostOf i s of → next ≡ max most of → IsMostBelow i (s + 1) next
 one_below i s most of next before here e = record {

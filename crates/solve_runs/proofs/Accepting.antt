@@ -1,18 +1,10 @@
 -- The certificate of a book is accepted, and has a text.
-use Rattle.std.proofs.Common.{◌≡◌, inl, inr, ℕ, zero, suc, ◌<◌, ◌≤◌, ◌^◌, min, max, Bool, true, false, cond, ◌&&◌, ◌==◌, not, List, [], ◌∷◌, length, refl, sym, ap, subst, ◌∙◌, arith, fold, nat_lt, nat_le, Some, None}
-use Rattle.std.specs.Prelude.{slice_get}
-use Rattle.std.specs.List.{list_all}
-use Rattle.std.specs.Option.{option_map_or, option_and_then}
-use Rattle.std.proofs.lemmas.Bool.{and_parts, and_from, lt-ltb, le-leb, eqb-true, ltb-true, eq-eqb, not-true, false≢true, cases_Bool}
-use Rattle.std.specs.Prelude.{zip}
-use Rattle.std.specs.List.{AllByRecursion}
+use Rattle.solve_runs.proofs.Common.{◌≡◌, inl, inr, ℕ, zero, suc, ◌<◌, ◌≤◌, ◌^◌, min, max, Bool, true, false, cond, ◌&&◌, ◌==◌, not, List, [], ◌∷◌, length, refl, sym, ap, subst, ◌∙◌, arith, fold, nat_lt, nat_le, Some, None, slice_get, list_all, option_map_or, and_parts, and_from, lt-ltb, le-leb, eqb-true, ltb-true, eq-eqb, not-true, false≢true, cases_Bool, zip, AllByRecursion, Problem, slots, shift_list, IsValid, cost, rota_of, is_legal_rota, is_shift_and, Node, with_floor, with_split, Post, Plan, Priced, Split, Settled, Line, is_split, node_line, node_of, nodes_after, nodes_of, least_floor, is_bound, is_plan, is_accepted, Agrees, AgreesWith, lines_of, Book, opening, floor_of, is_open, is_better, priced, divided, settled, step, book_after, book_of, is_finished, cond_some, bind_some, at_node_some, fold_sound, finished_closed, status_of_book, cert_of}
+use Rattle.std.specs.Option.{option_and_then}
 use Rattle.std.proofs.lemmas.List.Elements.{All-from_recursion}
 use Rattle.break_rules.specs.Breaks.{is_live}
 use Rattle.break_rules.specs.Lists.{Has}
 use Rattle.shift_instance.specs.declared.TheConstants.{TOP}
-use Rattle.shift_instance.specs.Problem.{Problem, slots, shift_list}
-use Rattle.shift_instance.specs.Valid.{IsValid}
-use Rattle.shift_instance.specs.Rota.{cost, rota_of, is_legal_rota, is_shift_and}
 use Rattle.rota_cost.proofs.Coverage.{costs_below}
 use Rattle.head_splits.specs.declared.Class.{Class}
 use Rattle.head_splits.specs.declared.Prices.{Prices}
@@ -22,20 +14,9 @@ use Rattle.head_splits.specs.Cuts.{low, high}
 use Rattle.head_splits.proofs.Splits.{high_most}
 use Rattle.head_splits.proofs.Nodes.{floor_at}
 use Rattle.head_splits.specs.Settled.{is_live_class}
-use Rattle.head_splits.specs.Nodes.{Node, with_floor, with_split}
-use Rattle.post_codec.specs.declared.post.Post.{Post}
-use Rattle.post_codec.specs.declared.post.Post.TheVariants.{Plan, Priced, Split, Settled}
-use Rattle.certificate.specs.declared.proof_lines.Line.{Line}
 use Rattle.certificate.specs.declared.proof_lines.Line.TheVariants.{Split as SplitLine, Priced as PricedLine, Settled as SettledLine}
-use Rattle.certificate.specs.Accepted.{is_split, node_line, node_of, nodes_after, nodes_of, least_floor, is_bound, is_plan, is_accepted}
 use Rattle.certificate.specs.LineText.{HasSlot}
-use Rattle.certificate.specs.Text.{Agrees, AgreesWith}
 use Rattle.certificate.specs.declared.CertStatus.TheVariants.{Optimal, Stopped}
-use Rattle.certificate.specs.History.{lines_of}
-use Rattle.search_core.specs.Book.{Book, opening, floor_of, is_open, is_better, priced, divided, settled, step, book_after, book_of, is_finished}
-use Rattle.search_core.proofs.Sound.{cond_some, bind_some, at_node_some, fold_sound}
-use Rattle.search_core.proofs.Floors.{finished_closed}
-use Rattle.solve_runs.specs.Report.{status_of_book, cert_of}
 
 -- ---- a split of a search is a good line
 

@@ -1,36 +1,9 @@
 -- From a search over a new journal in memory to what is said of a demonstration.
-use Rattle.std.proofs.Common.{◌≡◌, ◌∙◌, sym, ap, subst, refl, ℕ, ◌+◌, ◌-◌, ◌^◌, ◌≤◌, ◌<◌, Bool, true, false, List, [], ◌∷◌, length, take, get_or, arith, Option, None, Some}
-use Rattle.std.specs.Prelude.{◌≢◌, option_and_then, IfSome, IsSome}
-use Rattle.std.specs.Io.KnownBytes.{Appends}
-use Rattle.std.proofs.lemmas.Bool.{false≢true}
-use Rattle.plan_base.specs.Causes.{Rose}
-use Rattle.plan_base.specs.Streams.{AppendsPart}
-use Rattle.gated_journal.specs.declared.TheConstants.{JOURNAL_MAX}
-use Rattle.shift_instance.specs.Problem.{Problem}
+use Rattle.solve_runs.proofs.Common.{◌≡◌, ◌∙◌, sym, ap, subst, refl, ℕ, ◌+◌, ◌-◌, ◌^◌, ◌≤◌, ◌<◌, Bool, true, false, List, [], ◌∷◌, length, take, get_or, arith, Option, None, Some, option_and_then, IfSome, IsSome, Appends, false≢true, Rose, AppendsPart, JOURNAL_MAX, Problem, Origin, book_at, BoardView, floor_of, is_finished, Book, IsSound, steps_enough, empty_hands, finished_best, book_is, fold_sound, IsKeptPosts, IsRunningPosts, ShutOf, IsBegun, IsOpenedFrom, IsJournalOf, board_of, SearchView, RunEnd, Finished, Spent, committed, plans_and_prices_since, IsSameSearch, RunEnds, RunMakes, demo_text, line_of, AreCommitted, Demonstration, DemoMet, IsNew, IsShown, IsTold, OverMemory, Searches, IsUnbeaten, end_of, is_reported, AreTold, ToldMet, SinkMet, status_at, Status, Optimal, Budget, Full, Usage, Input, Workers, ReadFault, WriteFault, DiskFault, NoMemory, Journal}
+use Rattle.worker_gate.specs.declared.run.RunEnd.TheVariants.{Full as FullEnd, DiskFault as DiskEnd, NoMemory as MemoryEnd}
+use Rattle.std.specs.Prelude.{◌≢◌}
 use Rattle.instance_json.specs.Generated.{generated}
-use Rattle.search_core.specs.declared.board.Origin.{Origin}
-use Rattle.search_core.specs.Board.{book_at, BoardView}
-use Rattle.search_core.specs.Book.{floor_of, is_finished, Book, IsSound}
-use Rattle.search_core.specs.Calls.{steps_enough}
-use Rattle.search_core.specs.Core.{empty_hands}
-use Rattle.search_core.proofs.Floors.{finished_best}
-use Rattle.search_core.proofs.Outlines.{book_is}
-use Rattle.search_core.proofs.Sound.{fold_sound}
-use Rattle.search_book.specs.Keeping.{IsKeptPosts, IsRunningPosts, ShutOf}
-use Rattle.search_book.specs.Opening.{IsBegun, IsOpenedFrom}
-use Rattle.search_book.specs.Posts.{IsJournalOf}
-use Rattle.search_book.specs.Search.{board_of, SearchView}
-use Rattle.worker_gate.specs.declared.run.RunEnd.{RunEnd}
-use Rattle.worker_gate.specs.declared.run.RunEnd.TheVariants.{Finished, Spent, Full as FullEnd, DiskFault as DiskEnd, NoMemory as MemoryEnd, Stopped}
-use Rattle.worker_gate.specs.Runs.{committed, plans_and_prices_since, IsSameSearch, RunEnds, RunMakes}
-use Rattle.solve_runs.specs.Demo.{demo_text, line_of, AreCommitted, Demonstration, DemoMet, IsNew, IsShown, IsTold, OverMemory, Searches}
-use Rattle.solve_runs.specs.Report.{IsUnbeaten}
-use Rattle.solve_runs.specs.Searching.{end_of, is_reported}
-use Rattle.solve_runs.specs.Served.{AreTold, ToldMet}
-use Rattle.solve_runs.specs.Streams.{SinkMet}
-use Rattle.solve_runs.specs.Writing.{status_at}
-use Rattle.solve_runs.specs.declared.status.Status.{Status}
-use Rattle.solve_runs.specs.declared.status.Status.TheVariants.{Optimal, Budget, Full, Usage, Input, Workers, ReadFault, WriteFault, DiskFault, NoMemory, Journal}
+use Rattle.worker_gate.specs.declared.run.RunEnd.TheVariants.{Stopped}
 use Rattle.solve_runs.proofs.Ending.{few_steps}
 use Rattle.solve_runs.proofs.Telling.{told_of_all}
 

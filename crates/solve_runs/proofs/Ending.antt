@@ -1,30 +1,13 @@
 -- How a search over a book ends, and one whose book isn't opened.
-use Rattle.std.proofs.Common.{◌≡◌, ◌≢◌, inl, inr, sym, ap, subst, refl, ℕ, ◌+◌, ◌*◌, ◌<◌, ◌≤◌, false, List, take, arith, Option, Some, None}
-use Rattle.std.specs.Prelude.{◌⊎◌, IfSome, Result, Ok, Err}
-use Rattle.std.proofs.lemmas.Bool.{cases_lt}
-use Rattle.gated_journal.specs.declared.TheConstants.{JOURNAL_MAX}
+use Rattle.solve_runs.proofs.Common.{◌≡◌, ◌≢◌, inl, inr, sym, ap, subst, refl, ℕ, ◌+◌, ◌*◌, ◌<◌, ◌≤◌, false, List, take, arith, Option, Some, None, ◌⊎◌, IfSome, Result, Ok, Err, cases_lt, JOURNAL_MAX, Problem, BoardView, full_hands, steps_enough, IsFresh, SearchView, board_of, RunEnd, plans_since, prices_since, AreTurns, IsSameSearch, SearchEnd, Stopped, TooFewAdvisers, Refused, HasEnded, IsLeft, IsRefusal, Ends, end_of, end_unopened, HasNotSearched, SearchEnds, AreUntold, Served, ToldMet, met_of, DiskMet, IsUncalled, Session, workers_for}
+use Rattle.worker_gate.specs.declared.run.RunEnd.TheVariants.{Finished as FinishedEnd, Spent as SpentEnd, Full as FullEnd, DiskFault as DiskEnd, NoMemory as MemoryEnd, Stopped as StoppedEnd}
 use Rattle.instance_json.specs.Canonical.{canonical_text}
-use Rattle.shift_instance.specs.Problem.{Problem}
-use Rattle.search_core.specs.Board.{BoardView}
-use Rattle.search_core.specs.Calls.{full_hands, steps_enough, IsFresh}
 use Rattle.search_book.specs.declared.open_fault.OpenFault.{OpenFault}
 use Rattle.search_book.specs.declared.open_fault.OpenFault.TheVariants.{DiskFault as OpeningsDisk, NotAJournal, OtherInstance, Damaged, Rejected, NoMemory as OpeningsMemory, OldVersion}
 use Rattle.search_book.specs.Head.{KeepsHead}
 use Rattle.search_book.specs.Opened.{HoldsBook, OpenCause}
-use Rattle.search_book.specs.Search.{SearchView, board_of}
-use Rattle.worker_gate.specs.declared.run.RunEnd.{RunEnd}
-use Rattle.worker_gate.specs.declared.run.RunEnd.TheVariants.{Finished as FinishedEnd, Spent as SpentEnd, Full as FullEnd, DiskFault as DiskEnd, NoMemory as MemoryEnd, Stopped as StoppedEnd}
-use Rattle.board_lock.specs.Turns.{plans_since, prices_since, AreTurns}
-use Rattle.worker_gate.specs.Runs.{IsSameSearch}
 use Rattle.worker_gate.specs.Workers.{WorkersEnd}
-use Rattle.solve_runs.specs.declared.searched.SearchEnd.{SearchEnd}
-use Rattle.solve_runs.specs.declared.searched.SearchEnd.TheVariants.{Finished, Spent, Full, Stopped, DiskFault, NoMemory, TooFewAdvisers, Refused}
-use Rattle.solve_runs.specs.Ended.{HasEnded, IsLeft, IsRefusal}
-use Rattle.solve_runs.specs.Search.{Ends}
-use Rattle.solve_runs.specs.Searching.{end_of, end_unopened, HasNotSearched, SearchEnds}
-use Rattle.solve_runs.specs.Served.{AreUntold, Served, ToldMet}
-use Rattle.solve_runs.specs.Session.{met_of, DiskMet, IsUncalled, Session}
-use Rattle.solve_runs.specs.Words.{workers_for}
+use Rattle.solve_runs.specs.declared.searched.SearchEnd.TheVariants.{Finished, Spent, Full, DiskFault, NoMemory}
 use Rattle.solve_runs.proofs.Telling.{told_of_all, untold_of_all}
 
 -- ---- how a search ends

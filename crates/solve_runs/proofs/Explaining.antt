@@ -1,21 +1,8 @@
 -- From how a search or a demonstration ends to why a run ends so that was asked for it.
-use Rattle.std.proofs.Common.{◌≡◌, inl, inr, sym, ap, subst, ℕ, ◌<◌, ◌≤◌, Bool, false, List, [], take, arith, Option, None, Some}
-use Rattle.std.specs.Prelude.{option_and_then, unwrap_or, IfSome}
+use Rattle.solve_runs.proofs.Common.{◌≡◌, inl, inr, sym, ap, subst, ℕ, ◌<◌, ◌≤◌, Bool, false, List, [], take, arith, Option, None, Some, option_and_then, unwrap_or, IfSome, Problem, Method, from_number, over_journal, Asked, Asks, IsReadAs, OverMemory, status_unread, EndsCommand, EndsDemo, EndsOver, EndsSearch, Explains, IsUnopened, IsUnread, Met, OverDisk, AreUntold, ToldMet, DiskMet, IsUncalled, SinkMet, EndsBeforeReading, EndsEarly, workers_for, workers_unsaid, AsksWorkers, Command, IsCommand, Status, Optimal, Budget, Full, Usage, Input, Workers, ReadFault, WriteFault, DiskFault, NoMemory, Journal}
 use Rattle.instance_input.specs.declared.Unread.{Unread}
 use Rattle.instance_input.specs.declared.Unread.TheVariants.{Refused as DocumentRefused, ReadFault as DocumentFault, NoMemory as DocumentMemory}
 use Rattle.instance_input.specs.Unread.{IsReadAs as IsDocument, WhyUnread}
-use Rattle.shift_instance.specs.Problem.{Problem}
-use Rattle.solve_words.specs.declared.command.Method.{Method}
-use Rattle.solve_words.specs.Words.{from_number, over_journal, Asked, Asks, IsReadAs}
-use Rattle.solve_runs.specs.Demo.{OverMemory}
-use Rattle.solve_runs.specs.Run.{status_unread, EndsCommand, EndsDemo, EndsOver, EndsSearch, Explains, IsUnopened, IsUnread, Met, OverDisk}
-use Rattle.solve_runs.specs.Served.{AreUntold, ToldMet}
-use Rattle.solve_runs.specs.Session.{DiskMet, IsUncalled}
-use Rattle.solve_runs.specs.Streams.{SinkMet}
-use Rattle.solve_runs.specs.Status.{EndsBeforeReading, EndsEarly}
-use Rattle.solve_runs.specs.Words.{workers_for, workers_unsaid, AsksWorkers, Command, IsCommand}
-use Rattle.solve_runs.specs.declared.status.Status.{Status}
-use Rattle.solve_runs.specs.declared.status.Status.TheVariants.{Optimal, Budget, Full, Usage, Input, Workers, ReadFault, WriteFault, DiskFault, NoMemory, Journal}
 use Rattle.solve_runs.proofs.Demos.{demo_of_all}
 
 -- ---- how the search of a command ends

@@ -1,10 +1,7 @@
 -- The limits of a command's numbers, and how many advisers serve.
-use Rattle.std.proofs.Common.{◌≡◌, ℕ, zero, suc, ◌+◌, ◌-◌, ◌≤◌, List, [], ◌∷◌, length, min, take, arith, refl, subst}
+use Rattle.solve_runs.proofs.Common.{◌≡◌, ℕ, zero, suc, ◌+◌, ◌-◌, ◌≤◌, List, [], ◌∷◌, length, min, take, arith, refl, subst, asked, IsWithin, workers_for}
 use Rattle.std.proofs.Math.Nat.{min-le_left, min-le_right}
 use Rattle.solve_words.specs.declared.command.Command.{Command}
-use Rattle.solve_words.specs.Asked.{asked}
-use Rattle.solve_words.specs.Words.{IsWithin}
-use Rattle.solve_runs.specs.Words.{workers_for}
 
 -- the numbers of a command are within their limits, whatever it was matched as
 pub still_within : (command matched : Command) → command ≡ matched → IsWithin (asked command) → IsWithin (asked matched)

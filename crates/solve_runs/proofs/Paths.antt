@@ -1,9 +1,6 @@
 -- From what the words are read as to the path of the journal that they name.
-use Rattle.std.proofs.Common.{◌≡◌, ◌∙◌, sym, ap, ℕ, Bool, List, [], Option, None, Some}
+use Rattle.solve_runs.proofs.Common.{◌≡◌, ◌∙◌, sym, ap, ℕ, Bool, List, [], Option, None, Some, Method, from_number, over_journal, Asked, IsReadAs, IsPathIn}
 use Rattle.std.proofs.lemmas.Option.{same_Some}
-use Rattle.solve_words.specs.declared.command.Method.{Method}
-use Rattle.solve_words.specs.Words.{from_number, over_journal, Asked, IsReadAs}
-use Rattle.solve_runs.specs.Words.{IsPathIn}
 
 -- the path of a search's journal
 path_of : Asked → List ℕ

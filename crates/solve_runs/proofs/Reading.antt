@@ -1,13 +1,6 @@
 -- What is written of a book is a text of its certificate, with the table behind it or not.
-use Rattle.std.proofs.Common.{Bool, true, false, List, []}
-use Rattle.post_codec.specs.declared.post.Post.{Post}
-use Rattle.shift_instance.specs.Problem.{Problem}
-use Rattle.shift_instance.specs.Valid.{IsValid}
-use Rattle.certificate.specs.Departing.{Spells}
-use Rattle.certificate.specs.Text.{HasText}
-use Rattle.search_core.specs.Book.{Book}
+use Rattle.solve_runs.proofs.Common.{Bool, true, false, List, [], Post, Problem, IsValid, Spells, HasText, Book, cert_of, output_of}
 use Rattle.rota_writer.proofs.Notes.{no_notes, text_before_notes, texts_take_tables}
-use Rattle.solve_runs.specs.Report.{cert_of, output_of}
 
 pub output_reads : (i : Problem) (table : Bool) (posts : List Post) (book : Book) → IsValid i → HasText (cert_of posts book) → Spells (output_of i table posts book) (cert_of posts book)
 output_reads i true posts book valid has = texts_take_tables i book.best (cert_of posts book) valid has

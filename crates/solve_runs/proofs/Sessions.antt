@@ -1,40 +1,13 @@
 -- From a search over a book to what is said of it.
-use Rattle.std.proofs.Common.{◌≡◌, ◌∙◌, sym, ap, subst, refl, ℕ, ◌+◌, ◌*◌, ◌<◌, ◌≤◌, List, [], ◌∷◌, ◌++◌, length, drop, arith}
-use Rattle.std.specs.Prelude.{Option, Some, None, OnSome, IfSome, IsSome, IsFalse, IsTrue, true, false, count_by}
+use Rattle.solve_runs.proofs.Common.{◌≡◌, ◌∙◌, sym, ap, subst, refl, ℕ, ◌+◌, ◌*◌, ◌<◌, ◌≤◌, List, [], ◌∷◌, ◌++◌, length, drop, arith, OnSome, IfSome, IsSome, IsFalse, IsTrue, count_by, false≢true, Rose, JOURNAL_MAX, Post, Problem, Origin, book_at, leaves_open, Book, book_of, is_finished, steps_enough, empty_hands, cuts_in, posts_of, finished_best, book_is, fold_sound, HoldsBatches, PostsLast, IsRunningPosts, ShutOf, IsBegun, IsOpenedFrom, SearchView, board_of, IsJournalOf, joined, RunEnd, Finished, Spent, is_prices, AreTurns, IsUnbeaten, HasEnded, IsFinished, IsFull, IsSpent, IsStopped, Ends, GoesOn, IsLanded, Told, end_of, HasSearched, AreTold, Served, ToldMet, Works, met_of, Session, IsOnlyJournal}
+use Rattle.worker_gate.specs.declared.run.RunEnd.TheVariants.{Full as FullEnd, DiskFault as DiskEnd, NoMemory as MemoryEnd, Stopped as StoppedEnd}
+use Rattle.std.specs.Prelude.{Option, Some, None, true, false}
 use Rattle.std.proofs.Math.Logic.{∥∥₁_elim}
 use Rattle.std.proofs.Props.{props}
-use Rattle.std.proofs.lemmas.Bool.{false≢true}
-use Rattle.plan_base.specs.Causes.{Rose}
 use Rattle.plan_base.specs.Disk.{TellsAlike}
-use Rattle.gated_journal.specs.declared.TheConstants.{JOURNAL_MAX}
-use Rattle.post_codec.specs.declared.post.Post.{Post}
-use Rattle.shift_instance.specs.Problem.{Problem}
-use Rattle.search_core.specs.declared.board.Origin.{Origin}
-use Rattle.search_core.specs.Board.{book_at, leaves_open}
-use Rattle.search_core.specs.Book.{Book, book_of, is_finished}
-use Rattle.search_core.specs.Calls.{steps_enough}
-use Rattle.search_core.specs.Core.{empty_hands}
-use Rattle.search_core.specs.Kept.{cuts_in}
-use Rattle.search_core.specs.Steps.{posts_of}
 use Rattle.std.proofs.Math.Seq.{drop-append_seam}
-use Rattle.search_core.proofs.Floors.{finished_best}
-use Rattle.search_core.proofs.Outlines.{book_is}
-use Rattle.search_core.proofs.Sound.{fold_sound}
-use Rattle.search_book.specs.Keeping.{HoldsBatches, PostsLast, IsRunningPosts, ShutOf}
-use Rattle.search_book.specs.Opening.{IsBegun, IsOpenedFrom}
 use Rattle.search_book.specs.Origins.{tells}
-use Rattle.search_book.specs.Search.{SearchView, board_of}
-use Rattle.search_book.specs.Posts.{IsJournalOf}
-use Rattle.post_codec.specs.Batches.{joined}
-use Rattle.worker_gate.specs.declared.run.RunEnd.{RunEnd}
-use Rattle.worker_gate.specs.declared.run.RunEnd.TheVariants.{Finished, Spent, Full as FullEnd, DiskFault as DiskEnd, NoMemory as MemoryEnd, Stopped as StoppedEnd}
-use Rattle.board_lock.specs.Turns.{is_plan, is_prices, AreTurns}
-use Rattle.solve_runs.specs.Report.{IsUnbeaten}
-use Rattle.solve_runs.specs.Ended.{HasEnded, IsFinished, IsFull, IsSpent, IsStopped}
-use Rattle.solve_runs.specs.Search.{Ends, GoesOn, IsLanded, Told}
-use Rattle.solve_runs.specs.Searching.{end_of, HasSearched}
-use Rattle.solve_runs.specs.Served.{AreTold, Served, ToldMet, Works}
-use Rattle.solve_runs.specs.Session.{met_of, Session, IsOnlyJournal}
+use Rattle.board_lock.specs.Turns.{is_plan}
 use Rattle.solve_runs.proofs.Unfit.{unfit_open}
 use Rattle.solve_runs.proofs.Walked.{turned, OfStep, Turned}
 

@@ -1,9 +1,5 @@
 -- What the advisers of a run were told, from what their seats count.
-use Rattle.std.proofs.Common.{◌≡◌, ℕ, zero, suc, ◌+◌, ◌<◌, ◌^◌, All, List, [], ◌∷◌, ◌++◌, length, map, take, get_or, sum_by, refl, sym, ap, ◌∙◌, subst, arith}
-use Rattle.std.proofs.lemmas.List.{get_or-map, length-map}
-use Rattle.std.proofs.lemmas.List.Sums.{sum-map, sum_by-cons}
-use Rattle.solve_runs.specs.Words.{workers_for}
-use Rattle.solve_runs.specs.Served.{AreTold, AreUntold}
+use Rattle.solve_runs.proofs.Common.{◌≡◌, ℕ, zero, suc, ◌+◌, ◌<◌, ◌^◌, All, List, [], ◌∷◌, ◌++◌, length, map, take, get_or, sum_by, refl, sym, ap, ◌∙◌, subst, arith, get_or-map, length-map, sum-map, sum_by-cons, workers_for, AreTold, AreUntold}
 
 -- the type of a list's elements
 abbrev pub Element : {A : Type 0} → List A → Type 0

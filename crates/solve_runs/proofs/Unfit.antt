@@ -1,24 +1,10 @@
 -- A book that has no open node is given no posts by a step. So where a journal has no room for the posts of a step, a node is open.
-use Rattle.std.proofs.Common.{◌≡◌, ℕ, zero, suc, ◌<◌, ◌≤◌, Bool, true, false, cond, ◌&&◌, ◌==◌, not, nat_lt, List, [], ◌∷◌, ◌++◌, length, refl, sym, ap, ◌∙◌, subst, arith, Option, Some, None}
-use Rattle.std.specs.Prelude.{slice_get, IsSome}
-use Rattle.std.specs.List.{list_all}
-use Rattle.std.specs.Option.{option_map_or}
-use Rattle.std.proofs.lemmas.Bool.{and_parts, eqb-true, false≢true, ltb-true, not-true}
-use Rattle.shift_instance.specs.Problem.{Problem}
-use Rattle.shift_instance.specs.Rota.{are_legal_rows, cost, is_legal_rota, rota_of}
-use Rattle.head_splits.specs.Nodes.{Node}
+use Rattle.solve_runs.proofs.Common.{◌≡◌, ℕ, zero, suc, ◌<◌, ◌≤◌, Bool, true, false, cond, ◌&&◌, ◌==◌, not, nat_lt, List, [], ◌∷◌, ◌++◌, length, refl, sym, ap, ◌∙◌, subst, arith, Option, Some, None, slice_get, IsSome, list_all, option_map_or, and_parts, eqb-true, false≢true, ltb-true, not-true, Problem, are_legal_rows, cost, is_legal_rota, rota_of, Node, Post, Plan, Priced, Split, Settled, StepPosts, Book, book_after, book_of, is_better, is_finished, is_node_and, is_open, step, IsSound, close_posts, plan_of, plan_posts, posts_of, where_open, finished_best, bind_some, cond_some, fold_sound}
 use Rattle.rota_cost.specs.Costed.{Costing}
-use Rattle.post_codec.specs.declared.post.Post.{Post}
-use Rattle.post_codec.specs.declared.post.Post.TheVariants.{Plan, Priced, Split, Settled}
-use Rattle.search_core.specs.declared.step_posts.StepPosts.{StepPosts}
 use Rattle.search_core.specs.declared.step_posts.Close.{Close}
 use Rattle.search_core.specs.declared.step_posts.Close.TheVariants.{ByPrice, Split as CloseBySplit, Settled as CloseAsSettled}
-use Rattle.search_core.specs.Book.{Book, book_after, book_of, is_better, is_finished, is_node_and, is_open, step, IsSound}
-use Rattle.search_core.specs.Steps.{close_posts, plan_of, plan_posts, posts_of, where_open}
 use Rattle.search_core.proofs.Closed.{parts}
-use Rattle.search_core.proofs.Floors.{finished_best}
 use Rattle.search_core.proofs.Runs.{front_folds}
-use Rattle.search_core.proofs.Sound.{bind_some, cond_some, fold_sound}
 
 none_passes : (p : Node → Bool) (ns : List Node) (k : ℕ) → list_all (λ n. not (p n)) ns ≡ true → option_map_or p (slice_get ns k) false ≡ false
 none_passes p [] k h = refl

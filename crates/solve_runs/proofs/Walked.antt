@@ -1,24 +1,13 @@
 -- The steps of a run, from the turns of its workers.
-use Rattle.std.proofs.Common.{◌≡◌, inl, inr, ℕ, zero, suc, ◌+◌, ◌<◌, ◌≤◌, Bool, cond, List, [], ◌∷◌, ◌++◌, refl, sym, ap, ◌∙◌, subst, arith, Option, Some, None}
-use Rattle.std.specs.Prelude.{IsFalse}
-use Rattle.std.specs.Option.{is_some}
-use Rattle.std.proofs.lemmas.Bool.{cases_lt}
-use Rattle.std.proofs.lemmas.List.Sums.{sum_by-cons}
-use Rattle.post_codec.specs.declared.post.Post.{Post}
-use Rattle.search_core.specs.declared.step_posts.StepPosts.{StepPosts}
+use Rattle.solve_runs.proofs.Common.{◌≡◌, inl, inr, ℕ, zero, suc, ◌+◌, ◌<◌, ◌≤◌, Bool, cond, List, [], ◌∷◌, ◌++◌, refl, sym, ap, ◌∙◌, subst, arith, Option, Some, None, IsFalse, is_some, cases_lt, sum_by-cons, Post, StepPosts, batches_of, book_at, bytes_of, leaves_open, posts_at, BoardView, Commits, CommitRefuses, HoldsStep, TakeMakes, full_hands, IsCall, IsFresh, hand, cuts_in, AreEmptyFrom, AreTurns}
 use Rattle.search_core.specs.declared.board.Kept.{Kept}
 use Rattle.search_core.specs.declared.board.Shutting.TheVariants.{DiskFault as ShutByDiskFault, Full as ShutByFull}
 use Rattle.search_core.specs.declared.board.Taken.{Taken}
 use Rattle.search_core.specs.declared.board.Taken.TheVariants.{Closed, Finished, Halted, Spent, Node as TakenNode, Idle}
 use Rattle.search_core.specs.declared.board.CommitFault.{CommitFault}
 use Rattle.search_core.specs.declared.board.CommitFault.TheVariants.{DiskFault, Full, NotHeld, Shut, NotClosing, OtherCuts, NoMemory}
-use Rattle.search_core.specs.Board.{batches_of, book_at, bytes_of, leaves_open, posts_at, BoardView, Commits, CommitRefuses, HoldsStep, TakeMakes}
-use Rattle.search_core.specs.Calls.{full_hands, IsCall, IsFresh}
 use Rattle.search_core.specs.Calls.IsCall.{a_commit, a_refusal, a_take, a_yield}
-use Rattle.search_core.specs.Core.{hand}
-use Rattle.search_core.specs.Kept.{cuts_in}
 use Rattle.search_core.proofs.Counted.{calls_count}
-use Rattle.board_lock.specs.Turns.{AreEmptyFrom, AreTurns}
 use Rattle.board_lock.specs.Turns.AreTurns.{none, one_more}
 use Rattle.board_lock.proofs.Turned.{clear_of, turns_are_calls, turns_keep}
 use Rattle.solve_runs.specs.Steps.{bytes_in}

@@ -1,34 +1,9 @@
 -- From what a search answers, and what is written of its book, to what a run says.
-use Rattle.std.proofs.Common.{◌≡◌, ◌≢◌, inl, inr, ◌∙◌, sym, ap, subst, refl, ℕ, ◌≤◌, Bool, true, false, List, ◌++◌, arith}
-use Rattle.std.specs.Prelude.{Option, IsTrue}
-use Rattle.std.specs.Io.KnownBytes.{Appends}
-use Rattle.std.proofs.lemmas.Bool.{false≢true}
-use Rattle.plan_base.specs.Streams.{AppendsPart}
-use Rattle.post_codec.specs.declared.post.Post.{Post}
-use Rattle.post_codec.specs.Batches.{joined}
-use Rattle.shift_instance.specs.Problem.{Problem}
-use Rattle.certificate.specs.declared.Cert.{Cert}
-use Rattle.certificate.specs.Accepted.{is_accepted}
-use Rattle.certificate.specs.Departing.{Spells}
-use Rattle.search_core.specs.Book.{Book}
-use Rattle.search_core.proofs.Sound.{fold_sound}
-use Rattle.search_book.specs.Search.{SearchView, board_of}
-use Rattle.worker_gate.specs.declared.run.RunEnd.{RunEnd}
+use Rattle.solve_runs.proofs.Common.{◌≡◌, ◌≢◌, inl, inr, ◌∙◌, sym, ap, subst, refl, ℕ, ◌≤◌, Bool, true, false, List, ◌++◌, arith, IsTrue, Appends, false≢true, AppendsPart, Post, joined, Problem, Cert, is_accepted, Spells, Book, fold_sound, SearchView, board_of, RunEnd, SearchEnd, Stopped, TooFewAdvisers, Refused, Status, Optimal, Budget, Full, Usage, Input, Workers, ReadFault, WriteFault, DiskFault, NoMemory, Journal, HasEnded, cert_of, output_of, OverDisk, Reports, ReportsPart, IsLanded, end_of, is_reported, HasNotSearched, HasSearched, IsSessionOf, ToldMet, met_of, posts_in, DiskMet, Session, SinkMet, workers_for, status_at, EndsAs, IsReported, IsReportedPart, Unwritten}
 use Rattle.worker_gate.specs.declared.run.RunEnd.TheVariants.{Finished as FinishedEnd, Spent as SpentEnd, Full as FullEnd, DiskFault as DiskEnd, NoMemory as MemoryEnd, Stopped as StoppedEnd}
-use Rattle.solve_runs.specs.declared.searched.SearchEnd.{SearchEnd}
-use Rattle.solve_runs.specs.declared.searched.SearchEnd.TheVariants.{Finished, Spent, Full as FullSearch, Stopped, DiskFault as DiskSearch, NoMemory as MemorySearch, TooFewAdvisers, Refused}
-use Rattle.solve_runs.specs.declared.status.Status.{Status}
-use Rattle.solve_runs.specs.declared.status.Status.TheVariants.{Optimal, Budget, Full, Usage, Input, Workers, ReadFault, WriteFault, DiskFault, NoMemory, Journal}
-use Rattle.solve_runs.specs.Ended.{HasEnded}
-use Rattle.solve_runs.specs.Report.{cert_of, output_of}
-use Rattle.solve_runs.specs.Run.{OverDisk, Reports, ReportsPart}
-use Rattle.solve_runs.specs.Search.{IsLanded}
-use Rattle.solve_runs.specs.Searching.{end_of, is_reported, HasNotSearched, HasSearched, IsSessionOf}
-use Rattle.solve_runs.specs.Served.{ToldMet}
-use Rattle.solve_runs.specs.Session.{met_of, posts_in, DiskMet, Session}
-use Rattle.solve_runs.specs.Streams.{SinkMet}
-use Rattle.solve_runs.specs.Words.{workers_for}
-use Rattle.solve_runs.specs.Writing.{status_at, EndsAs, IsReported, IsReportedPart, Unwritten}
+use Rattle.solve_runs.specs.declared.searched.SearchEnd.TheVariants.{Full as FullSearch, DiskFault as DiskSearch, NoMemory as MemorySearch}
+use Rattle.std.specs.Prelude.{Option}
+use Rattle.solve_runs.specs.declared.searched.SearchEnd.TheVariants.{Finished, Spent}
 
 -- a search whose report is written came to an end of its own
 landed_run : (how : RunEnd) → end_of how ≢ Stopped → is_reported (end_of how) ≡ true → IsLanded how

@@ -1,16 +1,6 @@
 -- Which words the parser takes for flags, and what it makes of the others.
-use Rattle.std.proofs.Common.{◌≡◌, ◌∙◌, sym, ap, ap₂, refl, ℕ, zero, suc, Bool, true, false, List, [], ◌∷◌, length, codes, Option, Some, None}
-use Rattle.std.specs.Prelude.{◌==◌, if◌then◌else◌, IfSome, slice_get}
-use Rattle.std.specs.Option.{option_map_or}
-use Rattle.std.specs.Str.{bytes_eq, chars}
-use Rattle.std.proofs.lemmas.Bool.{false≢true, not-true}
+use Rattle.solve_words.proofs.Common.{◌≡◌, ◌∙◌, sym, ap, ap₂, refl, ℕ, zero, suc, Bool, true, false, List, [], ◌∷◌, length, codes, Option, Some, None, ◌==◌, if◌then◌else◌, IfSome, slice_get, option_map_or, bytes_eq, chars, false≢true, not-true, bundle_fault, bundle_step_fault, flag_word_fault, flags_fault, other_fault, settle_fault, step_fault, turn_fault, word_fault, Kinds, or_else, long_of, short_of, after_flag, after_step, Held, idle, long_or_other, option, Outcome, plain, plain_word, positional_held, Row, settled, positional, short_or_plain, Step, subcommand_met, subcommand_or_other, Text, trailing, value, Waiting, walked, word_met, bundle_ends, demo, flag, is_journal, journal, local, number, Part, Setting, steps, table, thorough, turns, workers}
 use Rattle.clap.specs.declared.error.kind.ErrorKind.TheVariants as kind
-use Rattle.clap.specs.Faults.{bundle_fault, bundle_step_fault, flag_word_fault, flags_fault, other_fault, settle_fault, step_fault, turn_fault, word_fault}
-use Rattle.clap.specs.Kinds.{Kinds, or_else}
-use Rattle.clap.specs.Lexer.{long_of, short_of}
-use Rattle.clap.specs.Walk.{after_flag, after_step, Held, idle, long_or_other, option, Outcome, plain, plain_word, positional_held, Row, settled, positional, short_or_plain, Step, subcommand_met, subcommand_or_other, Text, trailing, value, Waiting, walked, word_met}
-use Rattle.clap.proofs.WalkLemmas.{bundle_ends}
-use Rattle.solve_words.specs.Words.{demo, flag, is_journal, journal, local, number, Part, Setting, steps, table, thorough, turns, workers}
 use Rattle.solve_words.proofs.Rows.{held_at, option_rules, pending_for, rows_for, rule_for, shape}
 use Rattle.solve_words.proofs.Steps.{calm, held_for, hungry, place}
 

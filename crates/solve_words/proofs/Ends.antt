@@ -1,12 +1,5 @@
 -- From a whole parse to its walk.
-use Rattle.std.proofs.Common.{◌≡◌, ◌∙◌, sym, ap, ap₂, refl, Bool, true, false, List, [], codes, Option, Some, None, fold}
-use Rattle.std.specs.Prelude.{◌||◌, is_some, if◌then◌else◌}
-use Rattle.clap.specs.Faults.{check_fault, default_fault, defaults_fault, entered_fault, fault_of, settle_fault, walk_fault}
-use Rattle.clap.specs.Kinds.{Kinds, or_else}
-use Rattle.clap.specs.Simple.{built, entered, matches_of}
-use Rattle.clap.specs.Walk.{finished, has_row, Row, settled, Text, Walk, with_default}
-use Rattle.solve_words.specs.Options.{options_app}
-use Rattle.solve_words.specs.Words.{demo, Flag, journal, local, Part, Setting, steps, table, thorough, turns, workers}
+use Rattle.solve_words.proofs.Common.{◌≡◌, ◌∙◌, sym, ap, ap₂, refl, Bool, true, false, List, [], codes, Option, Some, None, fold, ◌||◌, is_some, if◌then◌else◌, check_fault, default_fault, defaults_fault, entered_fault, fault_of, settle_fault, walk_fault, Kinds, or_else, built, entered, matches_of, finished, has_row, Row, settled, Text, Walk, with_default, options_app, demo, Flag, journal, local, Part, Setting, steps, table, thorough, turns, workers}
 use Rattle.solve_words.proofs.Rows.{bare_flag, held_at, option_rules, wish_rule, rows_for, rule_for, setting_rule, shape}
 use Rattle.solve_words.proofs.Walks.{at_part, end_of, no_faults, walk_at}
 

@@ -1,20 +1,9 @@
 -- What the parser finds in words, and what the words give.
-use Rattle.std.proofs.Common.{◌≡◌, ◌≢◌, ◌∙◌, inl, inr, sym, ap, subst, refl, ℕ, Bool, true, false, List, [], ◌∷◌, ◌++◌, codes, length, Option, Some, None, arith}
-use Rattle.std.specs.Prelude.{option_and_then, option_map, nat_le, ◌==◌, ◌&&◌, is_some}
-use Rattle.std.specs.List.{flat_map, list_all}
-use Rattle.std.specs.Option.{option_to_list}
-use Rattle.std.specs.Char.{is_ascii_digit}
-use Rattle.std.proofs.lemmas.Bool.{and_parts, cases_Bool, eqb-true, false≢true, true≢false}
+use Rattle.solve_words.proofs.Common.{◌≡◌, ◌≢◌, ◌∙◌, inl, inr, sym, ap, subst, refl, ℕ, Bool, true, false, List, [], ◌∷◌, ◌++◌, codes, length, Option, Some, None, arith, option_and_then, ◌==◌, is_some, flat_map, list_all, option_to_list, is_ascii_digit, and_parts, cases_Bool, eqb-true, false≢true, true≢false, fault_of, HasKind, IsAmong, Kinds, kind_of, matches_of, has_row, one_of, Text, has_separator, options_app, asked_in, budget_in, demo, demonstration_of, digits_in, flag, from_number, is_journal, is_number, journal, local, method_of, number, number_in, over_journal, path_in, Part, search_on, Setting, steps, table, thorough, turns, workers, workers_in, AreSpelled, Asked, Flag, Give, Given, IsFoundIn, IsGivenBy, IsReadAs, IsSpelled}
+use Rattle.std.specs.Prelude.{option_map, nat_le, ◌&&◌}
 use Rattle.std.proofs.lemmas.Option.{same_Some}
 use Rattle.clap.specs.declared.error.Error.{Error}
 use Rattle.clap.specs.declared.error.kind.ErrorKind.TheVariants as kind
-use Rattle.clap.specs.Faults.{fault_of}
-use Rattle.clap.specs.Kinds.{HasKind, IsAmong, Kinds}
-use Rattle.clap.specs.Values.{kind_of}
-use Rattle.clap.specs.Simple.{matches_of}
-use Rattle.clap.specs.Walk.{has_row, one_of, Text}
-use Rattle.solve_words.specs.Options.{has_separator, options_app}
-use Rattle.solve_words.specs.Words.{asked_in, budget_in, demo, demonstration_of, digits_in, flag, from_number, is_journal, is_number, journal, local, method_of, number, number_in, over_journal, path_in, Part, search_on, Setting, steps, table, thorough, turns, workers, workers_in, AreSpelled, Asked, Flag, Give, Given, IsFoundIn, IsGivenBy, IsReadAs, IsSpelled}
 use Rattle.solve_words.proofs.Classes.{first_apart, path_bare, IsBare}
 use Rattle.solve_words.proofs.Digits.{digit_small}
 use Rattle.solve_words.proofs.Ends.{fault_parts, matches_are, no_fault}
@@ -217,15 +206,6 @@ texts_found words texts plain none is = record {
 abbrev tail : List Text → List Text
 tail [] = []
 tail (x ∷ xs) = xs
-
-pub read_none : (words rest : List Text) → words ≡ codes "solve" ∷ rest → IsFoundIn rest None → IsReadAs words None
-read_none words rest is found = λ asked. (
-  λ asks. none_given asks.given (found.finds asks.given asked (subst (λ (r : List Text). IsGivenBy r asks.given) (sym (same_rest asks.rest asks.verb)) asks.gives) asks.asks),
-  λ e. absurd (false≢true (ap is_some e)),
-)
-  where
-    same_rest : (other : List Text) → words ≡ codes "solve" ∷ other → rest ≡ other
-    same_rest other e = ap tail (sym is ∙ e)
 
 pub read_some : (words rest : List Text) (texts : Given) → words ≡ codes "solve" ∷ rest → IsFoundIn rest (Some texts) → IsReadAs words (asked_in texts)
 read_some words rest texts is found = λ asked. (

@@ -1,14 +1,7 @@
 -- What the rows of parts give.
-use Rattle.std.proofs.Common.{◌≡◌, ◌∙◌, inl, inr, sym, ap, subst, refl, ℕ, ◌+◌, ◌≤◌, Bool, true, false, List, [], ◌∷◌, ◌++◌, codes, length, Option, Some, None, fold, arith}
-use Rattle.std.specs.Prelude.{◌||◌, cond, count_by, find, if◌then◌else◌, is_some, option_and_then, slice_get}
-use Rattle.std.specs.List.{flat_map}
-use Rattle.std.specs.Option.{option_to_list}
-use Rattle.std.specs.Str.{bytes_eq}
-use Rattle.std.proofs.lemmas.Bool.{cases_Bool, cases_eq, false≢true, or_parts, true≢false}
+use Rattle.solve_words.proofs.Common.{◌≡◌, ◌∙◌, inl, inr, sym, ap, subst, refl, ℕ, ◌+◌, ◌≤◌, Bool, true, false, List, [], ◌∷◌, ◌++◌, codes, length, Option, Some, None, fold, arith, ◌||◌, count_by, find, if◌then◌else◌, is_some, option_and_then, slice_get, flat_map, option_to_list, bytes_eq, cases_Bool, cases_eq, false≢true, or_parts, true≢false, DefaultValue, first_of, has_row, more_values, one_of, reading_by, Row, row_text, Text, with_default, demo, digits_in, flag, Flag, is_flag, journal, local, number, path_in, Part, Setting, steps, table, thorough, turns, workers, Give, Given}
+use Rattle.std.specs.Prelude.{cond}
 use Rattle.std.proofs.lemmas.List.Recursion.{is_count_by}
-use Rattle.clap.specs.declared.parser.matches.ValueSource.TheVariants.{DefaultValue}
-use Rattle.clap.specs.Walk.{first_of, has_row, more_values, one_of, reading_by, Row, row_text, Text, with_default}
-use Rattle.solve_words.specs.Words.{demo, digits_in, flag, Flag, is_flag, journal, local, number, path_in, Part, Setting, steps, table, thorough, turns, workers, Give, Given}
 use Rattle.solve_words.proofs.Rows.{at_none, bare_flag, bare_name, id_of, option_rules, wish_rule, row_for, rows_for, rule_for, setting_rule}
 use Rattle.solve_words.proofs.Singles.{no_row, no_times, times, Single}
 

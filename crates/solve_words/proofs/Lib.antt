@@ -1,3 +1,4 @@
+pub mod Common
 pub mod Classes
 pub mod Digits
 pub mod Ends

@@ -1,20 +1,8 @@
 -- What the parser keeps of parts: a row for each.
-use Rattle.std.proofs.Common.{◌≡◌, ◌∙◌, sym, ap, refl, Bool, true, false, List, [], ◌∷◌, ◌++◌, map, codes, Option, Some, None}
-use Rattle.std.specs.Prelude.{◌&&◌, not, if◌then◌else◌}
-use Rattle.std.specs.Option.{option_to_list}
-use Rattle.std.specs.Str.{bytes_eq}
-use Rattle.std.proofs.lemmas.Bool.{false≢true, or_parts}
-use Rattle.std.proofs.lemmas.List.{append-nil, map-append}
+use Rattle.solve_words.proofs.Common.{◌≡◌, ◌∙◌, sym, ap, refl, Bool, true, false, List, [], ◌∷◌, ◌++◌, map, codes, Option, Some, None, not, if◌then◌else◌, option_to_list, bytes_eq, false≢true, or_parts, append-nil, map-append, CommandLine, settle_fault, use_fault, Kinds, or_else, built, filled, Shape, with_index, at_row, has_row, Held, more_values, reading_by, Row, Rule, settled, Text, used, with_values, without, new_rule, flag_rule, option_rule, options_app, demo, flag, Flag, journal, local, number, Part, Setting, steps, table, thorough, turns, workers}
+use Rattle.std.specs.Prelude.{◌&&◌}
 use Rattle.clap.specs.declared.error.kind.ErrorKind.TheVariants as kind
-use Rattle.clap.specs.declared.parser.matches.ValueSource.TheVariants.{CommandLine}
 use Rattle.clap.specs.declared.builder.value_parser.Reading.{Reading}
-use Rattle.clap.specs.Faults.{settle_fault, use_fault}
-use Rattle.clap.specs.Kinds.{Kinds, or_else}
-use Rattle.clap.specs.Simple.{built, filled, Shape, with_index}
-use Rattle.clap.specs.Walk.{at_row, has_row, Held, more_values, reading_by, Row, Rule, settled, Text, used, with_values, without}
-use Rattle.clap.specs.Words.{new_rule}
-use Rattle.solve_words.specs.Options.{flag_rule, option_rule, options_app}
-use Rattle.solve_words.specs.Words.{demo, flag, Flag, journal, local, number, Part, Setting, steps, table, thorough, turns, workers}
 
 -- ---- the options
 

@@ -1,11 +1,5 @@
 -- Parts of which each kind stands at most once.
-use Rattle.std.proofs.Common.{◌≡◌, ◌∙◌, inl, inr, sym, subst, refl, ℕ, ◌+◌, ◌≤◌, true, false, List, [], ◌∷◌, ◌++◌, arith}
-use Rattle.std.specs.Prelude.{if◌then◌else◌}
-use Rattle.std.specs.Str.{bytes_eq}
-use Rattle.std.proofs.lemmas.Bool.{cases_Bool, or_parts}
-use Rattle.std.proofs.lemmas.Slice.Eq.{bytes_eq-Decides}
-use Rattle.clap.specs.Walk.{has_row, Text}
-use Rattle.solve_words.specs.Words.{Part}
+use Rattle.solve_words.proofs.Common.{◌≡◌, ◌∙◌, inl, inr, sym, subst, refl, ℕ, ◌+◌, ◌≤◌, true, false, List, [], ◌∷◌, ◌++◌, arith, if◌then◌else◌, bytes_eq, cases_Bool, or_parts, bytes_eq-Decides, has_row, Text, Part}
 use Rattle.solve_words.proofs.Rows.{id_of, rows_for}
 
 -- how many parts have an id

@@ -1,18 +1,8 @@
 -- Every word is the name of an option, one with its number, a flag that is a wish, no flag at all, or a flag that is refused.
-use Rattle.std.proofs.Common.{◌≡◌, ◌≢◌, ◌∙◌, inl, inr, sym, ap, subst, refl, ℕ, zero, suc, ◌<◌, Bool, true, false, List, [], ◌∷◌, ◌++◌, length, codes, Option, Some, None, arith}
-use Rattle.std.specs.Prelude.{◌⊎◌, ◌==◌, if◌then◌else◌, IfSome, slice_get}
-use Rattle.std.specs.Option.{option_map_or}
-use Rattle.std.specs.Str.{bytes_eq, chars}
-use Rattle.std.proofs.lemmas.Bool.{cases_Bool, eqb-true, false≢true}
-use Rattle.std.proofs.lemmas.Slice.Eq.{bytes_eq-Decides}
+use Rattle.solve_words.proofs.Common.{◌≡◌, ◌≢◌, ◌∙◌, inl, inr, sym, ap, subst, refl, ℕ, zero, suc, ◌<◌, Bool, true, false, List, [], ◌∷◌, ◌++◌, length, codes, Option, Some, None, arith, ◌⊎◌, ◌==◌, if◌then◌else◌, IfSome, slice_get, option_map_or, bytes_eq, chars, cases_Bool, eqb-true, false≢true, bytes_eq-Decides, bundle_fault, bundle_step_fault, flag_word_fault, flags_fault, long_fault, word_fault, Kinds, long_of, name_and_value, short_of, arg_by_long, idle, option, positional, Row, Rule, Text, Waiting, demo, Flag, local, name_of, name_of_flag, Setting, steps, table, thorough, turns, workers}
 use Rattle.clap.specs.declared.error.kind.ErrorKind.TheVariants as kind
-use Rattle.clap.specs.Faults.{bundle_fault, bundle_step_fault, flag_word_fault, flags_fault, long_fault, word_fault}
-use Rattle.clap.specs.Kinds.{Kinds}
-use Rattle.clap.specs.Lexer.{long_of, name_and_value, short_of}
-use Rattle.clap.specs.Walk.{arg_by_long, idle, option, positional, Row, Rule, Text, Waiting}
 use Rattle.clap.proofs.CutLemmas.{Lacks}
 use Rattle.clap.proofs.LexerLemmas.{name_and_value-at, name_and_value-without}
-use Rattle.solve_words.specs.Words.{demo, Flag, local, name_of, name_of_flag, Setting, steps, table, thorough, turns, workers}
 use Rattle.solve_words.proofs.Rows.{bare_flag, bare_name, option_rules, shape}
 use Rattle.std.proofs.lemmas.Bool.Decides.{nat_tests}
 use Rattle.solve_words.proofs.Classes.{first_apart, held_of, IsBare}

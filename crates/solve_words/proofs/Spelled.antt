@@ -1,15 +1,5 @@
 -- The parser takes the words of lawful parts.
-use Rattle.std.proofs.Common.{◌≡◌, ◌∙◌, inl, inr, sym, ap, ap₂, subst, refl, ◌≤◌, Bool, true, false, List, [], ◌∷◌, ◌++◌, codes, length, Option, Some, None, arith}
-use Rattle.std.specs.Prelude.{if◌then◌else◌}
-use Rattle.std.specs.Option.{option_to_list}
-use Rattle.std.specs.Str.{bytes_eq}
-use Rattle.std.proofs.lemmas.Bool.{cases_Bool}
-use Rattle.std.proofs.lemmas.Slice.Eq.{bytes_eq-Decides}
-use Rattle.std.proofs.lemmas.List.{append-nil, append_assoc}
-use Rattle.clap.specs.Faults.{react_fault, settle_fault, turn_fault, use_fault, walk_fault}
-use Rattle.clap.specs.Kinds.{Kinds, or_else}
-use Rattle.clap.specs.Walk.{has_row, Held, reacted, settled, Text, Walk, walked}
-use Rattle.solve_words.specs.Words.{demo, flag, journal, local, name_of, name_of_flag, number, Part, Setting, steps, table, thorough, turns, workers, AreSpelled, Flag, Give, Given, IsSpelled}
+use Rattle.solve_words.proofs.Common.{◌≡◌, ◌∙◌, inl, inr, sym, ap, ap₂, subst, refl, ◌≤◌, Bool, true, false, List, [], ◌∷◌, ◌++◌, codes, length, Option, Some, None, arith, if◌then◌else◌, option_to_list, bytes_eq, cases_Bool, bytes_eq-Decides, append-nil, append_assoc, react_fault, settle_fault, turn_fault, use_fault, walk_fault, Kinds, or_else, has_row, Held, reacted, settled, Text, Walk, walked, demo, flag, journal, local, name_of, name_of_flag, number, Part, Setting, steps, table, thorough, turns, workers, AreSpelled, Flag, Give, Given, IsSpelled}
 use Rattle.solve_words.proofs.Rows.{bare_flag, bare_name, given_by, held_at, id_of, option_rules, rows_for, rule_for, settle_passes, settled_at, shape, use_fresh, IsNewLast, MayWait, row_more}
 use Rattle.solve_words.proofs.Classes.{number_fault, number_walked, path_fault, path_walked, IsBare}
 use Rattle.solve_words.proofs.Giving.{digit_times, flag_times, path_times}

@@ -1,10 +1,5 @@
 -- What the parser's walk makes of one word.
-use Rattle.std.proofs.Common.{◌≡◌, refl, ℕ, Bool, false, List, [], ◌∷◌, ◌++◌, codes, Some, None}
-use Rattle.std.specs.Prelude.{if◌then◌else◌}
-use Rattle.clap.specs.Faults.{react_fault, settle_fault, turn_fault}
-use Rattle.clap.specs.Kinds.{or_else}
-use Rattle.clap.specs.Walk.{Held, idle, option, reacted, settled, Text, Walk, walked}
-use Rattle.solve_words.specs.Words.{demo, Flag, local, name_of, name_of_flag, Part, Setting, steps, table, thorough, turns, workers}
+use Rattle.solve_words.proofs.Common.{◌≡◌, refl, ℕ, Bool, false, List, [], ◌∷◌, ◌++◌, codes, Some, None, if◌then◌else◌, react_fault, settle_fault, turn_fault, or_else, Held, idle, option, reacted, settled, Text, Walk, walked, demo, Flag, local, name_of, name_of_flag, Part, Setting, steps, table, thorough, turns, workers}
 use Rattle.solve_words.proofs.Rows.{bare_name, option_rules, wish_rule, rows_for, setting_rule, shape}
 
 -- between two parts: the parts that have rows, the one that waits for its, and whether a path was met

@@ -1,15 +1,6 @@
 -- Words that the parser takes are the words of parts.
-use Rattle.std.proofs.Common.{◌≡◌, ◌∙◌, inl, inr, sym, ap, ap₂, subst, refl, Bool, true, false, List, [], ◌∷◌, ◌++◌, codes, Option, Some, None, fold}
-use Rattle.std.specs.Option.{option_to_list}
-use Rattle.std.specs.Str.{bytes_eq}
-use Rattle.std.proofs.lemmas.Bool.{false≢true, or_parts}
-use Rattle.std.proofs.lemmas.List.{append-nil, append_assoc}
+use Rattle.solve_words.proofs.Common.{◌≡◌, ◌∙◌, inl, inr, sym, ap, ap₂, subst, refl, Bool, true, false, List, [], ◌∷◌, ◌++◌, codes, Option, Some, None, fold, option_to_list, bytes_eq, false≢true, or_parts, append-nil, append_assoc, react_fault, settle_fault, turn_fault, use_fault, walk_fault, Kinds, or_else, Held, idle, option, reacted, Row, settled, Text, used, Walk, walked, demo, flag, Flag, journal, local, name_of, name_of_flag, number, Part, Setting, steps, table, thorough, turns, workers, AreSpelled, IsSpelled, has_separator}
 use Rattle.clap.specs.declared.error.kind.ErrorKind.TheVariants as kind
-use Rattle.clap.specs.Faults.{react_fault, settle_fault, turn_fault, use_fault, walk_fault}
-use Rattle.clap.specs.Kinds.{Kinds, or_else}
-use Rattle.clap.specs.Walk.{Held, idle, option, reacted, Row, settled, Text, used, Walk, walked}
-use Rattle.solve_words.specs.Words.{demo, flag, Flag, journal, local, name_of, name_of_flag, number, Part, Setting, steps, table, thorough, turns, workers, AreSpelled, IsSpelled}
-use Rattle.solve_words.specs.Options.{has_separator}
 use Rattle.solve_words.proofs.Rows.{bare_name, given_by, held_at, option_rules, wish_rule, pending_for, rows_for, rule_for, setting_rule, settle_new, settled_at, shape, use_new, IsNewLast, MayWait, row_more}
 use Rattle.solve_words.proofs.Classes.{number_walked, path_fault, path_walked, second_path_fault}
 use Rattle.solve_words.proofs.Sorting.{assigned, bare, named, separator, sort_of, strange, wished, Sort}

@@ -1,10 +1,5 @@
 -- What words ask for has its numbers within their limits.
-use Rattle.std.proofs.Common.{◌≡◌, ℕ, ◌≤◌, Bool, true, false, ◌&&◌, cond, List, refl, subst, arith, nat_le, Option, Some, None, option_map}
-use Rattle.std.specs.Prelude.{option_and_then, is_some, ◌||◌, IfSome}
-use Rattle.std.specs.Str.Parse.{digits_value}
-use Rattle.std.proofs.lemmas.Bool.{and_parts, leb-true}
-use Rattle.solve_words.specs.Asked.{asked}
-use Rattle.solve_words.specs.Words.{from_number, over_journal, Asked, Asks, Given, IsReadAs, IsWithin, asked_by, budget_in, demonstration_of, is_journal, is_number, method_in, number_in, number_within, search_on, workers_in}
+use Rattle.solve_words.proofs.Common.{◌≡◌, ℕ, ◌≤◌, Bool, true, false, ◌&&◌, cond, List, refl, subst, arith, nat_le, Option, Some, None, option_map, option_and_then, is_some, ◌||◌, IfSome, digits_value, and_parts, leb-true, asked, from_number, over_journal, Asked, Asks, Given, IsReadAs, IsWithin, asked_by, budget_in, demonstration_of, is_journal, is_number, method_in, number_in, number_within, search_on, workers_in}
 use Rattle.solve_words.specs.Words.{demo as demo_setting, workers as workers_setting}
 use Rattle.solve_words.specs.declared.command.Command.{Command}
 

@@ -6,7 +6,7 @@ use plan_base::{Disk, MemDisk};
 use std::alloc::{AllocError, Global};
 use std::test::Fail;
 
-// The head 7 8 9 and the record 4 5.
+// The header 7 8 9 and the record 4 5.
 const WHOLE: [u8; 23] = [
     b'S', b'H', b'I', b'F', b'T', b'J', b'2', b'\n', 3, 0, 0, 0, 7, 8, 9, 1, 2, 0, 0, 0, 4, 5, 0,
 ];
@@ -27,7 +27,7 @@ fn written_disk(alloc: Global) -> Result<MemDisk, JournalFault>
     Ok(disk)
 }
 
-/// Where the journal of a disk ends, its head and its records.
+/// Where the journal of a disk ends, its header and its records.
 type Found = (u64, Vec<u8>, Vec<Vec<u8>>);
 
 /// What is found in the journal of a disk.

@@ -1,9 +1,7 @@
-//! Tests of disks, journals, the core of a run that crashes, what is known of a node before it is searched, the state that many records make, the order in which open
-//! nodes are taken, and journals of the first version and their way to the present one, over disks and sinks in memory of which a call fails.
+//! Tests of disks, journals, what is known of a node before it is searched, the state that many records make, the order in which open nodes are taken,
+//! and journals of the first version and their way to the present one, over disks and sinks in memory of which a call fails.
 #![tactic(auto)]
 
-#[cfg(test)]
-mod crashes;
 #[cfg(test)]
 mod disks;
 #[cfg(test)]

@@ -1,11 +1,5 @@
 -- Which node a search takes next, found node by node.
-use Rattle.std.proofs.Common.{◌≡◌, ◌⊎◌, inl, inr, ℕ, ◌+◌, ◌<◌, ◌≤◌, Bool, true, false, not, List, length, refl, sym, ap, ◌∙◌, subst, arith, nat_lt, Option, Some, None}
-use Rattle.std.specs.Prelude.{slice_get, MatchOption, IsSomeAnd, IsFalse}
-use Rattle.std.proofs.lemmas.Bool.{and_parts, and_from, cases_Bool, cases_lt, lt-ltb, ltb-true, false≢true, not-true}
-use Rattle.std.proofs.lemmas.Option.{slice_get_within}
-use Rattle.head_splits.specs.Nodes.{Node}
-use Rattle.report_grafts.proofs.Places.{same_some}
-use Rattle.subtree_search.specs.Searching.{is_open, IsNext}
+use Rattle.subtree_search.proofs.Common.{◌≡◌, ◌⊎◌, inl, inr, ℕ, ◌+◌, ◌<◌, ◌≤◌, Bool, true, false, not, List, length, refl, sym, ap, ◌∙◌, subst, arith, nat_lt, Option, Some, None, slice_get, MatchOption, IsSomeAnd, IsFalse, and_parts, and_from, cases_Bool, cases_lt, lt-ltb, ltb-true, false≢true, not-true, slice_get_within, Node, same_some, is_open, IsNext}
 
 -- an open node is unsplit, and its floor is less
 pub open_parts : (cost : ℕ) (n : Node) → is_open cost n ≡ true → (n.split ≡ false) × (n.floor < cost)
@@ -19,9 +13,6 @@ pub record Found (nodes : List Node) (cost n : ℕ) (next : Option ℕ) (floor :
   pub most : floor ≤ cost
   pub best : MatchOption next (floor ≡ cost) (λ k. (x : Node) × (k < n) × (slice_get nodes k ≡ Some x) × (is_open cost x ≡ true) × (x.floor ≡ floor))
   pub least : (j : ℕ) (m : Node) → j < n → slice_get nodes j ≡ Some m → is_open cost m ≡ true → (floor < m.floor) ⊎ ((floor ≡ m.floor) × IsSomeAnd next (λ k. k ≤ j))
-
-pub none_found : (nodes : List Node) (cost : ℕ) → Found nodes cost 0 None cost
-none_found nodes cost = record { most = omega arith; best = refl; least = λ j m p. absurd (omega (arith, p)) }
 
 -- an open node of less floor is found
 pub found_better : (nodes : List Node) (cost n : ℕ) (next : Option ℕ) (floor : ℕ) (x : Node) → Found nodes cost n next floor → slice_get nodes n ≡ Some x → is_open floor x ≡ true → Found nodes cost (n + 1) (Some n) x.floor

@@ -1,35 +1,8 @@
 -- Each step closes a node, so a search of many steps is finished.
-use Rattle.std.proofs.Common.{◌≡◌, inl, inr, ℕ, zero, suc, ◌+◌, ◌<◌, ◌≤◌, min, true, false, cond, ◌&&◌, List, [], ◌∷◌, ◌++◌, length, set, refl, sym, ap, ◌∙◌, subst, arith, sum_by, nat_lt, Option, Some, None}
-use Rattle.std.specs.Prelude.{slice_get, MatchOption}
-use Rattle.std.proofs.lemmas.Bool.{and_from, and_parts, cases_Bool, cases_lt, cond_both, eq-eqb, false≢true, lt-ltb, ltb-true, not-false}
-use Rattle.std.proofs.lemmas.List.{append-nil, set-set}
+use Rattle.subtree_search.proofs.Common.{◌≡◌, inl, inr, ℕ, zero, suc, ◌+◌, ◌<◌, ◌≤◌, min, true, false, cond, ◌&&◌, List, [], ◌∷◌, ◌++◌, length, set, refl, sym, ap, ◌∙◌, subst, arith, sum_by, nat_lt, Option, Some, None, slice_get, MatchOption, and_from, and_parts, cases_Bool, cases_lt, cond_both, eq-eqb, false≢true, lt-ltb, ltb-true, not-false, append-nil, set-set, sum_by-cons, sum_by-append, Has, TOP, Problem, IsValid, cost, rota_of, is_legal_rota, Costing, Cut, AtMost, AtLeast, meets, meets_cut, is_empty, settled_plan, Node, child, settled_floor, Has-slice_get, floor_from, Settled, Splitting, IsPlan, sum_set, floor_up_to, is_finished, FloorsFrom, least_from, set_same, Searching, is_open, offered, priced, settled, top, top_of, priced_node, run_of, steps_enough, AreSteps, IsClose, IsStep, by_price, by_division, by_settling, none, one_more}
 use Rattle.std.proofs.lemmas.List.Folds.{list_all-append}
-use Rattle.std.proofs.lemmas.List.Sums.{sum_by-cons, sum_by-append}
-use Rattle.break_rules.specs.Lists.{Has}
-use Rattle.shift_instance.specs.declared.TheConstants.{TOP}
-use Rattle.shift_instance.specs.Problem.{Problem}
-use Rattle.shift_instance.specs.Valid.{IsValid}
-use Rattle.shift_instance.specs.Rota.{cost, rota_of, is_legal_rota}
-use Rattle.rota_cost.specs.Costed.{Costing}
-use Rattle.head_splits.specs.declared.Cut.{Cut}
-use Rattle.head_splits.specs.declared.Side.TheVariants.{AtMost, AtLeast}
-use Rattle.head_splits.specs.Cuts.{meets, meets_cut}
-use Rattle.head_splits.specs.Settled.{is_empty, settled_plan}
-use Rattle.head_splits.specs.Nodes.{Node, child, settled_floor}
-use Rattle.head_splits.proofs.Nodes.{Has-slice_get, floor_from}
 use Rattle.head_splits.proofs.PlanRows.{rota_of-settled_rows}
-use Rattle.certificate.specs.declared.proof_lines.Line.TheVariants.{Settled}
-use Rattle.advice.specs.declared.advice.Splitting.{Splitting}
-use Rattle.dual_bound.specs.Settling.{IsPlan}
 use Rattle.dual_bound.proofs.PlanFloor.{plan_floor}
-use Rattle.search_core.proofs.FewNodes.{sum_set}
-use Rattle.report_grafts.specs.Run.{floor_up_to, is_finished}
-use Rattle.report_grafts.proofs.Lines.{FloorsFrom, least_from}
-use Rattle.report_grafts.proofs.Places.{set_same}
-use Rattle.subtree_search.specs.Searching.{Searching, is_open, offered, priced, settled, top, top_of}
-use Rattle.subtree_search.specs.Stepping.{priced_node, run_of, steps_enough, AreSteps, IsClose, IsStep}
-use Rattle.subtree_search.specs.Stepping.IsClose.{by_price, by_division, by_settling}
-use Rattle.subtree_search.specs.Stepping.AreSteps.{none, one_more}
 use Rattle.subtree_search.proofs.Chosen.{open_parts, open_from}
 use Rattle.subtree_search.proofs.Few.{few_nodes}
 use Rattle.subtree_search.proofs.Sound.{Begins, Holds, offered_nodes, steps_hold}

@@ -1,26 +1,7 @@
 -- A search has few nodes: each split lowers the span.
-use Rattle.std.proofs.Common.{◌≡◌, ℕ, zero, suc, ◌+◌, ◌*◌, ◌^◌, ◌<◌, ◌≤◌, true, false, cond, List, [], ◌∷◌, ◌++◌, length, set, refl, sym, ap, ◌∙◌, subst, arith, sum_by, Option, Some}
-use Rattle.std.specs.Prelude.{slice_get}
-use Rattle.std.proofs.lemmas.Bool.{cond_both}
-use Rattle.std.proofs.lemmas.List.Sums.{sum_by-cons, sum_by-append}
-use Rattle.std.proofs.lemmas.List.{length-append, length-set}
+use Rattle.subtree_search.proofs.Common.{◌≡◌, ℕ, zero, suc, ◌+◌, ◌*◌, ◌^◌, ◌<◌, ◌≤◌, true, false, cond, List, [], ◌∷◌, ◌++◌, length, set, refl, sym, ap, ◌∙◌, subst, arith, sum_by, Option, Some, slice_get, cond_both, sum_by-cons, sum_by-append, length-append, length-set, Problem, Class, Cut, AtMost, AtLeast, span, Node, child, with_floor, with_split, settled_floor, span_left, span_right, Settled, sum_set, Splitting, set_same, Searching, is_open, offered, priced, settled, top, priced_node, steps_enough, AreSteps, IsClose, IsDivision, IsStep, by_price, by_division, by_settling, none, one_more}
 use Rattle.std.proofs.lemmas.Nat.{pow_pos}
 use Rattle.std.proofs.Math.Nat.{pow-le-pow_right, pow-suc}
-use Rattle.shift_instance.specs.Problem.{Problem}
-use Rattle.head_splits.specs.declared.Class.{Class}
-use Rattle.head_splits.specs.declared.Cut.{Cut}
-use Rattle.head_splits.specs.declared.Side.TheVariants.{AtMost, AtLeast}
-use Rattle.head_splits.specs.Settled.{span}
-use Rattle.head_splits.specs.Nodes.{Node, child, with_floor, with_split, settled_floor}
-use Rattle.head_splits.proofs.Splits.{span_left, span_right}
-use Rattle.certificate.specs.declared.proof_lines.Line.TheVariants.{Settled}
-use Rattle.search_core.proofs.FewNodes.{sum_set}
-use Rattle.advice.specs.declared.advice.Splitting.{Splitting}
-use Rattle.report_grafts.proofs.Places.{set_same}
-use Rattle.subtree_search.specs.Searching.{Searching, is_open, offered, priced, settled, top}
-use Rattle.subtree_search.specs.Stepping.{priced_node, steps_enough, AreSteps, IsClose, IsDivision, IsStep}
-use Rattle.subtree_search.specs.Stepping.IsClose.{by_price, by_division, by_settling}
-use Rattle.subtree_search.specs.Stepping.AreSteps.{none, one_more}
 use Rattle.subtree_search.proofs.Chosen.{open_parts}
 use Rattle.subtree_search.proofs.Sound.{offered_nodes}
 

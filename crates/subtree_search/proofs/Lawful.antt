@@ -1,25 +1,11 @@
 -- Which prices and which splits count.
-use Rattle.std.proofs.Common.{◌≡◌, ◌∙◌, ℕ, ◌<◌, ◌≤◌, ◌&&◌, inl, inr, true, false, cond, List, nat_le, nat_lt, refl, sym, ap, subst, Option, Some, None}
-use Rattle.std.proofs.lemmas.Bool.{and_parts, cases_Bool, leb-true, ltb-true}
-use Rattle.std.specs.Prelude.{IsTrue, MatchOption}
+use Rattle.subtree_search.proofs.Common.{◌≡◌, ◌∙◌, ℕ, ◌<◌, ◌≤◌, ◌&&◌, inl, inr, true, false, cond, List, nat_le, nat_lt, refl, sym, ap, subst, Option, Some, None, and_parts, cases_Bool, leb-true, ltb-true, IsTrue, MatchOption, Problem, Class, Cut, Prices, are_prices, low, high, is_live_class, Splitting, Proving, IsProved, Fixing, Open, is_lawful, lawful_prices, lawful_split, no_prices, IsBoundFor, IsClosing}
 use Rattle.break_rules.specs.Causes.{first_cause}
-use Rattle.shift_instance.specs.Problem.{Problem}
-use Rattle.head_splits.specs.declared.Class.{Class}
-use Rattle.head_splits.specs.declared.Cut.{Cut}
-use Rattle.head_splits.specs.declared.Prices.{Prices}
-use Rattle.head_splits.specs.Bound.{are_prices}
-use Rattle.head_splits.specs.Cuts.{low, high}
-use Rattle.head_splits.specs.Settled.{is_live_class}
-use Rattle.advice.specs.declared.advice.Splitting.{Splitting}
 use Rattle.dual_bound.specs.Faults.{price_causes, Answers}
 use Rattle.dual_bound.specs.Fixing.{IsFixing, SplitsLive}
-use Rattle.dual_bound.specs.Proved.{Proving, IsProved}
 use Rattle.dual_bound.specs.declared.PriceFault.{PriceFault}
 use Rattle.dual_bound.specs.declared.PriceFault.TheVariants.{NoMemory}
-use Rattle.dual_bound.specs.declared.settling.Fixing.{Fixing}
-use Rattle.dual_bound.specs.declared.settling.Fixing.TheVariants.{Open}
 use Rattle.dual_bound.proofs.Causes.{faultless}
-use Rattle.subtree_search.specs.Stepping.{is_lawful, lawful_prices, lawful_split, no_prices, IsBoundFor, IsClosing}
 
 -- ---- prices
 

@@ -1,3 +1,4 @@
+pub mod Common
 pub mod Chosen
 pub mod Lawful
 pub mod Sound

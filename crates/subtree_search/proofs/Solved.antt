@@ -1,21 +1,6 @@
 -- The run of a search that has ended.
-use Rattle.std.proofs.Common.{◌≡◌, ◌⊎◌, inl, inr, ℕ, ◌+◌, ◌-◌, ◌<◌, ◌≤◌, ◌^◌, Bool, true, false, List, length, refl, sym, ap, ◌∙◌, subst, arith, Option, Some, None}
-use Rattle.std.specs.Prelude.{slice_get, IsSomeAnd, IsTrue, MatchOption}
-use Rattle.std.proofs.lemmas.Bool.{false≢true}
-use Rattle.std.proofs.lemmas.Option.{slice_get_within}
-use Rattle.shift_instance.specs.declared.TheConstants.{TOP}
-use Rattle.shift_instance.specs.Problem.{Problem}
-use Rattle.shift_instance.specs.Valid.{IsValid}
-use Rattle.head_splits.specs.declared.Cut.{Cut}
-use Rattle.head_splits.specs.Nodes.{Node}
-use Rattle.advice.specs.declared.advice.Advice.{Advice}
-use Rattle.advisers.specs.Advised.{greedy_advice, kept_after, plan_with_cost, IsOwn}
+use Rattle.subtree_search.proofs.Common.{◌≡◌, ◌⊎◌, inl, inr, ℕ, ◌+◌, ◌-◌, ◌<◌, ◌≤◌, ◌^◌, Bool, true, false, List, length, refl, sym, ap, ◌∙◌, subst, arith, Option, Some, None, slice_get, IsSomeAnd, IsTrue, MatchOption, false≢true, slice_get_within, TOP, Problem, IsValid, Cut, Node, Advice, greedy_advice, kept_after, plan_with_cost, IsOwn, Run, is_finished, IsSound, Searching, opening, top, IsNext, run_of, steps_enough, AreGreedySteps, AreSteps, IsGreedyRun, IsGreedyStep, IsSearched, IsStep, IsStepBy, WhyEnds, none, one_more, no_step, greedy_step}
 use Rattle.advisers.specs.declared.greedy_plan.GreedyPlan.{GreedyPlan}
-use Rattle.report_grafts.specs.Run.{Run, is_finished, IsSound}
-use Rattle.subtree_search.specs.Searching.{Searching, opening, top, IsNext}
-use Rattle.subtree_search.specs.Stepping.{run_of, steps_enough, AreGreedySteps, AreSteps, IsGreedyRun, IsGreedyStep, IsSearched, IsStep, IsStepBy, WhyEnds}
-use Rattle.subtree_search.specs.Stepping.AreSteps.{none, one_more}
-use Rattle.subtree_search.specs.Stepping.AreGreedySteps.{no_step, greedy_step}
 use Rattle.subtree_search.proofs.Enough.{enough_steps, none_open, step_closes}
 use Rattle.subtree_search.proofs.Sound.{cuts_few, number_small, run_sound, steps_hold}
 

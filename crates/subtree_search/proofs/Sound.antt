@@ -1,41 +1,10 @@
 -- Steps keep a search sound.
-use Rattle.std.proofs.Common.{◌≡◌, inl, inr, ℕ, zero, suc, ◌+◌, ◌*◌, ◌^◌, ◌<◌, ◌≤◌, Bool, true, false, cond, ◌&&◌, not, List, [], ◌∷◌, ◌++◌, length, set, refl, sym, ap, ◌∙◌, subst, append_assoc, arith, nat_lt, Option, Some, None}
-use Rattle.std.specs.Prelude.{slice_get, IsTrue, IfSome, MatchOption}
-use Rattle.std.specs.Option.{option_map_or}
-use Rattle.std.proofs.lemmas.Bool.{and_parts, and_from, lt-ltb, le-leb, ltb-true, cond_both, false≢true}
-use Rattle.std.proofs.lemmas.List.{length_push, append-nil}
-use Rattle.std.proofs.lemmas.List.Sums.{sum_by-append}
-use Rattle.std.proofs.lemmas.Option.{slice_get_within}
+use Rattle.subtree_search.proofs.Common.{◌≡◌, inl, inr, ℕ, zero, suc, ◌+◌, ◌*◌, ◌^◌, ◌<◌, ◌≤◌, Bool, true, false, cond, ◌&&◌, not, List, [], ◌∷◌, ◌++◌, length, set, refl, sym, ap, ◌∙◌, subst, append_assoc, arith, nat_lt, Option, Some, None, slice_get, IsTrue, IfSome, MatchOption, option_map_or, and_parts, and_from, lt-ltb, le-leb, ltb-true, cond_both, false≢true, length_push, append-nil, sum_by-append, slice_get_within, Has, Problem, shift_list, IsValid, rota_of, is_shift_and, Costing, IsCosted, Class, Cut, Prices, AtMost, AtLeast, are_prices, meets, high, is_empty, is_settled, Node, new_node, child, with_split, settled_floor, Has-slice_get, from_set, high_most, Split, Priced, Settled, Splitting, Settling, IsPlan, is_division, is_pricing, divisions, pricings, IsBest, IsSound, after_append, counted_lines, one_good, set_same, Searching, divided, is_open, offered, opening, priced, settled, top, top_of, priced_node, run_of, AreSteps, IsClose, IsDivision, IsOffer, IsSettlement, IsStep, by_price, by_division, by_settling, none, one_more}
 use Rattle.break_rules.specs.Breaks.{is_live}
-use Rattle.break_rules.specs.Lists.{Has}
 use Rattle.break_rules.proofs.Lists.{Has-append_cases}
-use Rattle.shift_instance.specs.Problem.{Problem, shift_list}
-use Rattle.shift_instance.specs.Valid.{IsValid}
-use Rattle.shift_instance.specs.Rota.{rota_of, is_shift_and}
-use Rattle.rota_cost.specs.Costed.{Costing, IsCosted}
-use Rattle.head_splits.specs.declared.Class.{Class}
-use Rattle.head_splits.specs.declared.Cut.{Cut}
-use Rattle.head_splits.specs.declared.Prices.{Prices}
-use Rattle.head_splits.specs.declared.Side.TheVariants.{AtMost, AtLeast}
-use Rattle.head_splits.specs.Bound.{are_prices}
-use Rattle.head_splits.specs.Cuts.{meets, high}
-use Rattle.head_splits.specs.Settled.{is_empty, is_settled}
-use Rattle.head_splits.specs.Nodes.{Node, new_node, child, with_split, settled_floor}
-use Rattle.head_splits.proofs.Nodes.{Has-slice_get, from_set}
-use Rattle.head_splits.proofs.Splits.{high_most}
 use Rattle.certificate.specs.declared.proof_lines.Line.{Line}
-use Rattle.certificate.specs.declared.proof_lines.Line.TheVariants.{Split, Priced, Settled}
 use Rattle.certificate.specs.Accepted.{is_split, node_line, node_of, nodes_after}
-use Rattle.advice.specs.declared.advice.Splitting.{Splitting}
-use Rattle.dual_bound.specs.Settling.{Settling, IsPlan}
 use Rattle.search_core.proofs.Fits.{class_few}
-use Rattle.report_grafts.specs.Run.{is_division, is_pricing, divisions, pricings, IsBest, IsSound}
-use Rattle.report_grafts.proofs.Lines.{after_append, counted_lines, one_good}
-use Rattle.report_grafts.proofs.Places.{set_same}
-use Rattle.subtree_search.specs.Searching.{Searching, divided, is_open, offered, opening, priced, settled, top, top_of}
-use Rattle.subtree_search.specs.Stepping.{priced_node, run_of, AreSteps, IsClose, IsDivision, IsOffer, IsSettlement, IsStep}
-use Rattle.subtree_search.specs.Stepping.IsClose.{by_price, by_division, by_settling}
-use Rattle.subtree_search.specs.Stepping.AreSteps.{none, one_more}
 use Rattle.subtree_search.proofs.Chosen.{open_parts}
 
 -- a rota that a search may keep

@@ -1,29 +1,5 @@
 -- What the parts of a step make of a search.
-use Rattle.std.proofs.Common.{◌≡◌, ℕ, ◌+◌, ◌<◌, ◌≤◌, Bool, true, false, cond, List, [], ◌∷◌, ◌++◌, length, set, sym, ap, ◌∙◌, subst, arith, Option, Some, None}
-use Rattle.std.specs.Prelude.{slice_get, IsTrue, IsSomeAnd}
-use Rattle.std.specs.Option.{option_map}
-use Rattle.std.proofs.lemmas.Bool.{cond_both}
-use Rattle.std.proofs.lemmas.List.{length-append, length-set}
-use Rattle.std.proofs.lemmas.Option.{slice_get_within}
-use Rattle.shift_instance.specs.Problem.{Problem}
-use Rattle.shift_instance.specs.Valid.{IsValid}
-use Rattle.rota_cost.specs.Costed.{Costing}
-use Rattle.head_splits.specs.declared.Class.{Class}
-use Rattle.head_splits.specs.declared.Cut.{Cut}
-use Rattle.head_splits.specs.declared.Side.TheVariants.{AtMost, AtLeast}
-use Rattle.head_splits.specs.Bound.{are_prices}
-use Rattle.head_splits.specs.Nodes.{Node, child, settled_floor, with_floor}
-use Rattle.advice.specs.declared.advice.Advice.{Advice}
-use Rattle.advice.specs.declared.advice.Splitting.{Splitting}
-use Rattle.dual_bound.specs.Proved.{Proving, IsProved}
-use Rattle.dual_bound.specs.Settling.{Settling}
-use Rattle.dual_bound.specs.declared.settling.Fixing.{Fixing}
-use Rattle.dual_bound.specs.declared.settling.Fixing.TheVariants.{Open, Done}
-use Rattle.certificate.specs.declared.proof_lines.Line.TheVariants.{Split, Settled}
-use Rattle.report_grafts.proofs.Places.{set_same}
-use Rattle.subtree_search.specs.Searching.{Searching, divided, is_open, offered, priced, settled, top, IsNext}
-use Rattle.subtree_search.specs.Stepping.{lawful_plan, lawful_prices, priced_node, IsClose, IsClosing, IsDivision, IsOffer, IsSettlement, IsStepBy}
-use Rattle.subtree_search.specs.Stepping.IsClose.{by_price, by_division, by_settling}
+use Rattle.subtree_search.proofs.Common.{◌≡◌, ℕ, ◌+◌, ◌<◌, ◌≤◌, Bool, true, false, cond, List, [], ◌∷◌, ◌++◌, length, set, sym, ap, ◌∙◌, subst, arith, Option, Some, None, slice_get, IsTrue, IsSomeAnd, option_map, cond_both, length-append, length-set, slice_get_within, Problem, IsValid, Costing, Class, Cut, AtMost, AtLeast, are_prices, Node, child, settled_floor, with_floor, Advice, Splitting, Proving, IsProved, Settling, Fixing, Open, Done, Split, Settled, set_same, Searching, divided, is_open, offered, priced, settled, top, IsNext, lawful_plan, lawful_prices, priced_node, IsClose, IsClosing, IsDivision, IsOffer, IsSettlement, IsStepBy, by_price, by_division, by_settling}
 use Rattle.subtree_search.proofs.Sound.{division_good, offered_nodes}
 
 -- the number of a split is small
@@ -33,10 +9,6 @@ division_small i cuts class m valid d = let less : m < 200 = (division_good i cu
 -- a node that a search takes is one of its own
 pub next_within : (nodes : List Node) (cost k : ℕ) (n : Node) → IsNext nodes cost k n → k < length nodes
 next_within nodes cost k n next = slice_get_within nodes k n next.there
-
--- an offer makes no nodes
-pub offered_length : (s o : Searching) (plan : Option Costing) → o ≡ offered s plan → length o.nodes ≡ length s.nodes
-offered_length s o plan e = ap (λ (x : Searching). length x.nodes) e ∙ ap (λ (ns : List Node). length ns) (offered_nodes s plan)
 
 settled_longer : (i : Problem) (k : ℕ) (n : Node) (s : Searching) → length s.nodes ≤ length (settled i k n s).nodes
 settled_longer i k n s =
@@ -60,15 +32,6 @@ close_longer i k n s t (by_settling node open_one st) =
 
 -- ---- how a node is closed
 
--- a node is split, part by part
-pub parts_made : (k : ℕ) (class : Class) (m : ℕ) (s d : Searching) (a b : Node) (found : Option Node) → IsSomeAnd found (λ n. a ≡ child n class AtMost m) → IsSomeAnd found (λ n. b ≡ child n class AtLeast (m + 1))
-    → IsSomeAnd found (λ n. d ≡ record s { nodes = set s.nodes k (record n { split = true }); lines = s.lines ++ Split k class m ∷ [] }) → (t : Searching) → t ≡ record d { nodes = d.nodes ++ a ∷ b ∷ [] } → IsSomeAnd found (λ n. t ≡ divided k n class m s)
-parts_made k class m s d a b None first second made t is = absurd first
-parts_made k class m s d a b (Some n) first second made t is =
-    is ∙ ap (λ (x : Searching). record x { nodes = x.nodes ++ a ∷ b ∷ [] }) made
-    ∙ ap (λ (x : Node). record s { nodes = set s.nodes k (record n { split = true }) ++ x ∷ b ∷ []; lines = s.lines ++ Split k class m ∷ [] }) first
-    ∙ ap (λ (x : Node). record s { nodes = set s.nodes k (record n { split = true }) ++ child n class AtMost m ∷ x ∷ []; lines = s.lines ++ Split k class m ∷ [] }) second
-
 at_offered : (P : Node → Type 0) (s : Searching) (plan : Option Costing) (k : ℕ) → IsSomeAnd (slice_get (offered s plan).nodes k) P → IsSomeAnd (slice_get s.nodes k) P
 at_offered P s plan k h = subst (λ (ns : List Node). IsSomeAnd (slice_get ns k) P) (offered_nodes s plan) h
 
@@ -89,18 +52,6 @@ settled_made i k s o t plan p answer floor oe pe fe asked hit made =
     go (Some n) a b = λ st.
         b ∙ ap (λ f. record o { nodes = with_floor o.nodes k n f; lines = o.lines ++ Settled k ∷ [] }) (fe ∙ settled_floors i n.cuts p st)
         ∙ sym (ap (λ x. cond x (record o { nodes = with_floor o.nodes k n (settled_floor i n.cuts); lines = o.lines ++ Settled k ∷ [] }) o) (sym a ∙ hit))
-
--- and one that isn't open is left
-pub settled_left : (i : Problem) (k : ℕ) (s o : Searching) (plan : Option Costing) (p : Settling) (answer : Bool) → o ≡ offered s plan → plan ≡ p.plan → IsSomeAnd (slice_get o.nodes k) (λ n. answer ≡ is_open (top o) n) → answer ≡ false
-    → IsSomeAnd (slice_get s.nodes k) (λ n. IsSettlement i n.cuts p → o ≡ settled i k n (offered s p.plan))
-settled_left i k s o plan p answer oe pe asked miss =
-    let same : o ≡ offered s p.plan = oe ∙ ap (offered s) pe in
-    at_offered (λ n. IsSettlement i n.cuts p → o ≡ settled i k n (offered s p.plan)) s p.plan k
-    (subst (λ (x : Searching). IsSomeAnd (slice_get x.nodes k) (λ n. IsSettlement i n.cuts p → o ≡ settled i k n x)) same (go (slice_get o.nodes k) asked))
-  where
-    go : (found : Option Node) → IsSomeAnd found (λ n. answer ≡ is_open (top o) n) → IsSomeAnd found (λ n. IsSettlement i n.cuts p → o ≡ settled i k n o)
-    go None a = absurd a
-    go (Some n) a = λ st. sym (ap (λ x. cond x (record o { nodes = with_floor o.nodes k n (settled_floor i n.cuts); lines = o.lines ++ Settled k ∷ [] }) o) (sym a ∙ miss))
 
 -- the closes of a node, where it is there
 pub closed_by_price : (advised : Option Splitting) → (i : Problem) (k : ℕ) (s : Searching) (cuts : List Cut) (answer : Bool) (found : Option Node) → IsSomeAnd found (λ n. answer ≡ is_open (top s) n) → answer ≡ false → IsSomeAnd found (λ n. n.cuts ≡ cuts → IsClose i advised k n s s)

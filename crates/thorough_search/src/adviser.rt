@@ -3,7 +3,7 @@ ghost use Rattle.std.specs.Prelude.{◌≡◌, ◌<◌, ◌≤◌, ◌+◌, ◌-
 ghost use Rattle.shift_instance.specs.Rota.{are_legal_rows, cost, rota_of};
 ghost use Rattle.thorough_search.specs.HeadSplits.{IsHeadSplit};
 
-use crate::kept::Kept;
+use crate::kept::AdviserState;
 use crate::pacing::Budget;
 use crate::splits::HeadSplit;
 use advice::{Advice, Adviser, Ask, Splitting, Stop, Told};
@@ -28,7 +28,7 @@ pub struct Thorough<S: Stop + Clone> {
     budget: Option<Budget>,
     /// Whether it searches for plans.
     seeks_plans: bool,
-    kept: Option<Kept<S>>,
+    kept: Option<AdviserState<S>>,
     told: u64,
     last: Option<Told>,
 }
@@ -57,7 +57,7 @@ fn rows_below(instance: &Instance, plan: Costed, best: u64) -> Option<Rows>
 /// The greedy plan where it was made in this advice and the search has none that is cheaper, and else the best plan of the search,
 /// if it is legal and cheaper than `best`.
 fn cheaper_plan<S: Stop + Drop>(
-    kept: &mut Kept<S>,
+    kept: &mut AdviserState<S>,
     instance: &Instance,
     best: u64,
 ) -> Result<Option<Rows>, NoMemory>
@@ -158,14 +158,14 @@ impl<S: Stop + Clone> Thorough<S> {
     }
 
     /// What is kept, taken out, or made of this instance now.
-    fn take_kept(&mut self, instance: &Instance) -> Result<Kept<S>, NoMemory>
+    fn take_kept(&mut self, instance: &Instance) -> Result<AdviserState<S>, NoMemory>
         ensures { self.new ≡ self.old }
     {
         match self.kept.take() {
             Some(kept) => Ok(kept),
             None => {
                 let stop = self.stop.clone()?;
-                let kept = Kept::new(self.alloc, instance, self.seed, stop, self.budget)?;
+                let kept = AdviserState::new(self.alloc, instance, self.seed, stop, self.budget)?;
                 Ok(kept.seeking(self.seeks_plans))
             }
         }

@@ -13,7 +13,7 @@ use plan_search::{Guide, PlanSearch};
 use price_climb::{Climb, Limits, Ranges};
 use rota_cost::{Costed, cost_rows, legal_rows, recount};
 use shift_instance::{Instance, Rows};
-use shift_tables::Tables;
+use shift_tables::ShiftTables;
 use std::alloc::Global;
 use std::cmp::OrderedFloat;
 use std::num::nearest_u64_to_f64;
@@ -26,9 +26,9 @@ const CLEAR: f64 = 0.25;
 
 /// What the adviser keeps of its instance.
 #[derive(Drop)]
-pub(crate) struct Kept<S: Stop + Drop> {
+pub(crate) struct AdviserState<S: Stop + Drop> {
     alloc: Global,
-    tables: Tables,
+    tables: ShiftTables,
     plans: PlanSearch<S>,
     climb: Climb,
     /// Whether it searches for plans.
@@ -80,7 +80,7 @@ fn limits_of(ask: &Ask, goal: f64, effort: u32) -> Limits {
     }
 }
 
-impl<S: Stop + Drop> Kept<S> {
+impl<S: Stop + Drop> AdviserState<S> {
     /// What is known at first of an instance, for a search within a budget, where there is one.
     pub(crate) fn new(
         alloc: Global,
@@ -88,11 +88,11 @@ impl<S: Stop + Drop> Kept<S> {
         seed: u64,
         stop: S,
         budget: Option<Budget>,
-    ) -> Result<Kept<S>, NoMemory> {
-        let tables = Tables::new(alloc, instance)?;
+    ) -> Result<AdviserState<S>, NoMemory> {
+        let tables = ShiftTables::new(alloc, instance)?;
         let plans = PlanSearch::new(alloc, &tables, seed, stop)?;
         let climb = Climb::new(alloc, &tables)?;
-        Ok(Kept {
+        Ok(AdviserState {
             alloc,
             tables,
             plans,
@@ -107,7 +107,7 @@ impl<S: Stop + Drop> Kept<S> {
     }
 
     /// The same, which searches for plans or doesn't.
-    pub(crate) fn seeking(self, plans: bool) -> Kept<S> {
+    pub(crate) fn seeking(self, plans: bool) -> AdviserState<S> {
         let mut kept = self;
         kept.seeks_plans = plans;
         kept

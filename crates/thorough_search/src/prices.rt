@@ -4,7 +4,7 @@ use advice::Ask;
 use break_rules::NoMemory;
 use head_splits::{CUT_PRICE_MAX, Prices};
 use price_climb::Ranges;
-use shift_tables::Tables;
+use shift_tables::ShiftTables;
 use std::alloc::Global;
 use std::num::{
     nearest_i64_to_f64, nearest_u64_to_f64, saturating_f64_to_i64, saturating_f64_to_u64,
@@ -17,7 +17,7 @@ pub(crate) const SCALE: u16 = 10_000;
 const SCALE_FLOAT: f64 = 10000.0;
 
 /// A price as a whole number, within what a slot's price may be.
-fn whole(tables: &Tables, price: f64) -> i64 {
+fn whole(tables: &ShiftTables, price: f64) -> i64 {
     let scaled = (price * SCALE_FLOAT).round();
     let least = -tables.excess * SCALE_FLOAT;
     saturating_f64_to_i64(scaled.max(least).min(tables.shortage * SCALE_FLOAT))
@@ -26,7 +26,7 @@ fn whole(tables: &Tables, price: f64) -> i64 {
 /// The prices of the slots, rounded to whole numbers over the scale.
 pub(crate) fn slot_prices(
     alloc: Global,
-    tables: &Tables,
+    tables: &ShiftTables,
     prices: &[f64],
 ) -> Result<Vec<i64>, NoMemory> {
     let mut list = Vec::with_capacity(alloc, tables.slots)?;
@@ -40,7 +40,7 @@ pub(crate) fn slot_prices(
 /// stand behind those of the slots.
 pub(crate) fn cut_prices(
     alloc: Global,
-    tables: &Tables,
+    tables: &ShiftTables,
     ranges: &Ranges,
     prices: &[f64],
     count: usize,
@@ -55,7 +55,7 @@ pub(crate) fn cut_prices(
 }
 
 /// The prices to begin with where nothing is known: what an employee too few costs in each slot with a need, and else 0.
-fn first_prices(alloc: Global, tables: &Tables) -> Result<Vec<f64>, NoMemory> {
+fn first_prices(alloc: Global, tables: &ShiftTables) -> Result<Vec<f64>, NoMemory> {
     let mut list = Vec::with_capacity(alloc, tables.slots)?;
     for need in &tables.need {
         let price = if 0 < *need { tables.shortage } else { 0.0 };
@@ -67,7 +67,7 @@ fn first_prices(alloc: Global, tables: &Tables) -> Result<Vec<f64>, NoMemory> {
 /// The prices of a hint as a climb reads them: those of the slots, and behind them those of the cuts on duties of certain breaks.
 fn hinted_prices(
     alloc: Global,
-    tables: &Tables,
+    tables: &ShiftTables,
     ranges: &Ranges,
     hinted: &Prices,
 ) -> Result<Vec<f64>, NoMemory> {
@@ -87,7 +87,7 @@ fn hinted_prices(
 /// The prices to begin a climb with: the hint's below cuts, where it has some, and else the first ones.
 pub(crate) fn begin_prices(
     alloc: Global,
-    tables: &Tables,
+    tables: &ShiftTables,
     ranges: &Ranges,
     ask: &Ask,
 ) -> Result<Vec<f64>, NoMemory> {

@@ -2,7 +2,7 @@
 
 use crate::tightening::tightened;
 use price_climb::Ranges;
-use shift_tables::Tables;
+use shift_tables::ShiftTables;
 use std::num::saturating_f64_to_u16;
 
 /// A split of the duties of a shift on a day: at most `m`, or more.
@@ -64,7 +64,7 @@ impl NodeView<'_> {
     }
 
     /// The averaged duties of a shift on all days.
-    pub(crate) fn mass(&self, tables: &Tables, shift: u16) -> f64 {
+    pub(crate) fn mass(&self, tables: &ShiftTables, shift: u16) -> f64 {
         let mut sum = 0.0;
         for day in 0..tables.days {
             sum += at(self.heads, tables.place(shift, day));
@@ -73,7 +73,7 @@ impl NodeView<'_> {
     }
 
     /// What a shift earns with as many duties as gain.
-    pub(crate) fn gain(&self, tables: &Tables, shift: u16) -> f64 {
+    pub(crate) fn gain(&self, tables: &ShiftTables, shift: u16) -> f64 {
         let mut sum = 0.0;
         for day in 0..tables.days {
             let place = tables.place(shift, day);
@@ -84,7 +84,7 @@ impl NodeView<'_> {
 }
 
 /// Offers the splits of a shift that must be used: near the averaged duties, or in the middle of a wide range.
-fn offer_opened(tables: &Tables, view: &NodeView<'_>, choice: &mut Choice, shift: u16) {
+fn offer_opened(tables: &ShiftTables, view: &NodeView<'_>, choice: &mut Choice, shift: u16) {
     for day in 0..tables.days {
         let place = tables.place(shift, day);
         let low = view.ranges.low(place);
@@ -110,7 +110,7 @@ fn offer_opened(tables: &Tables, view: &NodeView<'_>, choice: &mut Choice, shift
 }
 
 /// Offers the splits of a shift that needn't be used: none at all on a day, or some.
-fn offer_unopened(tables: &Tables, view: &NodeView<'_>, choice: &mut Choice, shift: u16) {
+fn offer_unopened(tables: &ShiftTables, view: &NodeView<'_>, choice: &mut Choice, shift: u16) {
     let score = view.gain(tables, shift) * (0.2 + view.mass(tables, shift));
     for day in 0..tables.days {
         let place = tables.place(shift, day);
@@ -123,7 +123,11 @@ fn offer_unopened(tables: &Tables, view: &NodeView<'_>, choice: &mut Choice, shi
 
 /// The split that promises most, where `room` is by how much the node's value lacks what would close it. Shifts that may have
 /// far more duties than they need are tightened first.
-pub(crate) fn best_split(tables: &Tables, view: &NodeView<'_>, room: f64) -> Option<HeadSplit> {
+pub(crate) fn best_split(
+    tables: &ShiftTables,
+    view: &NodeView<'_>,
+    room: f64,
+) -> Option<HeadSplit> {
     if let Some(split) = tightened(tables, view, 0.05 * room) {
         return Some(split);
     }

@@ -1,11 +1,11 @@
 //! Splits that lower the most duties of a shift.
 
 use crate::splits::{Choice, HeadSplit, NodeView};
-use shift_tables::{DutyPlace, Tables};
+use shift_tables::{DutyPlace, ShiftTables};
 
 /// How loose a day is: the averaged duties of shifts that needn't be used, and how many of these have fewer duties at most
 /// than any shift may have.
-fn looseness(tables: &Tables, view: &NodeView<'_>, day: usize) -> f64 {
+fn looseness(tables: &ShiftTables, view: &NodeView<'_>, day: usize) -> f64 {
     let mut loose = 0.0;
     let mut lowered = 0.0;
     for shift in &tables.usable {
@@ -29,7 +29,7 @@ fn looseness(tables: &Tables, view: &NodeView<'_>, day: usize) -> f64 {
 }
 
 /// The first day that is loosest.
-fn focus(tables: &Tables, view: &NodeView<'_>) -> usize {
+fn focus(tables: &ShiftTables, view: &NodeView<'_>) -> usize {
     let mut best = 0;
     let mut most = -1.0;
     for day in 0..tables.days {
@@ -51,7 +51,7 @@ struct Window {
 }
 
 /// What one duty more than `m` costs at least at the prices.
-fn cost_above(tables: &Tables, view: &NodeView<'_>, window: Window, m: u16) -> f64 {
+fn cost_above(tables: &ShiftTables, view: &NodeView<'_>, window: Window, m: u16) -> f64 {
     let duties = (f64::from(m) + 1.0) * window.part;
     let mut cost = 0.0;
     for place in window.base..window.base.wrapping_add(window.len) {
@@ -70,7 +70,7 @@ fn working_part(place: &DutyPlace) -> f64 {
 
 /// The least number, at most half of the greatest, above which duties of a shift on a day cost at least `least`.
 fn least_costly(
-    tables: &Tables,
+    tables: &ShiftTables,
     view: &NodeView<'_>,
     shift: u16,
     day: usize,
@@ -104,7 +104,11 @@ fn least_costly(
 
 /// The split that lowers the most duties of a shift that needn't be used, on the loosest day, where more duties would cost at
 /// least `least`; the one of greatest score.
-pub(crate) fn tightened(tables: &Tables, view: &NodeView<'_>, least: f64) -> Option<HeadSplit> {
+pub(crate) fn tightened(
+    tables: &ShiftTables,
+    view: &NodeView<'_>,
+    least: f64,
+) -> Option<HeadSplit> {
     let day = focus(tables, view);
     let mut choice = Choice::none();
     for shift in &tables.usable {

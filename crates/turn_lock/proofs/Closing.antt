@@ -1,14 +1,5 @@
 -- A lock is closed once one seat has taken in all others.
-use Rattle.std.proofs.Common.{◌≡◌, ℕ, ◌+◌, List, [], ◌∷◌, All, length, sym, refl, ap, ◌∙◌, subst, arith, Option, Some, None}
-use Rattle.std.specs.Prelude.{MatchOption}
-use mathlib.Core.Option.{some, some-injective}
-use lib.ListN.{get_elem?}
-use Rattle.atomic_table.specs.Table.{Final, Seen}
-use Rattle.atomic_table.specs.Seated.{TableId}
-use Rattle.turn_lock.specs.declared.pass.Pass.{Pass}
-use Rattle.turn_lock.specs.declared.view.View.{View}
-use Rattle.turn_lock.specs.Seats.{SeatView}
-use Rattle.turn_lock.specs.Turning.{Fits, IsRuled}
+use Rattle.turn_lock.proofs.Common.{◌≡◌, ℕ, ◌+◌, List, [], ◌∷◌, All, length, sym, refl, ap, ◌∙◌, subst, arith, Option, Some, None, MatchOption, some, some-injective, get_elem?, Final, Seen, TableId, Pass, View, SeatView, Fits, IsRuled}
 use Rattle.turn_lock.proofs.Seated.{agree, Agrees, IsGathered}
 use Rattle.turn_lock.proofs.Steps.{closes}
 

@@ -1,11 +1,5 @@
 -- Lists of numbers that are added up, and histories that grow.
-use Rattle.std.proofs.Common.{◌≡◌, ◌≢◌, ◌⊎◌, ℕ, zero, suc, ◌+◌, ◌≤◌, eqb, cond, Bool, true, false, List, [], ◌∷◌, ◌++◌, set, sym, refl, ap, ◌∙◌, inl, inr, ⊎_elim, arith, append_assoc, append-nil, ne_eqb, eq-eqb}
-use mathlib.Core.Option.{some, some-injective, some-ne-none}
-use lib.ListN.{get_elem?}
-use Rattle.turn_lock.specs.declared.pass.Pass.{Pass}
-use Rattle.turn_lock.specs.declared.view.Part.{Part}
-use Rattle.turn_lock.specs.Passes.{of_number, AddsAtMostOne, IsPrefix}
-use Rattle.turn_lock.specs.Turning.{one_if, times_in, total, AreKnown}
+use Rattle.turn_lock.proofs.Common.{◌≡◌, ◌≢◌, ◌⊎◌, ℕ, zero, suc, ◌+◌, ◌≤◌, eqb, cond, Bool, true, false, List, [], ◌∷◌, ◌++◌, set, sym, refl, ap, ◌∙◌, inl, inr, ⊎_elim, arith, append_assoc, append-nil, ne_eqb, eq-eqb, some, some-injective, some-ne-none, get_elem?, Pass, Part, of_number, AddsAtMostOne, IsPrefix, one_if, times_in, total, AreKnown}
 
 -- ---- numbers added up
 

@@ -1,3 +1,4 @@
+pub mod Common
 pub mod Closing
 pub mod Histories
 pub mod Seated

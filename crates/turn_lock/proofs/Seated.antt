@@ -1,14 +1,6 @@
 -- What contracts see of a seat, beside what it is at the lock's table.
-use Rattle.std.proofs.Common.{◌≡◌, ℕ, zero, suc, ◌+◌, ◌-◌, ◌*◌, ◌<◌, ◌^◌, List, [], ◌∷◌, ◌++◌, All, length, map, sym, refl, ap, ◌∙◌, subst, arith, Option, Some, None, append_assoc, length-append}
+use Rattle.turn_lock.proofs.Common.{◌≡◌, ℕ, zero, suc, ◌+◌, ◌-◌, ◌*◌, ◌<◌, ◌^◌, List, [], ◌∷◌, ◌++◌, All, length, map, sym, refl, ap, ◌∙◌, subst, arith, Option, Some, None, append_assoc, length-append, Me, TableId, Pass, Part, View, of_number, AddsAtMostOne, IsPrefix, new_seat, new_seats, SeatView, dealer, dealt, drew, entered, first_of, fresh_from, gathers, making, part_of, seen_as, AreKnown, Fits, IsInside, IsOutside}
 use Rattle.std.proofs.lemmas.List.Elements.{All-cons, All-nil, All-pop, All-push, All-same, All-weaker}
-use Rattle.atomic_table.specs.Table.{Me}
-use Rattle.atomic_table.specs.Seated.{TableId}
-use Rattle.turn_lock.specs.declared.pass.Pass.{Pass}
-use Rattle.turn_lock.specs.declared.view.Part.{Part}
-use Rattle.turn_lock.specs.declared.view.View.{View}
-use Rattle.turn_lock.specs.Passes.{of_number, AddsAtMostOne, IsPrefix}
-use Rattle.turn_lock.specs.Seats.{new_seat, new_seats, SeatView}
-use Rattle.turn_lock.specs.Turning.{dealer, dealt, drew, entered, first_of, fresh_from, gathers, making, part_of, seen_as, AreKnown, Fits, IsInside, IsOutside}
 
 module _ {R : Type 0} where
   pub outside_as : (number left : ℕ) (views : List (View R)) (v : View R) → views ≡ v ∷ [] → v.kind ≡ 1 → v.stage ≡ 0 → v.parts ≡ 1 → v.number ≡ number → v.left ≡ left → IsOutside number left views

@@ -1,18 +1,10 @@
 -- Each step of the ticket lock keeps its rule.
-use Rattle.std.proofs.Common.{◌≡◌, ◌≢◌, ◌⊎◌, ℕ, zero, suc, ◌+◌, ◌-◌, ◌%◌, ◌^◌, ◌<◌, ◌≤◌, eqb, List, [], ◌∷◌, ◌++◌, drop, length, get_or, set, sym, refl, ap, ◌∙◌, subst, inl, inr, ⊎_elim, arith, Option, Some, length-set, get_or-set_same, get_or-set_other, append-nil, ne_eqb, eq-eqb}
+use Rattle.turn_lock.proofs.Common.{◌≡◌, ◌≢◌, ◌⊎◌, ℕ, zero, suc, ◌+◌, ◌-◌, ◌%◌, ◌^◌, ◌<◌, ◌≤◌, eqb, List, [], ◌∷◌, ◌++◌, drop, length, get_or, set, sym, refl, ap, ◌∙◌, subst, inl, inr, ⊎_elim, arith, Option, Some, length-set, get_or-set_same, get_or-set_other, append-nil, ne_eqb, eq-eqb, some, none, some-injective, some-ne-none, get_elem?, State, Me, keeps, takes, gives, stepped, Allows, Splits, Joins, opening, Seen, Final, Pass, Part, View, of_number, IsPrefix, after_turn, claims, dealer, dealt, drew, entered, first_view, for_seat, fresh, fresh_from, gathers, hears, left_view, making, note_of, one_if, spent, times_in, total, AreKnown, At, Compared, Fits, GoesInside, IsHome, IsOut, IsRuled}
 use mathlib.Core.Logic.{dite}
-use mathlib.Core.Option.{some, none, some-injective, some-ne-none}
 use native.Mathlib.Decide.{ℕ_discrete}
-use lib.ListN.{get_elem?}
 use lib.Seq.{set-get_or}
 use Rattle.std.proofs.Math.Seq.{drop-append_seam}
-use Rattle.atomic_table.specs.Table.{State, Me, keeps, takes, gives, stepped, Allows, Splits, Joins, opening, Seen, Final}
 use Rattle.atomic_table.proofs.Lists.{at_set, at_snoc, at_longer, set_again, set_here, set_else}
-use Rattle.turn_lock.specs.declared.pass.Pass.{Pass}
-use Rattle.turn_lock.specs.declared.view.Part.{Part}
-use Rattle.turn_lock.specs.declared.view.View.{View}
-use Rattle.turn_lock.specs.Passes.{of_number, IsPrefix}
-use Rattle.turn_lock.specs.Turning.{after_turn, claims, dealer, dealt, drew, entered, first_view, for_seat, fresh, fresh_from, gathers, hears, left_view, making, note_of, one_if, spent, times_in, total, AreKnown, At, Compared, Fits, GoesInside, IsHome, IsOut, IsRuled}
 use Rattle.turn_lock.proofs.Histories.{comparable, differs, grows, of_number-append, other_stays, own_new, parts_grow, set_at, total_at, total_set, total_snoc, total_two, New}
 
 own_counts : (n : ℕ) → one_if (eqb n n) ≡ 1

@@ -1,6 +1,6 @@
 //! What a planner is told of numbers that are odd.
 use fixtures::instance_of;
-use instance_warnings::{Told, warnings};
+use instance_warnings::{WordedWarning, warnings};
 use std::alloc::Global;
 use std::test::Fail;
 
@@ -72,7 +72,7 @@ fn warned(alloc: Global, document: &str) -> Result<String, Fail> {
     let list = warnings(alloc, &instance)?;
     let mut text = String::new(alloc);
     for warning in &list {
-        let told = Told {
+        let told = WordedWarning {
             warning,
             instance: &instance,
         };

@@ -1,21 +1,10 @@
 -- What a commit appends is of its worker.
-use Rattle.std.proofs.Common.{◌≡◌, inl, inr, ℕ, zero, suc, true, List, [], ◌∷◌, All, sym, ap, ◌∙◌, arith, append-nil}
+use Rattle.worker_gate.proofs.Common.{◌≡◌, inl, inr, ℕ, zero, suc, true, List, [], ◌∷◌, All, sym, ap, ◌∙◌, arith, append-nil, Closed, Halted, Idle, Result, Ok, Err, IfErr, IfOk, list_all, and_parts, Post, Plan, Priced, Split, Settled, Kept, StepPosts, BoardView, Commits, TakeMakes, is_of, worker_of, AppendsOf, LeavesStep}
 use Rattle.search_core.specs.declared.board.Taken.{Taken}
-use Rattle.search_core.specs.declared.board.Taken.TheVariants.{Closed, Finished, Halted, Spent, Node, Idle}
-use Rattle.std.specs.Prelude.{Result, Ok, Err, IfErr, IfOk}
-use Rattle.std.specs.List.{list_all}
-use Rattle.std.proofs.lemmas.Bool.{and_parts}
-use Rattle.post_codec.specs.declared.post.Post.{Post}
-use Rattle.post_codec.specs.declared.post.Post.TheVariants.{Plan, Priced, Split, Settled}
-use Rattle.search_core.specs.declared.board.Kept.{Kept}
-use Rattle.search_core.specs.declared.step_posts.StepPosts.{StepPosts}
-use Rattle.search_core.specs.Board.{BoardView, Commits, TakeMakes}
-use Rattle.search_core.specs.Core.{is_of}
+use Rattle.search_core.specs.declared.board.Taken.TheVariants.{Finished, Spent, Node}
 use Rattle.search_core.proofs.Boards.{commit_of_worker}
 use Rattle.worker_gate.specs.declared.turns.Left.{Left}
 use Rattle.worker_gate.specs.declared.turns.Left.TheVariants.{Again, End, NotClosing}
-use Rattle.worker_gate.specs.Passing.{worker_of, AppendsOf}
-use Rattle.worker_gate.specs.Workers.{LeavesStep}
 
 one_of : (w x : ℕ) (post : Post) → is_of w x post ≡ true → worker_of post ≡ w
 one_of w x (Plan worker rows c) is = grind arith

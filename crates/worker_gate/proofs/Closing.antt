@@ -1,27 +1,9 @@
 -- A step that is closed by its price leaves its node closed, where the floor and the best cost are those of the take.
-use Rattle.std.proofs.Common.{◌≡◌, inl, inr, ℕ, ◌<◌, ◌≤◌, Bool, true, false, cond, ◌&&◌, not, List, [], ◌∷◌, ◌++◌, refl, sym, ap, ◌∙◌, subst, arith, min, max, nat_lt, Option, Some, None, eq-eqb}
-use Rattle.std.specs.Prelude.{slice_get, IfSome}
+use Rattle.worker_gate.proofs.Common.{◌≡◌, inl, inr, ℕ, ◌<◌, ◌≤◌, Bool, true, false, cond, ◌&&◌, not, List, [], ◌∷◌, ◌++◌, refl, sym, ap, ◌∙◌, subst, arith, min, max, nat_lt, Option, Some, None, eq-eqb, slice_get, IfSome, and_from, cases_Bool, ltb-true, ltb-false, le-ltb, Problem, Costing, IsCosted, IsProved, Cut, are_prices, bound_of, Node, with_floor, Post, Plan, Priced, StepPosts, ByPrice, floor_of_node, leaves_open, Book, is_better, is_node_and, is_open, priced, book_after, cuts_in, after_step, book_then, plan_posts, posts_of, where_open, Fits, at_set, node_not, some_node, then_is, book_after-append, cost_to_reach}
+use Rattle.search_core.specs.Book.{step as step_to}
 use Rattle.std.specs.Option.{option_map_or, option_and_then}
-use Rattle.std.proofs.lemmas.Bool.{and_from, cases_Bool, ltb-true, ltb-false, le-ltb}
-use Rattle.shift_instance.specs.Problem.{Problem}
 use Rattle.shift_instance.specs.Rota.{are_legal_rows, cost, rota_of}
-use Rattle.rota_cost.specs.Costed.{Costing, IsCosted}
-use Rattle.dual_bound.specs.Proved.{IsProved}
-use Rattle.head_splits.specs.declared.Cut.{Cut}
-use Rattle.head_splits.specs.Bound.{are_prices, bound_of}
-use Rattle.head_splits.specs.Nodes.{Node, with_floor}
-use Rattle.post_codec.specs.declared.post.Post.{Post}
-use Rattle.post_codec.specs.declared.post.Post.TheVariants.{Plan, Priced}
-use Rattle.search_core.specs.declared.step_posts.StepPosts.{StepPosts}
-use Rattle.search_core.specs.declared.step_posts.Close.TheVariants.{ByPrice}
-use Rattle.search_core.specs.Board.{floor_of_node, leaves_open}
-use Rattle.search_core.specs.Book.{Book, is_better, is_node_and, is_open, priced, step as step_to, book_after}
-use Rattle.search_core.specs.Kept.{cuts_in}
-use Rattle.search_core.specs.Steps.{after_step, book_then, plan_posts, posts_of, where_open, Fits}
-use Rattle.search_core.proofs.Closed.{at_set, node_not, some_node, then_is}
-use Rattle.search_core.proofs.Runs.{book_after-append}
 use Rattle.search_core.proofs.Stepped.{posts_by_price}
-use Rattle.worker_gate.specs.Decision.{cost_to_reach}
 
 -- the book after the post of a plan
 record Planned (i : Problem) (b : Book) (w : ℕ) (plan : Option Costing) : Type 0 where

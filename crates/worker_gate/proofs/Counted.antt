@@ -1,16 +1,6 @@
 -- A step for an open node posts a plan or prices.
-use Rattle.std.proofs.Common.{◌≡◌, ◌⊎◌, inl, inr, ℕ, ◌+◌, ◌≤◌, Bool, true, false, cond, List, [], ◌∷◌, ◌++◌, refl, sym, ap, ◌∙◌, subst, arith, nat_lt, Option, Some, None}
-use Rattle.std.specs.Prelude.{count_by}
+use Rattle.worker_gate.proofs.Common.{◌≡◌, ◌⊎◌, inl, inr, ℕ, ◌+◌, ◌≤◌, Bool, true, false, cond, List, [], ◌∷◌, ◌++◌, refl, sym, ap, ◌∙◌, subst, arith, nat_lt, Option, Some, None, count_by, Problem, Costing, Prices, Post, Plan, Priced, StepPosts, Book, is_open, is_node_and, book_then, close_posts, followed_by, plan_of, plan_posts, posts_of, where_open, is_plan_or_prices}
 use Rattle.break_rules.proofs.Counts.{count_by-append}
-use Rattle.shift_instance.specs.Problem.{Problem}
-use Rattle.rota_cost.specs.Costed.{Costing}
-use Rattle.head_splits.specs.declared.Prices.{Prices}
-use Rattle.post_codec.specs.declared.post.Post.{Post}
-use Rattle.post_codec.specs.declared.post.Post.TheVariants.{Plan, Priced}
-use Rattle.search_core.specs.declared.step_posts.StepPosts.{StepPosts}
-use Rattle.search_core.specs.Book.{Book, is_open, is_node_and}
-use Rattle.search_core.specs.Steps.{book_then, close_posts, followed_by, plan_of, plan_posts, posts_of, where_open}
-use Rattle.worker_gate.specs.Runs.{is_plan_or_prices}
 
 abbrev counted : List Post → ℕ
 counted posts = count_by is_plan_or_prices posts

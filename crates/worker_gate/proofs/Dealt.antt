@@ -1,7 +1,6 @@
 -- Seats with turns as their lock was made, given away one after another.
-use Rattle.std.proofs.Common.{◌≡◌, ℕ, zero, suc, List, length, get_or, remove, refl, ap, ◌∙◌, Option}
+use Rattle.worker_gate.proofs.Common.{◌≡◌, ℕ, zero, suc, List, length, get_or, remove, refl, ap, ◌∙◌, Option, new_seat, new_seats, SeatView}
 use Rattle.atomic_table.specs.Seated.{TableId}
-use Rattle.turn_lock.specs.Seats.{new_seat, new_seats, SeatView}
 
 module _ {R : Type 0} (lock : TableId) (root : Option R) where
   pub new_count : (first n : ℕ) → length (new_seats lock root first n) ≡ n

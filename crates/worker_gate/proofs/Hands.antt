@@ -1,13 +1,5 @@
 -- The hands of workers, as they are emptied one after another.
-use Rattle.std.proofs.Common.{◌≡◌, inl, inr, ℕ, zero, suc, ◌+◌, ◌<◌, List, [], ◌∷◌, length, set, replicate, refl, sym, ap, ◌∙◌, arith, Option, Some, None}
-use Rattle.std.proofs.Math.Logic.{∥∥₁_elim}
-use Rattle.std.proofs.Props.{props}
-use Rattle.std.proofs.lemmas.Bool.{cases_lt}
-use Rattle.search_core.specs.Board.{BoardView, IsSoundBoard}
-use Rattle.search_core.specs.Core.{empty_hands, hand}
-use Rattle.search_core.proofs.Runs.{hand_set}
-use Rattle.board_lock.specs.Turns.{AreEmptyFrom, AreTurns}
-use Rattle.board_lock.proofs.Turned.{clear_of, turns_keep}
+use Rattle.worker_gate.proofs.Common.{◌≡◌, inl, inr, ℕ, zero, suc, ◌+◌, ◌<◌, List, [], ◌∷◌, length, set, replicate, refl, sym, ap, ◌∙◌, arith, Option, Some, None, ∥∥₁_elim, props, cases_lt, BoardView, IsSoundBoard, empty_hands, hand, hand_set, AreEmptyFrom, AreTurns, clear_of, turns_keep}
 
 none_some : (x : ℕ) → None ≡ Some x → ⊥
 none_some x e = cc (e)

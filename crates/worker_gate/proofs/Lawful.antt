@@ -1,25 +1,11 @@
 -- Which prices and which splits count.
-use Rattle.std.proofs.Common.{◌≡◌, ℕ, ◌+◌, ◌/◌, ◌<◌, ◌≤◌, ◌&&◌, arith, inl, inr, true, cond, List, length, nat_le, nat_lt, sym, ap, ◌∙◌, subst, Option, Some, None}
-use Rattle.std.proofs.lemmas.Bool.{and_parts, cases_Bool, leb-true, ltb-true}
-use Rattle.std.specs.Prelude.{IsTrue, IsSomeAnd}
-use Rattle.break_rules.specs.Causes.{first_cause}
-use Rattle.shift_instance.specs.Problem.{Problem}
-use Rattle.head_splits.specs.declared.Cut.{Cut}
-use Rattle.head_splits.specs.declared.Prices.{Prices}
+use Rattle.worker_gate.proofs.Common.{◌≡◌, ℕ, ◌+◌, ◌/◌, ◌<◌, ◌≤◌, ◌&&◌, arith, inl, inr, true, cond, List, length, nat_le, nat_lt, sym, ap, ◌∙◌, subst, Option, Some, None, and_parts, cases_Bool, leb-true, ltb-true, IsTrue, IsSomeAnd, first_cause, Problem, Cut, Prices, are_prices, is_live_class, Splitting, IsFixing, Open, price_causes, Answers, Proving, IsProved, is_split, lawful_prices, lawful_split, zero_prices}
 use Rattle.head_splits.specs.declared.Class.{Class}
-use Rattle.head_splits.specs.Bound.{are_prices}
 use Rattle.head_splits.specs.Cuts.{low, high}
-use Rattle.head_splits.specs.Settled.{is_live_class}
 use Rattle.head_splits.proofs.Splits.{split_law}
-use Rattle.advice.specs.declared.advice.Splitting.{Splitting}
-use Rattle.dual_bound.specs.Fixing.{IsFixing}
-use Rattle.dual_bound.specs.declared.settling.Fixing.TheVariants.{Open}
 use Rattle.dual_bound.specs.declared.PriceFault.{PriceFault}
 use Rattle.dual_bound.specs.declared.PriceFault.TheVariants.{NoMemory}
-use Rattle.dual_bound.specs.Faults.{price_causes, Answers}
-use Rattle.dual_bound.specs.Proved.{Proving, IsProved}
 use Rattle.dual_bound.proofs.Causes.{faultless}
-use Rattle.worker_gate.specs.Decision.{is_split, lawful_prices, lawful_split, zero_prices}
 
 pub lawful : (i : Problem) (cuts : List Cut) (prices : Prices) (p : Proving) → p.instance ≡ i → p.cuts ≡ cuts → p.prices ≡ prices → IsProved p → p.prices ≡ lawful_prices i cuts prices
 unfolding lawful_prices

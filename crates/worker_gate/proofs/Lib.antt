@@ -1,4 +1,4 @@
-pub mod Leaving
+pub mod Common
 pub mod Moved
 pub mod Hands
 pub mod Pointwise

@@ -1,18 +1,6 @@
 -- What the advisers of workers are told last, through the stages of a run.
-use Rattle.std.proofs.Common.{◌≡◌, inl, inr, ℕ, zero, suc, ◌+◌, ◌<◌, ◌≤◌, ◌&&◌, not, Bool, true, List, [], ◌∷◌, length, map, get_or, set, refl, sym, ap, ◌∙◌, subst, arith, Option, Some}
-use Rattle.std.proofs.Math.Logic.{∥∥₁_map}
-use Rattle.std.specs.List.{list_all}
-use Rattle.std.proofs.lemmas.Bool.{cases_Bool}
-use Rattle.std.proofs.lemmas.List.{length-map}
-use Rattle.advice.specs.declared.adviser.Told.{Told}
-use Rattle.search_core.specs.declared.board.Kept.{Kept}
-use Rattle.search_core.specs.declared.step_posts.StepPosts.{StepPosts}
-use Rattle.search_core.specs.Board.{BoardView, Commits}
-use Rattle.board_lock.specs.declared.roots.BoardRoot.{BoardRoot}
+use Rattle.worker_gate.proofs.Common.{◌≡◌, inl, inr, ℕ, zero, suc, ◌+◌, ◌<◌, ◌≤◌, ◌&&◌, not, Bool, true, List, [], ◌∷◌, length, map, get_or, set, refl, sym, ap, ◌∙◌, subst, arith, Option, Some, ∥∥₁_map, list_all, cases_Bool, length-map, Told, Kept, StepPosts, BoardView, Commits, BoardRoot, AreTurns, news_of, IsNews, IsToldLast}
 use Rattle.board_lock.specs.declared.view.View.{View}
-use Rattle.board_lock.specs.Turns.{AreTurns}
-use Rattle.worker_gate.specs.Runs.{news_of}
-use Rattle.worker_gate.specs.Workers.{IsNews, IsToldLast}
 use Rattle.worker_gate.proofs.Pointwise.{any_default, set_each}
 
 -- a commit on a board that turns have made is news
@@ -108,17 +96,6 @@ module _ {A B : Type 0} where
       let r : Q i (get_or old i d) (get_or (map seat zs) i d) = subst (λ (l : List B). Q i (get_or l i d) (get_or (map seat zs) i d)) was q in
       subst (λ (l : List B). Q i (get_or old i d) (get_or l i d)) (sym is) r
 
--- what follows from one element that passes a test, where some element does
-pub any_gives : {A : Type 0} (f : A → Bool) (P : Type 0) (xs : List A) → not (list_all (λ x. not (f x)) xs) ≡ true → ((i : ℕ) (d : A) → i < length xs → f (get_or xs i d) ≡ true → P) → P
-any_gives f P [] some gives = absurd (cc some)
-any_gives f P (x ∷ xs) some gives =
-    elim (cases_Bool (f x)) [
-      | inl hit ↦ gives 0 x (omega arith) hit
-      | inr miss ↦
-          let rest : not (list_all (λ y. not (f y)) xs) ≡ true = sym (ap (λ (t : Bool). not (not t && list_all (λ y. not (f y)) xs)) miss) ∙ some in
-          any_gives f P xs rest (λ i d low. gives (suc i) d (omega arith))
-    ]
-
 module _ (workers : ℕ) (first : BoardView) (number : ℕ) where
   -- the adviser was told nothing more
   pub told_nothing : (a b : ℕ) (x y : Option Told) → b ≡ a → y ≡ x → IsToldLast workers first number a b x y
@@ -136,10 +113,3 @@ module _ {B : Type 0} (seen : B → BoardView) where
   pub told_at : (r s : BoardRoot B) (m n a b : ℕ) (x y : Option Told) → s ≡ r → n ≡ m → IsToldLast s.workers (seen s.opened.value) n a b x y → IsToldLast r.workers (seen r.opened.value) m a b x y
   told_at r s m n a b x y same is told =
       subst (λ (k : ℕ). IsToldLast r.workers (seen r.opened.value) k a b x y) is (subst (λ (q : BoardRoot B). IsToldLast q.workers (seen q.opened.value) n a b x y) same told)
-
-one_head : {X : Type 0} (x y : X) → x ∷ [] ≡ y ∷ [] → x ≡ y
-one_head x y e = cc (e)
-
--- a badge has one view, whoever looks
-pub root_known : {R : Type 0} (views : List (View R)) (u : View R) (root : R) → views ≡ u ∷ [] → ((v : View R) × (views ≡ v ∷ []) × (v.stage ≡ 0) × (v.root ≡ root)) → u.root ≡ root
-root_known {R = R} views u root e r = let same : u ≡ r.0 = one_head u r.0 (sym e ∙ r.1) in ap (λ (w : View R). w.root) same ∙ r.3

@@ -1,13 +1,6 @@
 -- Posts that a worker appends make a pass, which follows on those before it.
-use Rattle.std.proofs.Common.{◌≡◌, ℕ, zero, suc, ◌<◌, ◌≤◌, Bool, true, List, [], ◌∷◌, ◌++◌, length, All, refl, sym, ap, ◌∙◌, subst, arith, Some}
-use Rattle.std.specs.Prelude.{slice_get}
-use Rattle.std.proofs.Math.Logic.{∥∥₁_elim}
-use Rattle.std.proofs.Props.{props}
-use Rattle.std.proofs.lemmas.List.{length-append}
-use Rattle.std.proofs.lemmas.Option.{get_or_from_slice_get, slice_get_within}
-use Rattle.post_codec.specs.declared.post.Post.{Post}
+use Rattle.worker_gate.proofs.Common.{◌≡◌, ℕ, zero, suc, ◌<◌, ◌≤◌, Bool, true, List, [], ◌∷◌, ◌++◌, length, All, refl, sym, ap, ◌∙◌, subst, arith, Some, slice_get, ∥∥₁_elim, props, length-append, get_or_from_slice_get, slice_get_within, Post, worker_of, AppendsOf, FollowOn, IsPassAt}
 use Rattle.turn_lock.specs.declared.pass.Pass.{Pass}
-use Rattle.worker_gate.specs.Passing.{worker_of, AppendsOf, FollowOn, IsPassAt}
 
 -- what stands in a list stands there still where more is appended
 front_get : {X : Type 0} (xs ys : List X) (k : ℕ) → k < length xs → slice_get (xs ++ ys) k ≡ slice_get xs k
@@ -66,12 +59,3 @@ pushed_on h k o q passes others worker p appends f e seat from to more was =
     let last : IsPassAt (h ++ posts) (length h) p = pass_made h posts worker p appends.2 seat from (to ∙ ap length appends.1) more in
     let all : FollowOn (h ++ posts) (length o) (passes ++ p ∷ []) p.to = follow_more (h ++ posts) (length o) passes (length h) p (follow_stays h posts (length o) passes (length h) there) last in
     ∣ rw (appends.1, f, e) (subst (λ (n : ℕ). FollowOn (h ++ posts) (length o) (passes ++ p ∷ []) n) (to ∙ ap length appends.1) all) ∣₁)
-
--- the passes as they stand, where nothing was appended
-pub unpushed_on : (h k o q : List Post) (passes others : List Pass) (worker : ℕ) → AppendsOf worker h k → q ≡ o → others ≡ passes → length k ≤ length h
-    → ∥ FollowOn h (length o) passes (length h) ∥₁ → ∥ FollowOn k (length q) others (length k) ∥₁
-unpushed_on h k o q passes others worker appends f e few was =
-    let posts : List Post = appends.0 in
-    let same : length h ≡ length (h ++ posts) = omega (arith, few, ap length appends.1, length-append h posts) in
-    ∥∥₁_elim was (hlevel props) (λ there.
-    ∣ rw (appends.1, f, e) (subst (λ (n : ℕ). FollowOn (h ++ posts) (length o) passes n) same (follow_stays h posts (length o) passes (length h) there)) ∣₁)

@@ -1,20 +1,7 @@
 -- What a run of workers leaves of a board that was opened, where it is only known that turns have made it.
-use Rattle.std.proofs.Common.{◌≡◌, ℕ, ◌+◌, ◌*◌, ◌<◌, ◌≤◌, false, List, sym, ap, ◌∙◌, subst, arith}
-use Rattle.std.proofs.Math.Logic.{∥∥₁_elim}
-use Rattle.std.proofs.Props.{props}
-use Rattle.post_codec.specs.declared.post.Post.{Post}
+use Rattle.worker_gate.proofs.Common.{◌≡◌, ℕ, ◌+◌, ◌*◌, ◌<◌, ◌≤◌, false, List, sym, ap, ◌∙◌, subst, arith, ∥∥₁_elim, props, Post, BoardView, IsSoundBoard, full_hands, steps_enough, IsFresh, IsFront, calls_enough, calls_exact, calls_within, plans_since, prices_since, AreTurns, same_merely, turns_are_calls, turns_keep, RunEnd, Spent, IsSameSearch, WorkersEnd}
 use Rattle.search_core.specs.declared.board.Origin.{Origin}
-use Rattle.search_core.specs.Board.{BoardView, IsSoundBoard}
-use Rattle.search_core.specs.Calls.{full_hands, steps_enough, IsFresh}
-use Rattle.search_core.specs.Core.{IsFront}
-use Rattle.search_core.proofs.Counted.{calls_enough, calls_exact, calls_within}
-use Rattle.board_lock.specs.Turns.{plans_since, prices_since, AreTurns}
 use Rattle.board_lock.proofs.Bounded.{commits_few}
-use Rattle.board_lock.proofs.Turned.{same_merely, turns_are_calls, turns_keep}
-use Rattle.worker_gate.specs.declared.run.RunEnd.{RunEnd}
-use Rattle.worker_gate.specs.declared.run.RunEnd.TheVariants.{Spent}
-use Rattle.worker_gate.specs.Runs.{IsSameSearch}
-use Rattle.worker_gate.specs.Workers.{WorkersEnd}
 use Rattle.worker_gate.proofs.Used.{fewer_taken}
 
 module _ (workers : ℕ) (old new : BoardView) (commits : ℕ) (turns : ∥ AreTurns workers old new commits ∥₁) where

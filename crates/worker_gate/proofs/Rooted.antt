@@ -1,14 +1,5 @@
 -- What the root of a board's lock says of the board as it was opened.
-use Rattle.std.proofs.Common.{◌≡◌, ◌⊎◌, inr, ℕ, ◌<◌, ◌^◌, true, All, List, length, get_or, refl, sym, ap, subst, None}
-use Rattle.std.specs.declared.snapshot.Snapshot.{Snapshot}
-use Rattle.shift_instance.specs.Problem.{Problem}
-use Rattle.search_core.specs.Board.{BoardView}
-use Rattle.board_lock.specs.declared.roots.BoardRoot.{BoardRoot}
-use Rattle.board_lock.specs.Roots.{root_at}
-use Rattle.board_lock.specs.Turns.{AreTurns}
-use Rattle.search_core.specs.Core.{empty_hands}
-use Rattle.worker_gate.specs.declared.run.RunEnd.TheVariants.{NoMemory}
-use Rattle.worker_gate.specs.Workers.{KnowsBoard, WorkersEnd}
+use Rattle.worker_gate.proofs.Common.{◌≡◌, ◌⊎◌, inr, ℕ, ◌<◌, ◌^◌, true, All, List, length, get_or, refl, sym, ap, subst, None, Snapshot, Problem, BoardView, BoardRoot, root_at, AreTurns, empty_hands, NoMemory, KnowsBoard, WorkersEnd}
 
 module _ {B : Type 0} (seen : B → BoardView) where
   -- a worker of a number below that of the workers knows the board
@@ -29,7 +20,3 @@ module _ {B : Type 0} (seen : B → BoardView) where
       let b : ∥ AreTurns n (seen first.value) new commits ∥₁ = subst (λ (o : Snapshot B). ∥ AreTurns n (seen o.value) new commits ∥₁) (ap (λ (r : BoardRoot B). r.opened) root) a in
       let e : ∥ AreTurns n (seen board) new commits ∥₁ = subst (λ (v : B). ∥ AreTurns n (seen v) new commits ∥₁) is b in
       subst (λ (k : ℕ). ∥ AreTurns n (seen board) new k ∥₁) same e
-
--- a run that never began
-pub never_began : (old new : BoardView) → new ≡ old → old.shut ≡ None → old.hands ≡ empty_hands → WorkersEnd old new NoMemory
-never_began old new same running empty = subst (λ (v : BoardView). (v.shut ≡ None) × (v.hands ≡ empty_hands) × ((v.halted ≡ true) ⊎ (v ≡ old))) (sym same) (running, empty, inr refl)

@@ -1,24 +1,6 @@
 -- What rounds leave: the posts of the board begin with the old ones, each round has posted a plan or prices, and each has closed a node.
-use Rattle.std.proofs.Common.{◌≡◌, ℕ, suc, ◌+◌, ◌<◌, ◌≤◌, Bool, true, false, ◌&&◌, not, List, [], ◌∷◌, ◌++◌, length, drop, refl, sym, ap, ◌∙◌, subst, arith, Option, Some, inl, inr}
-use Rattle.std.specs.Prelude.{slice_get, count_by}
-use Rattle.std.specs.List.{list_all, list_any}
-use Rattle.std.proofs.lemmas.Bool.{and_parts, and_from, cases_Bool, false≢true}
+use Rattle.worker_gate.proofs.Common.{◌≡◌, ℕ, suc, ◌+◌, ◌<◌, ◌≤◌, Bool, true, false, ◌&&◌, not, List, [], ◌∷◌, ◌++◌, length, drop, refl, sym, ap, ◌∙◌, subst, arith, Option, Some, inl, inr, slice_get, count_by, list_all, list_any, and_parts, and_from, cases_Bool, false≢true, Problem, Node, Post, BoardView, book_at, posts_at, NoneIsFree, Book, book_after, book_of, is_finished, is_node_and, is_open, steps_enough, empty_hands, is_node, IsFront, posts_of, closed_now, is_closed, is_there, node_is, node_not, some_node, step_keeps, nodes_within, passing, passing_less, passing_more, passing_most, book_is, front_folds, is_plan_or_prices, plans_and_prices_since, AreRounds, IsRound, none, one_more}
 use Rattle.std.proofs.lemmas.List.{append-nil, append_assoc}
-use Rattle.shift_instance.specs.Problem.{Problem}
-use Rattle.head_splits.specs.Nodes.{Node}
-use Rattle.post_codec.specs.declared.post.Post.{Post}
-use Rattle.search_core.specs.Board.{BoardView, book_at, posts_at, NoneIsFree}
-use Rattle.search_core.specs.Book.{Book, book_after, book_of, is_finished, is_node_and, is_open}
-use Rattle.search_core.specs.Calls.{steps_enough}
-use Rattle.search_core.specs.Core.{empty_hands, is_node, IsFront}
-use Rattle.search_core.specs.Steps.{posts_of}
-use Rattle.search_core.proofs.Closed.{closed_now, is_closed, is_there, node_is, node_not, some_node, step_keeps}
-use Rattle.search_core.proofs.Counted.{nodes_within}
-use Rattle.search_core.proofs.Counts.{passing, passing_less, passing_more, passing_most}
-use Rattle.search_core.proofs.Outlines.{book_is}
-use Rattle.search_core.proofs.Runs.{front_folds}
-use Rattle.worker_gate.specs.Runs.{is_plan_or_prices, plans_and_prices_since, AreRounds, IsRound}
-use Rattle.worker_gate.specs.Runs.AreRounds.{none, one_more}
 use Rattle.worker_gate.proofs.Counted.{counted_append, step_counts}
 
 -- what that many rounds have made

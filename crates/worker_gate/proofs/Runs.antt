@@ -1,29 +1,10 @@
 -- How a round follows from its calls, and a run from its rounds.
-use Rattle.std.proofs.Common.{◌≡◌, ℕ, ◌+◌, ◌-◌, ◌<◌, ◌≤◌, Bool, true, false, cond, List, set, refl, sym, ap, ◌∙◌, subst, arith, max, Option, Some, None, inl, inr}
-use Rattle.std.specs.Prelude.{◌⊎◌, MatchOption}
-use Rattle.std.proofs.lemmas.Bool.{and_parts}
-use Rattle.shift_instance.specs.Problem.{Problem}
-use Rattle.post_codec.specs.declared.post.Post.{Post}
-use Rattle.advice.specs.declared.advice.Advice.{Advice}
-use Rattle.search_core.specs.declared.board.Kept.{Kept}
-use Rattle.search_core.specs.declared.board.Shutting.TheVariants.{Full as ShutByFull}
+use Rattle.worker_gate.proofs.Common.{◌≡◌, ℕ, ◌+◌, ◌-◌, ◌<◌, ◌≤◌, Bool, true, false, cond, List, set, refl, sym, ap, ◌∙◌, subst, arith, max, Option, Some, None, inl, inr, MatchOption, and_parts, Problem, Post, Kept, StepPosts, ByPrice, BoardView, book_at, floor_of_node, leaves_open, yields, Commits, HoldsStep, IsSoundBoard, TakeMakes, Book, book_of, is_finished, is_node_and, is_open, steps_enough, empty_hands, hand, IsFront, cuts_in, Fits, RunEnd, Finished, Spent, Full, DiskFault, NoMemory, Stopped, cost_to_reach, IsDecision, committed, is_whole, plans_and_prices_since, AreRounds, EndMakes, IsCutOff, IsEnded, IsIdle, IsRound, IsRun, IsSameSearch, MakesStep, RunEnds, RunMakes, RunTells, news_of, AreToldRounds, RoundTells, Told, none, one_more}
 use Rattle.search_core.specs.declared.board.Taken.TheVariants.{Node as TakenNode}
-use Rattle.search_core.specs.declared.step_posts.StepPosts.{StepPosts}
-use Rattle.search_core.specs.declared.step_posts.Close.TheVariants.{ByPrice}
-use Rattle.search_core.specs.Board.{BoardView, book_at, floor_of_node, leaves_open, yields, Commits, HoldsStep, IsSoundBoard, TakeMakes}
-use Rattle.search_core.specs.Book.{Book, book_of, is_finished, is_node_and, is_open}
-use Rattle.search_core.specs.Calls.{steps_enough}
-use Rattle.search_core.specs.Core.{empty_hands, hand, IsFront}
-use Rattle.search_core.specs.Kept.{cuts_in}
-use Rattle.search_core.specs.Steps.{Fits}
-use Rattle.worker_gate.specs.declared.run.RunEnd.{RunEnd}
-use Rattle.worker_gate.specs.declared.run.RunEnd.TheVariants.{Finished, Spent, Full, DiskFault, NoMemory, Stopped}
-use Rattle.worker_gate.specs.Decision.{cost_to_reach, IsDecision}
-use Rattle.worker_gate.specs.Runs.{committed, is_whole, plans_and_prices_since, AreRounds, EndMakes, IsCutOff, IsEnded, IsIdle, IsRound, IsRun, IsSameSearch, MakesStep, RunEnds, RunMakes, RunTells}
-use Rattle.worker_gate.specs.Runs.{news_of, AreToldRounds, RoundTells}
+use Rattle.std.specs.Prelude.{◌⊎◌}
+use Rattle.advice.specs.declared.advice.Advice.{Advice}
+use Rattle.search_core.specs.declared.board.Shutting.TheVariants.{Full as ShutByFull}
 use Rattle.worker_gate.specs.Runs.AreToldRounds.{untold, told_more}
-use Rattle.advice.specs.declared.adviser.Told.{Told}
-use Rattle.worker_gate.specs.Runs.AreRounds.{none, one_more}
 use Rattle.worker_gate.proofs.Closing.{closes}
 use Rattle.worker_gate.proofs.Rounds.{begins, counts, few_rounds, fewer_rounds, not_spent, rounds_made, Made}
 
@@ -190,38 +171,7 @@ abbrev pub steps_left : ℕ → ℕ → Option RunEnd → ℕ
 steps_left budget taken None = 1 + budget - taken
 steps_left budget taken (Some how) = 0
 
-rounds_within : (old new : BoardView) (rounds : ℕ) → old.taken ≤ old.budget → AreRounds old new rounds → new.taken ≤ new.budget
-rounds_within old new rounds low none = low
-rounds_within old new rounds low (one_more mid next n before r) =
-    let less : mid.taken < mid.budget = r.makes.takes.0.step_left in
-    let more : new.taken ≡ mid.taken + 1 = round_taken mid new r in
-    let same : new.budget ≡ mid.budget = (round_same mid new r).budget in
-    omega arith
-
-pub fewer_left : (old mid new : BoardView) (how : Option RunEnd) → old.taken ≡ 0 → IsRun old mid None → MatchOption how (IsRound mid new) (IsEnded mid new)
-    → steps_left old.budget new.taken how < steps_left old.budget mid.taken None
-fewer_left old mid new None fresh run r =
-    let less : mid.taken < mid.budget = r.makes.takes.0.step_left in
-    let same : mid.budget ≡ old.budget = run.same.budget in
-    let more : new.taken ≡ mid.taken + 1 = round_taken mid new r in
-    let e : 1 + old.budget - new.taken < 1 + old.budget - mid.taken = omega arith in e
-fewer_left old mid new (Some how) fresh run e =
-    let low : old.taken ≤ old.budget = omega arith in
-    let last : run.last.taken ≤ run.last.budget = rounds_within old run.last run.last.taken low run.rounds in
-    let here : mid.taken ≡ run.last.taken = ap (λ (v : BoardView). v.taken) run.end.0 in
-    let there : mid.budget ≡ run.last.budget = ap (λ (v : BoardView). v.budget) run.end.0 in
-    let same : mid.budget ≡ old.budget = run.same.budget in
-    let e : 0 < 1 + old.budget - mid.taken = omega arith in e
-
 -- ---- how many steps a run committed
-
-pub whole_commits : (how : RunEnd) (taken : ℕ) → is_whole how ≡ true → taken ≡ committed how taken
-whole_commits how taken whole = sym (ap (λ (t : Bool). cond t taken (taken - 1)) whole)
-
-pub cut_commits : (how : RunEnd) (before taken : ℕ) → is_whole how ≡ false → taken ≡ before + 1 → before ≡ committed how taken
-cut_commits how before taken cut more =
-    let less : before ≡ taken - 1 = omega arith in
-    less ∙ sym (ap (λ (t : Bool). cond t taken (taken - 1)) cut)
 
 -- ---- what the end of a run leaves
 

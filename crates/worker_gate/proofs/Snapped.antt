@@ -1,7 +1,5 @@
 -- A value that stands in contracts alone.
-use Rattle.std.proofs.Common.{◌≡◌, ℕ, ap, refl}
-use Rattle.std.specs.declared.snapshot.Snapshot.{Snapshot}
-use Rattle.board_lock.specs.Roots.{root_at}
+use Rattle.worker_gate.proofs.Common.{◌≡◌, ℕ, ap, refl, Snapshot, root_at}
 
 -- two that stand for one value are one
 pub same_snapshot : {B : Type 0} (s t : Snapshot B) → s.value ≡ t.value → s ≡ t

@@ -1,21 +1,6 @@
 -- While no worker gave up, each step taken used a node: it is closed, or in a hand. So with an open node left and empty hands, fewer
 -- steps were taken than are enough.
-use Rattle.std.proofs.Common.{◌≡◌, ℕ, ◌<◌, ◌≤◌, false, not, List, sym, ap, ◌∙◌, arith, Option, Some}
-use Rattle.std.specs.Prelude.{slice_get}
-use Rattle.std.specs.List.{list_any}
-use Rattle.std.proofs.lemmas.Bool.{or_from}
-use Rattle.shift_instance.specs.Problem.{Problem}
-use Rattle.head_splits.specs.Nodes.{Node}
-use Rattle.search_core.specs.Board.{BoardView, book_at, IsSoundBoard}
-use Rattle.search_core.specs.Book.{Book, book_of, is_finished, is_open}
-use Rattle.search_core.specs.Calls.{steps_enough, IsFresh}
-use Rattle.search_core.specs.Core.{empty_hands, is_node}
-use Rattle.search_core.proofs.Closed.{is_closed, node_not, some_node}
-use Rattle.search_core.proofs.Counted.{is_used, nodes_within, calls_count, Counts}
-use Rattle.search_core.proofs.Counts.{passing, passing_less}
-use Rattle.search_core.proofs.Outlines.{book_is}
-use Rattle.board_lock.specs.Turns.{AreTurns}
-use Rattle.board_lock.proofs.Turned.{turns_are_calls}
+use Rattle.worker_gate.proofs.Common.{◌≡◌, ℕ, ◌<◌, ◌≤◌, false, not, List, sym, ap, ◌∙◌, arith, Option, Some, slice_get, list_any, or_from, Problem, Node, BoardView, book_at, IsSoundBoard, Book, book_of, is_finished, is_open, steps_enough, IsFresh, empty_hands, is_node, is_closed, node_not, some_node, is_used, nodes_within, calls_count, Counts, passing, passing_less, book_is, AreTurns, turns_are_calls}
 use Rattle.worker_gate.proofs.Rounds.{open_of}
 
 -- with an open node left and empty hands, fewer steps were taken than are enough

@@ -1,7 +1,7 @@
 //! How many employees work in each slot beyond those that are needed there.
 
 use break_rules::NoMemory;
-use shift_tables::{PAUSES, Pauses, Tables};
+use shift_tables::{PAUSES, Pauses, ShiftTables};
 use std::alloc::Global;
 
 /// The byte of a slot with as many employees as are wanted at most, or more.
@@ -41,7 +41,7 @@ pub struct Stretches {
 
 impl Stretches {
     /// The stretches of a shift on a day with some breaks.
-    pub fn of(tables: &Tables, shift: u16, day: usize, pauses: &Pauses) -> Stretches {
+    pub fn of(tables: &ShiftTables, shift: u16, day: usize, pauses: &Pauses) -> Stretches {
         let base = tables.base(shift, day);
         let end = base.wrapping_add(tables.len_of(shift));
         let resettle = match tables.shifts.get(usize::from(shift)) {
@@ -93,7 +93,7 @@ pub struct Effect {
 
 impl Effect {
     /// By how much the duty lowers the cost of the cover.
-    pub fn gain(self, tables: &Tables) -> f64 {
+    pub fn gain(self, tables: &ShiftTables) -> f64 {
         tables.shortage * f64::from(self.wanted) - tables.excess * f64::from(self.spare)
     }
 
@@ -139,7 +139,7 @@ pub fn count_of(list: &[u8], byte: u8) -> u32 {
 
 impl Levels {
     /// Nobody works.
-    pub fn new(alloc: Global, tables: &Tables) -> Result<Levels, NoMemory> {
+    pub fn new(alloc: Global, tables: &ShiftTables) -> Result<Levels, NoMemory> {
         let slots = tables.slots;
         let twice = slots.saturating_mul(2);
         let mut levels = Levels {
@@ -159,14 +159,14 @@ impl Levels {
     }
 
     /// Nobody works any more.
-    pub fn clear(&mut self, tables: &Tables) {
+    pub fn clear(&mut self, tables: &ShiftTables) {
         for (slot, need) in tables.need.iter().enumerate() {
             self.set(slot, need.wrapping_neg());
         }
     }
 
     /// What the cover costs.
-    pub fn cost(&self, tables: &Tables) -> f64 {
+    pub fn cost(&self, tables: &ShiftTables) -> f64 {
         let mut cost = 0.0;
         for (off, width) in self.off.iter().zip(&self.widths) {
             let over = tables.excess * f64::from(off.wrapping_sub(*width));
@@ -177,7 +177,7 @@ impl Levels {
     }
 
     /// What the cover of a slot costs.
-    fn cost_at(&self, tables: &Tables, slot: usize) -> f64 {
+    fn cost_at(&self, tables: &ShiftTables, slot: usize) -> f64 {
         let off = self.off(slot);
         let width = self.widths.get(slot).copied().unwrap_or(0);
         let over = tables.excess * f64::from(off.wrapping_sub(width));
@@ -186,7 +186,7 @@ impl Levels {
     }
 
     /// What the cover of the slots from one to the one before another costs.
-    pub fn cost_between(&self, tables: &Tables, from: usize, to: usize) -> f64 {
+    pub fn cost_between(&self, tables: &ShiftTables, from: usize, to: usize) -> f64 {
         let mut cost = 0.0;
         for slot in from..to {
             cost += self.cost_at(tables, slot);

@@ -3,7 +3,7 @@ ghost use Rattle.std.specs.Prelude.{◌<◌, length, IfSome};
 
 use crate::levels::{Levels, Stretches};
 use break_rules::NoMemory;
-use shift_tables::{Pauses, Tables};
+use shift_tables::{Pauses, ShiftTables};
 use std::alloc::Global;
 
 /// A duty of a plan.
@@ -84,7 +84,7 @@ fn empty_all(lists: &mut [Vec<Pauses>]) {
 
 impl Plan {
     /// The plan without duties.
-    pub fn new(alloc: Global, tables: &Tables) -> Result<Plan, NoMemory> {
+    pub fn new(alloc: Global, tables: &ShiftTables) -> Result<Plan, NoMemory> {
         let levels = Levels::new(alloc, tables)?;
         let cost = levels.cost(tables);
         let shifts = tables.shift_count();
@@ -104,7 +104,7 @@ impl Plan {
     }
 
     /// Takes all duties out.
-    pub fn clear(&mut self, tables: &Tables) {
+    pub fn clear(&mut self, tables: &ShiftTables) {
         empty_all(&mut self.duties);
         self.counts.fill(0);
         self.used.clear();
@@ -113,7 +113,7 @@ impl Plan {
     }
 
     /// The breaks of the duties of a shift on a day.
-    pub fn duties(&self, tables: &Tables, shift: u16, day: usize) -> &[Pauses] {
+    pub fn duties(&self, tables: &ShiftTables, shift: u16, day: usize) -> &[Pauses] {
         match self.duties.get(tables.place(shift, day)) {
             Some(list) => list.as_slice(),
             None => &[],
@@ -121,7 +121,7 @@ impl Plan {
     }
 
     /// Whether a shift has room for one more duty on a day.
-    pub fn has_room(&self, tables: &Tables, shift: u16, day: usize) -> bool {
+    pub fn has_room(&self, tables: &ShiftTables, shift: u16, day: usize) -> bool {
         self.duties(tables, shift, day).len() < tables.heads
     }
 
@@ -131,7 +131,7 @@ impl Plan {
     }
 
     /// Counts one duty more of a shift, and what it costs to use it.
-    fn count_one(&mut self, tables: &Tables, shift: u16) -> Result<(), NoMemory> {
+    fn count_one(&mut self, tables: &ShiftTables, shift: u16) -> Result<(), NoMemory> {
         let Some(count) = self.counts.get_mut(usize::from(shift)) else {
             return Ok(());
         };
@@ -144,7 +144,7 @@ impl Plan {
     }
 
     /// Counts one duty less of a shift.
-    fn uncount_one(&mut self, tables: &Tables, shift: u16) {
+    fn uncount_one(&mut self, tables: &ShiftTables, shift: u16) {
         if let Some(count) = self.counts.get_mut(usize::from(shift)) {
             *count = count.saturating_sub(1);
             if *count == 0 {
@@ -155,7 +155,7 @@ impl Plan {
     }
 
     /// Puts a duty in.
-    pub fn put(&mut self, tables: &Tables, placed: &Placed) -> Result<(), NoMemory> {
+    pub fn put(&mut self, tables: &ShiftTables, placed: &Placed) -> Result<(), NoMemory> {
         let place = tables.place(placed.shift, placed.day);
         let Some(list) = self.duties.get_mut(place) else {
             return Ok(());
@@ -169,7 +169,7 @@ impl Plan {
     }
 
     /// Takes a duty out that is in.
-    pub fn take(&mut self, tables: &Tables, placed: &Placed) {
+    pub fn take(&mut self, tables: &ShiftTables, placed: &Placed) {
         let place = tables.place(placed.shift, placed.day);
         let Some(list) = self.duties.get_mut(place) else {
             return;
@@ -186,7 +186,7 @@ impl Plan {
     /// Adds the duties of a shift on a day to a list.
     pub fn list_day(
         &self,
-        tables: &Tables,
+        tables: &ShiftTables,
         shift: u16,
         day: usize,
         list: &mut Vec<Placed>,
@@ -204,7 +204,7 @@ impl Plan {
     /// Adds the duties of a shift to a list.
     fn list_shift(
         &self,
-        tables: &Tables,
+        tables: &ShiftTables,
         shift: u16,
         list: &mut Vec<Placed>,
     ) -> Result<(), NoMemory> {
@@ -215,7 +215,7 @@ impl Plan {
     }
 
     /// Adds all duties to a list.
-    pub fn list_into(&self, tables: &Tables, list: &mut Vec<Placed>) -> Result<(), NoMemory> {
+    pub fn list_into(&self, tables: &ShiftTables, list: &mut Vec<Placed>) -> Result<(), NoMemory> {
         for shift in &self.used {
             self.list_shift(tables, *shift, list)?;
         }

@@ -1,4 +1,4 @@
-use Rattle.std.proofs.Common.{sym, ◌∙◌}
+use Rattle.post_codec.proofs.Common.{sym, ◌∙◌}
 use Rattle.post_codec.proofs.Formats.{one_list_by}
 use Rattle.post_codec.proofs.Departing.{posts_joins}
 use Rattle.post_codec.proofs.one_spelling.Goals as goal

@@ -1,4 +1,4 @@
-use Rattle.std.proofs.Common.{◌≡◌, ◌++◌}
+use Rattle.advisers.proofs.Common.{◌≡◌, ◌++◌}
 use Rattle.advisers.proofs.choosing.add_rows.Given as goal
 
 abbrev pub invariant-loop-row : goal.invariant-loop-row

@@ -1,13 +1,4 @@
-use Rattle.std.proofs.Common.{◌≡◌, ◌<◌, ◌^◌, ◌∷◌, [], ℤ, List, true, length, to_z, of_z, sym, ap, subst, ◌∙◌, arith}
-use mir.Syntax.{w128}
-use Rattle.std.proofs.lemmas.Int.{to_z-of_z}
-use Rattle.break_rules.specs.declared.Break.{Break}
-use Rattle.shift_instance.specs.Problem.{Problem, shift_list}
-use Rattle.shift_instance.specs.Rota.{lists_of, rota_of}
-use Rattle.head_splits.specs.Bound.{is_nil}
-use Rattle.bound_sums.proofs.Sizes.{fits}
-use Rattle.dual_bound.specs.BestLists.{IsBestOn}
-use Rattle.advisers.specs.Solutions.{number_of}
+use Rattle.advisers.proofs.Common.{◌≡◌, ◌<◌, ◌^◌, ◌∷◌, [], ℤ, List, true, length, to_z, of_z, sym, ap, subst, ◌∙◌, arith, w128, to_z-of_z, Break, Problem, shift_list, lists_of, rota_of, is_nil, fits, IsBestOn, number_of}
 use Rattle.advisers.proofs.Choices.{best_of, duties_on_none, none_is, row_is}
 use Rattle.advisers.proofs.choosing.day_row.Goals as goal
 

@@ -1,15 +1,4 @@
-use Rattle.std.proofs.Common.{◌≡◌, ◌≤◌, ◌<◌, ◌+◌, ◌*◌, ◌^◌, ℕ, ℤ, pos, ◌+ℤ◌, ◌*ℤ◌, Bool, ◌||◌, nat_lt, List, length, to_z, of_z, sym, ap, ◌∙◌, subst, arith}
-use mir.Syntax.{w128}
-use Rattle.std.specs.List.{list_any}
-use Rattle.std.specs.Int.{int_max}
-use Rattle.std.proofs.lemmas.Int.{to_z-of_z}
-use Rattle.break_rules.specs.Sums.{int_sum_by}
-use Rattle.shift_instance.specs.Problem.{Problem, below, shift_list}
-use Rattle.head_splits.specs.declared.Cut.{Cut}
-use Rattle.head_splits.specs.declared.Prices.{Prices}
-use Rattle.head_splits.specs.Cuts.{low, whole_class}
-use Rattle.head_splits.specs.Bound.{best_value, free_day_value}
-use Rattle.bound_sums.proofs.Sizes.{fits, added, added_small}
+use Rattle.advisers.proofs.Common.{◌≡◌, ◌≤◌, ◌<◌, ◌+◌, ◌*◌, ◌^◌, ℕ, ℤ, pos, ◌+ℤ◌, ◌*ℤ◌, Bool, ◌||◌, nat_lt, List, length, to_z, of_z, sym, ap, ◌∙◌, subst, arith, w128, list_any, int_max, to_z-of_z, int_sum_by, Problem, below, shift_list, Cut, Prices, low, whole_class, best_value, free_day_value, fits, added, added_small}
 use Rattle.shift_instance.proofs.Ranges.{int_sum_below_more, any_below_more}
 use Rattle.advisers.proofs.Choices.{chosen_is}
 use Rattle.advisers.proofs.choosing.is_used.Goals as goal

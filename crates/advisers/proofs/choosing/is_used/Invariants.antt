@@ -1,10 +1,4 @@
-use Rattle.std.proofs.Common.{◌≡◌, ◌≤◌, ◌*◌, ◌^◌, nat_lt}
-use Rattle.std.specs.Int.RustNames.{unsigned_abs}
-use Rattle.std.specs.List.{list_any}
-use Rattle.break_rules.specs.Sums.{int_sum_by}
-use Rattle.shift_instance.specs.Problem.{below}
-use Rattle.head_splits.specs.Cuts.{low, whole_class}
-use Rattle.head_splits.specs.Bound.{free_day_value}
+use Rattle.advisers.proofs.Common.{◌≡◌, ◌≤◌, ◌*◌, ◌^◌, nat_lt, unsigned_abs, list_any, int_sum_by, below, low, whole_class, free_day_value}
 use Rattle.advisers.proofs.choosing.is_used.Given as goal
 
 abbrev pub invariant-loop-day : goal.invariant-loop-day

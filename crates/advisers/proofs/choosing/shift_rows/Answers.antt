@@ -1,5 +1,4 @@
-use Rattle.std.proofs.Common.{sym, ap, ◌∙◌}
-use Rattle.shift_instance.specs.Rota.{rota_of}
+use Rattle.advisers.proofs.Common.{sym, ap, ◌∙◌, rota_of}
 use Rattle.head_splits.proofs.Walked.{map_ok}
 use Rattle.advisers.proofs.Choices.{all_used, unused}
 use Rattle.advisers.proofs.choosing.shift_rows.Goals as goal

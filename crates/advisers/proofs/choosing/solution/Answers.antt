@@ -1,8 +1,4 @@
-use Rattle.std.proofs.Common.{◌≡◌, ◌≤◌, ◌<◌, ◌*◌, List, ◌++◌, length, length-append, ap, ◌∙◌, arith}
-use Rattle.std.proofs.lemmas.List.Elements.{All-append, All-same}
-use Rattle.shift_instance.specs.declared.Row.{Row}
-use Rattle.shift_instance.specs.Problem.{shift_list}
-use Rattle.shift_instance.specs.Rota.{rota_of}
+use Rattle.advisers.proofs.Common.{◌≡◌, ◌≤◌, ◌<◌, ◌*◌, List, ◌++◌, length, length-append, ap, ◌∙◌, arith, All-append, All-same, Row, shift_list, rota_of}
 use Rattle.advisers.proofs.Choices.{shifts_more, solution_is}
 use Rattle.advisers.proofs.choosing.solution.Goals as goal
 

@@ -1,8 +1,4 @@
-use Rattle.std.proofs.Common.{◌≡◌, ◌<◌, ◌≤◌, ◌*◌, All, length}
-use Rattle.std.specs.List.{flat_map}
-use Rattle.shift_instance.specs.Problem.{below, shift_list}
-use Rattle.shift_instance.specs.Rota.{rota_of}
-use Rattle.advisers.specs.Solutions.{duties_of}
+use Rattle.advisers.proofs.Common.{◌≡◌, ◌<◌, ◌≤◌, ◌*◌, All, length, flat_map, below, shift_list, rota_of, duties_of}
 use Rattle.advisers.proofs.choosing.solution.Given as goal
 
 abbrev pub invariant-loop-shift : goal.invariant-loop-shift

@@ -1,10 +1,4 @@
-use Rattle.std.proofs.Common.{◌≡◌, ◌≤◌, ◌<◌, ℕ, List, ◌++◌, Option, Some, None, length, length-append, ap, ◌∙◌, arith}
-use Rattle.std.specs.List.{flat_map}
-use Rattle.std.specs.Option.{option_to_list}
-use Rattle.std.proofs.lemmas.List.Elements.{All-append, All-same}
-use Rattle.shift_instance.specs.declared.Row.{Row}
-use Rattle.shift_instance.specs.Problem.{below, shift_list}
-use Rattle.advisers.specs.Solutions.{duties_on}
+use Rattle.advisers.proofs.Common.{◌≡◌, ◌≤◌, ◌<◌, ℕ, List, ◌++◌, Option, Some, None, length, length-append, ap, ◌∙◌, arith, flat_map, option_to_list, All-append, All-same, Row, below, shift_list, duties_on}
 use Rattle.advisers.proofs.Choices.{rows_more}
 use Rattle.advisers.proofs.choosing.used_rows.Goals as goal
 

@@ -1,8 +1,4 @@
-use Rattle.std.proofs.Common.{◌≡◌, ◌<◌, ◌≤◌, All, length}
-use Rattle.std.specs.List.{flat_map}
-use Rattle.shift_instance.specs.Problem.{below, shift_list}
-use Rattle.shift_instance.specs.Rota.{rota_of}
-use Rattle.advisers.specs.Solutions.{duties_on}
+use Rattle.advisers.proofs.Common.{◌≡◌, ◌<◌, ◌≤◌, All, length, flat_map, below, shift_list, rota_of, duties_on}
 use Rattle.advisers.proofs.choosing.used_rows.Given as goal
 
 abbrev pub invariant-loop-day : goal.invariant-loop-day

@@ -1,5 +1,4 @@
-use Rattle.std.proofs.Common.{◌∙◌, arith}
-use Rattle.advisers.specs.Forced.{forced_on}
+use Rattle.advisers.proofs.Common.{◌∙◌, arith, forced_on}
 use Rattle.advisers.proofs.Forcing.{flat_more}
 use Rattle.advisers.proofs.forced.add_days.Goals as goal
 

@@ -1,7 +1,4 @@
-use Rattle.std.proofs.Common.{◌≡◌, ◌++◌, ◌+◌, ◌*◌, ◌^◌, ◌≤◌, length}
-use Rattle.std.specs.List.{flat_map}
-use Rattle.shift_instance.specs.Problem.{below}
-use Rattle.advisers.specs.Forced.{forced_on}
+use Rattle.advisers.proofs.Common.{◌≡◌, ◌++◌, ◌+◌, ◌*◌, ◌^◌, ◌≤◌, length, flat_map, below, forced_on}
 use Rattle.advisers.proofs.forced.add_days.Given as goal
 
 abbrev pub invariant-loop-day : goal.invariant-loop-day

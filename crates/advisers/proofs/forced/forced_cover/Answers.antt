@@ -1,5 +1,4 @@
-use Rattle.std.proofs.Common.{◌∙◌, arith, rules}
-use Rattle.advisers.specs.Forced.{forced_of}
+use Rattle.advisers.proofs.Common.{◌∙◌, arith, rules, forced_of}
 use Rattle.advisers.proofs.Forcing.{flat_more_alone, rota_is}
 use Rattle.advisers.proofs.forced.forced_cover.Goals as goal
 

@@ -1,7 +1,4 @@
-use Rattle.std.proofs.Common.{◌≡◌, ◌*◌, ◌^◌, ◌≤◌, length}
-use Rattle.std.specs.List.{flat_map}
-use Rattle.shift_instance.specs.Problem.{below}
-use Rattle.advisers.specs.Forced.{forced_of}
+use Rattle.advisers.proofs.Common.{◌≡◌, ◌*◌, ◌^◌, ◌≤◌, length, flat_map, below, forced_of}
 use Rattle.advisers.proofs.forced.forced_cover.Given as goal
 
 abbrev pub invariant-loop-shift : goal.invariant-loop-shift

@@ -1,6 +1,4 @@
-use Rattle.std.proofs.Common.{◌∙◌, ap, arith, rules}
-use Rattle.shift_instance.specs.Rota.{cover}
-use Rattle.shift_instance.specs.declared.Duty.{Duty}
+use Rattle.advisers.proofs.Common.{◌∙◌, ap, arith, rules, cover, Duty}
 use Rattle.std.specs.Prelude.{List}
 use Rattle.advisers.proofs.Forcing.{prices_more, prices_are}
 use Rattle.advisers.proofs.forced.forced_prices.Goals as goal

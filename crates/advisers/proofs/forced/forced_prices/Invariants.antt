@@ -1,7 +1,4 @@
-use Rattle.std.proofs.Common.{◌≡◌, map}
-use Rattle.shift_instance.specs.Problem.{below}
-use Rattle.shift_instance.specs.Rota.{cover}
-use Rattle.advisers.specs.Forced.{balance_price, forced_rota}
+use Rattle.advisers.proofs.Common.{◌≡◌, map, below, cover, balance_price, forced_rota}
 use Rattle.advisers.proofs.forced.forced_prices.Given as goal
 
 abbrev pub invariant-loop-t : goal.invariant-loop-t

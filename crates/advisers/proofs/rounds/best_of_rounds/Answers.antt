@@ -1,7 +1,4 @@
-use Rattle.std.proofs.Common.{◌≡◌, ◌+◌, ◌<◌, ◌≤◌, ap, ◌∙◌, arith}
-use Rattle.advisers.specs.Rounds.{valued_of}
-use Rattle.advisers.specs.Subgradient.{value_in}
-use Rattle.advisers.specs.declared.rounds.Valued.{Valued}
+use Rattle.advisers.proofs.Common.{◌≡◌, ◌+◌, ◌<◌, ◌≤◌, ap, ◌∙◌, arith, valued_of, value_in, Valued}
 use Rattle.advisers.proofs.Searching.{round_of, searched_first, searched_last, searched_next, searched_reached}
 use Rattle.advisers.proofs.rounds.best_of_rounds.Goals as goal
 

@@ -1,5 +1,4 @@
-use Rattle.std.proofs.Common.{◌≡◌}
-use Rattle.advisers.specs.Rounds.{IsSearched, pricing_in}
+use Rattle.advisers.proofs.Common.{◌≡◌, IsSearched, pricing_in}
 use Rattle.advisers.proofs.rounds.best_of_rounds.Given as goal
 
 abbrev pub invariant-loop-round : goal.invariant-loop-round

@@ -1,6 +1,4 @@
-use Rattle.std.proofs.Common.{◌≡◌, ◌∙◌, ◌≤◌, ◌<◌, ℤ, pos, ◌*ℤ◌, length, get_or, to_z, of_z, ap, sym, subst, arith, rules}
-use mir.Syntax.{w64}
-use Rattle.std.specs.Int.RustNames.{unsigned_abs}
+use Rattle.advisers.proofs.Common.{◌≡◌, ◌∙◌, ◌≤◌, ◌<◌, ℤ, pos, ◌*ℤ◌, length, get_or, to_z, of_z, ap, sym, subst, arith, rules, w64, unsigned_abs}
 use Rattle.advisers.proofs.PriceSizes.{at_any, price_read, unscaled_small}
 use Rattle.advisers.proofs.PriceSteps.{first_is, scaled_more, scaled_small}
 use Rattle.advisers.proofs.rounds.first_prices.Goals as goal

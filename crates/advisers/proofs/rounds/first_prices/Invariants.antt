@@ -1,4 +1,4 @@
-use Rattle.std.proofs.Common.{◌≡◌, pos, ◌*ℤ◌, map, take}
+use Rattle.advisers.proofs.Common.{◌≡◌, pos, ◌*ℤ◌, map, take}
 use Rattle.advisers.proofs.rounds.first_prices.Given as goal
 
 abbrev pub invariant-loop-t : goal.invariant-loop-t

@@ -1,5 +1,4 @@
-use Rattle.std.proofs.Common.{sym, ap, ◌∙◌}
-use Rattle.head_splits.specs.declared.Prices.{Prices}
+use Rattle.advisers.proofs.Common.{sym, ap, ◌∙◌, Prices}
 use Rattle.advisers.proofs.Searching.{first_round}
 use Rattle.advisers.proofs.rounds.first_round.Goals as goal
 

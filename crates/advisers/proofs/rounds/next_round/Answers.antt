@@ -1,7 +1,4 @@
-use Rattle.std.proofs.Common.{ℕ, sym, ap, ◌∙◌}
-use Rattle.head_splits.specs.declared.Prices.{Prices}
-use Rattle.dual_bound.specs.Pricer.{Pricing}
-use Rattle.advisers.specs.Subgradient.{next_prices, step_in}
+use Rattle.advisers.proofs.Common.{ℕ, sym, ap, ◌∙◌, Prices, Pricing, next_prices, step_in}
 use Rattle.advisers.proofs.Searching.{next_round}
 use Rattle.advisers.proofs.rounds.next_round.Goals as goal
 

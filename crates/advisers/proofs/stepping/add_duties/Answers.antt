@@ -1,6 +1,4 @@
-use Rattle.std.proofs.Common.{◌≡◌, Bool, true, false, cond, ℕ, ◌+◌, ◌≤◌, ◌^◌, arith, refl, sym, ◌∙◌, get_or, subst}
-use Rattle.shift_instance.specs.Rota.{duty_of, works}
-use Rattle.rota_cost.proofs.Marks.{IsFor, IsMarked, unmarked, marked_skip, marked_more, marked_all}
+use Rattle.advisers.proofs.Common.{◌≡◌, Bool, true, false, cond, ℕ, ◌+◌, ◌≤◌, ◌^◌, arith, refl, sym, ◌∙◌, get_or, subst, duty_of, works, IsFor, IsMarked, unmarked, marked_skip, marked_more, marked_all}
 use Rattle.advisers.proofs.stepping.add_duties.Goals as goal
 use Rattle.advisers.proofs.stepping.add_duties.Goals.{then-works, else-works}
 

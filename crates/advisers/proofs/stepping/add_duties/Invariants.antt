@@ -1,6 +1,4 @@
-use Rattle.std.proofs.Common.{◌+◌}
-use Rattle.shift_instance.specs.Rota.{duty_of}
-use Rattle.rota_cost.proofs.Marks.{IsMarked}
+use Rattle.advisers.proofs.Common.{◌+◌, duty_of, IsMarked}
 use Rattle.advisers.proofs.stepping.add_duties.Given as goal
 
 abbrev pub invariant-loop-offset : goal.invariant-loop-offset

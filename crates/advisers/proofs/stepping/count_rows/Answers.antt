@@ -1,6 +1,4 @@
-use Rattle.std.proofs.Common.{◌≡◌, ◌≤◌, ℕ, arith, cond, length, ap}
-use Rattle.shift_instance.specs.Rota.{duty_of, works}
-use Rattle.rota_cost.specs.Working.{working}
+use Rattle.advisers.proofs.Common.{◌≡◌, ◌≤◌, ℕ, arith, cond, length, ap, duty_of, works, working}
 use Rattle.advisers.proofs.PriceSteps.{count_more, count_all, works_few}
 use Rattle.advisers.proofs.stepping.count_rows.Goals as goal
 

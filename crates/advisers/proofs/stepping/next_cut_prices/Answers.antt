@@ -1,5 +1,4 @@
-use Rattle.shift_instance.specs.Rota.{rota_of}
-use Rattle.advisers.specs.Subgradient.{next_cut_price}
+use Rattle.advisers.proofs.Common.{rota_of, next_cut_price}
 use Rattle.advisers.proofs.PriceSteps.{cuts_more}
 use Rattle.advisers.proofs.stepping.next_cut_prices.Goals as goal
 

@@ -1,11 +1,4 @@
-use Rattle.std.proofs.Common.{◌≡◌, ◌≤◌, ℕ, ℤ, List, true, ◌∙◌, get_or, ap, sym, subst}
-use Rattle.std.specs.Int.RustNames.{unsigned_abs}
-use Rattle.shift_instance.specs.Worth.{price_of}
-use Rattle.head_splits.specs.declared.Prices.{Prices}
-use Rattle.head_splits.specs.Bound.{are_prices}
-use Rattle.bound_sums.proofs.Priced.{cut_small, slot_small}
-use Rattle.advisers.specs.Solutions.{solution}
-use Rattle.advisers.specs.Subgradient.{next_prices}
+use Rattle.advisers.proofs.Common.{◌≡◌, ◌≤◌, ℕ, ℤ, List, true, ◌∙◌, get_or, ap, sym, subst, unsigned_abs, price_of, Prices, are_prices, cut_small, slot_small, solution, next_prices}
 use Rattle.advisers.proofs.Choices.{passes_of}
 use Rattle.advisers.proofs.PriceSteps.{next_from}
 use Rattle.advisers.proofs.stepping.next_prices.Goals as goal

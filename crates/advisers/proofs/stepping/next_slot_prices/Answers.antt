@@ -1,10 +1,4 @@
-use Rattle.std.proofs.Common.{◌≡◌, ◌∙◌, ◌≤◌, ◌<◌, ℤ, pos, length, get_or, to_z, of_z, ap, refl, sym, subst, arith, rules}
-use mir.Syntax.{w64}
-use Rattle.std.specs.Int.RustNames.{unsigned_abs}
-use Rattle.shift_instance.specs.Problem.{slots}
-use Rattle.shift_instance.specs.Rota.{cover, rota_of}
-use Rattle.shift_instance.specs.Worth.{price_of}
-use Rattle.advisers.specs.Subgradient.{next_slot_price}
+use Rattle.advisers.proofs.Common.{◌≡◌, ◌∙◌, ◌≤◌, ◌<◌, ℤ, pos, length, get_or, to_z, of_z, ap, refl, sym, subst, arith, rules, w64, unsigned_abs, slots, cover, rota_of, price_of, next_slot_price}
 use Rattle.advisers.proofs.PriceSizes.{at_any, price_read}
 use Rattle.advisers.proofs.PriceSteps.{slots_more}
 use Rattle.advisers.proofs.stepping.next_slot_prices.Goals as goal

@@ -1,8 +1,4 @@
-use Rattle.std.proofs.Common.{◌≡◌, map}
-use Rattle.shift_instance.specs.Problem.{below}
-use Rattle.shift_instance.specs.Rota.{rota_of}
-use Rattle.shift_instance.specs.Worth.{price_of}
-use Rattle.advisers.specs.Subgradient.{next_slot_price}
+use Rattle.advisers.proofs.Common.{◌≡◌, map, below, rota_of, price_of, next_slot_price}
 use Rattle.advisers.proofs.stepping.next_slot_prices.Given as goal
 
 abbrev pub invariant-loop-t : goal.invariant-loop-t

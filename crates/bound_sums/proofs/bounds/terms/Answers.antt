@@ -1,7 +1,4 @@
-use Rattle.std.proofs.Common.{◌≤◌, ◌<◌, ◌+◌, ◌*◌, ◌^◌, ℕ, ℤ, ◌+ℤ◌, length, sym, ap, ◌∙◌, arith}
-use Rattle.shift_instance.specs.Problem.{shift_list}
-use Rattle.head_splits.specs.Bound.{term}
-use Rattle.shift_instance.proofs.Ranges.{int_sum_below_more}
+use Rattle.bound_sums.proofs.Common.{◌≤◌, ◌<◌, ◌+◌, ◌*◌, ◌^◌, ℕ, ℤ, ◌+ℤ◌, length, sym, ap, ◌∙◌, arith, shift_list, term, int_sum_below_more}
 use Rattle.bound_sums.proofs.Sizes.{fits, added, added_small}
 use Rattle.bound_sums.proofs.bounds.terms.Goals as goal
 

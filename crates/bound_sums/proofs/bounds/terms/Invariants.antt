@@ -1,8 +1,4 @@
-use Rattle.std.proofs.Common.{◌≡◌, ◌≤◌, ◌*◌, ◌^◌}
-use Rattle.std.specs.Int.RustNames.{unsigned_abs}
-use Rattle.break_rules.specs.Sums.{int_sum_by}
-use Rattle.shift_instance.specs.Problem.{below}
-use Rattle.head_splits.specs.Bound.{term}
+use Rattle.bound_sums.proofs.Common.{◌≡◌, ◌≤◌, ◌*◌, ◌^◌, unsigned_abs, int_sum_by, below, term}
 use Rattle.bound_sums.proofs.bounds.terms.Given as goal
 
 abbrev pub invariant-loop-shift : goal.invariant-loop-shift

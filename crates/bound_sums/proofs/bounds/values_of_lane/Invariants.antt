@@ -1,4 +1,4 @@
-use Rattle.std.proofs.Common.{◌≡◌, ◌<◌, ℕ, pos, length, get_or}
+use Rattle.bound_sums.proofs.Common.{◌≡◌, ◌<◌, ℕ, pos, length, get_or}
 use Rattle.bound_sums.proofs.bounds.values_of_lane.Given as goal
 
 abbrev pub invariant-loop-day : goal.invariant-loop-day

@@ -1,6 +1,4 @@
-use Rattle.std.proofs.Common.{◌≡◌, ◌<◌, ℕ, length}
-use Rattle.shift_instance.specs.Worth.{price_of}
-use Rattle.bound_sums.specs.Kept.{mark}
+use Rattle.bound_sums.proofs.Common.{◌≡◌, ◌<◌, ℕ, length, price_of, mark}
 use Rattle.bound_sums.proofs.changes.change_marks.Given as goal
 
 abbrev pub invariant-loop-slot : goal.invariant-loop-slot

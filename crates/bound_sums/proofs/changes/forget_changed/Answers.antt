@@ -1,8 +1,4 @@
-use Rattle.std.proofs.Common.{◌≡◌, ◌⊎◌, inl, inr, ◌≤◌, ◌<◌, ◌+◌, ℕ, ℤ, List, length, length-set, get_or, set, sym, ap, ◌∙◌, subst, arith, Option, None}
-use Rattle.shift_instance.specs.Problem.{shift_list, slot_of}
-use Rattle.shift_instance.specs.Worth.{price_of}
-use Rattle.price_sums.specs.Days.{Priced}
-use Rattle.bound_sums.specs.Kept.{IsKept, AreMarks}
+use Rattle.bound_sums.proofs.Common.{◌≡◌, ◌⊎◌, inl, inr, ◌≤◌, ◌<◌, ◌+◌, ℕ, ℤ, List, length, length-set, get_or, set, sym, ap, ◌∙◌, subst, arith, Option, None, shift_list, slot_of, price_of, Priced, IsKept, AreMarks}
 use Rattle.bound_sums.proofs.Keeping.{kept_more, kept_unmarked, SeesNoMark}
 use Rattle.bound_sums.proofs.changes.forget_changed.Goals.{then-not-sees_no_mark, else-not-sees_no_mark}
 use Rattle.bound_sums.proofs.changes.forget_changed.Goals as goal

@@ -1,5 +1,4 @@
-use Rattle.std.proofs.Common.{◌≡◌, ◌<◌, ℕ, length, get_or, None}
-use Rattle.bound_sums.specs.Kept.{IsKept, KeepsEach}
+use Rattle.bound_sums.proofs.Common.{◌≡◌, ◌<◌, ℕ, length, get_or, None, IsKept, KeepsEach}
 use Rattle.bound_sums.proofs.changes.forget_changed.Given as goal
 
 abbrev pub invariant-loop-shift : goal.invariant-loop-shift

@@ -1,9 +1,4 @@
-use Rattle.std.proofs.Common.{◌≡◌, ℤ, List, sym, ap, ◌∙◌}
-use Rattle.std.proofs.lemmas.Bool.Decides.{Decides-int_eq}
-use Rattle.std.proofs.lemmas.Slice.Eq.{slice_eq-Decides}
-use Rattle.shift_instance.specs.declared.Shift.{Shift}
-use Rattle.price_sums.specs.Along.{sum_at}
-use Rattle.price_sums.specs.Days.{sums_on}
+use Rattle.bound_sums.proofs.Common.{◌≡◌, ℤ, List, sym, ap, ◌∙◌, Decides-int_eq, slice_eq-Decides, Shift, sum_at, sums_on}
 use Rattle.price_sums.proofs.Prices.{some_at}
 use Rattle.bound_sums.proofs.Keeping.{unmarked_between}
 use Rattle.bound_sums.proofs.changes.sees_no_mark.Goals as goal

@@ -1,6 +1,4 @@
-use Rattle.std.proofs.Common.{sym, ◌∙◌}
-use Rattle.std.proofs.lemmas.Bool.Decides.{Decides-int_eq}
-use Rattle.std.proofs.lemmas.Slice.Eq.{slice_eq-Decides}
+use Rattle.bound_sums.proofs.Common.{sym, ◌∙◌, Decides-int_eq, slice_eq-Decides}
 use Rattle.bound_sums.proofs.changes.take_prices.Goals as goal
 
 pub returns-then-eq-clause-taken : goal.returns-then-eq-clause-taken

@@ -1,8 +1,4 @@
-use Rattle.std.proofs.Common.{◌≡◌, ◌≤◌, ◌<◌, ◌+◌, ◌*◌, ◌^◌, ℕ, ℤ, ◌+ℤ◌, length, length-set, sym, ap, ◌∙◌, subst, arith}
-use Rattle.shift_instance.specs.Problem.{shift_list}
-use Rattle.head_splits.specs.Bound.{term}
-use Rattle.shift_instance.proofs.Ranges.{int_sum_below_more}
-use Rattle.bound_sums.specs.Kept.{IsKept}
+use Rattle.bound_sums.proofs.Common.{◌≡◌, ◌≤◌, ◌<◌, ◌+◌, ◌*◌, ◌^◌, ℕ, ℤ, ◌+ℤ◌, length, length-set, sym, ap, ◌∙◌, subst, arith, shift_list, term, int_sum_below_more, IsKept}
 use Rattle.bound_sums.proofs.Keeping.{kept_more}
 use Rattle.bound_sums.proofs.Sizes.{added, added_small}
 use Rattle.bound_sums.proofs.kept.kept_terms.Goals as goal

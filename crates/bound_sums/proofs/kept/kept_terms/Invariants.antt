@@ -1,9 +1,4 @@
-use Rattle.std.proofs.Common.{◌≡◌, ◌≤◌, ◌*◌, ◌^◌, length}
-use Rattle.std.specs.Int.RustNames.{unsigned_abs}
-use Rattle.break_rules.specs.Sums.{int_sum_by}
-use Rattle.shift_instance.specs.Problem.{below}
-use Rattle.head_splits.specs.Bound.{term}
-use Rattle.bound_sums.specs.Kept.{KeepsEach}
+use Rattle.bound_sums.proofs.Common.{◌≡◌, ◌≤◌, ◌*◌, ◌^◌, length, unsigned_abs, int_sum_by, below, term, KeepsEach}
 use Rattle.bound_sums.proofs.kept.kept_terms.Given as goal
 
 abbrev pub invariant-loop-shift : goal.invariant-loop-shift

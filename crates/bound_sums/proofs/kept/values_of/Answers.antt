@@ -1,5 +1,5 @@
 use Rattle.bound_sums.proofs.Keeping.{known_values, found_kept}
-use Rattle.std.proofs.Common.{sym, ◌∙◌}
+use Rattle.bound_sums.proofs.Common.{sym, ◌∙◌}
 use Rattle.bound_sums.proofs.kept.values_of.Goals as goal
 
 pub returns-then-is_some-clause-values : goal.returns-then-is_some-clause-values

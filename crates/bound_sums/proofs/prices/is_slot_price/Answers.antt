@@ -1,9 +1,4 @@
-use Rattle.std.proofs.Common.{◌≡◌, ℕ, zero, suc, ◌*◌, ◌^◌, ◌<◌, ◌≤◌, ℤ, pos, neg_ℤ, ◌-ℤ◌, ◌*ℤ◌, Bool, true, ◌&&◌, FitsSigned, to_z, of_z, sym, ap, ◌∙◌, subst, arith}
-use Rattle.std.specs.Prelude.{int_le}
-use Rattle.std.specs.Int.RustNames.{unsigned_abs}
-use Rattle.std.proofs.Math.Nat.{mul-le-mul}
-use Rattle.std.proofs.lemmas.Int.{ints, fits_signed_from_abs, to_z-of_z}
-use mir.Syntax.{w64}
+use Rattle.bound_sums.proofs.Common.{◌≡◌, ℕ, zero, suc, ◌*◌, ◌^◌, ◌<◌, ◌≤◌, ℤ, pos, neg_ℤ, ◌-ℤ◌, ◌*ℤ◌, Bool, true, ◌&&◌, FitsSigned, to_z, of_z, sym, ap, ◌∙◌, subst, arith, int_le, unsigned_abs, mul-le-mul, ints, fits_signed_from_abs, to_z-of_z, w64}
 use Rattle.bound_sums.proofs.prices.is_slot_price.Goals as goal
 
 narrow : (z y : ℤ) (n : ℕ) → z ≡ y → unsigned_abs y ≤ n → n < 2 ^ 63 → to_z w64 (of_z w64 z) ≡ y

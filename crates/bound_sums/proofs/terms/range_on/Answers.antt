@@ -1,4 +1,4 @@
-use Rattle.std.proofs.Common.{sym, ◌∙◌}
+use Rattle.bound_sums.proofs.Common.{sym, ◌∙◌}
 use Rattle.bound_sums.proofs.Uncut.{low_uncut, high_uncut}
 use Rattle.bound_sums.proofs.terms.range_on.Goals as goal
 

@@ -1,14 +1,4 @@
-use Rattle.std.proofs.Common.{◌≡◌, ◌≤◌, ◌<◌, ◌+◌, ◌*◌, ◌^◌, ℕ, ℤ, pos, ◌+ℤ◌, ◌*ℤ◌, Bool, ◌||◌, nat_lt, to_z, of_z, get_or, sym, ap, ◌∙◌, subst, arith}
-use mir.Syntax.{w128}
-use Rattle.std.specs.List.{list_any}
-use Rattle.std.specs.Int.{int_max}
-use Rattle.std.proofs.lemmas.Int.{to_z-of_z}
-use Rattle.break_rules.specs.Sums.{int_sum_by}
-use Rattle.shift_instance.specs.Problem.{below}
-use Rattle.head_splits.specs.Cuts.{low, whole_class}
-use Rattle.head_splits.specs.Bound.{day_value, free_day_value}
-use Rattle.bound_sums.specs.Values.{IsValue}
-use Rattle.shift_instance.proofs.Ranges.{int_sum_below_more, any_below_more}
+use Rattle.bound_sums.proofs.Common.{◌≡◌, ◌≤◌, ◌<◌, ◌+◌, ◌*◌, ◌^◌, ℕ, ℤ, pos, ◌+ℤ◌, ◌*ℤ◌, Bool, ◌||◌, nat_lt, to_z, of_z, get_or, sym, ap, ◌∙◌, subst, arith, w128, list_any, int_max, to_z-of_z, int_sum_by, below, low, whole_class, day_value, free_day_value, IsValue, int_sum_below_more, any_below_more}
 use Rattle.bound_sums.proofs.Sizes.{fits, added, added_small}
 use Rattle.bound_sums.proofs.ShiftTerms.{day_worth, free_worth, term_is}
 use Rattle.bound_sums.proofs.terms.term.Goals as goal

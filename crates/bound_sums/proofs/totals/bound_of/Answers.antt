@@ -1,4 +1,4 @@
-use Rattle.head_splits.proofs.Priced.{priced}
+use Rattle.bound_sums.proofs.Common.{priced}
 use Rattle.bound_sums.proofs.totals.bound_of.Goals as goal
 
 pub rounded-requires-clause-scale : goal.rounded-requires-clause-scale

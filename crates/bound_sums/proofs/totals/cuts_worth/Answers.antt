@@ -1,6 +1,4 @@
-use Rattle.std.proofs.Common.{◌<◌, ◌+◌, ◌*◌, ◌^◌, ℤ, ◌+ℤ◌, get_or, ap, ◌∙◌, arith}
-use Rattle.break_rules.specs.Sums.{int_sum_by}
-use Rattle.head_splits.specs.Bound.{cut_worth}
+use Rattle.bound_sums.proofs.Common.{◌<◌, ◌+◌, ◌*◌, ◌^◌, ℤ, ◌+ℤ◌, get_or, ap, ◌∙◌, arith, int_sum_by, cut_worth}
 use Rattle.bound_sums.proofs.Sizes.{added_fits, added, added_small}
 use Rattle.bound_sums.proofs.Pairs.{pairs_from, sum_next}
 use Rattle.bound_sums.proofs.totals.cuts_worth.Goals as goal

@@ -1,8 +1,4 @@
-use Rattle.std.proofs.Common.{◌≡◌, ◌≤◌, ◌*◌, ◌^◌, ◌+ℤ◌}
-use Rattle.std.specs.Int.RustNames.{unsigned_abs}
-use Rattle.std.specs.List.{zip}
-use Rattle.break_rules.specs.Sums.{int_sum_by}
-use Rattle.head_splits.specs.Bound.{cut_worth}
+use Rattle.bound_sums.proofs.Common.{◌≡◌, ◌≤◌, ◌*◌, ◌^◌, ◌+ℤ◌, unsigned_abs, zip, int_sum_by, cut_worth}
 use Rattle.bound_sums.proofs.Pairs.{pairs_from}
 use Rattle.bound_sums.proofs.totals.cuts_worth.Given as goal
 

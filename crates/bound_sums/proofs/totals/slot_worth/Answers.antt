@@ -1,8 +1,4 @@
-use Rattle.std.proofs.Common.{◌≡◌, ◌≤◌, ◌^◌, ℕ, ℤ, pos, ◌*ℤ◌, to_z, of_z, ap, ◌∙◌, arith}
-use mir.Syntax.{w64, w128}
-use Rattle.std.specs.Int.RustNames.{unsigned_abs}
-use Rattle.std.proofs.lemmas.Int.{to_z-of_z, fits_signed_from_abs}
-use Rattle.head_splits.specs.Bound.{worth_at}
+use Rattle.bound_sums.proofs.Common.{◌≡◌, ◌≤◌, ◌^◌, ℕ, ℤ, pos, ◌*ℤ◌, to_z, of_z, ap, ◌∙◌, arith, w64, w128, unsigned_abs, to_z-of_z, fits_signed_from_abs, worth_at}
 use Rattle.bound_sums.proofs.totals.slot_worth.Goals as goal
 
 pub returns-clause-worth : goal.returns-clause-worth

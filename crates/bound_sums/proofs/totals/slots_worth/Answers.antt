@@ -1,10 +1,4 @@
-use Rattle.std.proofs.Common.{◌≡◌, ◌≤◌, ◌<◌, ◌+◌, ◌*◌, ◌^◌, ℕ, ℤ, pos, ◌+ℤ◌, get_or, to_z, of_z, sym, ap, ◌∙◌, arith}
-use mir.Syntax.{w64}
-use Rattle.std.proofs.lemmas.Int.{to_z-of_z, fits_signed_from_abs}
-use Rattle.shift_instance.specs.Problem.{slots}
-use Rattle.shift_instance.specs.Worth.{price_of}
-use Rattle.head_splits.specs.Bound.{worth_at}
-use Rattle.shift_instance.proofs.Ranges.{int_sum_below_more}
+use Rattle.bound_sums.proofs.Common.{◌≡◌, ◌≤◌, ◌<◌, ◌+◌, ◌*◌, ◌^◌, ℕ, ℤ, pos, ◌+ℤ◌, get_or, to_z, of_z, sym, ap, ◌∙◌, arith, w64, to_z-of_z, fits_signed_from_abs, slots, price_of, worth_at, int_sum_below_more}
 use Rattle.bound_sums.proofs.Sizes.{added_fits, added, added_small}
 use Rattle.bound_sums.proofs.totals.slots_worth.Goals as goal
 

@@ -1,9 +1,4 @@
-use Rattle.std.proofs.Common.{◌≡◌, ◌≤◌, ◌*◌}
-use Rattle.std.specs.Int.RustNames.{unsigned_abs}
-use Rattle.break_rules.specs.Sums.{int_sum_by}
-use Rattle.shift_instance.specs.Problem.{below}
-use Rattle.shift_instance.specs.Worth.{price_of}
-use Rattle.head_splits.specs.Bound.{worth_at}
+use Rattle.bound_sums.proofs.Common.{◌≡◌, ◌≤◌, ◌*◌, unsigned_abs, int_sum_by, below, price_of, worth_at}
 use Rattle.bound_sums.proofs.totals.slots_worth.Given as goal
 
 abbrev pub invariant-loop-t : goal.invariant-loop-t

@@ -1,12 +1,5 @@
-use Rattle.std.proofs.Common.{◌≡◌, ◌≤◌, ℕ, ℤ, ◌+ℤ◌, List, get_or, subst, sym, ap, ◌∙◌}
-use Rattle.std.specs.List.{zip}
-use Rattle.break_rules.specs.Sums.{int_sum_by}
-use Rattle.shift_instance.specs.Problem.{below, slots}
-use Rattle.head_splits.specs.declared.Cut.{Cut}
-use Rattle.head_splits.specs.Bound.{worth_at, slot_worth, cut_worth}
+use Rattle.bound_sums.proofs.Common.{◌≡◌, ◌≤◌, ℕ, ℤ, ◌+ℤ◌, List, get_or, subst, sym, ap, ◌∙◌, zip, int_sum_by, below, slots, Cut, worth_at, slot_worth, cut_worth, unsigned_abs, price_of}
 use Rattle.bound_sums.proofs.Sizes.{three_added}
-use Rattle.std.specs.Int.RustNames.{unsigned_abs}
-use Rattle.shift_instance.specs.Worth.{price_of}
 use Rattle.bound_sums.proofs.Priced.{slot_small, cut_small}
 use Rattle.bound_sums.proofs.totals.total.Goals as goal
 

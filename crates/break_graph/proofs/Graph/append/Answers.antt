@@ -1,8 +1,4 @@
-use Rattle.std.proofs.Common.{◌≡◌, ◌++◌, [], ◌∷◌, List, length, sym, ap, ◌∙◌, subst, arith}
-use Rattle.break_graph.specs.declared.Edge.{Edge}
-use Rattle.break_graph.specs.declared.FlatNode.{FlatNode}
-use Rattle.break_graph.specs.declared.Node.{Node}
-use Rattle.break_graph.specs.Flat.{nodes_from, AreFlat}
+use Rattle.break_graph.proofs.Common.{◌≡◌, ◌++◌, [], ◌∷◌, List, length, sym, ap, ◌∙◌, subst, arith, Edge, FlatNode, Node, nodes_from, AreFlat}
 use Rattle.break_graph.proofs.Flat.{nodes_more, flat_more}
 use Rattle.break_graph.proofs.Graph.append.Goals as goal
 

@@ -1,10 +1,4 @@
-use Rattle.std.proofs.Common.{rules, ◌≡◌, ◌<◌, ◌≤◌, List, length, ap, ◌∙◌, arith}
-use Rattle.std.specs.List.{between}
-use Rattle.break_graph.specs.declared.Edge.{Edge}
-use Rattle.break_graph.specs.declared.FlatNode.{FlatNode}
-use Rattle.break_graph.specs.declared.Node.{Node}
-use Rattle.break_graph.specs.Graph.{node_at}
-use Rattle.break_graph.specs.Flat.{begin_at}
+use Rattle.break_graph.proofs.Common.{rules, ◌≡◌, ◌<◌, ◌≤◌, List, length, ap, ◌∙◌, arith, between, Edge, FlatNode, Node, node_at, begin_at}
 use Rattle.break_graph.proofs.Flat.{length-nodes_from, edges_flat, begins_first, ends_within}
 use Rattle.break_graph.proofs.Graph.edges.Goals as goal
 

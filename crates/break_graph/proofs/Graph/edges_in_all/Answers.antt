@@ -1,5 +1,4 @@
-use Rattle.std.proofs.Common.{◌≡◌, List, length, sum_by, ap, ◌∙◌, arith}
-use Rattle.break_graph.specs.declared.Node.{Node}
+use Rattle.break_graph.proofs.Common.{◌≡◌, List, length, sum_by, ap, ◌∙◌, arith, Node}
 use Rattle.break_graph.proofs.Flat.{edges_counted}
 use Rattle.break_graph.proofs.Graph.edges_in_all.Goals as goal
 

@@ -1,9 +1,4 @@
-use Rattle.std.proofs.Common.{◌≡◌, ◌++◌, ◌∷◌, [], ℕ, List, Some, slice_get, sym, ap, subst, ◌∙◌, rules}
-use Rattle.break_rules.specs.declared.Break.{Break}
-use Rattle.break_rules.specs.declared.Rule.{Rule}
-use Rattle.break_rules.specs.Breaks.{legal_lists}
-use Rattle.break_rules.proofs.FirstList.{first_start, first_none}
-use Rattle.break_graph.specs.Graph.{IsGraph, StandsAt, node_at}
+use Rattle.break_graph.proofs.Common.{◌≡◌, ◌++◌, ◌∷◌, [], ℕ, List, Some, slice_get, sym, ap, subst, ◌∙◌, rules, Break, Rule, legal_lists, first_start, first_none, IsGraph, StandsAt, node_at}
 use Rattle.break_graph.proofs.Leading.{first_on, first_whole, no_nodes, last_node}
 use Rattle.break_graph.proofs.Graph.least.Goals as goal
 

@@ -1,8 +1,4 @@
-use Rattle.std.proofs.Common.{◌≡◌, ◌++◌, ◌<◌, ℕ, List, Some, length, slice_get}
-use Rattle.break_rules.specs.declared.Break.{Break}
-use Rattle.break_rules.specs.declared.Rule.{Rule}
-use Rattle.break_rules.specs.Breaks.{legal_lists}
-use Rattle.break_graph.specs.Graph.{IsGraph, StandsAt}
+use Rattle.break_graph.proofs.Common.{◌≡◌, ◌++◌, ◌<◌, ℕ, List, Some, length, slice_get, Break, Rule, legal_lists, IsGraph, StandsAt}
 use Rattle.break_graph.proofs.Graph.least.Given as goal
 
 abbrev pub invariant-loop-edge : goal.invariant-loop-edge

@@ -1,9 +1,4 @@
-use Rattle.std.proofs.Common.{ℕ, [], sym, subst, rules}
-use Rattle.std.proofs.lemmas.List.{take_all}
-use Rattle.break_rules.specs.declared.Break.{Break}
-use Rattle.break_rules.specs.declared.Rule.{Rule}
-use Rattle.break_rules.specs.Lists.{Has}
-use Rattle.break_graph.specs.Graph.{IsGraph, StandsAt}
+use Rattle.break_graph.proofs.Common.{ℕ, [], sym, subst, rules, take_all, Break, Rule, Has, IsGraph, StandsAt}
 use Rattle.break_graph.proofs.Leading.{no_nodes, last_node}
 use Rattle.break_graph.proofs.Fronts.{stands_on, dead_on, dead_none}
 use Rattle.break_graph.proofs.Graph.node_behind.Goals as goal

@@ -1,6 +1,4 @@
-use Rattle.std.proofs.Common.{◌<◌, ℕ, length, take}
-use Rattle.break_rules.specs.declared.Rule.{Rule}
-use Rattle.break_graph.specs.Graph.{IsGraph, StandsAt}
+use Rattle.break_graph.proofs.Common.{◌<◌, ℕ, length, take, Rule, IsGraph, StandsAt}
 use Rattle.break_graph.proofs.Graph.node_behind.Given as goal
 
 abbrev pub invariant-loop-stop : goal.invariant-loop-stop

@@ -1,4 +1,4 @@
-use Rattle.std.proofs.Common.{length, ap, arith}
+use Rattle.break_graph.proofs.Common.{length, ap, arith}
 use Rattle.break_graph.proofs.Flat.{length-nodes_from}
 use Rattle.break_graph.proofs.Graph.node_count.Goals as goal
 

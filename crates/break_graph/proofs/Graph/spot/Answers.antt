@@ -1,6 +1,4 @@
-use Rattle.std.proofs.Common.{◌<◌, List, length, ap, ◌∙◌, arith}
-use Rattle.break_graph.specs.declared.Node.{Node}
-use Rattle.break_graph.specs.Graph.{node_at}
+use Rattle.break_graph.proofs.Common.{◌<◌, List, length, ap, ◌∙◌, arith, Node, node_at}
 use Rattle.break_graph.proofs.Flat.{length-nodes_from, spot_flat}
 use Rattle.break_graph.proofs.Graph.spot.Goals as goal
 

@@ -1,5 +1,4 @@
-use Rattle.std.proofs.Common.{◌≡◌, ℕ, ◌+◌, ◌*◌, ◌<◌, ◌++◌, [], ◌∷◌, List, refl, ap, subst, arith, Option}
-use Rattle.break_graph.specs.Building.{IsNodeOf, AreDrafted}
+use Rattle.break_graph.proofs.Common.{◌≡◌, ℕ, ◌+◌, ◌*◌, ◌<◌, ◌++◌, [], ◌∷◌, List, refl, ap, subst, arith, Option, IsNodeOf, AreDrafted}
 use Rattle.break_graph.proofs.Embedding.{edges_in, too_many}
 use Rattle.break_graph.proofs.Nodes.{draft_more, whole_graph}
 use Rattle.break_graph.proofs.Graph.within.Goals as goal

@@ -1,5 +1,4 @@
-use Rattle.std.proofs.Common.{◌≡◌, ◌≤◌, length}
-use Rattle.break_graph.specs.Building.{AreDrafted}
+use Rattle.break_graph.proofs.Common.{◌≡◌, ◌≤◌, length, AreDrafted}
 use Rattle.break_graph.proofs.Embedding.{edges_in}
 use Rattle.break_graph.proofs.Graph.within.Given as goal
 

@@ -1,10 +1,4 @@
-use Rattle.std.proofs.Common.{◌∷◌, [], inl, inr, take, get_or, sym, ap, subst, ◌∙◌}
-use Rattle.std.proofs.lemmas.Bool.{false≢true}
-use Rattle.std.proofs.lemmas.List.{take_all, take_more}
-use Rattle.break_rules.specs.Lists.{Has}
-use Rattle.break_rules.proofs.Lists.{Has-append_cases}
-use Rattle.break_rules.proofs.LegalLists.{same_break_decides}
-use Rattle.break_graph.specs.declared.Edge.{Edge}
+use Rattle.break_graph.proofs.Common.{◌∷◌, [], inl, inr, take, get_or, sym, ap, subst, ◌∙◌, false≢true, take_all, take_more, Has, Has-append_cases, same_break_decides, Edge}
 use Rattle.break_graph.proofs.Elements.{Has-get_or}
 use Rattle.break_graph.proofs.behind.edge_with.Goals as goal
 

@@ -1,6 +1,4 @@
-use Rattle.std.proofs.Common.{◌≡◌, take}
-use Rattle.break_rules.specs.Lists.{Has}
-use Rattle.break_graph.specs.declared.Edge.{Edge}
+use Rattle.break_graph.proofs.Common.{◌≡◌, take, Has, Edge}
 use Rattle.break_graph.proofs.behind.edge_with.Given as goal
 
 abbrev pub invariant-loop-edge : goal.invariant-loop-edge

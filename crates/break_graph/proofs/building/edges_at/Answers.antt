@@ -1,14 +1,5 @@
-use Rattle.std.proofs.Common.{◌≡◌, ℕ, ◌++◌, List, [], ◌∷◌, inl, inr, sym, ap, subst, ◌∙◌, append_assoc, Option}
-use Rattle.std.specs.List.{filter_map}
+use Rattle.break_graph.proofs.Common.{◌≡◌, ℕ, ◌++◌, List, [], ◌∷◌, inl, inr, sym, ap, subst, ◌∙◌, append_assoc, Option, filter_map, place_of, nexts_of, spot_of, Has, Has-append_cases, from_next, has_middle, Edge, edge_to, edges_by, number_at}
 use Rattle.std.proofs.lemmas.List.Elements.{filter_map-append}
-use Rattle.break_rules.specs.Live.{place_of}
-use Rattle.break_rules.specs.Walk.{nexts_of, spot_of}
-use Rattle.break_rules.specs.Lists.{Has}
-use Rattle.break_rules.proofs.Lists.{Has-append_cases}
-use Rattle.break_rules.proofs.Steps.{from_next}
-use Rattle.break_rules.proofs.Reaching.{has_middle}
-use Rattle.break_graph.specs.declared.Edge.{Edge}
-use Rattle.break_graph.specs.Building.{edge_to, edges_by, number_at}
 use Rattle.break_graph.proofs.Elements.{Has-get}
 use Rattle.break_graph.proofs.Nodes.{below_one}
 use Rattle.break_graph.proofs.building.edges_at.Goals as goal

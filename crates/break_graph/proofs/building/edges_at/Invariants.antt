@@ -1,9 +1,4 @@
-use Rattle.std.proofs.Common.{◌≡◌, ℕ, ◌++◌, ◌<◌, List}
-use Rattle.break_rules.specs.declared.Break.{Break}
-use Rattle.break_rules.specs.Walk.{nexts_of, spot_of}
-use Rattle.break_rules.specs.Lists.{Has}
-use Rattle.break_graph.specs.declared.Edge.{Edge}
-use Rattle.break_graph.specs.Building.{AreBelow, edges_by}
+use Rattle.break_graph.proofs.Common.{◌≡◌, ℕ, ◌++◌, ◌<◌, List, Break, nexts_of, spot_of, Has, Edge, AreBelow, edges_by}
 use Rattle.break_graph.proofs.building.edges_at.Given as goal
 
 abbrev pub invariant-loop-next : goal.invariant-loop-next

@@ -1,10 +1,4 @@
-use Rattle.std.proofs.Common.{◌≡◌, inl, inr, length, sym, ap, subst, ◌∙◌, arith}
-use Rattle.std.proofs.lemmas.Bool.{eqb-true, eqb-false}
-use Rattle.break_rules.specs.Live.{place_of}
-use Rattle.break_rules.specs.Walk.{spot_of}
-use Rattle.break_rules.proofs.Reaching.{walk_small}
-use Rattle.break_graph.specs.declared.Node.{Node}
-use Rattle.break_graph.specs.Building.{LeadBelow}
+use Rattle.break_graph.proofs.Common.{◌≡◌, inl, inr, length, sym, ap, subst, ◌∙◌, arith, eqb-true, eqb-false, place_of, spot_of, walk_small, Node, LeadBelow}
 use Rattle.break_graph.proofs.Nodes.{a_node, no_node}
 use Rattle.break_graph.proofs.building.node_of.Goals as goal
 use Rattle.break_graph.proofs.building.node_of.Goals.{else-is_empty-via-then-is_empty+else-not-ends, else-is_empty-via-else-is_empty}

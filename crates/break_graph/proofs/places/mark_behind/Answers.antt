@@ -1,6 +1,4 @@
-use Rattle.std.proofs.Common.{arith, sym, ap, ◌∙◌, List, Bool, false, slice_index_or}
-use Rattle.break_rules.specs.Walk.{spot_of}
-use Rattle.break_rules.proofs.Reaching.{walk_small}
+use Rattle.break_graph.proofs.Common.{arith, sym, ap, ◌∙◌, List, Bool, false, slice_index_or, spot_of, walk_small}
 use Rattle.break_graph.proofs.Marks.{walk_front}
 use Rattle.break_graph.proofs.places.mark_behind.Goals as goal
 

@@ -1,11 +1,4 @@
-use Rattle.std.proofs.Common.{◌≡◌, ◌++◌, [], ◌∷◌, inl, inr, sym, ap, subst, ◌∙◌, append_assoc, append-nil, true, false, slice_index_or, arith}
-use Rattle.break_rules.specs.declared.Break.{Break}
-use Rattle.break_rules.specs.Live.{place_of}
-use Rattle.break_rules.specs.Walk.{nexts_of, spot_of}
-use Rattle.break_rules.specs.Lists.{Has}
-use Rattle.break_rules.proofs.Lists.{Has-append_cases}
-use Rattle.break_rules.proofs.Steps.{from_next}
-use Rattle.break_rules.proofs.Reaching.{has_middle, walk_on}
+use Rattle.break_graph.proofs.Common.{◌≡◌, ◌++◌, [], ◌∷◌, inl, inr, sym, ap, subst, ◌∙◌, append_assoc, append-nil, true, false, slice_index_or, arith, Break, place_of, nexts_of, spot_of, Has, Has-append_cases, from_next, has_middle, walk_on}
 use Rattle.break_graph.proofs.Marks.{walk_front, place_small}
 use Rattle.break_graph.proofs.places.mark_nexts.Goals as goal
 

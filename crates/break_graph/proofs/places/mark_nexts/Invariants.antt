@@ -1,8 +1,4 @@
-use Rattle.std.proofs.Common.{◌≡◌, ℕ, ◌++◌, List, [], ◌∷◌, true, false, length, slice_index_or}
-use Rattle.break_rules.specs.declared.Break.{Break}
-use Rattle.break_rules.specs.Walk.{nexts_of, spot_of, is_walk}
-use Rattle.break_rules.specs.Lists.{Has}
-use Rattle.break_graph.specs.Building.{IsMarked, AreReached}
+use Rattle.break_graph.proofs.Common.{◌≡◌, ℕ, ◌++◌, List, [], ◌∷◌, true, false, length, slice_index_or, Break, nexts_of, spot_of, is_walk, Has, IsMarked, AreReached}
 use Rattle.break_graph.proofs.places.mark_nexts.Given as goal
 
 abbrev pub invariant-loop-next : goal.invariant-loop-next

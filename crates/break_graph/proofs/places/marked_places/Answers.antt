@@ -1,7 +1,4 @@
-use Rattle.std.proofs.Common.{◌≡◌, inl, inr, ◌+◌, ◌-◌, ◌*◌, [], length, arith, refl, sym, ap, subst, ◌∙◌, true, false, slice_index_or}
-use Rattle.std.proofs.lemmas.Bool.{false≢true}
-use Rattle.break_rules.specs.Live.{place_of}
-use Rattle.break_rules.specs.Walk.{spot_of}
+use Rattle.break_graph.proofs.Common.{◌≡◌, inl, inr, ◌+◌, ◌-◌, ◌*◌, [], length, arith, refl, sym, ap, subst, ◌∙◌, true, false, slice_index_or, false≢true, place_of, spot_of}
 use Rattle.break_graph.proofs.Marks.{AreMarkedBehind, none_marked, marked_more, all_marked, none_behind, place_small}
 use Rattle.break_graph.proofs.places.marked_places.Goals as goal
 

@@ -1,5 +1,4 @@
-use Rattle.std.proofs.Common.{◌≡◌, ◌-◌, ◌+◌, ◌*◌, [], length}
-use Rattle.break_graph.specs.Building.{IsMarked, AreReached}
+use Rattle.break_graph.proofs.Common.{◌≡◌, ◌-◌, ◌+◌, ◌*◌, [], length, IsMarked, AreReached}
 use Rattle.break_graph.proofs.Marks.{AreMarkedBehind}
 use Rattle.break_graph.proofs.places.marked_places.Given as goal
 

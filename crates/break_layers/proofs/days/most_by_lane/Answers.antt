@@ -1,11 +1,5 @@
-use Rattle.std.proofs.Common.{rules, ◌≡◌, ◌≢◌, ◌<◌, inl, inr, ℕ, ℤ, pos, get_or, [], List, refl, sym, ap, subst, ◌∙◌, arith, to_z, of_z}
-use Rattle.std.specs.Int.{w64}
-use Rattle.std.proofs.lemmas.Int.{to_z-of_z}
-use Rattle.price_sums.specs.Along.{AreSums, sum_at}
+use Rattle.break_layers.proofs.Common.{rules, ◌≡◌, ◌≢◌, ◌<◌, inl, inr, ℕ, ℤ, pos, get_or, [], List, refl, sym, ap, subst, ◌∙◌, arith, to_z, of_z, w64, to_z-of_z, AreSums, sum_at, NOTHING, number_in, IsValueOrNothing, AreLayers, layer_place}
 use Rattle.price_sums.specs.Days.{sums_on}
-use Rattle.break_layers.specs.declared.windows.TheConstants.{NOTHING}
-use Rattle.break_layers.specs.Windows.{number_in}
-use Rattle.break_layers.specs.Layered.{IsValueOrNothing, AreLayers, layer_place}
 use Rattle.break_layers.proofs.Ending.{layer_known, live_some, value_none, value_some}
 use Rattle.break_layers.proofs.Following.{none_legal}
 use Rattle.break_layers.proofs.days.most_by_lane.Goals as goal

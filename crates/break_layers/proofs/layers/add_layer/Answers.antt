@@ -1,12 +1,4 @@
-use Rattle.std.proofs.Common.{◌≡◌, ◌+◌, ◌*◌, ◌≤◌, Bool, List, map, sym, ap, subst, ◌∙◌, arith}
-use Rattle.std.specs.List.{list_any}
-use Rattle.std.proofs.lemmas.Bool.{false≢true}
-use Rattle.std.proofs.lemmas.Result.{IfOk-weaker}
-use Rattle.break_rules.specs.declared.Lunch.{Lunch}
-use Rattle.break_rules.specs.Breaks.{is_lunch}
-use Rattle.break_rules.specs.Walk.{bits_of}
-use Rattle.break_layers.specs.declared.layers.Layer.{Layer}
-use Rattle.break_layers.specs.Layered.{AreLayersBefore, layer_number}
+use Rattle.break_layers.proofs.Common.{◌≡◌, ◌+◌, ◌*◌, ◌≤◌, Bool, List, map, sym, ap, subst, ◌∙◌, arith, list_any, false≢true, IfOk-weaker, Lunch, is_lunch, bits_of, Layer, AreLayersBefore, layer_number}
 use Rattle.break_layers.proofs.Ending.{dead_layer}
 use Rattle.break_layers.proofs.Lunched.{lunch_time}
 use Rattle.break_layers.proofs.layers.add_layer.Goals as goal

@@ -1,8 +1,4 @@
-use Rattle.std.proofs.Common.{sym, ap, ◌∙◌}
-use Rattle.std.proofs.lemmas.Bool.{false_from_ne_true, ne_eqb}
-use Rattle.break_rules.specs.declared.Spot.{Spot}
-use Rattle.break_rules.specs.Breaks.{is_legal}
-use Rattle.break_rules.proofs.LegalLists.{legal_parts}
+use Rattle.break_layers.proofs.Common.{sym, ap, ◌∙◌, false_from_ne_true, ne_eqb, Spot, is_legal, legal_parts}
 use Rattle.break_layers.proofs.layers.ends_at.Goals as goal
 
 pub returns-else-spot-total : goal.returns-else-spot-total

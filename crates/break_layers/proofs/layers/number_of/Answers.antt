@@ -1,8 +1,4 @@
-use Rattle.std.proofs.Common.{List, ℤ, ap, ◌∙◌, arith}
-use Rattle.std.specs.Int.{w64}
-use Rattle.std.proofs.lemmas.Int.{to_z-of_z}
-use Rattle.std.proofs.lemmas.List.{map-id}
-use Rattle.break_layers.specs.Windows.{number_in}
+use Rattle.break_layers.proofs.Common.{List, ℤ, ap, ◌∙◌, arith, w64, to_z-of_z, map-id, number_in}
 use Rattle.break_layers.proofs.layers.number_of.Goals as goal
 
 pub returns : goal.returns

@@ -1,9 +1,4 @@
-use Rattle.std.proofs.Common.{◌≡◌, ◌+◌, ◌++◌, ◌∷◌, [], ◌*◌, ◌≤◌, length, length-append, map, sym, ap, subst, ◌∙◌, arith}
-use Rattle.std.proofs.lemmas.List.{length-map, map_push}
-use Rattle.break_rules.specs.declared.Spot.{Spot}
-use Rattle.break_rules.specs.Walk.{end_of_all}
-use Rattle.break_layers.specs.Windows.{number_in}
-use Rattle.break_layers.specs.Layered.{layer_number, layer_of, AreLayersBefore, IsReachOfAll}
+use Rattle.break_layers.proofs.Common.{◌≡◌, ◌+◌, ◌++◌, ◌∷◌, [], ◌*◌, ◌≤◌, length, length-append, map, sym, ap, subst, ◌∙◌, arith, length-map, map_push, Spot, end_of_all, number_in, layer_number, layer_of, AreLayersBefore, IsReachOfAll}
 use Rattle.break_layers.proofs.Ending.{layers_more}
 use Rattle.break_layers.proofs.layers.put_layer.Goals as goal
 

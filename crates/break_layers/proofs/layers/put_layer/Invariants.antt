@@ -1,9 +1,4 @@
-use Rattle.std.proofs.Common.{◌≡◌, ◌+◌, ◌*◌, ◌<◌, ℕ, List, IsTrue, length, map}
-use Rattle.break_rules.specs.declared.Break.{Break}
-use Rattle.break_rules.specs.Walk.{is_walk, end_of_all}
-use Rattle.price_sums.specs.Along.{AreSums}
-use Rattle.break_layers.specs.Windows.{number_in}
-use Rattle.break_layers.specs.Layered.{layer_number, layer_of, AreLayersBefore, IsReachOfAll}
+use Rattle.break_layers.proofs.Common.{◌≡◌, ◌+◌, ◌*◌, ◌<◌, ℕ, List, IsTrue, length, map, Break, is_walk, end_of_all, AreSums, number_in, layer_number, layer_of, AreLayersBefore, IsReachOfAll}
 use Rattle.break_layers.proofs.layers.put_layer.Given as goal
 
 abbrev pub invariant-loop-offset : goal.invariant-loop-offset

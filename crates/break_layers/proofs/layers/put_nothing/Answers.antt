@@ -1,8 +1,4 @@
-use Rattle.std.proofs.Common.{◌≡◌, ◌++◌, ◌∷◌, [], ℤ, List, length, length-append, map, ap, ◌∙◌, arith}
-use Rattle.std.proofs.Math.ListN.{get_or-append}
-use Rattle.std.proofs.lemmas.List.{length-map, map_push}
-use Rattle.break_layers.specs.declared.windows.TheConstants.{NOTHING}
-use Rattle.break_layers.specs.Windows.{number_in}
+use Rattle.break_layers.proofs.Common.{◌≡◌, ◌++◌, ◌∷◌, [], ℤ, List, length, length-append, map, ap, ◌∙◌, arith, get_or-append, length-map, map_push, NOTHING, number_in}
 use Rattle.break_layers.proofs.layers.put_nothing.Goals as goal
 
 pub loop-preserved : goal.loop-preserved

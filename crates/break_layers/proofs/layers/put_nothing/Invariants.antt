@@ -1,5 +1,4 @@
-use Rattle.std.proofs.Common.{◌≡◌, ◌+◌, ◌<◌, ℕ, length, map}
-use Rattle.break_layers.specs.Windows.{number_in}
+use Rattle.break_layers.proofs.Common.{◌≡◌, ◌+◌, ◌<◌, ℕ, length, map, number_in}
 use Rattle.break_layers.proofs.layers.put_nothing.Given as goal
 
 abbrev pub invariant-loop : goal.invariant-loop

@@ -1,6 +1,4 @@
-use Rattle.std.proofs.Common.{◌≡◌, ◌+◌, ◌*◌, ◌<◌, ℕ, length, map}
-use Rattle.price_sums.specs.Along.{AreSums}
-use Rattle.break_layers.specs.Layered.{AreLayersBefore}
+use Rattle.break_layers.proofs.Common.{◌≡◌, ◌+◌, ◌*◌, ◌<◌, ℕ, length, map, AreSums, AreLayersBefore}
 use Rattle.break_layers.proofs.layers.set_layers.Given as goal
 
 abbrev pub invariant-loop-number : goal.invariant-loop-number

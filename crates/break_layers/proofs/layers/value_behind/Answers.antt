@@ -1,10 +1,4 @@
-use Rattle.std.proofs.Common.{◌≡◌, ◌≢◌, ◌-ℤ◌, ℤ, true, false, map, sym, ap, subst, ◌∙◌, FitsSigned}
-use Rattle.std.specs.Int.{w64}
-use Rattle.break_rules.specs.declared.Spot.{Spot}
-use Rattle.break_rules.specs.Breaks.{is_legal}
-use Rattle.break_rules.specs.Walk.{end_of_all}
-use Rattle.price_sums.specs.Along.{sum_at, resumes}
-use Rattle.break_layers.specs.declared.windows.TheConstants.{NOTHING}
+use Rattle.break_layers.proofs.Common.{◌≡◌, ◌≢◌, ◌-ℤ◌, ℤ, true, false, map, sym, ap, subst, ◌∙◌, FitsSigned, w64, Spot, is_legal, end_of_all, sum_at, resumes, NOTHING}
 use Rattle.break_layers.proofs.Ending.{sum_some, value_legal, value_open}
 use Rattle.break_layers.proofs.layers.value_behind.Goals as goal
 use Rattle.break_layers.proofs.layers.value_behind.Goals.{then-ends_at, else-ends_at}

@@ -1,9 +1,4 @@
-use Rattle.std.proofs.Common.{◌≡◌, sym, ap, subst, ◌∙◌, to_z, of_z}
-use Rattle.std.specs.Int.{w64}
-use Rattle.std.proofs.lemmas.Int.{to_z-of_z}
-use Rattle.break_layers.specs.declared.windows.TheConstants.{NOTHING}
-use Rattle.break_layers.specs.Windows.{number_in}
-use Rattle.break_layers.specs.Layered.{IsValueOrNothing, layer_place}
+use Rattle.break_layers.proofs.Common.{◌≡◌, sym, ap, subst, ◌∙◌, to_z, of_z, w64, to_z-of_z, NOTHING, number_in, IsValueOrNothing, layer_place}
 use Rattle.break_layers.proofs.Ending.{value_some, value_none, layer_known}
 use Rattle.break_layers.proofs.layers.value_in.Goals as goal
 

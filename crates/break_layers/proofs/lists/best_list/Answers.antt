@@ -1,9 +1,4 @@
-use Rattle.std.proofs.Common.{◌≡◌, ℤ, List, [], true, refl, sym, subst, to_z, of_z}
-use Rattle.std.specs.Int.{w64}
-use Rattle.std.proofs.lemmas.Int.{to_z-of_z}
-use Rattle.break_rules.specs.declared.Break.{Break}
-use Rattle.break_rules.specs.Breaks.{is_live}
-use Rattle.break_layers.specs.Rests.{IsMostEarned, IsBestList}
+use Rattle.break_layers.proofs.Common.{◌≡◌, ℤ, List, [], true, refl, sym, subst, to_z, of_z, w64, to_z-of_z, Break, is_live, IsMostEarned, IsBestList}
 use Rattle.break_layers.proofs.Following.{earned_small, most_live, best_whole, none_legal}
 use Rattle.break_layers.proofs.lists.best_list.Goals as goal
 

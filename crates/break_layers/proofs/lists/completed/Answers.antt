@@ -1,11 +1,5 @@
-use Rattle.std.proofs.Common.{◌≡◌, ◌++◌, [], ◌∷◌, List, true, sym, ap, subst, ◌∙◌, append_assoc, append-nil}
-use Rattle.break_rules.specs.declared.Break.{Break}
-use Rattle.break_rules.specs.declared.Spot.{Spot}
-use Rattle.break_rules.specs.Breaks.{is_live}
-use Rattle.break_rules.specs.Walk.{spot_of, may_follow}
+use Rattle.break_layers.proofs.Common.{◌≡◌, ◌++◌, [], ◌∷◌, List, true, sym, ap, subst, ◌∙◌, append_assoc, append-nil, Break, Spot, is_live, spot_of, may_follow, from_next, LeadsOn, IsBestTail}
 use Rattle.break_rules.proofs.FirstList.{nearer}
-use Rattle.break_rules.proofs.Steps.{from_next}
-use Rattle.break_layers.specs.Rests.{LeadsOn, IsBestTail}
 use Rattle.break_layers.proofs.Following.{best_at_end}
 use Rattle.break_layers.proofs.lists.completed.Goals as goal
 

@@ -1,8 +1,4 @@
-use Rattle.std.proofs.Common.{◌≡◌, ◌-◌, ◌++◌, List, true}
-use Rattle.break_rules.specs.declared.Break.{Break}
-use Rattle.break_rules.specs.Breaks.{is_live}
-use Rattle.break_rules.specs.Walk.{spot_of}
-use Rattle.break_layers.specs.Rests.{IsBestTail}
+use Rattle.break_layers.proofs.Common.{◌≡◌, ◌-◌, ◌++◌, List, true, Break, is_live, spot_of, IsBestTail}
 use Rattle.break_layers.proofs.lists.completed.Given as goal
 
 abbrev pub invariant-loop-next : goal.invariant-loop-next

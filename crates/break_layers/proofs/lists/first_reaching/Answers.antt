@@ -1,9 +1,4 @@
-use Rattle.std.proofs.Common.{◌≡◌, ◌++◌, ◌∷◌, [], ℤ, sym, ap, subst, ◌∙◌, append_assoc, append-nil, to_z, of_z}
-use Rattle.std.specs.Int.{w64}
-use Rattle.std.proofs.lemmas.Int.{to_z-of_z}
-use Rattle.break_rules.specs.Walk.{nexts_of, spot_of}
-use Rattle.break_rules.specs.Lists.{Has}
-use Rattle.break_rules.proofs.Reaching.{has_middle}
+use Rattle.break_layers.proofs.Common.{◌≡◌, ◌++◌, ◌∷◌, [], ℤ, sym, ap, subst, ◌∙◌, append_assoc, append-nil, to_z, of_z, w64, to_z-of_z, nexts_of, spot_of, Has, has_middle}
 use Rattle.break_layers.proofs.Following.{ReachOthers, others_more, first_leads, legal_without}
 use Rattle.break_layers.proofs.lists.first_reaching.Goals as goal
 

@@ -1,6 +1,4 @@
-use Rattle.std.proofs.Common.{◌≡◌, ◌++◌, List, IsTrue}
-use Rattle.break_rules.specs.declared.Break.{Break}
-use Rattle.break_rules.specs.Walk.{nexts_of, spot_of, is_walk}
+use Rattle.break_layers.proofs.Common.{◌≡◌, ◌++◌, List, IsTrue, Break, nexts_of, spot_of, is_walk}
 use Rattle.break_layers.proofs.Following.{ReachOthers}
 use Rattle.break_layers.proofs.lists.first_reaching.Given as goal
 

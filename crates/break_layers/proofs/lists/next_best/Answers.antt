@@ -1,15 +1,4 @@
-use Rattle.std.proofs.Common.{◌≡◌, ◌≢◌, ◌+ℤ◌, ℤ, sym, ap, subst, ◌∙◌, to_z, of_z, FitsSigned}
-use Rattle.std.specs.Int.{w64}
-use Rattle.std.proofs.lemmas.Bool.{false≢true}
-use Rattle.std.proofs.lemmas.Int.{to_z-of_z}
-use Rattle.break_rules.specs.declared.Spot.{Spot}
-use Rattle.break_rules.specs.Walk.{end_of_all}
-use Rattle.break_rules.proofs.Reaching.{live_walks}
-use Rattle.price_sums.specs.Along.{sum_at, resumes}
-use Rattle.break_layers.specs.declared.windows.TheConstants.{NOTHING}
-use Rattle.break_layers.specs.Rests.{IsMostEarned}
-use Rattle.break_layers.specs.Windows.{number_in}
-use Rattle.break_layers.specs.Layered.{IsValueOrNothing, layer_place}
+use Rattle.break_layers.proofs.Common.{◌≡◌, ◌≢◌, ◌+ℤ◌, ℤ, sym, ap, subst, ◌∙◌, to_z, of_z, FitsSigned, w64, false≢true, to_z-of_z, Spot, end_of_all, live_walks, sum_at, resumes, NOTHING, IsMostEarned, number_in, IsValueOrNothing, layer_place}
 use Rattle.break_layers.proofs.Ending.{layer_known, value_none, value_some}
 use Rattle.break_layers.proofs.Following.{earned_fits}
 use Rattle.break_layers.proofs.lists.next_best.Goals as goal

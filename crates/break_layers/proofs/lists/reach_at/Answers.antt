@@ -1,14 +1,4 @@
-use Rattle.std.proofs.Common.{◌≡◌, ◌+ℤ◌, ℤ, true, [], ◌∷◌, ◌++◌, sym, ap, subst, ◌∙◌, to_z, of_z, FitsSigned}
-use Rattle.std.specs.Int.{w64}
-use Rattle.std.proofs.lemmas.Int.{to_z-of_z}
-use Rattle.break_rules.specs.declared.Spot.{Spot}
-use Rattle.break_rules.specs.Walk.{is_walk, nexts_of, spot_of}
-use Rattle.break_rules.specs.Lists.{Has}
-use Rattle.break_rules.proofs.Reaching.{walk_on}
-use Rattle.break_rules.proofs.Steps.{from_next}
-use Rattle.price_sums.specs.Along.{sum_at}
-use Rattle.break_layers.specs.Windows.{number_in}
-use Rattle.break_layers.specs.Layered.{IsValueOrNothing, layer_place}
+use Rattle.break_layers.proofs.Common.{◌≡◌, ◌+ℤ◌, ℤ, true, [], ◌∷◌, ◌++◌, sym, ap, subst, ◌∙◌, to_z, of_z, FitsSigned, w64, to_z-of_z, Spot, is_walk, nexts_of, spot_of, Has, walk_on, from_next, sum_at, number_in, IsValueOrNothing, layer_place}
 use Rattle.break_layers.proofs.Ending.{layer_known}
 use Rattle.break_layers.proofs.Reach.{reach_by}
 use Rattle.break_layers.proofs.lists.reach_at.Goals as goal

@@ -1,10 +1,4 @@
-use Rattle.std.proofs.Common.{◌≡◌, ◌+◌, ◌≤◌, ℕ, ℤ, length, map, sym, ap, subst, ◌∙◌, arith}
-use Rattle.std.specs.Int.{int_max}
-use Rattle.break_rules.specs.Walk.{end_of_all}
-use Rattle.break_rules.proofs.Reaching.{walk_small}
-use Rattle.break_layers.specs.declared.windows.TheConstants.{NOTHING}
-use Rattle.break_layers.specs.Windows.{number_in}
-use Rattle.break_layers.specs.Layered.{IsReachOfSizes}
+use Rattle.break_layers.proofs.Common.{◌≡◌, ◌+◌, ◌≤◌, ℕ, ℤ, length, map, sym, ap, subst, ◌∙◌, arith, int_max, end_of_all, walk_small, NOTHING, number_in, IsReachOfSizes}
 use Rattle.break_layers.proofs.Reach.{none_of_sizes, sizes_join, all_sizes}
 use Rattle.break_layers.proofs.reaching.best_reaches.Goals as goal
 

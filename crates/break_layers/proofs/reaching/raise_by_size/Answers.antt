@@ -1,20 +1,5 @@
-use Rattle.std.proofs.Common.{◌≡◌, ◌+◌, ◌*◌, ◌-◌, ◌<◌, ◌≤◌, ◌==◌, Bool, ℕ, ℤ, inl, inr, true, false, List, [], ◌∷◌, ◌++◌, IsTrue, length, map, get_or, nat_le, bit_and, bit_or, refl, sym, ap, subst, ◌∙◌, arith}
-use Rattle.std.specs.Int.{int_max}
+use Rattle.break_layers.proofs.Common.{◌≡◌, ◌+◌, ◌*◌, ◌-◌, ◌<◌, ◌≤◌, ◌==◌, Bool, ℕ, ℤ, inl, inr, true, false, List, [], ◌∷◌, ◌++◌, IsTrue, length, map, get_or, nat_le, bit_and, bit_or, refl, sym, ap, subst, ◌∙◌, arith, int_max, and_from, and_left, and_right, cases_lt, le-leb, lt-leb, eqb-true, Break, Lunch, Rule, end_of, is_lunch, keeps_ends, total_of, IsRule, bits_of, end_of_all, is_walk, may_follow, spot_of, is_walk-more, bounds, total_small, AreSums, Layer, NOTHING, number_in, AreLayersBefore, IsBehindBy, IsInWindow, IsRaised, IsSizeIn, layer_number, layer_of, layer_place, size_limit_of}
 use Rattle.std.proofs.lemmas.Nat.{or_disjoint, and_le_r}
-use Rattle.std.proofs.lemmas.Bool.{and_from, and_left, and_right, cases_lt, le-leb, lt-leb, eqb-true}
-use Rattle.break_rules.specs.declared.Break.{Break}
-use Rattle.break_rules.specs.declared.Lunch.{Lunch}
-use Rattle.break_rules.specs.declared.Rule.{Rule}
-use Rattle.break_rules.specs.Breaks.{end_of, is_lunch, keeps_ends, total_of}
-use Rattle.break_rules.specs.Ranges.{IsRule}
-use Rattle.break_rules.specs.Walk.{bits_of, end_of_all, is_walk, may_follow, spot_of}
-use Rattle.break_rules.proofs.Reaching.{is_walk-more}
-use Rattle.break_rules.proofs.Steps.{bounds, total_small}
-use Rattle.price_sums.specs.Along.{AreSums}
-use Rattle.break_layers.specs.declared.layers.Layer.{Layer}
-use Rattle.break_layers.specs.declared.windows.TheConstants.{NOTHING}
-use Rattle.break_layers.specs.Windows.{number_in}
-use Rattle.break_layers.specs.Layered.{AreLayersBefore, IsBehindBy, IsInWindow, IsRaised, IsSizeIn, layer_number, layer_of, layer_place, size_limit_of}
 use Rattle.break_layers.proofs.Reach.{behind_by, behind_none, may_follow_in}
 use Rattle.break_layers.proofs.Rows.{number_of_day, row_more, row_left, set_other}
 use Rattle.break_layers.proofs.Table.{behind_place, behind_spot}
@@ -60,7 +45,7 @@ loop-start-preserved g c =
     let used : c.saturating_add.result ≡ c.args.layer.used + c.args.size = omega (arith, total_small rule len c.requires.rule, c.requires.size.least, c.requires.rule.some_size) in
     let left : c.time_left-left.result ≡ total_of rule len - (c.args.layer.used + c.args.size) = c.time_left-left.ensures ∙ ap (λ n. total_of rule len - n) used in
     let bits : bit_or c.args.layer.lunches c.lunches_met.result ≡ bit_or c.args.layer.lunches (bits_of (λ e. is_lunch e b) rule.lunches) =
-    ap (bit_or c.args.layer.lunches) (c.lunches_met.ensures ∙ c.lunches_of-entries.ensures.bits b refl ∙ ap (bits_of (λ e. is_lunch e b)) c.as_slice.ensures) in
+    ap (bit_or c.args.layer.lunches) (c.lunches_met.ensures.bits ∙ c.lunches_of-entries.ensures.bits b refl ∙ ap (bits_of (λ e. is_lunch e b)) c.as_slice.ensures) in
     let at : (c.time_left-left.result * 4 + bit_or c.args.layer.lunches c.lunches_met.result) * (len + 1) + (start + c.from-in-loop-start.result) ≡ (c.time_left-left.result * 4 + bit_or c.args.layer.lunches c.lunches_met.result) * (len + 1) + (start + c.args.size) =
     ap (λ n. (c.time_left-left.result * 4 + bit_or c.args.layer.lunches c.lunches_met.result) * (len + 1) + (start + n)) c.from-in-loop-start.ensures in
     record {

@@ -1,7 +1,4 @@
-use Rattle.std.proofs.Common.{◌≡◌, ◌+◌, ◌*◌, ◌<◌, ◌≤◌, ℕ, ℤ, List, map}
-use Rattle.price_sums.specs.Along.{AreSums}
-use Rattle.break_layers.specs.Windows.{number_in}
-use Rattle.break_layers.specs.Layered.{AreLayersBefore, IsRaised, layer_number}
+use Rattle.break_layers.proofs.Common.{◌≡◌, ◌+◌, ◌*◌, ◌<◌, ◌≤◌, ℕ, ℤ, List, map, AreSums, number_in, AreLayersBefore, IsRaised, layer_number}
 use Rattle.break_layers.proofs.reaching.raise_by_size.Given as goal
 
 abbrev pub invariant-loop-start : goal.invariant-loop-start

@@ -1,8 +1,4 @@
-use Rattle.std.proofs.Common.{◌≡◌, ◌+◌, ◌<◌, ◌≤◌, ℕ, inl, inr, length, map, sym, subst, arith}
-use Rattle.std.proofs.lemmas.Bool.{cases_lt}
-use Rattle.break_rules.specs.Walk.{end_of_all}
-use Rattle.break_layers.specs.Windows.{number_in}
-use Rattle.break_layers.specs.Layered.{IsBehindAt, IsInWindow, IsReachAt}
+use Rattle.break_layers.proofs.Common.{◌≡◌, ◌+◌, ◌<◌, ◌≤◌, ℕ, inl, inr, length, map, sym, subst, arith, cases_lt, end_of_all, number_in, IsBehindAt, IsInWindow, IsReachAt}
 use Rattle.break_layers.proofs.Reach.{none_at, reach_late, size_raised, with_sum}
 use Rattle.break_layers.proofs.Rows.{number_past}
 use Rattle.break_layers.proofs.reaching.set_reaches.Goals as goal

@@ -1,9 +1,4 @@
-use Rattle.std.proofs.Common.{◌≡◌, ◌+◌, ◌*◌, ◌<◌, ◌≤◌, ℕ, List, IsTrue, map}
-use Rattle.break_rules.specs.declared.Break.{Break}
-use Rattle.break_rules.specs.Walk.{is_walk}
-use Rattle.price_sums.specs.Along.{AreSums}
-use Rattle.break_layers.specs.Windows.{number_in}
-use Rattle.break_layers.specs.Layered.{layer_of, layer_number, AreLayersBefore, IsInWindow, IsBehindAt}
+use Rattle.break_layers.proofs.Common.{◌≡◌, ◌+◌, ◌*◌, ◌<◌, ◌≤◌, ℕ, List, IsTrue, map, Break, is_walk, AreSums, number_in, layer_of, layer_number, AreLayersBefore, IsInWindow, IsBehindAt}
 use Rattle.break_layers.proofs.reaching.set_reaches.Given as goal
 
 abbrev pub invariant-loop-size : goal.invariant-loop-size

@@ -1,8 +1,4 @@
-use Rattle.std.proofs.Common.{◌≡◌, ◌+◌, ◌<◌, ℕ, map, sym, subst, arith}
-use Rattle.break_rules.specs.Walk.{end_of_all}
-use Rattle.break_layers.specs.declared.windows.TheConstants.{NOTHING}
-use Rattle.break_layers.specs.Windows.{number_in}
-use Rattle.break_layers.specs.Layered.{IsReachOfSizes, longest_work_of}
+use Rattle.break_layers.proofs.Common.{◌≡◌, ◌+◌, ◌<◌, ℕ, map, sym, subst, arith, end_of_all, NOTHING, number_in, IsReachOfSizes, longest_work_of}
 use Rattle.break_layers.proofs.Reach.{most_of_sizes, none_of_sizes, none_short}
 use Rattle.break_layers.proofs.reaching.set_windows.Goals as goal
 use Rattle.break_layers.proofs.reaching.set_windows.Goals.{then-sizes-via-then-sizes, then-sizes-via-else-sizes+then-work-rule}

@@ -1,8 +1,4 @@
-use Rattle.std.proofs.Common.{◌≡◌, ◌+◌, ◌%◌, ◌/◌, ◌≤◌, ◌∷◌, Bool, ℕ, inl, inr, drop, get_or, sym, ap, ◌∙◌, arith, if◌then◌else◌}
-use Rattle.std.proofs.lemmas.Bool.{cases_Bool}
-use Rattle.std.proofs.lemmas.List.{drop_more}
-use Rattle.break_rules.specs.declared.Lunch.{Lunch}
-use Rattle.break_rules.specs.Walk.{bits_of}
+use Rattle.break_layers.proofs.Common.{◌≡◌, ◌+◌, ◌%◌, ◌/◌, ◌≤◌, ◌∷◌, Bool, ℕ, inl, inr, drop, get_or, sym, ap, ◌∙◌, arith, if◌then◌else◌, cases_Bool, drop_more, Lunch, bits_of}
 use Rattle.break_rules.proofs.Bits.{high_bits, low_bit}
 use Rattle.break_layers.proofs.Lunched.{has_at}
 use Rattle.break_layers.proofs.sizes.has_time.Goals as goal

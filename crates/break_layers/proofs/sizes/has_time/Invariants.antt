@@ -1,6 +1,4 @@
-use Rattle.std.proofs.Common.{◌≡◌, Bool, drop}
-use Rattle.break_rules.specs.declared.Lunch.{Lunch}
-use Rattle.break_rules.specs.Walk.{bits_of}
+use Rattle.break_layers.proofs.Common.{◌≡◌, Bool, drop, Lunch, bits_of}
 use Rattle.break_layers.proofs.sizes.has_time.Given as goal
 
 abbrev pub invariant-loop-entry : goal.invariant-loop-entry

@@ -1,10 +1,4 @@
-use Rattle.std.proofs.Common.{◌≡◌, ◌≤◌, Bool, sym, ap, subst, ◌∙◌}
-use Rattle.std.specs.List.{list_any}
-use Rattle.std.proofs.lemmas.Bool.{false≢true}
-use Rattle.break_rules.specs.declared.Lunch.{Lunch}
-use Rattle.break_rules.specs.Breaks.{is_lunch}
-use Rattle.break_rules.specs.Walk.{bits_of}
-use Rattle.break_layers.specs.declared.layers.Layer.{Layer}
+use Rattle.break_layers.proofs.Common.{◌≡◌, ◌≤◌, Bool, sym, ap, subst, ◌∙◌, list_any, false≢true, Lunch, is_lunch, bits_of, Layer}
 use Rattle.break_layers.proofs.Lunched.{lunch_time}
 use Rattle.break_layers.proofs.sizes.longest.Goals as goal
 

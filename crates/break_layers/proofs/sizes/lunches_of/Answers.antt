@@ -1,4 +1,4 @@
-use Rattle.std.proofs.Common.{sym, ◌∙◌}
+use Rattle.break_layers.proofs.Common.{sym, ◌∙◌}
 use Rattle.break_layers.proofs.Lunched.{none_met}
 use Rattle.break_layers.proofs.sizes.lunches_of.Goals as goal
 

@@ -1,12 +1,4 @@
-use Rattle.std.proofs.Common.{◌≡◌, ◌++◌, ◌∷◌, [], inl, inr, true, sym, ap, subst, ◌∙◌, append_assoc, append-nil}
-use Rattle.std.proofs.lemmas.Bool.{false≢true, false_from_ne_true}
-use Rattle.break_rules.specs.declared.Break.{Break}
-use Rattle.break_rules.specs.Walk.{may_follow, nexts_of}
-use Rattle.break_rules.proofs.LegalLists.{same_break_decides}
-use Rattle.break_rules.specs.Lists.{Has}
-use Rattle.break_rules.proofs.Lists.{Has-append_cases}
-use Rattle.break_rules.proofs.Reaching.{has_middle}
-use Rattle.break_rules.proofs.Steps.{from_next, has_next}
+use Rattle.break_layers.proofs.Common.{◌≡◌, ◌++◌, ◌∷◌, [], inl, inr, true, sym, ap, subst, ◌∙◌, append_assoc, append-nil, false≢true, false_from_ne_true, Break, may_follow, nexts_of, same_break_decides, Has, Has-append_cases, has_middle, from_next, has_next}
 use Rattle.break_layers.proofs.walks.may_come.Goals as goal
 
 pub returns-then-eq : goal.returns-then-eq

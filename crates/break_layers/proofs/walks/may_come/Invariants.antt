@@ -1,6 +1,4 @@
-use Rattle.std.proofs.Common.{◌≡◌, ◌++◌}
-use Rattle.break_rules.specs.Walk.{nexts_of}
-use Rattle.break_rules.specs.Lists.{Has}
+use Rattle.break_layers.proofs.Common.{◌≡◌, ◌++◌, nexts_of, Has}
 use Rattle.break_layers.proofs.walks.may_come.Given as goal
 
 abbrev pub invariant-loop-next : goal.invariant-loop-next

@@ -1,9 +1,4 @@
-use Rattle.std.proofs.Common.{◌≡◌, true, take, get_or, sym, ap, ◌∙◌}
-use Rattle.std.proofs.lemmas.List.{take_more}
-use Rattle.break_rules.specs.declared.Break.{Break}
-use Rattle.break_rules.specs.declared.Spot.{Spot}
-use Rattle.break_rules.specs.Walk.{may_follow, spot_of}
-use Rattle.break_rules.proofs.Reaching.{walk_broken, walk_longer}
+use Rattle.break_layers.proofs.Common.{◌≡◌, true, take, get_or, sym, ap, ◌∙◌, take_more, Break, Spot, may_follow, spot_of, walk_broken, walk_longer}
 use Rattle.break_layers.proofs.walks.walked.Goals as goal
 
 pub returns-then-not-may_come : goal.returns-then-not-may_come

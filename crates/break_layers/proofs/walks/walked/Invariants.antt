@@ -1,5 +1,4 @@
-use Rattle.std.proofs.Common.{◌≡◌, true, take}
-use Rattle.break_rules.specs.Walk.{spot_of, is_walk}
+use Rattle.break_layers.proofs.Common.{◌≡◌, true, take, spot_of, is_walk}
 use Rattle.break_layers.proofs.walks.walked.Given as goal
 
 abbrev pub invariant-loop-stop : goal.invariant-loop-stop

@@ -1,10 +1,4 @@
-use Rattle.std.proofs.Common.{◌≡◌, ◌++◌, ◌∷◌, [], true, false, sym, ap, subst, ◌∙◌, append_assoc, append-nil}
-use Rattle.break_rules.specs.declared.Spot.{Spot}
-use Rattle.break_rules.specs.Breaks.{is_live}
-use Rattle.break_rules.specs.Walk.{nexts_of, spot_of, is_walk}
-use Rattle.break_rules.specs.Lists.{Has}
-use Rattle.break_rules.proofs.Reaching.{has_middle, walk_on}
-use Rattle.break_rules.proofs.Steps.{from_next}
+use Rattle.break_layers.proofs.Common.{◌≡◌, ◌++◌, ◌∷◌, [], true, false, sym, ap, subst, ◌∙◌, append_assoc, append-nil, Spot, is_live, nexts_of, spot_of, is_walk, Has, has_middle, walk_on, from_next}
 use Rattle.break_layers.proofs.LiveWays.{live_by_value, ways_by, way_more, no_way_more}
 use Rattle.break_layers.proofs.ways.live_ways.Goals as goal
 

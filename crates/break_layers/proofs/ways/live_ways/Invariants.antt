@@ -1,10 +1,4 @@
-use Rattle.std.proofs.Common.{◌≡◌, ◌++◌, ◌∷◌, [], ℤ, List, IsTrue, filter, map}
-use Rattle.break_rules.specs.declared.Break.{Break}
-use Rattle.break_rules.specs.Breaks.{is_live}
-use Rattle.break_rules.specs.Walk.{nexts_of, spot_of, is_walk}
-use Rattle.price_sums.specs.Along.{AreSums}
-use Rattle.break_layers.specs.Layered.{AreLayers}
-use Rattle.break_layers.specs.Ways.{way_by}
+use Rattle.break_layers.proofs.Common.{◌≡◌, ◌++◌, ◌∷◌, [], ℤ, List, IsTrue, filter, map, Break, is_live, nexts_of, spot_of, is_walk, AreSums, AreLayers, way_by}
 use Rattle.break_layers.proofs.ways.live_ways.Given as goal
 
 abbrev pub invariant-loop-stop : goal.invariant-loop-stop

@@ -1,8 +1,4 @@
-use Rattle.std.proofs.Common.{◌≡◌, ◌≢◌, ◌<◌, ◌+ℤ◌, ℕ, ℤ, length, map, get_or, sym, ap, subst, ◌∙◌, arith, FitsSigned}
-use Rattle.std.specs.Int.{w64}
-use Rattle.price_sums.specs.Along.{sum_at}
-use Rattle.break_layers.specs.declared.windows.TheConstants.{NOTHING}
-use Rattle.break_layers.specs.Windows.{number_in}
+use Rattle.break_layers.proofs.Common.{◌≡◌, ◌≢◌, ◌<◌, ◌+ℤ◌, ℕ, ℤ, length, map, get_or, sym, ap, subst, ◌∙◌, arith, FitsSigned, w64, sum_at, NOTHING, number_in}
 use Rattle.break_layers.proofs.Rows.{number_of_day, row_more, row_left}
 use Rattle.break_layers.proofs.windows.add_sums.Goals as goal
 

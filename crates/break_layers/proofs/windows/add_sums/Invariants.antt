@@ -1,8 +1,4 @@
-use Rattle.std.proofs.Common.{◌≡◌, ◌≢◌, ℕ, ◌<◌, ◌≤◌, ◌+ℤ◌, map, FitsSigned}
-use Rattle.std.specs.Int.{w64}
-use Rattle.price_sums.specs.Along.{sum_at}
-use Rattle.break_layers.specs.declared.windows.TheConstants.{NOTHING}
-use Rattle.break_layers.specs.Windows.{number_in}
+use Rattle.break_layers.proofs.Common.{◌≡◌, ◌≢◌, ℕ, ◌<◌, ◌≤◌, ◌+ℤ◌, map, FitsSigned, w64, sum_at, NOTHING, number_in}
 use Rattle.break_layers.proofs.windows.add_sums.Given as goal
 
 abbrev pub invariant-loop-k : goal.invariant-loop-k

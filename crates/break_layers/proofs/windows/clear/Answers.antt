@@ -1,6 +1,4 @@
-use Rattle.std.proofs.Common.{◌≡◌, inl, inr, ℤ, arith}
-use Rattle.std.proofs.lemmas.Bool.{cases_lt}
-use Rattle.break_layers.specs.declared.windows.TheConstants.{NOTHING}
+use Rattle.break_layers.proofs.Common.{◌≡◌, inl, inr, ℤ, arith, cases_lt, NOTHING}
 use Rattle.break_layers.proofs.Rows.{number_past, row_more}
 use Rattle.break_layers.proofs.windows.clear.Goals as goal
 

@@ -1,6 +1,4 @@
-use Rattle.std.proofs.Common.{◌≡◌, ℕ, ◌<◌, map}
-use Rattle.break_layers.specs.declared.windows.TheConstants.{NOTHING}
-use Rattle.break_layers.specs.Windows.{number_in}
+use Rattle.break_layers.proofs.Common.{◌≡◌, ℕ, ◌<◌, map, NOTHING, number_in}
 use Rattle.break_layers.proofs.windows.clear.Given as goal
 
 abbrev pub invariant-loop-k : goal.invariant-loop-k

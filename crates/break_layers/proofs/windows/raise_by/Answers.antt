@@ -1,7 +1,4 @@
-use Rattle.std.proofs.Common.{◌≡◌, ◌+◌, ◌<◌, ◌≤◌, inl, inr, ℤ, length, map, get_or, sym, ap, ◌∙◌, arith}
-use Rattle.std.specs.Int.{int_max}
-use Rattle.std.proofs.lemmas.Bool.{cases_lt}
-use Rattle.break_layers.specs.Windows.{number_in}
+use Rattle.break_layers.proofs.Common.{◌≡◌, ◌+◌, ◌<◌, ◌≤◌, inl, inr, ℤ, length, map, get_or, sym, ap, ◌∙◌, arith, int_max, cases_lt, number_in}
 use Rattle.break_layers.proofs.Rows.{number_of_day, number_past, row_more, row_left}
 use Rattle.break_layers.proofs.windows.raise_by.Goals as goal
 

@@ -1,6 +1,4 @@
-use Rattle.std.proofs.Common.{◌≡◌, ℕ, ◌+◌, ◌<◌, ◌≤◌, map}
-use Rattle.std.specs.Int.{int_max}
-use Rattle.break_layers.specs.Windows.{number_in}
+use Rattle.break_layers.proofs.Common.{◌≡◌, ℕ, ◌+◌, ◌<◌, ◌≤◌, map, int_max, number_in}
 use Rattle.break_layers.proofs.windows.raise_by.Given as goal
 
 abbrev pub invariant-loop-k : goal.invariant-loop-k

@@ -1,6 +1,4 @@
-use Rattle.std.proofs.Common.{◌≡◌, ◌+◌, ◌<◌, ℕ, ℤ, length, map, get_or, sym, ap, ◌∙◌, arith}
-use Rattle.std.specs.Int.{int_max}
-use Rattle.break_layers.specs.Windows.{number_in}
+use Rattle.break_layers.proofs.Common.{◌≡◌, ◌+◌, ◌<◌, ℕ, ℤ, length, map, get_or, sym, ap, ◌∙◌, arith, int_max, number_in}
 use Rattle.break_layers.proofs.Rows.{number_of_day, row_more, row_left}
 use Rattle.break_layers.proofs.windows.raise_to_row.Goals as goal
 

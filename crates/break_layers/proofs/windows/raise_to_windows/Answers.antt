@@ -1,5 +1,4 @@
-use Rattle.std.proofs.Common.{◌+◌, ◌-◌, ◌*◌, sym, subst, arith, map}
-use Rattle.break_layers.specs.Windows.{number_in, IsMostIn}
+use Rattle.break_layers.proofs.Common.{◌+◌, ◌-◌, ◌*◌, sym, subst, arith, map, number_in, IsMostIn}
 use Rattle.break_layers.proofs.Sliding.{most_one, most_two}
 use Rattle.break_layers.proofs.windows.raise_to_windows.Goals as goal
 

@@ -1,5 +1,4 @@
-use Rattle.std.proofs.Common.{ℕ, ◌-◌, ◌<◌, ◌≤◌, map}
-use Rattle.break_layers.specs.Windows.{number_in, IsMostIn}
+use Rattle.break_layers.proofs.Common.{ℕ, ◌-◌, ◌<◌, ◌≤◌, map, number_in, IsMostIn}
 use Rattle.break_layers.proofs.windows.raise_to_windows.Given as goal
 
 abbrev pub invariant-loop-wide : goal.invariant-loop-wide

@@ -1,4 +1,4 @@
-use Rattle.std.proofs.Common.{sym}
+use Rattle.break_rules.proofs.Common.{sym}
 use Rattle.break_rules.proofs.Ranges.{ranges_from_none}
 use Rattle.break_rules.proofs.Rule.check.Goals as goal
 

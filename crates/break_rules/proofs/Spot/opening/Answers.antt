@@ -1,4 +1,4 @@
-use Rattle.std.proofs.Common.{sym, ap}
+use Rattle.break_rules.proofs.Common.{sym, ap}
 use Rattle.break_rules.proofs.Bits.{bits_none}
 use Rattle.break_rules.proofs.Spot.opening.Goals as goal
 

@@ -1,4 +1,4 @@
-use Rattle.std.proofs.Common.{refl}
+use Rattle.break_rules.proofs.Common.{refl}
 use Rattle.break_rules.proofs.NextLaws.{walk_step}
 use Rattle.break_rules.proofs.Walk.{legal_is_walk}
 use Rattle.break_rules.proofs.laws.walks_reach_the_legal_lists.Goals as goal

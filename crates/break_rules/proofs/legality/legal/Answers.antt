@@ -1,7 +1,4 @@
-use Rattle.std.proofs.Common.{sym, ◌∙◌}
-use Rattle.std.proofs.lemmas.Bool.{and_left}
-use Rattle.std.proofs.lemmas.List.{at_drop_more, at_drop_all}
-use Rattle.break_rules.specs.Walk.{is_walk_from}
+use Rattle.break_rules.proofs.Common.{sym, ◌∙◌, and_left, at_drop_more, at_drop_all, is_walk_from}
 use Rattle.break_rules.proofs.Walk.{not_legal, legal_by_end}
 use Rattle.break_rules.proofs.legality.legal.Goals as goal
 

@@ -1,6 +1,4 @@
-use Rattle.std.proofs.Common.{◌≡◌, ◌≤◌, take, drop, sum_by}
-use Rattle.break_rules.specs.Breaks.{total_of}
-use Rattle.break_rules.specs.Walk.{is_walk_from, end_of_all}
+use Rattle.break_rules.proofs.Common.{◌≡◌, ◌≤◌, take, drop, sum_by, total_of, is_walk_from, end_of_all}
 use Rattle.break_rules.proofs.legality.legal.Given as goal
 
 abbrev pub invariant-loop-b : goal.invariant-loop-b

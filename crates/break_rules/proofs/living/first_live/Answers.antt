@@ -1,9 +1,4 @@
-use Rattle.std.proofs.Common.{◌≡◌, inl, inr, Bool, true, false, ◌++◌, [], ◌∷◌, sym, ap, subst, ◌∙◌, append_assoc, append-nil}
-use Rattle.std.specs.List.{find}
-use Rattle.break_rules.specs.declared.Break.{Break}
-use Rattle.break_rules.specs.Breaks.{is_live}
-use Rattle.break_rules.specs.Walk.{nexts_of}
-use Rattle.break_rules.specs.Lists.{Has}
+use Rattle.break_rules.proofs.Common.{◌≡◌, inl, inr, Bool, true, false, ◌++◌, [], ◌∷◌, sym, ap, subst, ◌∙◌, append_assoc, append-nil, find, Break, is_live, nexts_of, Has}
 use Rattle.break_rules.proofs.Lists.{Has-append_cases}
 use Rattle.break_rules.proofs.Steps.{from_next}
 use Rattle.break_rules.proofs.Reaching.{has_middle, live_behind, find_here, find_none}

@@ -1,8 +1,4 @@
-use Rattle.std.proofs.Common.{◌≡◌, ◌++◌, List, [], ◌∷◌, false, IsTrue}
-use Rattle.break_rules.specs.declared.Break.{Break}
-use Rattle.break_rules.specs.Breaks.{is_live}
-use Rattle.break_rules.specs.Walk.{nexts_of, spot_of, is_walk}
-use Rattle.break_rules.specs.Lists.{Has}
+use Rattle.break_rules.proofs.Common.{◌≡◌, ◌++◌, List, [], ◌∷◌, false, IsTrue, Break, is_live, nexts_of, spot_of, is_walk, Has}
 use Rattle.break_rules.proofs.living.first_live.Given as goal
 
 abbrev pub invariant-loop-next : goal.invariant-loop-next

@@ -1,4 +1,4 @@
-use Rattle.std.proofs.Common.{sym, ◌∙◌}
+use Rattle.break_rules.proofs.Common.{sym, ◌∙◌}
 use Rattle.break_rules.proofs.Reaching.{live_legal, live_by_first}
 use Rattle.break_rules.proofs.living.leads_on.Goals as goal
 

@@ -1,10 +1,4 @@
-use Rattle.std.proofs.Common.{◌≡◌, ◌++◌, [], ◌∷◌, List, true, Some, None, slice_get, sym, ap, subst, refl, ◌∙◌}
-use Rattle.std.specs.List.{find}
-use Rattle.break_rules.specs.declared.Break.{Break}
-use Rattle.break_rules.specs.declared.Rule.{Rule}
-use Rattle.break_rules.specs.declared.Spot.{Spot}
-use Rattle.break_rules.specs.Breaks.{is_live, legal_lists}
-use Rattle.break_rules.specs.Walk.{nexts_of, spot_of, is_walk, may_follow}
+use Rattle.break_rules.proofs.Common.{◌≡◌, ◌++◌, [], ◌∷◌, List, true, Some, None, slice_get, sym, ap, subst, refl, ◌∙◌, find, Break, Rule, Spot, is_live, legal_lists, nexts_of, spot_of, is_walk, may_follow}
 use Rattle.break_rules.proofs.Steps.{from_next}
 use Rattle.break_rules.proofs.Reaching.{walk_on}
 use Rattle.break_rules.proofs.FirstList.{least_of, first_start, first_none, first_step, first_end, found_at, found_next, nearer}

@@ -1,7 +1,4 @@
-use Rattle.std.proofs.Common.{◌≡◌, ◌-◌, ◌++◌, List, true, Some, slice_get}
-use Rattle.break_rules.specs.declared.Break.{Break}
-use Rattle.break_rules.specs.Breaks.{legal_lists}
-use Rattle.break_rules.specs.Walk.{spot_of, is_walk}
+use Rattle.break_rules.proofs.Common.{◌≡◌, ◌-◌, ◌++◌, List, true, Some, slice_get, Break, legal_lists, spot_of, is_walk}
 use Rattle.break_rules.proofs.living.least.Given as goal
 
 abbrev pub invariant-loop-next : goal.invariant-loop-next

@@ -1,4 +1,4 @@
-use Rattle.std.proofs.Common.{sym}
+use Rattle.break_rules.proofs.Common.{sym}
 use Rattle.break_rules.proofs.Reaching.{not_live}
 use Rattle.break_rules.proofs.living.live.Goals as goal
 

@@ -1,5 +1,4 @@
-use Rattle.std.proofs.Common.{◌≡◌, ◌+◌, Bool, List, length, sym, ap, subst, ◌∙◌, arith}
-use Rattle.break_rules.specs.Live.{place_of, AreKnown}
+use Rattle.break_rules.proofs.Common.{◌≡◌, ◌+◌, Bool, List, length, sym, ap, subst, ◌∙◌, arith, place_of, AreKnown}
 use Rattle.break_rules.proofs.Reaching.{known_more}
 use Rattle.break_rules.proofs.living.live_table.Goals as goal
 

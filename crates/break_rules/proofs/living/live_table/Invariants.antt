@@ -1,5 +1,4 @@
-use Rattle.std.proofs.Common.{◌≡◌, vec_len}
-use Rattle.break_rules.specs.Live.{AreKnown}
+use Rattle.break_rules.proofs.Common.{◌≡◌, vec_len, AreKnown}
 use Rattle.break_rules.proofs.living.live_table.Given as goal
 
 abbrev pub invariant-loop-place : goal.invariant-loop-place

@@ -1,8 +1,4 @@
-use Rattle.std.proofs.Common.{◌≡◌, true, ◌+◌, take, get_or, sym, ap, ◌∙◌, arith}
-use Rattle.std.proofs.lemmas.List.{take_more}
-use Rattle.break_rules.specs.declared.Break.{Break}
-use Rattle.break_rules.specs.declared.Spot.{Spot}
-use Rattle.break_rules.specs.Walk.{may_follow, spot_of}
+use Rattle.break_rules.proofs.Common.{◌≡◌, true, ◌+◌, take, get_or, sym, ap, ◌∙◌, arith, take_more, Break, Spot, may_follow, spot_of}
 use Rattle.break_rules.proofs.Reaching.{walk_broken, walk_longer, walk_small}
 use Rattle.break_rules.proofs.living.spot_behind.Goals as goal
 

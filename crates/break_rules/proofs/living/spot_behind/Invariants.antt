@@ -1,6 +1,4 @@
-use Rattle.std.proofs.Common.{◌≡◌, ◌<◌, true, take}
-use Rattle.break_rules.specs.Breaks.{total_of}
-use Rattle.break_rules.specs.Walk.{spot_of, is_walk}
+use Rattle.break_rules.proofs.Common.{◌≡◌, ◌<◌, true, take, total_of, spot_of, is_walk}
 use Rattle.break_rules.proofs.living.spot_behind.Given as goal
 
 abbrev pub invariant-loop-next : goal.invariant-loop-next

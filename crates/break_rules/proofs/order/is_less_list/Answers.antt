@@ -1,4 +1,4 @@
-use Rattle.std.proofs.Common.{◌∙◌, sym}
+use Rattle.break_rules.proofs.Common.{◌∙◌, sym}
 use Rattle.break_rules.proofs.Lesser.{less_stop, less_out, less_end}
 use Rattle.break_rules.proofs.order.is_less_list.Goals as goal
 use Rattle.break_rules.proofs.order.is_less_list.Goals.{then-b-i-via-then-b-i, then-b-i-via-else-b-i+then-is_less_break}

@@ -1,5 +1,4 @@
-use Rattle.std.proofs.Common.{◌≡◌, ◌≤◌, drop, length}
-use Rattle.break_rules.specs.Breaks.{is_less_list}
+use Rattle.break_rules.proofs.Common.{◌≡◌, ◌≤◌, drop, length, is_less_list}
 use Rattle.break_rules.proofs.order.is_less_list.Given as goal
 
 abbrev pub invariant-loop-i : goal.invariant-loop-i

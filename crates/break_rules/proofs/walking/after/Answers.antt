@@ -1,6 +1,4 @@
-use Rattle.std.proofs.Common.{◌≡◌, ◌+◌, ◌<◌, ap, ◌∙◌, arith}
-use Rattle.break_rules.specs.Breaks.{end_of, is_lunch}
-use Rattle.break_rules.specs.Walk.{bits_of}
+use Rattle.break_rules.proofs.Common.{◌≡◌, ◌+◌, ◌<◌, ap, ◌∙◌, arith, end_of, is_lunch, bits_of}
 use Rattle.break_rules.proofs.Steps.{bounds, total_small, spot_with}
 use Rattle.break_rules.proofs.walking.after.Goals as goal
 
@@ -14,4 +12,4 @@ returns c = λ list is next.
     let offset : c.saturating_add.result ≡ end_of b = omega arith in
     let used : c.saturating_add-2.result ≡ c.args.spot.used + b.len = omega arith in
     spot_with rule list c.args.spot b c.saturating_add.result c.saturating_add-2.result c.lunches_met.result c.requires.few_lunches is offset used
-    (c.lunches_met.ensures ∙ ap (bits_of (λ e. is_lunch e b)) c.as_slice.ensures)
+    (c.lunches_met.ensures.bits ∙ ap (bits_of (λ e. is_lunch e b)) c.as_slice.ensures)

@@ -1,7 +1,4 @@
-use Rattle.std.proofs.Common.{◌≡◌, Bool, drop, ◌||◌, nat_lt}
-use Rattle.std.specs.List.{list_all}
-use Rattle.break_rules.specs.declared.Lunch.{Lunch}
-use Rattle.break_rules.specs.Walk.{bits_of}
+use Rattle.break_rules.proofs.Common.{◌≡◌, Bool, drop, ◌||◌, nat_lt, list_all, Lunch, bits_of}
 use Rattle.break_rules.proofs.walking.all_lunched.Given as goal
 
 abbrev pub invariant-loop-entry : goal.invariant-loop-entry

@@ -1,9 +1,4 @@
-use Rattle.std.proofs.Common.{◌≡◌, Bool, ◌&&◌, ◌||◌, ◌==◌, nat_le, nat_lt, sym, ap, ◌∙◌}
-use Rattle.std.specs.List.{list_all, list_any}
-use Rattle.break_rules.specs.declared.Lunch.{Lunch}
-use Rattle.break_rules.specs.declared.Spot.{Spot}
-use Rattle.break_rules.specs.Breaks.{has_work, is_lunch, is_lunched, total_of}
-use Rattle.break_rules.specs.Walk.{bits_of}
+use Rattle.break_rules.proofs.Common.{◌≡◌, Bool, ◌&&◌, ◌||◌, ◌==◌, nat_le, nat_lt, sym, ap, ◌∙◌, list_all, list_any, Lunch, Spot, has_work, is_lunch, is_lunched, total_of, bits_of}
 use Rattle.break_rules.proofs.Steps.{legal_by_stop}
 use Rattle.break_rules.proofs.walking.ends.Goals as goal
 

@@ -1,8 +1,4 @@
-use Rattle.std.proofs.Common.{◌≡◌, ◌+◌, ◌<◌, ◌^◌, Bool, take, get_or, arith, sym, ap, ◌∙◌, if◌then◌else◌}
-use Rattle.std.proofs.lemmas.List.{take_all}
-use Rattle.break_rules.specs.declared.Lunch.{Lunch}
-use Rattle.break_rules.specs.Breaks.{is_lunch}
-use Rattle.break_rules.specs.Walk.{bits_of}
+use Rattle.break_rules.proofs.Common.{◌≡◌, ◌+◌, ◌<◌, ◌^◌, Bool, take, get_or, arith, sym, ap, ◌∙◌, if◌then◌else◌, take_all, Lunch, is_lunch, bits_of}
 use Rattle.break_rules.proofs.Bits.{bits_more, bit_more, bit_small}
 use Rattle.break_rules.proofs.walking.lunches_met.Goals as goal
 use Rattle.break_rules.proofs.walking.lunches_met.Goals.{then-meets, else-meets}
@@ -36,5 +32,6 @@ loop-entry-preserved c =
     ]
 
 pub returns : goal.returns
-returns c =
-    c.loop-entry.invariant.bits ∙ ap (bits_of (λ e. is_lunch e c.args.b.now)) (take_all c.loop-entry.entry-index c.args.entries.now c.loop-entry-test.false)
+returns c = record {
+  bits = c.loop-entry.invariant.bits ∙ ap (bits_of (λ e. is_lunch e c.args.b.now)) (take_all c.loop-entry.entry-index c.args.entries.now c.loop-entry-test.false);
+}

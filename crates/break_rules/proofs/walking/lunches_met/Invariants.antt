@@ -1,6 +1,4 @@
-use Rattle.std.proofs.Common.{◌≡◌, ◌<◌, ◌^◌, take}
-use Rattle.break_rules.specs.Breaks.{is_lunch}
-use Rattle.break_rules.specs.Walk.{bits_of}
+use Rattle.break_rules.proofs.Common.{◌≡◌, ◌<◌, ◌^◌, take, is_lunch, bits_of}
 use Rattle.break_rules.proofs.walking.lunches_met.Given as goal
 
 abbrev pub invariant-loop-entry : goal.invariant-loop-entry

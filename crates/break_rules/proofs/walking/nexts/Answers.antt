@@ -1,6 +1,4 @@
-use Rattle.std.proofs.Common.{◌≡◌, ◌+◌, max, ap, ◌∙◌, arith, filter}
-use Rattle.break_rules.specs.Next.{shortest_of}
-use Rattle.break_rules.specs.Walk.{may_follow, breaks_left}
+use Rattle.break_rules.proofs.Common.{◌≡◌, ◌+◌, max, ap, ◌∙◌, arith, filter, shortest_of, may_follow, breaks_left}
 use Rattle.break_rules.proofs.Steps.{first_place}
 use Rattle.break_rules.proofs.walking.nexts.Goals as goal
 

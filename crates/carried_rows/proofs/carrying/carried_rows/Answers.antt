@@ -1,11 +1,4 @@
-use Rattle.std.proofs.Common.{◌≡◌, ℕ, true, List, length, ◌++◌, [], ◌∙◌, ap, sym, subst, arith}
-use Rattle.shift_instance.specs.declared.Row.{Row}
-use Rattle.shift_instance.specs.Problem.{below, shift_list}
-use Rattle.shift_instance.specs.Rota.{are_legal_rows}
-use Rattle.shift_instance.proofs.Ranges.{below_next}
-use Rattle.std.specs.List.{flat_map}
-use Rattle.std.proofs.lemmas.List.{flat_map_more, length-map}
-use Rattle.carried_rows.specs.Carrying.{carried, carried_of}
+use Rattle.carried_rows.proofs.Common.{◌≡◌, ℕ, true, List, length, ◌++◌, [], ◌∙◌, ap, sym, subst, arith, Row, below, shift_list, are_legal_rows, below_next, flat_map, flat_map_more, length-map, carried, carried_of}
 use Rattle.carried_rows.proofs.Legal.{carried_legal}
 use Rattle.carried_rows.proofs.carrying.carried_rows.Goals as goal
 

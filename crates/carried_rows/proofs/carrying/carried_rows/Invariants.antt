@@ -1,7 +1,4 @@
-use Rattle.std.proofs.Common.{◌≡◌}
-use Rattle.std.specs.List.{flat_map}
-use Rattle.shift_instance.specs.Problem.{below}
-use Rattle.carried_rows.specs.Carrying.{carried_of}
+use Rattle.carried_rows.proofs.Common.{◌≡◌, flat_map, below, carried_of}
 use Rattle.carried_rows.proofs.carrying.carried_rows.Given as goal
 
 abbrev pub invariant-loop-shift : goal.invariant-loop-shift

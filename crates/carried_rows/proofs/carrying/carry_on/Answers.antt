@@ -1,6 +1,4 @@
-use Rattle.std.proofs.Common.{List, ◌+◌, ◌++◌, ◌∙◌, ap, drop, filter, sym}
-use Rattle.shift_instance.specs.declared.Row.{Row}
-use Rattle.carried_rows.specs.Carrying.{fitted, goes_to}
+use Rattle.carried_rows.proofs.Common.{List, ◌+◌, ◌++◌, ◌∙◌, ap, drop, filter, sym, Row, fitted, goes_to}
 use Rattle.carried_rows.proofs.Steps.{drop_item}
 use Rattle.carried_rows.proofs.carrying.carry_on.Goals as goal
 

@@ -1,5 +1,4 @@
-use Rattle.std.proofs.Common.{◌≡◌, ◌++◌, drop, filter}
-use Rattle.carried_rows.specs.Carrying.{carried_on, fitted, goes_to}
+use Rattle.carried_rows.proofs.Common.{◌≡◌, ◌++◌, drop, filter, carried_on, fitted, goes_to}
 use Rattle.carried_rows.proofs.carrying.carry_on.Given as goal
 
 -- the rows so far and those that fit of what is left are those of all

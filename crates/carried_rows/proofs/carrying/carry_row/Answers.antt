@@ -1,6 +1,4 @@
-use Rattle.std.proofs.Common.{List, ◌∷◌, ◌++◌, ap, filter}
-use Rattle.shift_instance.specs.declared.Row.{Row}
-use Rattle.carried_rows.specs.Carrying.{goes_to}
+use Rattle.carried_rows.proofs.Common.{List, ◌∷◌, ◌++◌, ap, filter, Row, goes_to}
 use Rattle.carried_rows.proofs.Steps.{fit_none}
 use Rattle.carried_rows.proofs.carrying.carry_row.Goals as goal
 

@@ -1,9 +1,4 @@
-use Rattle.std.proofs.Common.{◌++◌, [], ◌∙◌, ap, sym, append_assoc}
-use Rattle.std.specs.List.{flat_map}
-use Rattle.std.proofs.lemmas.List.{flat_map_more}
-use Rattle.shift_instance.specs.Problem.{below}
-use Rattle.shift_instance.proofs.Ranges.{below_next}
-use Rattle.carried_rows.specs.Carrying.{carried_on}
+use Rattle.carried_rows.proofs.Common.{◌++◌, [], ◌∙◌, ap, sym, append_assoc, flat_map, flat_map_more, below, below_next, carried_on}
 use Rattle.carried_rows.proofs.carrying.carry_to.Goals as goal
 
 pub loop-day-preserved : goal.loop-day-preserved

@@ -1,7 +1,4 @@
-use Rattle.std.proofs.Common.{◌≡◌, ◌++◌}
-use Rattle.std.specs.List.{flat_map}
-use Rattle.shift_instance.specs.Problem.{below}
-use Rattle.carried_rows.specs.Carrying.{carried_on}
+use Rattle.carried_rows.proofs.Common.{◌≡◌, ◌++◌, flat_map, below, carried_on}
 use Rattle.carried_rows.proofs.carrying.carry_to.Given as goal
 
 abbrev pub invariant-loop-day : goal.invariant-loop-day

@@ -1,5 +1,4 @@
-use Rattle.std.proofs.Common.{◌∙◌, sym, length}
-use Rattle.carried_rows.specs.Carrying.{is_like}
+use Rattle.carried_rows.proofs.Common.{◌∙◌, sym, length, is_like}
 use Rattle.carried_rows.proofs.Steps.{find_past}
 use Rattle.carried_rows.proofs.carrying.like_of.Goals as goal
 

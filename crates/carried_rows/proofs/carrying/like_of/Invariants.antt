@@ -1,6 +1,4 @@
-use Rattle.std.proofs.Common.{◌≡◌, ◌-◌}
-use Rattle.std.specs.List.{find, range_with_len}
-use Rattle.carried_rows.specs.Carrying.{is_like, like_of}
+use Rattle.carried_rows.proofs.Common.{◌≡◌, ◌-◌, find, range_with_len, is_like, like_of}
 use Rattle.carried_rows.proofs.carrying.like_of.Given as goal
 
 abbrev pub invariant-loop-before : goal.invariant-loop-before

@@ -1,6 +1,4 @@
-use Rattle.std.proofs.Common.{◌≡◌, ◌+◌, List, subst, refl, ◌∙◌, arith}
-use Rattle.certificate.specs.declared.proof_lines.Line.{Line}
-use Rattle.cert_check.specs.Floors.{AreFindings}
+use Rattle.cert_check.proofs.Common.{◌≡◌, ◌+◌, List, subst, refl, ◌∙◌, arith, Line, AreFindings}
 use Rattle.cert_check.proofs.Batched.{judging_more}
 use Rattle.cert_check.proofs.Lifted.{found_next, good_of}
 use Rattle.cert_check.proofs.batches.judge_batch.Goals as goal

@@ -1,5 +1,4 @@
-use Rattle.std.proofs.Common.{◌≡◌}
-use Rattle.cert_check.specs.Floors.{AreFindings}
+use Rattle.cert_check.proofs.Common.{◌≡◌, AreFindings}
 use Rattle.cert_check.proofs.Batched.{Judging}
 use Rattle.cert_check.proofs.batches.judge_batch.Given as goal
 

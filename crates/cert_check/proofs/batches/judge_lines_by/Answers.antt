@@ -1,4 +1,4 @@
-use Rattle.std.proofs.Common.{◌∙◌}
+use Rattle.cert_check.proofs.Common.{◌∙◌}
 use Rattle.cert_check.proofs.Batched.{batch_more}
 use Rattle.cert_check.proofs.batches.judge_lines_by.Goals as goal
 

@@ -1,7 +1,4 @@
-use Rattle.std.proofs.Common.{◌≡◌, ◌-◌, ◌+◌, ◌≤◌, ◌∷◌, [], length}
-use Rattle.head_splits.specs.Nodes.{new_node}
-use Rattle.certificate.specs.Accepted.{nodes_after, nodes_of}
-use Rattle.cert_check.specs.Judged.{line_cause}
+use Rattle.cert_check.proofs.Common.{◌≡◌, ◌-◌, ◌+◌, ◌≤◌, ◌∷◌, [], length, new_node, nodes_after, nodes_of, line_cause}
 use Rattle.cert_check.proofs.batches.judge_lines_by.Given as goal
 
 abbrev pub invariant-loop-reader : goal.invariant-loop-reader

@@ -1,4 +1,4 @@
-use Rattle.std.proofs.Common.{◌≡◌, ◌-◌, ◌≤◌, ◌++◌, length}
+use Rattle.cert_check.proofs.Common.{◌≡◌, ◌-◌, ◌≤◌, ◌++◌, length}
 use Rattle.cert_check.proofs.batches.next_lines.Given as goal
 
 abbrev pub invariant-loop-alloc : goal.invariant-loop-alloc

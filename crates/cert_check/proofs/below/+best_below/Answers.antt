@@ -1,17 +1,4 @@
-use Rattle.std.proofs.Common.{◌≡◌, ◌+ℤ◌, ◌-ℤ◌, ◌-◌, ℕ, ℤ, List, [], ◌∷◌, ◌++◌, Some, None, map, take, ap, sym, subst, ◌∙◌, arith, to_z, of_z, false, FitsSigned, ◌^◌, ◌≤◌, ◌<◌}
-use Rattle.std.specs.Int.{w64, w128}
-use Rattle.std.specs.Int.RustNames.{unsigned_abs}
-use Rattle.std.proofs.lemmas.Int.{to_z-of_z, fits_signed_from_abs}
-use Rattle.break_rules.specs.declared.Break.{Break}
-use Rattle.break_rules.specs.declared.Spot.{Spot}
-use Rattle.break_rules.specs.Walk.{end_of_all}
-use Rattle.break_rules.proofs.LegalLists.{live_from}
-use Rattle.break_graph.specs.Graph.{live_nexts}
-use Rattle.price_sums.specs.Along.{sum_at, resumes, Completes}
-use Rattle.price_sums.specs.Days.{sums_on}
-use Rattle.cert_check.specs.Rests.{Through, IsGreatest, IsGreatestOf}
-use Rattle.cert_check.specs.Below.{whole_worth, bonuses, duty_with, goes_further}
-use Rattle.cert_check.specs.Walks.{AreWays}
+use Rattle.cert_check.proofs.Common.{◌≡◌, ◌+ℤ◌, ◌-ℤ◌, ◌-◌, ℕ, ℤ, List, [], ◌∷◌, ◌++◌, Some, None, map, take, ap, sym, subst, ◌∙◌, arith, to_z, of_z, false, FitsSigned, ◌^◌, ◌≤◌, ◌<◌, w64, w128, unsigned_abs, to_z-of_z, fits_signed_from_abs, Break, Spot, end_of_all, live_from, live_nexts, sum_at, resumes, Completes, sums_on, Through, IsGreatest, IsGreatestOf, whole_worth, bonuses, duty_with, goes_further, AreWays}
 use Rattle.cert_check.proofs.Greatest.{greatest_none, greatest_some, legal_alone}
 use Rattle.cert_check.proofs.Values.{before_of, before_fits}
 use Rattle.cert_check.proofs.WaysOn.{way_more, way_place, way_nearer, ways_all}

@@ -1,8 +1,4 @@
-use Rattle.std.proofs.Common.{◌-◌, map, take}
-use Rattle.break_rules.specs.Walk.{end_of_all}
-use Rattle.price_sums.specs.Days.{sums_on}
-use Rattle.cert_check.specs.Rests.{Through, IsGreatestOf}
-use Rattle.cert_check.specs.Below.{whole_worth}
+use Rattle.cert_check.proofs.Common.{◌-◌, map, take, end_of_all, sums_on, Through, IsGreatestOf, whole_worth}
 use Rattle.cert_check.proofs.below.+best_below.Given as goal
 
 abbrev pub decreases-best_below : goal.decreases-best_below

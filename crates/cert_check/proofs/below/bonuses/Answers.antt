@@ -1,13 +1,5 @@
-use Rattle.std.proofs.Common.{◌≡◌, ◌<◌, ◌+◌, ◌*◌, ◌^◌, ℕ, ℤ, ◌+ℤ◌, List, [], ◌∷◌, length, get_or, refl, sym, ap, ◌∙◌, arith}
-use Rattle.std.proofs.lemmas.Bool.{eqb-true}
-use Rattle.break_rules.specs.declared.Break.{Break}
-use Rattle.break_rules.specs.Sums.{int_sum_by}
-use Rattle.head_splits.specs.declared.Cut.{Cut}
-use Rattle.head_splits.specs.Bound.{bonus}
-use Rattle.cert_check.specs.Below.{bonuses, duty_with}
-use Rattle.bound_sums.proofs.Sizes.{added_fits, added, added_small}
+use Rattle.cert_check.proofs.Common.{◌≡◌, ◌<◌, ◌+◌, ◌*◌, ◌^◌, ℕ, ℤ, ◌+ℤ◌, List, [], ◌∷◌, length, get_or, refl, sym, ap, ◌∙◌, arith, eqb-true, Break, int_sum_by, Cut, bonus, bonuses, duty_with, added_fits, added, added_small, pairs_from, sum_next}
 use Rattle.cert_check.proofs.Whole.{bonuses_none}
-use Rattle.bound_sums.proofs.Pairs.{pairs_from, sum_next}
 use Rattle.cert_check.proofs.below.bonuses.Goals as goal
 
 empty_is : (xs : List Break) → length xs ≡ 0 → xs ≡ []

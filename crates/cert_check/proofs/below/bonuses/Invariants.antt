@@ -1,9 +1,4 @@
-use Rattle.std.proofs.Common.{◌≡◌, ◌≤◌, ◌*◌, ◌+ℤ◌}
-use Rattle.std.specs.Int.RustNames.{unsigned_abs}
-use Rattle.cert_check.specs.Below.{bonuses, duty_with}
-use Rattle.break_rules.specs.Sums.{int_sum_by}
-use Rattle.head_splits.specs.Bound.{bonus}
-use Rattle.bound_sums.proofs.Pairs.{pairs_from}
+use Rattle.cert_check.proofs.Common.{◌≡◌, ◌≤◌, ◌*◌, ◌+ℤ◌, unsigned_abs, bonuses, duty_with, int_sum_by, bonus, pairs_from}
 use Rattle.cert_check.proofs.below.bonuses.Given as goal
 
 abbrev pub invariant-loop-k : goal.invariant-loop-k

@@ -1,4 +1,4 @@
-use Rattle.std.proofs.lemmas.Result.{err_from_is_err_and}
+use Rattle.cert_check.proofs.Common.{err_from_is_err_and}
 use Rattle.cert_check.proofs.Causes.{line_refused}
 use Rattle.cert_check.proofs.checking.check_by.Goals as goal
 

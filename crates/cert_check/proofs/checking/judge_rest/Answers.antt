@@ -1,4 +1,4 @@
-use Rattle.std.proofs.lemmas.Result.{err_from_is_err_and}
+use Rattle.cert_check.proofs.Common.{err_from_is_err_and}
 use Rattle.certificate.proofs.Acceptance.{bounds, plans}
 use Rattle.cert_check.proofs.Causes.{check_good, check_plan}
 use Rattle.cert_check.proofs.checking.judge_rest.Goals as goal

@@ -1,4 +1,4 @@
-use Rattle.std.proofs.Common.{◌≡◌, ◌≤◌, ◌-◌, length, take}
+use Rattle.cert_check.proofs.Common.{◌≡◌, ◌≤◌, ◌-◌, length, take}
 use Rattle.cert_check.proofs.findings.are_same_cuts.Given as goal
 
 abbrev pub invariant-loop-at : goal.invariant-loop-at

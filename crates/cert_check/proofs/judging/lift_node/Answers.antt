@@ -1,4 +1,4 @@
-use Rattle.std.proofs.Common.{sym, ◌∙◌}
+use Rattle.cert_check.proofs.Common.{sym, ◌∙◌}
 use Rattle.cert_check.proofs.Lifted.{lift_good}
 use Rattle.cert_check.proofs.judging.lift_node.Goals as goal
 

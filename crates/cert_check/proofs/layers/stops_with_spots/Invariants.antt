@@ -1,4 +1,4 @@
-use Rattle.std.proofs.Common.{◌≡◌, map, take}
+use Rattle.cert_check.proofs.Common.{◌≡◌, map, take}
 use Rattle.cert_check.proofs.layers.stops_with_spots.Given as goal
 
 abbrev pub invariant-loop-way : goal.invariant-loop-way

@@ -1,4 +1,4 @@
-use Rattle.std.proofs.Common.{◌≡◌, map, take}
+use Rattle.cert_check.proofs.Common.{◌≡◌, map, take}
 use Rattle.cert_check.proofs.nodes.stops_with_nodes.Given as goal
 
 abbrev pub invariant-loop-edge : goal.invariant-loop-edge

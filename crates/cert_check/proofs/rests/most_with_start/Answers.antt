@@ -1,12 +1,4 @@
-use Rattle.std.proofs.Common.{◌≡◌, ◌+◌, ◌∷◌, [], ℤ, List, refl, sym, ap, subst, ◌∙◌, map, take, get_or, Some, None}
-use Rattle.std.specs.Int.{int_max}
-use Rattle.std.proofs.lemmas.List.{nil_from_length}
-use Rattle.break_rules.specs.declared.Break.{Break}
-use Rattle.break_graph.specs.declared.Edge.{Edge}
-use Rattle.break_graph.specs.Graph.{node_at}
-use Rattle.price_sums.specs.Along.{sum_at}
-use Rattle.price_sums.specs.Days.{sums_on}
-use Rattle.cert_check.specs.Rests.{worth_with_start, Through, IsGreatest}
+use Rattle.cert_check.proofs.Common.{◌≡◌, ◌+◌, ◌∷◌, [], ℤ, List, refl, sym, ap, subst, ◌∙◌, map, take, get_or, Some, None, int_max, nil_from_length, Break, Edge, node_at, sum_at, sums_on, worth_with_start, Through, IsGreatest}
 use Rattle.cert_check.proofs.Greatest.{greatest_none}
 use Rattle.cert_check.proofs.Values.{no_edge}
 use Rattle.cert_check.proofs.WithStart.{edge_more, edges_all, edges_none, first_stop, other_stops, all_other_stops, first_has, other_has}

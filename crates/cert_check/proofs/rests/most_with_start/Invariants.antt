@@ -1,10 +1,4 @@
-use Rattle.std.proofs.Common.{ℕ, ◌<◌, ◌+◌, List, map, take}
-use Rattle.break_rules.specs.declared.Break.{Break}
-use Rattle.break_graph.specs.declared.Edge.{Edge}
-use Rattle.break_graph.specs.Graph.{StandsAt, node_at}
-use Rattle.price_sums.specs.Along.{sum_at, AreSums}
-use Rattle.price_sums.specs.Days.{sums_on}
-use Rattle.cert_check.specs.Rests.{worth_with_start, Through, AreValues, IsGreatest}
+use Rattle.cert_check.proofs.Common.{ℕ, ◌<◌, ◌+◌, List, map, take, Break, Edge, StandsAt, node_at, sum_at, AreSums, sums_on, worth_with_start, Through, AreValues, IsGreatest}
 use Rattle.cert_check.proofs.rests.most_with_start.Given as goal
 
 abbrev pub invariant-loop-edge : goal.invariant-loop-edge

@@ -1,11 +1,4 @@
-use Rattle.std.proofs.Common.{◌≡◌, ℤ, ◌-ℤ◌, sym, ap, subst, ◌∙◌, arith, FitsSigned}
-use Rattle.std.specs.Int.{w64}
-use Rattle.std.proofs.lemmas.Int.{fits_signed_from_abs}
-use Rattle.break_rules.specs.declared.Spot.{Spot}
-use Rattle.break_rules.specs.Walk.{end_of_all}
-use Rattle.price_sums.specs.Along.{sum_at, resumes, Completes}
-use Rattle.price_sums.specs.Days.{sums_on}
-use Rattle.cert_check.specs.Rests.{rest_worth, IsGreatest}
+use Rattle.cert_check.proofs.Common.{◌≡◌, ℤ, ◌-ℤ◌, sym, ap, subst, ◌∙◌, arith, FitsSigned, w64, fits_signed_from_abs, Spot, end_of_all, sum_at, resumes, Completes, sums_on, rest_worth, IsGreatest}
 use Rattle.cert_check.proofs.Values.{greatest_small}
 use Rattle.cert_check.proofs.WithStart.{less_start}
 use Rattle.cert_check.proofs.rests.rest_lane.Goals as goal

@@ -1,10 +1,7 @@
-use Rattle.std.proofs.Common.{◌≡◌, ◌+◌, ◌++◌, ◌∷◌, [], ℤ, List, length, length-append, sym, ap, subst, ◌∙◌, arith}
-use Rattle.price_sums.specs.Along.{sum_at}
-use Rattle.price_sums.specs.Days.{sums_on}
+use Rattle.cert_check.proofs.Common.{◌≡◌, ◌+◌, ◌++◌, ◌∷◌, [], ℤ, List, length, sym, ap, subst, ◌∙◌, arith, sum_at, sums_on, AreValues, length-map}
+use Rattle.std.proofs.Common.{length-append}
 use Rattle.price_sums.proofs.Windows.{sums_more}
-use Rattle.cert_check.specs.Rests.{AreValues}
 use Rattle.cert_check.proofs.WithStart.{values_more}
-use Rattle.std.proofs.lemmas.List.{length-map}
 use Rattle.cert_check.proofs.rests.set_rest_lanes.Goals as goal
 
 pub loop-k-init : goal.loop-k-init

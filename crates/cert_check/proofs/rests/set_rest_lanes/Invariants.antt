@@ -1,7 +1,4 @@
-use Rattle.std.proofs.Common.{◌≡◌, ◌<◌, ℕ, length}
-use Rattle.price_sums.specs.Along.{AreSums}
-use Rattle.price_sums.specs.Days.{sums_on}
-use Rattle.cert_check.specs.Rests.{AreValues}
+use Rattle.cert_check.proofs.Common.{◌≡◌, ◌<◌, ℕ, length, AreSums, sums_on, AreValues}
 use Rattle.cert_check.proofs.rests.set_rest_lanes.Given as goal
 
 abbrev pub invariant-loop-k : goal.invariant-loop-k

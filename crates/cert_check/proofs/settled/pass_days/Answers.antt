@@ -1,11 +1,4 @@
-use Rattle.std.proofs.Common.{◌≡◌, ◌+◌, [], None, ℕ, Bool, List, arith, ap, subst, ◌∙◌}
-use Rattle.std.specs.List.{flat_map}
-use Rattle.shift_instance.specs.declared.Duty.{Duty}
-use Rattle.shift_instance.specs.Problem.{below}
-use Rattle.head_splits.specs.declared.Class.{Class}
-use Rattle.head_splits.specs.Below.{IsWalked, duties_below, shift_duties}
-use Rattle.head_splits.proofs.WholeWalk.{shift_days}
-use Rattle.cert_check.specs.Passed.{IsPassed}
+use Rattle.cert_check.proofs.Common.{◌≡◌, ◌+◌, [], None, ℕ, Bool, List, arith, ap, subst, ◌∙◌, flat_map, Duty, below, Class, IsWalked, duties_below, shift_duties, shift_days, IsPassed}
 use Rattle.cert_check.proofs.Passing.{all_passed, none_open, next_passed, stopped_passed}
 use Rattle.cert_check.proofs.settled.pass_days.Goals as goal
 

@@ -1,7 +1,4 @@
-use Rattle.std.proofs.Common.{None, []}
-use Rattle.std.specs.List.{flat_map}
-use Rattle.shift_instance.specs.Problem.{below}
-use Rattle.head_splits.specs.Below.{IsWalked, duties_below}
+use Rattle.cert_check.proofs.Common.{None, [], flat_map, below, IsWalked, duties_below}
 use Rattle.cert_check.proofs.settled.pass_days.Given as goal
 
 abbrev pub invariant-loop-day : goal.invariant-loop-day

@@ -1,7 +1,4 @@
-use Rattle.std.proofs.Common.{None, sym, subst}
-use Rattle.head_splits.specs.Below.{IsWalked, shift_duties}
-use Rattle.head_splits.proofs.Walked.{none_walked}
-use Rattle.head_splits.proofs.WholeWalk.{no_duties}
+use Rattle.cert_check.proofs.Common.{None, sym, subst, IsWalked, shift_duties, none_walked, no_duties}
 use Rattle.cert_check.proofs.Passing.{all_passed}
 use Rattle.cert_check.proofs.settled.pass_shift.Goals as goal
 

@@ -1,9 +1,4 @@
-use Rattle.std.proofs.Common.{◌+◌, length, Bool, arith, subst}
-use Rattle.std.specs.List.{flat_map}
-use Rattle.shift_instance.specs.Problem.{below, shift_list}
-use Rattle.shift_instance.specs.AllDuties.{all_duties}
-use Rattle.head_splits.specs.Below.{shift_duties}
-use Rattle.cert_check.specs.Passed.{IsPassed}
+use Rattle.cert_check.proofs.Common.{◌+◌, length, Bool, arith, subst, flat_map, below, shift_list, all_duties, shift_duties, IsPassed}
 use Rattle.cert_check.proofs.Passing.{none_open, next_passed, stopped_passed}
 use Rattle.cert_check.proofs.settled.pass_shifts.Goals as goal
 

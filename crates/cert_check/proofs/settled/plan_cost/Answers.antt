@@ -1,5 +1,4 @@
-use Rattle.std.proofs.Common.{sym, ◌∙◌}
-use Rattle.shift_instance.specs.Rota.{are_legal_rows}
+use Rattle.cert_check.proofs.Common.{sym, ◌∙◌, are_legal_rows}
 use Rattle.cert_check.proofs.Passing.{floor_illegal, floor_unmet, floor_cost, refused, granted}
 use Rattle.cert_check.proofs.settled.plan_cost.Goals as goal
 

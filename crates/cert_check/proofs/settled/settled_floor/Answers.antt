@@ -1,8 +1,4 @@
-use Rattle.std.proofs.Common.{[], Bool, List, Some, None, cond, sym, ap, subst, ◌∙◌}
-use Rattle.shift_instance.specs.declared.Row.{Row}
-use Rattle.shift_instance.specs.AllDuties.{all_duties}
-use Rattle.head_splits.specs.Nodes.{settled_floor}
-use Rattle.cert_check.specs.Passed.{IsPassed}
+use Rattle.cert_check.proofs.Common.{[], Bool, List, Some, None, cond, sym, ap, subst, ◌∙◌, Row, all_duties, settled_floor, IsPassed}
 use Rattle.cert_check.proofs.Passing.{is_settled_passed, not_settled_passed}
 use Rattle.cert_check.proofs.settled.settled_floor.Goals as goal
 

@@ -1,6 +1,4 @@
-use Rattle.std.proofs.Common.{sym, subst}
-use Rattle.price_sums.specs.Along.{AreSmallPrices}
-use Rattle.bound_sums.proofs.Priced.{slots_small}
+use Rattle.cert_check.proofs.Common.{sym, subst, AreSmallPrices, slots_small}
 use Rattle.cert_check.proofs.terms.bound_by_walk.Goals as goal
 
 pub slot_sums-requires-clause-prices : goal.slot_sums-requires-clause-prices

@@ -1,5 +1,4 @@
-use Rattle.std.proofs.Common.{[], ℤ, List, ◌∙◌, ap}
-use Rattle.price_sums.specs.Days.{sums_on}
+use Rattle.cert_check.proofs.Common.{[], ℤ, List, ◌∙◌, ap, sums_on}
 use Rattle.cert_check.proofs.WaysOn.{opening_spot}
 use Rattle.cert_check.proofs.terms.layered_value.Goals as goal
 

@@ -1,8 +1,6 @@
-use Rattle.std.proofs.Common.{◌≡◌, ℤ, List, refl, sym, ◌∙◌}
+use Rattle.cert_check.proofs.Common.{◌≡◌, ℤ, List, refl, sym, ◌∙◌, Problem, Priced}
 use Rattle.std.proofs.lemmas.Bool.Decides.{Decides-int_eq}
 use Rattle.std.proofs.lemmas.Slice.Eq.{slice_eq-Decides}
-use Rattle.shift_instance.specs.Problem.{Problem}
-use Rattle.price_sums.specs.Days.{Priced}
 use Rattle.cert_check.proofs.terms.slot_sums.Goals as goal
 
 same_priced : (s : Priced) (i : Problem) (prices : List ℤ) → s.instance ≡ i → s.prices ≡ prices → s ≡ record { instance = i; prices = prices }

@@ -1,5 +1,4 @@
-use Rattle.std.proofs.Common.{◌≡◌, map, take}
-use Rattle.price_sums.specs.Along.{sum_at}
+use Rattle.cert_check.proofs.Common.{◌≡◌, map, take, sum_at}
 use Rattle.cert_check.proofs.terms.sums_of_day.Given as goal
 
 abbrev pub invariant-loop-lane : goal.invariant-loop-lane

@@ -1,23 +1,5 @@
-use Rattle.std.proofs.Common.{◌≡◌, ◌<◌, ◌≤◌, ◌^◌, ℕ, ℤ, false, List, [], Option, length, length-set, get_or, sym, ap, ◌∙◌, subst, arith, to_z, of_z, Some, refl}
-use Rattle.std.specs.Prelude.{slice_get, ⊤, MatchOption}
-use Rattle.std.specs.Int.{w128}
-use Rattle.std.specs.Int.RustNames.{unsigned_abs}
-use Rattle.std.proofs.lemmas.Int.{to_z-of_z}
-use Rattle.break_rules.specs.declared.Rule.{Rule}
-use Rattle.break_rules.specs.Breaks.{is_live, is_legal}
-use Rattle.shift_instance.specs.declared.Shift.{Shift}
-use Rattle.shift_instance.specs.Problem.{shift_list}
-use Rattle.price_sums.specs.Along.{Completes, sum_at, AreSums}
-use Rattle.price_sums.specs.Days.{Priced, AreSumsByDay, sums_on}
-use Rattle.bound_sums.proofs.Priced.{cut_small}
-use Rattle.bound_sums.proofs.Sizes.{fits}
-use Rattle.cert_check.specs.Rests.{IsGreatest, rest_worth}
-use Rattle.cert_check.specs.Below.{whole_worth}
+use Rattle.cert_check.proofs.Common.{◌≡◌, ◌<◌, ◌≤◌, ◌^◌, ℕ, ℤ, false, List, [], Option, length, length-set, get_or, sym, ap, ◌∙◌, subst, arith, to_z, of_z, Some, refl, slice_get, ⊤, MatchOption, w128, unsigned_abs, to_z-of_z, Rule, is_live, is_legal, Shift, shift_list, Completes, sum_at, AreSums, Priced, AreSumsByDay, sums_on, cut_small, fits, IsGreatest, rest_worth, whole_worth, Break, IsMostEarned, IsValue, has_prefix_cut}
 use Rattle.cert_check.proofs.ShiftTerms.{own_sums, own_value, values_set, own_nil}
-use Rattle.break_rules.specs.declared.Break.{Break}
-use Rattle.break_layers.specs.Rests.{IsMostEarned}
-use Rattle.bound_sums.specs.Values.{IsValue}
-use Rattle.bound_sums.specs.Kept.{has_prefix_cut}
 use Rattle.cert_check.proofs.Values.{greatest_small}
 use Rattle.cert_check.proofs.Whole.{whole_uncut}
 use Rattle.cert_check.proofs.terms.values_by_layers.Goals as goal

@@ -1,17 +1,4 @@
-use Rattle.std.proofs.Common.{◌≡◌, ◌<◌, ◌≤◌, ◌-◌, ◌^◌, ℕ, ℤ, false, List, [], length, length-set, get_or, refl, sym, ap, ◌∙◌, subst, arith, to_z, of_z, Some}
-use Rattle.std.specs.Prelude.{slice_get}
-use Rattle.std.specs.Int.{w128}
-use Rattle.std.proofs.lemmas.Int.{to_z-of_z}
-use Rattle.break_rules.specs.declared.Rule.{Rule}
-use Rattle.shift_instance.specs.declared.Shift.{Shift}
-use Rattle.shift_instance.specs.Problem.{shift_list}
-use Rattle.price_sums.specs.Along.{sum_at}
-use Rattle.price_sums.specs.Days.{Priced, AreSumsByDay, sums_on}
-use Rattle.bound_sums.specs.Values.{IsValue}
-use Rattle.bound_sums.proofs.Priced.{cut_small}
-use Rattle.bound_sums.proofs.Sizes.{fits}
-use Rattle.bound_sums.specs.Kept.{has_prefix_cut}
-use Rattle.cert_check.specs.Rests.{AreValues}
+use Rattle.cert_check.proofs.Common.{◌≡◌, ◌<◌, ◌≤◌, ◌-◌, ◌^◌, ℕ, ℤ, false, List, [], length, length-set, get_or, refl, sym, ap, ◌∙◌, subst, arith, to_z, of_z, Some, slice_get, w128, to_z-of_z, Rule, Shift, shift_list, sum_at, Priced, AreSumsByDay, sums_on, IsValue, cut_small, fits, has_prefix_cut, AreValues}
 use Rattle.cert_check.proofs.ShiftTerms.{own_graph, own_sums, own_value, values_set}
 use Rattle.cert_check.proofs.Values.{greatest_small}
 use Rattle.cert_check.proofs.WaysOn.{opening_node}

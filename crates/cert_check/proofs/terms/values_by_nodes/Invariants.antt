@@ -1,4 +1,4 @@
-use Rattle.std.proofs.Common.{◌≡◌, length}
+use Rattle.cert_check.proofs.Common.{◌≡◌, length}
 use Rattle.bound_sums.specs.Values.{AreValues}
 use Rattle.cert_check.proofs.terms.values_by_nodes.Given as goal
 

@@ -1,11 +1,5 @@
-use Rattle.std.proofs.Common.{◌≡◌, List, [], ◌∷◌, ◌++◌, ℕ, ◌+◌, length, length-append, take, map, string_bytes, sym, ap, subst, ◌∙◌, arith}
-use Rattle.std.specs.Prelude.{All}
-use Rattle.std.proofs.lemmas.List.{take_all}
-use Rattle.std.proofs.lemmas.List.Elements.{All-append}
-use Rattle.post_codec.specs.declared.post.Post.{Post}
+use Rattle.certificate.proofs.Common.{◌≡◌, List, [], ◌∷◌, ◌++◌, ℕ, ◌+◌, length, length-append, take, map, string_bytes, sym, ap, subst, ◌∙◌, arith, All, take_all, All-append, Post, lines_text, proof_line, FitsLine, lines_of}
 use Rattle.certificate.specs.declared.proof_lines.Line.{Line as ProofLine}
-use Rattle.certificate.specs.LineText.{lines_text, proof_line, FitsLine}
-use Rattle.certificate.specs.History.{lines_of}
 use Rattle.certificate.proofs.Histories.{one_more, one_at_most, text_of_both}
 use Rattle.certificate.proofs.Kept.{list_view}
 use Rattle.certificate.proofs.history.lines_of.Goals as goal

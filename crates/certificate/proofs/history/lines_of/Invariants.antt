@@ -1,7 +1,4 @@
-use Rattle.std.proofs.Common.{◌≡◌, ◌≤◌, take, length, string_bytes, map}
-use Rattle.std.specs.Prelude.{All}
-use Rattle.certificate.specs.History.{lines_of}
-use Rattle.certificate.specs.LineText.{lines_text, proof_line, FitsLine}
+use Rattle.certificate.proofs.Common.{◌≡◌, ◌≤◌, take, length, string_bytes, map, All, lines_of, lines_text, proof_line, FitsLine}
 use Rattle.certificate.proofs.history.lines_of.Given as goal
 
 abbrev pub invariant-loop-post : goal.invariant-loop-post

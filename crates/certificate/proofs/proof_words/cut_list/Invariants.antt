@@ -1,5 +1,4 @@
-use Rattle.std.proofs.Common.{length, ◌-◌, ◌^◌}
-use Rattle.certificate.specs.Words.{number_in}
+use Rattle.certificate.proofs.Common.{length, ◌-◌, ◌^◌, number_in}
 use Rattle.certificate.proofs.Loops.{Lists}
 use Rattle.certificate.proofs.proof_words.cut_list.Given as goal
 

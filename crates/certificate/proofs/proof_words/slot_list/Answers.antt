@@ -1,8 +1,4 @@
-use Rattle.std.proofs.Common.{sym}
-use Rattle.std.proofs.lemmas.Result.{err_from_is_err_and}
-use Rattle.std.specs.Int.{w64}
-use Rattle.std.proofs.lemmas.Int.{to_z-of_z}
-use Rattle.certificate.specs.Words.{slot_price_in}
+use Rattle.certificate.proofs.Common.{sym, err_from_is_err_and, w64, to_z-of_z, slot_price_in}
 use Rattle.certificate.proofs.Steps.{slot_exact}
 use Rattle.certificate.proofs.Loops.{next_word, stops_word, last_word, stops_last, cut_shorter}
 use Rattle.certificate.proofs.proof_words.slot_list.Goals as goal

@@ -1,5 +1,4 @@
-use Rattle.std.proofs.Common.{length}
-use Rattle.certificate.specs.Words.{slot_price_in}
+use Rattle.certificate.proofs.Common.{length, slot_price_in}
 use Rattle.certificate.proofs.Loops.{Lists}
 use Rattle.certificate.proofs.proof_words.slot_list.Given as goal
 

@@ -1,6 +1,4 @@
-use Rattle.std.proofs.Common.{◌<◌, ◌^◌, arith}
-use Rattle.std.proofs.lemmas.Grind.{common_steps}
-use Rattle.std.proofs.lemmas.List.Elements.{All-more}
+use Rattle.certificate.proofs.Common.{◌<◌, ◌^◌, arith, common_steps, All-more}
 use Rattle.certificate.proofs.proof_writing.add_further_cuts.Goals as goal
 
 pub loop-next-preserved : goal.loop-next-preserved

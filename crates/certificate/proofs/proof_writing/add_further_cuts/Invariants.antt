@@ -1,7 +1,4 @@
-use Rattle.std.proofs.Common.{◌≡◌, ◌<◌, ◌^◌, ◌++◌, ◌∷◌, take, string_bytes}
-use Rattle.std.specs.Prelude.{All}
-use Rattle.std.specs.List.{flat_map}
-use Rattle.std.specs.Fmt.{decimal}
+use Rattle.certificate.proofs.Common.{◌≡◌, ◌<◌, ◌^◌, ◌++◌, ◌∷◌, take, string_bytes, All, flat_map, decimal}
 use Rattle.certificate.proofs.proof_writing.add_further_cuts.Given as goal
 
 abbrev pub invariant-loop-next : goal.invariant-loop-next

@@ -1,8 +1,5 @@
-use Rattle.std.proofs.Common.{arith}
+use Rattle.certificate.proofs.Common.{arith, w64, common_steps, All-more}
 use Rattle.std.specs.Prelude.{FitsSigned}
-use Rattle.std.specs.Int.{w64}
-use Rattle.std.proofs.lemmas.Grind.{common_steps}
-use Rattle.std.proofs.lemmas.List.Elements.{All-more}
 use Rattle.certificate.proofs.proof_writing.add_further_slots.Goals as goal
 
 pub loop-next-preserved : goal.loop-next-preserved

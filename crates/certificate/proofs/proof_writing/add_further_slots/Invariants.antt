@@ -1,8 +1,5 @@
-use Rattle.std.proofs.Common.{◌≡◌, ◌++◌, ◌∷◌, take, string_bytes}
-use Rattle.std.specs.Prelude.{All, FitsSigned}
-use Rattle.std.specs.Int.{w64}
-use Rattle.std.specs.List.{flat_map}
-use Rattle.std.specs.Fmt.{signed_decimal}
+use Rattle.certificate.proofs.Common.{◌≡◌, ◌++◌, ◌∷◌, take, string_bytes, All, w64, flat_map, signed_decimal}
+use Rattle.std.specs.Prelude.{FitsSigned}
 use Rattle.certificate.proofs.proof_writing.add_further_slots.Given as goal
 
 abbrev pub invariant-loop-next : goal.invariant-loop-next

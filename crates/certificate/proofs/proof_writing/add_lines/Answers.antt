@@ -1,7 +1,4 @@
-use Rattle.std.proofs.Common.{arith, subst}
-use Rattle.std.proofs.lemmas.Grind.{common_steps}
-use Rattle.std.proofs.lemmas.List.Elements.{All-more}
-use Rattle.certificate.specs.LineText.{FitsLine}
+use Rattle.certificate.proofs.Common.{arith, subst, common_steps, All-more, FitsLine}
 use Rattle.certificate.proofs.proof_writing.add_lines.Goals as goal
 
 pub loop-line-preserved : goal.loop-line-preserved

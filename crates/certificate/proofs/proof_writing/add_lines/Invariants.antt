@@ -1,6 +1,4 @@
-use Rattle.std.proofs.Common.{◌≡◌, ◌++◌, take, string_bytes, map}
-use Rattle.std.specs.Prelude.{All}
-use Rattle.certificate.specs.LineText.{proof_line, lines_text, FitsLine}
+use Rattle.certificate.proofs.Common.{◌≡◌, ◌++◌, take, string_bytes, map, All, proof_line, lines_text, FitsLine}
 use Rattle.certificate.proofs.proof_writing.add_lines.Given as goal
 
 abbrev pub invariant-loop-line : goal.invariant-loop-line

@@ -1,6 +1,4 @@
-use Rattle.std.proofs.Common.{◌≡◌, ◌∙◌, ◌<◌, ◌∷◌, ℕ, List, pos, neg_ℤ, ap, arith, rules, sym}
-use Rattle.std.specs.Fmt.{signed_decimal}
-use Rattle.std.proofs.lemmas.Fmt.{decimal_digit}
+use Rattle.certificate.proofs.Common.{◌≡◌, ◌∙◌, ◌<◌, ◌∷◌, ℕ, List, pos, neg_ℤ, ap, arith, rules, sym, signed_decimal, decimal_digit}
 use Rattle.certificate.proofs.Short.{below_zero}
 use Rattle.certificate.proofs.proof_writing.short_text.Goals as goal
 

@@ -1,4 +1,4 @@
-use Rattle.std.proofs.lemmas.Result.{err_from_is_err_and}
+use Rattle.certificate.proofs.Common.{err_from_is_err_and}
 use Rattle.certificate.proofs.Kept.{gone_none, gone_more, gone_stops, gone_all}
 use Rattle.certificate.proofs.reading.behind_lines.Goals as goal
 

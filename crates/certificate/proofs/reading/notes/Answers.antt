@@ -1,5 +1,4 @@
-use Rattle.std.proofs.Common.{◌<◌, length, sym, ◌∙◌, arith}
-use Rattle.std.proofs.lemmas.Result.{err_from_is_err_and}
+use Rattle.certificate.proofs.Common.{◌<◌, length, sym, ◌∙◌, arith, err_from_is_err_and}
 use Rattle.certificate.proofs.Loops.{pass_none, pass_note, end_notes, other_notes, a_note, cut_line, cut_shorter}
 use Rattle.certificate.proofs.reading.notes.Goals as goal
 

@@ -1,4 +1,4 @@
-use Rattle.std.proofs.Common.{length}
+use Rattle.certificate.proofs.Common.{length}
 use Rattle.certificate.proofs.Loops.{Passed}
 use Rattle.certificate.proofs.reading.notes.Given as goal
 

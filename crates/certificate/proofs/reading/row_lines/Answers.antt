@@ -1,5 +1,4 @@
-use Rattle.std.proofs.lemmas.Result.{err_from_is_err_and}
-use Rattle.certificate.specs.Words.{line_at, row_in}
+use Rattle.certificate.proofs.Common.{err_from_is_err_and, line_at, row_in}
 use Rattle.certificate.proofs.Loops.{next_line, stops_line, done_lines}
 use Rattle.certificate.proofs.reading.row_lines.Goals as goal
 

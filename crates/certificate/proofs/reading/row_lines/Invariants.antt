@@ -1,4 +1,4 @@
-use Rattle.certificate.specs.Words.{line_at, row_in}
+use Rattle.certificate.proofs.Common.{line_at, row_in}
 use Rattle.certificate.proofs.Loops.{Goes}
 use Rattle.certificate.proofs.reading.row_lines.Given as goal
 

@@ -1,4 +1,4 @@
-use Rattle.std.proofs.lemmas.Result.{err_from_is_err_and}
+use Rattle.certificate.proofs.Common.{err_from_is_err_and}
 use Rattle.certificate.proofs.Whole.{stop_notes}
 use Rattle.certificate.proofs.reading.whole.Goals as goal
 

@@ -1,4 +1,4 @@
-use Rattle.std.proofs.lemmas.Result.{err_from_is_err_and}
+use Rattle.certificate.proofs.Common.{err_from_is_err_and}
 use Rattle.certificate.proofs.Short.{cuts_missed, cuts_found}
 use Rattle.certificate.proofs.slot_words.prices_of.Goals as goal
 

@@ -1,4 +1,4 @@
-use Rattle.std.proofs.Common.{◌-◌, List, ℕ, length, take, drop, arith, refl}
+use Rattle.certificate.proofs.Common.{◌-◌, List, ℕ, length, take, drop, arith, refl}
 use Rattle.certificate.proofs.Short.{front_digit, front_next}
 use Rattle.certificate.proofs.slot_words.short_number.Goals as goal
 

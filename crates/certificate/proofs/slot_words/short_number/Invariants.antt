@@ -1,5 +1,4 @@
-use Rattle.std.proofs.Common.{◌≡◌, ◌++◌, ◌<◌, ◌^◌, length}
-use Rattle.std.specs.Fmt.{decimal}
+use Rattle.certificate.proofs.Common.{◌≡◌, ◌++◌, ◌<◌, ◌^◌, length, decimal}
 use Rattle.certificate.proofs.slot_words.short_number.Given as goal
 
 abbrev pub invariant-loop-rest : goal.invariant-loop-rest

@@ -1,7 +1,4 @@
-use Rattle.std.proofs.Common.{◌≡◌, ◌-◌, ◌++◌, List, ℕ, get_or, length, take, drop, ap, ◌∙◌, rules}
-use Rattle.std.specs.Int.{w64}
-use Rattle.std.specs.Fmt.{signed_decimal}
-use Rattle.std.proofs.lemmas.Int.{to_z-of_z}
+use Rattle.certificate.proofs.Common.{◌≡◌, ◌-◌, ◌++◌, List, ℕ, get_or, length, take, drop, ap, ◌∙◌, rules, w64, signed_decimal, to_z-of_z}
 use Rattle.certificate.proofs.Short.{all_before, front_byte}
 use Rattle.certificate.proofs.slot_words.short_prices.Goals as goal
 

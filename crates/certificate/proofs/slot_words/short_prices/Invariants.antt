@@ -1,4 +1,4 @@
-use Rattle.std.proofs.Common.{length}
+use Rattle.certificate.proofs.Common.{length}
 use Rattle.certificate.proofs.Short.{AreBefore}
 use Rattle.certificate.proofs.slot_words.short_prices.Given as goal
 

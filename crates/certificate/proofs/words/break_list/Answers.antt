@@ -1,6 +1,4 @@
-use Rattle.std.proofs.Common.{sym}
-use Rattle.std.proofs.lemmas.Result.{err_from_is_err_and}
-use Rattle.certificate.specs.Words.{break_in}
+use Rattle.certificate.proofs.Common.{sym, err_from_is_err_and, break_in}
 use Rattle.certificate.proofs.Loops.{next_word, stops_word, last_word, stops_last, cut_shorter}
 use Rattle.certificate.proofs.words.break_list.Goals as goal
 

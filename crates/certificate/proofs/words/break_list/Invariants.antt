@@ -1,5 +1,4 @@
-use Rattle.std.proofs.Common.{length}
-use Rattle.certificate.specs.Words.{break_in}
+use Rattle.certificate.proofs.Common.{length, break_in}
 use Rattle.certificate.proofs.Loops.{Lists}
 use Rattle.certificate.proofs.words.break_list.Given as goal
 

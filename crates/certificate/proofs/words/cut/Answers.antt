@@ -1,5 +1,4 @@
-use Rattle.std.proofs.Common.{◌≡◌, sym, ap, ◌∙◌, ◌-◌, ◌+◌, List, ℕ, suc, take, drop, length, arith}
-use Rattle.std.proofs.lemmas.List.{take_all, drop-drop, length-drop}
+use Rattle.certificate.proofs.Common.{◌≡◌, sym, ap, ◌∙◌, ◌-◌, ◌+◌, List, ℕ, suc, take, drop, length, arith, take_all, drop-drop, length-drop}
 use Rattle.certificate.proofs.Spelling.{cut_place, cut_no_place}
 use Rattle.certificate.proofs.words.cut.Goals as goal
 

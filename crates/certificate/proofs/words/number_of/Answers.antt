@@ -1,5 +1,4 @@
-use Rattle.std.proofs.Common.{◌≡◌, List, ℕ, sym, ◌∙◌, subst}
-use Rattle.std.specs.Str.Parse.{ParsesUnsigned}
+use Rattle.certificate.proofs.Common.{◌≡◌, List, ℕ, sym, ◌∙◌, subst, ParsesUnsigned}
 use Rattle.certificate.proofs.Numbers.{parsed, no_text, no_beginning}
 use Rattle.certificate.proofs.words.number_of.Goals as goal
 

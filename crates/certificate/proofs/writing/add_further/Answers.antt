@@ -1,7 +1,4 @@
-use Rattle.std.proofs.Common.{arith}
-use Rattle.std.proofs.lemmas.Grind.{common_steps}
-use Rattle.std.proofs.lemmas.List.Elements.{All-more}
-use Rattle.certificate.specs.LineText.{FitsBreak}
+use Rattle.certificate.proofs.Common.{arith, common_steps, All-more, FitsBreak}
 use Rattle.certificate.proofs.writing.add_further.Goals as goal
 
 pub loop-next-preserved : goal.loop-next-preserved

@@ -1,7 +1,4 @@
-use Rattle.std.proofs.Common.{◌≡◌, ◌++◌, ◌∷◌, take, string_bytes}
-use Rattle.std.specs.Prelude.{All}
-use Rattle.std.specs.List.{flat_map}
-use Rattle.certificate.specs.LineText.{break_text, FitsBreak}
+use Rattle.certificate.proofs.Common.{◌≡◌, ◌++◌, ◌∷◌, take, string_bytes, All, flat_map, break_text, FitsBreak}
 use Rattle.certificate.proofs.writing.add_further.Given as goal
 
 abbrev pub invariant-loop-next : goal.invariant-loop-next

@@ -1,7 +1,4 @@
-use Rattle.std.proofs.Common.{arith, subst}
-use Rattle.std.proofs.lemmas.Grind.{common_steps}
-use Rattle.std.proofs.lemmas.List.Elements.{All-more}
-use Rattle.certificate.specs.LineText.{FitsRow}
+use Rattle.certificate.proofs.Common.{arith, subst, common_steps, All-more, FitsRow}
 use Rattle.certificate.proofs.writing.add_rows.Goals as goal
 
 pub loop-row-preserved : goal.loop-row-preserved

@@ -1,6 +1,4 @@
-use Rattle.std.proofs.Common.{◌≡◌, ◌++◌, take, string_bytes, map}
-use Rattle.std.specs.Prelude.{All}
-use Rattle.certificate.specs.LineText.{row_line, lines_text, FitsRow}
+use Rattle.certificate.proofs.Common.{◌≡◌, ◌++◌, take, string_bytes, map, All, row_line, lines_text, FitsRow}
 use Rattle.certificate.proofs.writing.add_rows.Given as goal
 
 abbrev pub invariant-loop-row : goal.invariant-loop-row

@@ -1,11 +1,5 @@
-use Rattle.std.proofs.Common.{◌≡◌, ◌+◌, ◌*◌, ◌≤◌, ◌≤ℤ◌, ◌∙◌, ◌∷◌, ◌++◌, [], ℕ, ℤ, neg_ℤ, pos, FitsSigned, to_z, of_z, w64, sym, subst, rules}
+use Rattle.descents.proofs.Common.{◌≡◌, ◌+◌, ◌*◌, ◌≤◌, ◌≤ℤ◌, ◌∙◌, ◌∷◌, ◌++◌, [], ℕ, ℤ, neg_ℤ, pos, FitsSigned, to_z, of_z, w64, sym, subst, rules, to_z-of_z, cost, rota_of, duty, marginal_prices, IsWithin, none_at, found_at, best_missing, fee}
 use mir.Syntax.{w128}
-use Rattle.std.proofs.lemmas.Int.{to_z-of_z}
-use Rattle.shift_instance.specs.Rota.{cost, rota_of}
-use Rattle.greedy.specs.Greedy.{duty, marginal_prices}
-use Rattle.greedy.specs.Sizes.{IsWithin}
-use Rattle.greedy.proofs.BestLists.{none_at, found_at, best_missing}
-use Rattle.local_moves.specs.Moves.{fee}
 use Rattle.descents.proofs.OneMore.{best_duty_is, same_cost_with}
 use Rattle.descents.proofs.best.best_duty.Goals as goal
 

@@ -1,6 +1,4 @@
-use Rattle.std.proofs.Common.{◌≡◌, ◌∙◌, ℕ, cond, sym, ap, arith}
-use Rattle.shift_instance.specs.Rota.{rota_of}
-use Rattle.local_moves.proofs.Reshifts.{used_by_count, unused_by_count}
+use Rattle.descents.proofs.Common.{◌≡◌, ◌∙◌, ℕ, cond, sym, ap, arith, rota_of, used_by_count, unused_by_count}
 use Rattle.descents.proofs.best.fee.Goals as goal
 
 pub returns-then-duties_of-eq0-clause-fee : goal.returns-then-duties_of-eq0-clause-fee

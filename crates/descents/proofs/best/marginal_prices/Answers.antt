@@ -1,7 +1,5 @@
-use Rattle.std.proofs.Common.{◌∙◌, ap, arith, rules}
-use Rattle.shift_instance.specs.Rota.{cover, rota_of}
+use Rattle.descents.proofs.Common.{◌∙◌, ap, arith, rules, cover, rota_of, prices_small}
 use Rattle.greedy.proofs.Places.{prices_more, prices_all}
-use Rattle.greedy.proofs.Rounding.{prices_small}
 use Rattle.descents.proofs.best.marginal_prices.Goals as goal
 
 pub loop-t-preserved : goal.loop-t-preserved

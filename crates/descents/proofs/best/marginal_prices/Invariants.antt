@@ -1,7 +1,4 @@
-use Rattle.std.proofs.Common.{◌≡◌, map}
-use Rattle.shift_instance.specs.Problem.{below}
-use Rattle.shift_instance.specs.Rota.{cover, rota_of}
-use Rattle.greedy.specs.Greedy.{marginal_price}
+use Rattle.descents.proofs.Common.{◌≡◌, map, below, cover, rota_of, marginal_price}
 use Rattle.descents.proofs.best.marginal_prices.Given as goal
 
 abbrev pub invariant-loop-t : goal.invariant-loop-t

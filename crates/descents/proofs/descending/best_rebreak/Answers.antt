@@ -1,11 +1,4 @@
-use Rattle.std.proofs.Common.{◌≡◌, None, List, subst}
-use Rattle.break_rules.specs.declared.Break.{Break}
-use Rattle.break_rules.specs.Causes.{first_cause}
-use Rattle.shift_instance.specs.Rota.{rota_of}
-use Rattle.rota_cost.specs.Cover.{without}
-use Rattle.greedy.specs.Greedy.{duty}
-use Rattle.local_moves.specs.declared.moves.Move.TheVariants.{Drop}
-use Rattle.local_moves.specs.Moves.{Answers, AreSameDuties, move_causes}
+use Rattle.descents.proofs.Common.{◌≡◌, None, List, subst, Break, first_cause, rota_of, without, duty, Drop, Answers, AreSameDuties, move_causes}
 use Rattle.descents.proofs.Descents.{not_none, no_rebreak}
 use Rattle.descents.proofs.Tries.{rebreak_found}
 use Rattle.descents.proofs.descending.best_rebreak.Goals as goal

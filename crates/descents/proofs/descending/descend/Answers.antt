@@ -1,4 +1,4 @@
-use Rattle.std.proofs.Common.{inl, arith}
+use Rattle.descents.proofs.Common.{inl, arith}
 use Rattle.descents.proofs.Tries.{still_optimum}
 use Rattle.descents.proofs.descending.descend.Goals as goal
 

@@ -1,5 +1,4 @@
-use Rattle.std.proofs.Common.{◌≡◌, ◌+◌, ◌≤◌}
-use Rattle.shift_instance.specs.Rota.{cost, rota_of}
+use Rattle.descents.proofs.Common.{◌≡◌, ◌+◌, ◌≤◌, cost, rota_of}
 use Rattle.descents.proofs.descending.descend.Given as goal
 
 abbrev pub invariant-loop-left : goal.invariant-loop-left

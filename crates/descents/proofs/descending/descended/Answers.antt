@@ -1,6 +1,4 @@
-use Rattle.std.proofs.Common.{◌+◌, ◌≤◌, ◌⊎◌}
-use Rattle.shift_instance.specs.Rota.{cost, rota_of}
-use Rattle.descents.specs.Descending.{IsLocalOptimum}
+use Rattle.descents.proofs.Common.{◌+◌, ◌≤◌, ◌⊎◌, cost, rota_of, IsLocalOptimum}
 use Rattle.descents.proofs.Tries.{of_rows}
 use Rattle.descents.proofs.descending.descended.Goals as goal
 

@@ -1,13 +1,4 @@
-use Rattle.std.proofs.Common.{◌≡◌, ◌≤◌, ◌++◌, ◌∷◌, [], List, arith}
-use Rattle.std.specs.Prelude.{IsTrue}
-use Rattle.std.specs.Bool.{OnFalse}
-use Rattle.std.proofs.lemmas.Result.{IfOk-weaker}
-use Rattle.break_rules.specs.declared.Break.{Break}
-use Rattle.shift_instance.specs.Rota.{cost, heads_on, is_list_of, rota_of}
-use Rattle.greedy.specs.Greedy.{duty}
-use Rattle.greedy.proofs.BestLists.{none_at}
-use Rattle.local_moves.specs.declared.moves.Move.TheVariants.{Add}
-use Rattle.descents.specs.Descending.{IsNoGain}
+use Rattle.descents.proofs.Common.{◌≡◌, ◌≤◌, ◌++◌, ◌∷◌, [], List, arith, IsTrue, OnFalse, IfOk-weaker, Break, cost, heads_on, is_list_of, rota_of, duty, none_at, Add, IsNoGain}
 use Rattle.descents.proofs.Descents.{full_refused, none_refused, add_no_better}
 use Rattle.descents.proofs.Tries.{add_tried, cost_at, false_weaker, some_at, if_some_at}
 use Rattle.descents.proofs.descending.improve_day.Goals as goal

@@ -1,13 +1,4 @@
-use Rattle.std.proofs.Common.{◌≡◌, ◌<◌, ◌∙◌, List, subst, arith}
-use Rattle.std.specs.Prelude.{MatchBool}
-use Rattle.std.specs.Bool.{OnFalse}
-use Rattle.std.proofs.lemmas.Bool.{MatchBool-at_false, OnFalse_at}
-use Rattle.std.proofs.lemmas.Result.{IfOk-weaker}
-use Rattle.break_rules.specs.declared.Break.{Break}
-use Rattle.shift_instance.specs.Rota.{cost, rota_of}
-use Rattle.greedy.proofs.BestLists.{none_at}
-use Rattle.local_moves.specs.declared.moves.Move.TheVariants.{Drop, Rebreak}
-use Rattle.descents.specs.Descending.{IsBestRebreak, IsDutyOptimal, IsNoGain}
+use Rattle.descents.proofs.Common.{◌≡◌, ◌<◌, ◌∙◌, List, subst, arith, MatchBool, OnFalse, MatchBool-at_false, OnFalse_at, IfOk-weaker, Break, cost, rota_of, none_at, Drop, Rebreak, IsBestRebreak, IsDutyOptimal, IsNoGain}
 use Rattle.descents.proofs.Tries.{duty_none, duty_as_dear, duty_no_better, false_weaker, lower_from, some_at}
 use Rattle.descents.proofs.descending.improve_duty.Goals as goal
 

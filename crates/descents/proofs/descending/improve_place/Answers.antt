@@ -1,11 +1,4 @@
-use Rattle.std.proofs.Common.{◌∙◌, ◌/◌, ◌%◌, List, length}
-use Rattle.std.specs.Bool.{OnFalse}
-use Rattle.std.proofs.lemmas.Result.{IfOk-weaker}
-use Rattle.break_rules.specs.declared.Break.{Break}
-use Rattle.shift_instance.specs.Rota.{rota_of}
-use Rattle.local_moves.specs.declared.moves.Move.TheVariants.{Add, Reshift}
-use Rattle.descents.specs.declared.descending.Part.TheVariants.{Rows}
-use Rattle.descents.specs.Descending.{IsNoGain, IsOptimalAt}
+use Rattle.descents.proofs.Common.{◌∙◌, ◌/◌, ◌%◌, List, length, OnFalse, IfOk-weaker, Break, rota_of, Add, Reshift, Rows, IsNoGain, IsOptimalAt}
 use Rattle.descents.proofs.Tries.{false_weaker, optimal_at_rows, optimal_at_shifts, optimal_at_days}
 use Rattle.descents.proofs.descending.improve_place.Goals as goal
 

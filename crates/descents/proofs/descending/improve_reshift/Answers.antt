@@ -1,5 +1,4 @@
-use Rattle.std.proofs.Common.{◌∙◌, sym}
-use Rattle.shift_instance.specs.Rota.{rota_of}
+use Rattle.descents.proofs.Common.{◌∙◌, sym, rota_of}
 use Rattle.descents.proofs.Descents.{unused_refused}
 use Rattle.descents.proofs.descending.improve_reshift.Goals as goal
 

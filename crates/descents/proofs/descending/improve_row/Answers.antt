@@ -1,9 +1,4 @@
-use Rattle.std.proofs.Common.{◌<◌, ◌∙◌, length, arith}
-use Rattle.std.specs.Bool.{OnFalse}
-use Rattle.std.proofs.lemmas.Result.{IfOk-weaker}
-use Rattle.shift_instance.specs.Rota.{rota_of}
-use Rattle.descents.specs.declared.descending.Part.TheVariants.{Rows}
-use Rattle.descents.specs.Descending.{IsDutyOptimal, IsOptimalAt}
+use Rattle.descents.proofs.Common.{◌<◌, ◌∙◌, length, arith, OnFalse, IfOk-weaker, rota_of, Rows, IsDutyOptimal, IsOptimalAt}
 use Rattle.descents.proofs.Tries.{false_weaker, row_optimal_at, shift_known}
 use Rattle.descents.proofs.descending.improve_row.Goals as goal
 

@@ -1,8 +1,4 @@
-use Rattle.std.proofs.Common.{◌≤◌, List, subst, arith}
-use Rattle.shift_instance.specs.declared.Row.{Row}
-use Rattle.shift_instance.specs.Rota.{cost, rota_of}
-use Rattle.greedy.specs.Greedy.{greedy_rows}
-use Rattle.descents.specs.Descending.{IsLocalOptimum}
+use Rattle.descents.proofs.Common.{◌≤◌, List, subst, arith, Row, cost, rota_of, greedy_rows, IsLocalOptimum}
 use Rattle.descents.proofs.Evener.{from_dearer}
 use Rattle.descents.proofs.descent.descent_rows.Goals as goal
 

@@ -1,4 +1,4 @@
-use Rattle.descents.specs.Evening.{IsEvenedBy}
+use Rattle.descents.proofs.Common.{IsEvenedBy}
 use Rattle.descents.proofs.evening.even_out.Given as goal
 
 abbrev pub invariant-loop-left : goal.invariant-loop-left

@@ -1,5 +1,4 @@
-use Rattle.std.proofs.Common.{◌≡◌, ◌≤◌, length}
-use Rattle.std.specs.Prelude.{All, unsigned_abs}
+use Rattle.descents.proofs.Common.{◌≡◌, ◌≤◌, length, All, unsigned_abs}
 use Rattle.descents.proofs.evening.even_prices.Given as goal
 
 abbrev pub invariant-loop-t : goal.invariant-loop-t

@@ -1,4 +1,4 @@
-use Rattle.std.proofs.Common.{◌<◌, ◌∙◌, length, arith}
+use Rattle.descents.proofs.Common.{◌<◌, ◌∙◌, length, arith}
 use Rattle.descents.proofs.Tries.{shift_known}
 use Rattle.descents.proofs.evening.even_row.Goals as goal
 

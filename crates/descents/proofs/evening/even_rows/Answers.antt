@@ -1,7 +1,4 @@
-use Rattle.std.proofs.Common.{◌≡◌, ◌+◌, ◌<◌, arith}
-use Rattle.std.proofs.lemmas.Bool.{MatchBool-at_false, MatchBool-at_true}
-use Rattle.shift_instance.specs.Rota.{rota_of}
-use Rattle.descents.specs.Evening.{IsEvener}
+use Rattle.descents.proofs.Common.{◌≡◌, ◌+◌, ◌<◌, arith, MatchBool-at_false, MatchBool-at_true, rota_of, IsEvener}
 use Rattle.descents.proofs.Evener.{above_zero, evened_at, evened_more, evened_same}
 use Rattle.descents.proofs.evening.even_rows.Goals as goal
 use Rattle.descents.proofs.evening.even_rows.Goals.{then-branch, else-branch}

@@ -1,4 +1,4 @@
-use Rattle.descents.specs.Evening.{IsEvenedBy}
+use Rattle.descents.proofs.Common.{IsEvenedBy}
 use Rattle.descents.proofs.evening.even_rows.Given as goal
 
 abbrev pub invariant-loop-k : goal.invariant-loop-k

@@ -1,4 +1,4 @@
-use Rattle.shift_instance.specs.Rota.{rota_of}
+use Rattle.descents.proofs.Common.{rota_of}
 use Rattle.descents.proofs.Evener.{evener_tried}
 use Rattle.descents.proofs.Tries.{undone_same}
 use Rattle.descents.proofs.evening.even_with.Goals as goal

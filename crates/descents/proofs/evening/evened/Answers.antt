@@ -1,5 +1,4 @@
-use Rattle.std.proofs.Common.{◌≡◌, ◌≤◌, ℕ}
-use Rattle.shift_instance.specs.Rota.{cost, heads_on, rota_of}
+use Rattle.descents.proofs.Common.{◌≡◌, ◌≤◌, ℕ, cost, heads_on, rota_of}
 use Rattle.descents.proofs.Tries.{of_rows}
 use Rattle.descents.proofs.evening.evened.Goals as goal
 

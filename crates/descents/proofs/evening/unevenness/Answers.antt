@@ -1,8 +1,5 @@
-use Rattle.std.proofs.Common.{◌≡◌, ℕ, ◌+◌, arith, ap, ◌∙◌, sym, sum_by}
-use Rattle.shift_instance.specs.Problem.{below}
-use Rattle.shift_instance.specs.Rota.{cover, rota_of}
+use Rattle.descents.proofs.Common.{◌≡◌, ℕ, ◌+◌, arith, ap, ◌∙◌, sym, sum_by, below, cover, rota_of, squared_distance}
 use Rattle.shift_instance.proofs.Ranges.{sum_below_more}
-use Rattle.descents.specs.Evening.{squared_distance}
 use Rattle.descents.proofs.evening.unevenness.Goals as goal
 
 pub loop-t-preserved : goal.loop-t-preserved

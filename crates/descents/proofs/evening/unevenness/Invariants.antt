@@ -1,7 +1,4 @@
-use Rattle.std.proofs.Common.{◌≡◌, ◌≤◌, ◌*◌, sum_by}
-use Rattle.shift_instance.specs.Problem.{below}
-use Rattle.shift_instance.specs.Rota.{cover, rota_of}
-use Rattle.descents.specs.Evening.{squared_distance}
+use Rattle.descents.proofs.Common.{◌≡◌, ◌≤◌, ◌*◌, sum_by, below, cover, rota_of, squared_distance}
 use Rattle.descents.proofs.evening.unevenness.Given as goal
 
 abbrev pub invariant-loop-t : goal.invariant-loop-t

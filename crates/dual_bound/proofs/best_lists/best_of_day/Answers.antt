@@ -1,13 +1,5 @@
-use Rattle.std.proofs.Common.{◌≤◌, ℕ, ℤ, List, All, length, get_or, ◌^◌, subst, sym, arith}
-use mir.Syntax.{w128}
-use Rattle.std.specs.Int.RustNames.{unsigned_abs}
-use Rattle.std.proofs.lemmas.Int.{to_z-of_z}
-use Rattle.break_rules.specs.declared.Break.{Break}
-use Rattle.head_splits.proofs.Priced.{priced}
-use Rattle.bound_sums.proofs.Priced.{cut_small, slots_small}
+use Rattle.dual_bound.proofs.Common.{◌≤◌, ℕ, ℤ, List, All, length, get_or, ◌^◌, subst, sym, arith, w128, unsigned_abs, to_z-of_z, Break, priced, cut_small, slots_small, fits, IsBestOn}
 use Rattle.dual_bound.proofs.Entries.{entry_small, entries_few, all_from_has, same_entries}
-use Rattle.bound_sums.proofs.Sizes.{fits}
-use Rattle.dual_bound.specs.BestLists.{IsBestOn}
 use Rattle.dual_bound.proofs.BestLists.{best_on, none_on}
 use Rattle.dual_bound.proofs.best_lists.best_of_day.Goals as goal
 

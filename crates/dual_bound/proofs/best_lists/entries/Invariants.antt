@@ -1,7 +1,4 @@
-use Rattle.std.proofs.Common.{◌≡◌, ◌++◌}
-use Rattle.std.specs.List.{zip}
-use Rattle.head_splits.specs.Bound.{entries_of}
-use Rattle.bound_sums.proofs.Pairs.{pairs_from}
+use Rattle.dual_bound.proofs.Common.{◌≡◌, ◌++◌, zip, entries_of, pairs_from}
 use Rattle.dual_bound.proofs.best_lists.entries.Given as goal
 
 abbrev pub invariant-loop-k : goal.invariant-loop-k

@@ -1,10 +1,4 @@
-use Rattle.std.proofs.Common.{◌≡◌, ◌+◌, ◌≤◌, pos, suc, ◌++◌, ◌∷◌, [], take, get_or, length, ap, ◌∙◌, sym, arith}
-use Rattle.std.specs.List.{enumerate_from}
-use Rattle.std.specs.Int.RustNames.{unsigned_abs}
-use Rattle.std.proofs.Math.Seq.{take-suc}
-use Rattle.std.proofs.lemmas.List.{length-take-le}
-use Rattle.std.proofs.lemmas.Int.{to_z-of_z, fits_signed_from_abs}
-use mir.Syntax.{w64}
+use Rattle.dual_bound.proofs.Common.{◌≡◌, ◌+◌, ◌≤◌, pos, suc, ◌++◌, ◌∷◌, [], take, get_or, length, ap, ◌∙◌, sym, arith, enumerate_from, unsigned_abs, take-suc, length-take-le, to_z-of_z, fits_signed_from_abs, w64}
 use mir.Val.{to_z, of_z}
 use Rattle.dual_bound.proofs.KeptTables.{enumerate_more}
 use Rattle.dual_bound.proofs.day_tables.changes_to.Goals as goal

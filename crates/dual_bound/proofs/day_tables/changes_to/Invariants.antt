@@ -1,5 +1,4 @@
-use Rattle.std.proofs.Common.{◌≡◌, take}
-use Rattle.std.specs.List.{enumerate_from}
+use Rattle.dual_bound.proofs.Common.{◌≡◌, take, enumerate_from}
 use Rattle.dual_bound.proofs.day_tables.changes_to.Given as goal
 
 abbrev pub invariant-loop-slot : goal.invariant-loop-slot

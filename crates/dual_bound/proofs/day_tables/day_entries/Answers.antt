@@ -1,9 +1,4 @@
-use Rattle.std.proofs.Common.{◌≤◌, ℕ, ℤ, List, All, length, get_or, ◌^◌, subst, sym, arith, refl}
-use Rattle.std.specs.Int.RustNames.{unsigned_abs}
-use Rattle.break_rules.specs.declared.Break.{Break}
-use Rattle.head_splits.proofs.Priced.{priced}
-use Rattle.head_splits.proofs.Walked.{map_ok}
-use Rattle.bound_sums.proofs.Priced.{cut_small}
+use Rattle.dual_bound.proofs.Common.{◌≤◌, ℕ, ℤ, List, All, length, get_or, ◌^◌, subst, sym, arith, refl, unsigned_abs, Break, priced, map_ok, cut_small}
 use Rattle.dual_bound.proofs.Entries.{entry_small, entries_few, all_from_has, same_entries}
 use Rattle.dual_bound.proofs.day_tables.day_entries.Goals as goal
 

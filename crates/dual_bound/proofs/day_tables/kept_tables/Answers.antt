@@ -1,9 +1,4 @@
-use Rattle.std.proofs.Common.{[], ◌+◌, inl, inr, List, All, refl, sym, ap, subst, ◌∙◌}
-use Rattle.std.specs.Prelude.{Vec}
-use Rattle.std.specs.declared.alloc.Global.{Global}
-use Rattle.std.proofs.lemmas.List.Elements.{All-nil}
-use Rattle.dual_bound.specs.declared.day_tables.DayTables.{DayTables}
-use Rattle.dual_bound.specs.KeptTables.{AreKeptOrNone, AreTablesBelow, IsKept, IsAt}
+use Rattle.dual_bound.proofs.Common.{[], ◌+◌, inl, inr, List, All, refl, sym, ap, subst, ◌∙◌, Vec, Global, All-nil, DayTables, AreKeptOrNone, AreTablesBelow, IsKept, IsAt}
 use Rattle.dual_bound.proofs.KeptTables.{tables_more}
 use Rattle.dual_bound.proofs.day_tables.kept_tables.Goals.{then-keeps_tables+in_ok-tables, else-keeps_tables}
 use Rattle.dual_bound.proofs.day_tables.kept_tables.Goals as goal

@@ -1,4 +1,4 @@
-use Rattle.dual_bound.specs.KeptTables.{AreTablesBelow}
+use Rattle.dual_bound.proofs.Common.{AreTablesBelow}
 use Rattle.dual_bound.proofs.day_tables.kept_tables.Given as goal
 
 abbrev pub invariant-loop-shift : goal.invariant-loop-shift

@@ -1,7 +1,4 @@
-use Rattle.std.proofs.Common.{◌<◌, length, ◌∙◌, arith}
-use Rattle.std.proofs.Math.Seq.{map-set_same}
-use Rattle.std.proofs.lemmas.List.Elements.{All-set, AllWithin-more_set}
-use Rattle.dual_bound.specs.KeptTables.{IsKept, IsAt, place_of}
+use Rattle.dual_bound.proofs.Common.{◌<◌, length, ◌∙◌, arith, map-set_same, All-set, AllWithin-more_set, IsKept, IsAt, place_of}
 use Rattle.dual_bound.proofs.day_tables.reprice_days.Goals as goal
 
 pub returns-in_err-reprice-clause-places : goal.returns-in_err-reprice-clause-places

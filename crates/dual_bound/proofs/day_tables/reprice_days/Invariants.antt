@@ -1,6 +1,4 @@
-use Rattle.std.proofs.Common.{◌≡◌, map, All}
-use Rattle.std.specs.List.{AllWithin}
-use Rattle.dual_bound.specs.KeptTables.{IsKept, IsAt, place_of}
+use Rattle.dual_bound.proofs.Common.{◌≡◌, map, All, AllWithin, IsKept, IsAt, place_of}
 use Rattle.dual_bound.proofs.day_tables.reprice_days.Given as goal
 
 abbrev pub invariant-loop-day : goal.invariant-loop-day

@@ -1,10 +1,4 @@
-use Rattle.std.proofs.Common.{◌≡◌, ◌<◌, List, All, length, map, get_or, ap, sym, subst, ◌∙◌, arith}
-use Rattle.std.specs.Prelude.{Vec}
-use Rattle.std.specs.declared.alloc.Global.{Global}
-use Rattle.std.specs.Vec.{with_items}
-use Rattle.std.proofs.lemmas.List.Elements.{AllWithin-more_set}
-use Rattle.dual_bound.specs.declared.day_tables.DayTables.{DayTables}
-use Rattle.dual_bound.specs.KeptTables.{IsKept, IsAt, place_of}
+use Rattle.dual_bound.proofs.Common.{◌≡◌, ◌<◌, List, All, length, map, get_or, ap, sym, subst, ◌∙◌, arith, Vec, Global, with_items, AllWithin-more_set, DayTables, IsKept, IsAt, place_of}
 use Rattle.dual_bound.proofs.KeptTables.{items_of_changed, kept_changed}
 use Rattle.dual_bound.proofs.day_tables.reprice_tables.Goals as goal
 

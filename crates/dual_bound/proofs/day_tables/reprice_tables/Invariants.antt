@@ -1,6 +1,4 @@
-use Rattle.std.specs.List.{AllWithin}
-use Rattle.std.proofs.Common.{All}
-use Rattle.dual_bound.specs.KeptTables.{AreAllKept, IsAt}
+use Rattle.dual_bound.proofs.Common.{AllWithin, All, AreAllKept, IsAt}
 use Rattle.dual_bound.proofs.day_tables.reprice_tables.Given as goal
 
 abbrev pub invariant-loop-days : goal.invariant-loop-days

@@ -1,6 +1,4 @@
-use Rattle.std.proofs.Common.{◌≡◌, ◌++◌, ◌∷◌, [], ◌+◌, List, All, sym, subst}
-use Rattle.dual_bound.specs.declared.day_tables.DayTables.{DayTables}
-use Rattle.dual_bound.specs.KeptTables.{AreKept, IsAt}
+use Rattle.dual_bound.proofs.Common.{◌≡◌, ◌++◌, ◌∷◌, [], ◌+◌, List, All, sym, subst, DayTables, AreKept, IsAt}
 use Rattle.dual_bound.proofs.KeptTables.{kept_more, all_more}
 use Rattle.dual_bound.proofs.day_tables.shift_tables.Goals as goal
 

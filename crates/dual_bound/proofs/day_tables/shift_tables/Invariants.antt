@@ -1,5 +1,4 @@
-use Rattle.std.proofs.Common.{All}
-use Rattle.dual_bound.specs.KeptTables.{AreKept, IsAt}
+use Rattle.dual_bound.proofs.Common.{All, AreKept, IsAt}
 use Rattle.dual_bound.proofs.day_tables.shift_tables.Given as goal
 
 abbrev pub invariant-loop-day : goal.invariant-loop-day

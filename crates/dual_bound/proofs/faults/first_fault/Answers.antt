@@ -1,8 +1,4 @@
-use Rattle.std.proofs.Common.{◌≡◌, ℕ, ℤ, List, length, sym, ap, ◌∙◌}
-use Rattle.std.proofs.lemmas.Bool.{ne_eqb, eq-eqb}
-use Rattle.break_rules.specs.Causes.{first_cause}
-use Rattle.head_splits.specs.declared.Cut.{Cut}
-use Rattle.dual_bound.specs.Faults.{slot_causes, cut_causes}
+use Rattle.dual_bound.proofs.Common.{◌≡◌, ℕ, ℤ, List, length, sym, ap, ◌∙◌, ne_eqb, eq-eqb, first_cause, Cut, slot_causes, cut_causes}
 use Rattle.dual_bound.proofs.Causes.{of_sizes, of_slots, of_count, of_cuts}
 use Rattle.dual_bound.proofs.faults.first_fault.Goals as goal
 

@@ -1,8 +1,4 @@
-use Rattle.std.proofs.Common.{◌≡◌, map}
-use Rattle.std.specs.List.{enumerate_from}
-use Rattle.break_rules.specs.Causes.{first_cause}
-use Rattle.dual_bound.specs.Faults.{cut_cause, cut_causes}
-use Rattle.bound_sums.proofs.Pairs.{pairs_from}
+use Rattle.dual_bound.proofs.Common.{◌≡◌, map, enumerate_from, first_cause, cut_cause, cut_causes, pairs_from}
 use Rattle.dual_bound.proofs.faults.judge_cuts.Given as goal
 
 abbrev pub invariant-loop-k : goal.invariant-loop-k

@@ -1,7 +1,4 @@
-use Rattle.std.proofs.Common.{◌≡◌, drop, map}
-use Rattle.std.specs.List.{enumerate_from}
-use Rattle.break_rules.specs.Causes.{first_cause}
-use Rattle.dual_bound.specs.Faults.{slot_cause, slot_causes}
+use Rattle.dual_bound.proofs.Common.{◌≡◌, drop, map, enumerate_from, first_cause, slot_cause, slot_causes}
 use Rattle.dual_bound.proofs.faults.judge_slots.Given as goal
 
 abbrev pub invariant-loop-slot : goal.invariant-loop-slot

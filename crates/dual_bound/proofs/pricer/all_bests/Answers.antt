@@ -1,13 +1,5 @@
-use Rattle.std.proofs.Common.{◌≡◌, ◌≤◌, ◌++◌, ◌∷◌, [], ℤ, List, Option, None, All, get_or, length, length-append, sym, ap, subst, ◌∙◌, arith}
-use Rattle.std.specs.Int.RustNames.{unsigned_abs}
-use Rattle.break_rules.specs.declared.Break.{Break}
-use Rattle.bound_sums.proofs.Priced.{slots_small}
-use Rattle.pricing.proofs.Followed.{each_more}
-use Rattle.std.specs.Prelude.{Vec, ◌<◌}
-use Rattle.std.specs.declared.alloc.Global.{Global}
-use Rattle.dual_bound.specs.declared.day_tables.DayTables.{DayTables}
-use Rattle.dual_bound.specs.KeptTables.{AreKeptOrNone, IsAt}
-use Rattle.dual_bound.specs.Pricer.{AreBestsOf}
+use Rattle.dual_bound.proofs.Common.{◌≡◌, ◌≤◌, ◌++◌, ◌∷◌, [], ℤ, List, Option, None, All, get_or, length, length-append, sym, ap, subst, ◌∙◌, arith, unsigned_abs, Break, slots_small, each_more, Vec, Global, DayTables, AreKeptOrNone, IsAt, AreBestsOf}
+use Rattle.std.specs.Prelude.{◌<◌}
 use Rattle.dual_bound.proofs.pricer.all_bests.Goals as goal
 
 pub new-requires-clause-prices : goal.new-requires-clause-prices

@@ -1,4 +1,4 @@
-use Rattle.dual_bound.specs.Pricer.{AreBestsBelow}
+use Rattle.dual_bound.proofs.Common.{AreBestsBelow}
 use Rattle.dual_bound.proofs.pricer.all_bests.Given as goal
 
 abbrev pub invariant-loop-shift : goal.invariant-loop-shift

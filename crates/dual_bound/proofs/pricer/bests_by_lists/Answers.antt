@@ -1,9 +1,4 @@
-use Rattle.std.proofs.Common.{◌≡◌, ◌++◌, ◌∷◌, [], ℕ, ℤ, pos, List, length, length-append, sym, ap, subst, ◌∙◌, arith}
-use Rattle.break_rules.specs.declared.Break.{Break}
-use Rattle.pricing.specs.Days.{best_at}
-use Rattle.pricing.proofs.Followed.{each_more}
-use Rattle.dual_bound.specs.BestLists.{IsBestOn}
-use Rattle.dual_bound.specs.Pricer.{AreBests}
+use Rattle.dual_bound.proofs.Common.{◌≡◌, ◌++◌, ◌∷◌, [], ℕ, ℤ, pos, List, length, length-append, sym, ap, subst, ◌∙◌, arith, Break, best_at, each_more, IsBestOn, AreBests}
 use Rattle.dual_bound.proofs.Values.{at_some, none_at}
 use Rattle.dual_bound.proofs.pricer.bests_by_lists.Goals as goal
 

@@ -1,10 +1,4 @@
-use Rattle.std.proofs.Common.{◌≡◌, ◌++◌, ◌∷◌, [], ℕ, ℤ, pos, List, length, length-append, sym, ap, subst, ◌∙◌, arith}
-use Rattle.break_rules.specs.declared.Break.{Break}
-use Rattle.pricing.specs.Days.{best_at}
-use Rattle.pricing.proofs.Followed.{each_more}
-use Rattle.dual_bound.specs.BestLists.{IsBestOn}
-use Rattle.dual_bound.specs.KeptTables.{IsKept, IsAt, place_of}
-use Rattle.dual_bound.specs.Pricer.{AreBests}
+use Rattle.dual_bound.proofs.Common.{◌≡◌, ◌++◌, ◌∷◌, [], ℕ, ℤ, pos, List, length, length-append, sym, ap, subst, ◌∙◌, arith, Break, best_at, each_more, IsBestOn, IsKept, IsAt, place_of, AreBests}
 use Rattle.dual_bound.proofs.KeptTables.{best_of_kept, none_of_kept, kept_count, place_at}
 use Rattle.dual_bound.proofs.Values.{at_some, none_at}
 use Rattle.dual_bound.proofs.pricer.bests_by_tables.Goals as goal

@@ -1,4 +1,4 @@
-use Rattle.dual_bound.specs.Pricer.{AreBests}
+use Rattle.dual_bound.proofs.Common.{AreBests}
 use Rattle.dual_bound.proofs.pricer.bests_by_tables.Given as goal
 
 abbrev pub invariant-loop-day : goal.invariant-loop-day

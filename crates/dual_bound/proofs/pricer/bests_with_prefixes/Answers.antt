@@ -1,10 +1,4 @@
-use Rattle.std.proofs.Common.{◌≡◌, ◌==◌, inl, inr, false, length, sym, ap, subst, ◌∙◌}
-use Rattle.std.specs.Prelude.{IfOk, IsTrue, MatchOption}
-use Rattle.std.proofs.lemmas.Bool.{false≢true}
-use Rattle.shift_instance.specs.Rota.{lists_of}
-use Rattle.head_splits.specs.Bound.{is_nil}
-use Rattle.dual_bound.specs.KeptTables.{AreKept}
-use Rattle.dual_bound.specs.Pricer.{AreBests}
+use Rattle.dual_bound.proofs.Common.{◌≡◌, ◌==◌, inl, inr, false, length, sym, ap, subst, ◌∙◌, IfOk, IsTrue, MatchOption, false≢true, lists_of, is_nil, AreKept, AreBests}
 use Rattle.dual_bound.proofs.KeptTables.{kept_count}
 use Rattle.dual_bound.proofs.pricer.bests_with_prefixes.Goals as goal
 

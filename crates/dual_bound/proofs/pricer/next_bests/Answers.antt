@@ -1,6 +1,4 @@
-use Rattle.std.proofs.Common.{◌≤◌, ℤ, List, All, sym, subst}
-use Rattle.std.specs.Int.RustNames.{unsigned_abs}
-use Rattle.bound_sums.proofs.Priced.{slots_small}
+use Rattle.dual_bound.proofs.Common.{◌≤◌, ℤ, List, All, sym, subst, unsigned_abs, slots_small}
 use Rattle.dual_bound.proofs.pricer.next_bests.Goals as goal
 
 pub changes_to-requires-clause-small : goal.changes_to-requires-clause-small

@@ -1,6 +1,4 @@
-use Rattle.price_sums.specs.Days.{Priced}
-use Rattle.std.proofs.Common.{ap, sym, ◌∙◌}
-use Rattle.head_splits.proofs.Walked.{map_ok}
+use Rattle.dual_bound.proofs.Common.{Priced, ap, sym, ◌∙◌, map_ok}
 use Rattle.dual_bound.proofs.BySlots.{bests_of_slots}
 use Rattle.dual_bound.proofs.pricer.shift_bests.Goals as goal
 

@@ -1,5 +1,4 @@
-use Rattle.std.proofs.Common.{◌≡◌, ◌<◌, ℕ, pos, length, get_or}
-use Rattle.pricing.specs.Days.{best_at}
+use Rattle.dual_bound.proofs.Common.{◌≡◌, ◌<◌, ℕ, pos, length, get_or, best_at}
 use Rattle.dual_bound.proofs.pricer.values_of.Given as goal
 
 abbrev pub invariant-loop-day : goal.invariant-loop-day

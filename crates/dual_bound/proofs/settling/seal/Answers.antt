@@ -1,6 +1,4 @@
-use Rattle.std.proofs.Common.{sym, refl, subst}
-use Rattle.shift_instance.specs.Problem.{Problem}
-use Rattle.dual_bound.specs.Settling.{IsSettledNode}
+use Rattle.dual_bound.proofs.Common.{sym, refl, subst, Problem, IsSettledNode}
 use Rattle.dual_bound.proofs.PlanFloor.{plan_sealed}
 use Rattle.dual_bound.proofs.settling.seal.Goals as goal
 

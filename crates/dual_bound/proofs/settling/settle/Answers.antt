@@ -1,6 +1,5 @@
-use Rattle.std.proofs.Common.{subst}
+use Rattle.dual_bound.proofs.Common.{subst, IsSettle}
 use Rattle.head_splits.specs.declared.Settle.{Settle}
-use Rattle.head_splits.specs.Settling.{IsSettle}
 use Rattle.dual_bound.proofs.Splitting.{splits_live}
 use Rattle.dual_bound.proofs.settling.settle.Goals as goal
 

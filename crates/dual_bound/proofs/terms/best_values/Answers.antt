@@ -1,6 +1,4 @@
-use Rattle.price_sums.specs.Days.{Priced}
-use Rattle.std.proofs.Common.{ap, sym, ◌∙◌}
-use Rattle.head_splits.proofs.Walked.{map_ok}
+use Rattle.dual_bound.proofs.Common.{Priced, ap, sym, ◌∙◌, map_ok}
 use Rattle.dual_bound.proofs.BySlots.{values_of_most}
 use Rattle.dual_bound.proofs.terms.best_values.Goals as goal
 

@@ -1,6 +1,4 @@
-use Rattle.std.proofs.Common.{ℤ, List, All, sym, subst, ◌≤◌}
-use Rattle.std.specs.Int.RustNames.{unsigned_abs}
-use Rattle.bound_sums.proofs.Priced.{slots_small}
+use Rattle.dual_bound.proofs.Common.{ℤ, List, All, sym, subst, ◌≤◌, unsigned_abs, slots_small}
 use Rattle.dual_bound.proofs.terms.bound_by_pricing.Goals as goal
 
 pub new-requires-clause-prices : goal.new-requires-clause-prices

@@ -1,5 +1,4 @@
-use Rattle.std.proofs.Common.{◌≡◌, length}
-use Rattle.bound_sums.specs.Values.{AreValues}
+use Rattle.dual_bound.proofs.Common.{◌≡◌, length, AreValues}
 use Rattle.dual_bound.proofs.terms.values_by_lists.Given as goal
 
 abbrev pub invariant-loop-day : goal.invariant-loop-day

@@ -1,5 +1,4 @@
-use Rattle.std.proofs.Common.{sym, subst, arith}
-use Rattle.pricing.specs.Days.{AreMostByDay, IsMostOn}
+use Rattle.dual_bound.proofs.Common.{sym, subst, arith, AreMostByDay, IsMostOn}
 use Rattle.dual_bound.proofs.Values.{at_some}
 use Rattle.dual_bound.proofs.terms.values_by_walk.Goals as goal
 

@@ -1,4 +1,4 @@
-use Rattle.std.proofs.Common.{ap, arith, length}
+use Rattle.gated_journal.proofs.Common.{ap, arith, length}
 use Rattle.gated_journal.proofs.WholeFile.{short_first}
 use Rattle.gated_journal.proofs.file_bytes.whole_file.Goals as goal
 

@@ -1,5 +1,4 @@
-use Rattle.std.proofs.Common.{◌≡◌, ◌++◌, length, map}
-use Rattle.gated_journal.specs.Format.{gated, spelled}
+use Rattle.gated_journal.proofs.Common.{◌≡◌, ◌++◌, length, map, gated, spelled}
 use Rattle.gated_journal.proofs.file_bytes.whole_file.Given as goal
 
 abbrev pub invariant-records : goal.invariant-records

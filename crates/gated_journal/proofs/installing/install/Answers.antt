@@ -1,4 +1,4 @@
-use Rattle.std.proofs.Common.{◌∙◌}
+use Rattle.gated_journal.proofs.Common.{◌∙◌}
 use Rattle.gated_journal.proofs.WholeFile.{whole_moments, whole_settled}
 use Rattle.gated_journal.proofs.installing.install.Goals as goal
 

@@ -1,6 +1,4 @@
-use Rattle.std.proofs.Common.{◌-◌, ℕ, length, take, drop, ap, subst}
-use Rattle.std.specs.Prelude.{IfSome}
-use Rattle.plan_base.specs.Disk.{HoldsThroughout, WritesPart}
+use Rattle.gated_journal.proofs.Common.{◌-◌, ℕ, length, take, drop, ap, subst, IfSome, HoldsThroughout, WritesPart}
 use Rattle.gated_journal.proofs.WholeFile.{zero_moments, rest_moments, first_moments, marked_split}
 use Rattle.gated_journal.proofs.installing.write_first_byte_last.Goals as goal
 

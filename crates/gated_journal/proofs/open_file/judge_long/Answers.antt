@@ -1,5 +1,4 @@
-use Rattle.std.proofs.Common.{inl, inr, ℕ, List, subst, arith}
-use Rattle.gated_journal.specs.Faults.{StartFails}
+use Rattle.gated_journal.proofs.Common.{inl, inr, ℕ, List, subst, arith, StartFails}
 use Rattle.gated_journal.proofs.Refusing.{refused_long, IsRefusedStart}
 use Rattle.gated_journal.proofs.open_file.judge_long.Goals as goal
 use Rattle.gated_journal.proofs.open_file.judge_long.Goals.{in_default-via-in-Some+else-from-len, in_default-via-in_default}

@@ -1,6 +1,4 @@
-use Rattle.std.proofs.Common.{length, subst, List, ℕ, ap, arith}
-use Rattle.gated_journal.specs.Cuts.{IsNoneIn}
-use Rattle.gated_journal.specs.Faults.{StartFails}
+use Rattle.gated_journal.proofs.Common.{length, subst, List, ℕ, ap, arith, IsNoneIn, StartFails}
 use Rattle.gated_journal.proofs.Parsing.{total_within}
 use Rattle.gated_journal.proofs.Refusing.{refused_whole}
 use Rattle.gated_journal.proofs.open_file.read_as.Goals as goal

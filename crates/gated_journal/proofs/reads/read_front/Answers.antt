@@ -1,6 +1,5 @@
-use Rattle.std.proofs.Common.{◌≡◌, length, ap, arith, false}
+use Rattle.gated_journal.proofs.Common.{◌≡◌, length, ap, arith, false, looked, looks_more}
 use Rattle.std.proofs.lemmas.Result.{err_from_is_err_and}
-use Rattle.plan_base.proofs.Moments.{looked, looks_more}
 use Rattle.gated_journal.proofs.Reading.{none_read, more_read, all_read, read_to_end}
 use Rattle.gated_journal.proofs.FaultLaws.{fails_later}
 use Rattle.gated_journal.proofs.reads.read_front.Goals as goal

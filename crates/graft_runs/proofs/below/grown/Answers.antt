@@ -1,5 +1,5 @@
 use Rattle.std.proofs.lemmas.Result.{err_from_is_err_and}
-use Rattle.graft_runs.specs.Runs.{limit_of}
+use Rattle.graft_runs.proofs.Common.{limit_of}
 use Rattle.graft_runs.proofs.Endings.{own_cuts}
 use Rattle.graft_runs.proofs.Planned.{run_instance}
 use Rattle.graft_runs.proofs.Texts.{grown_agrees}

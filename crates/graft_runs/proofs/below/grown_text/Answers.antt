@@ -1,7 +1,4 @@
-use Rattle.std.proofs.Common.{◌≤◌, ◌^◌, length, sym, subst, arith, Vec, Global, ℕ}
-use Rattle.shift_instance.specs.declared.TheConstants.{TOP}
-use Rattle.head_splits.proofs.Walked.{map_ok}
-use Rattle.graft_runs.specs.Runs.{limit_of, GrowsGreedily, IsGrownText}
+use Rattle.graft_runs.proofs.Common.{◌≤◌, ◌^◌, length, sym, subst, arith, Vec, Global, ℕ, TOP, map_ok, limit_of, GrowsGreedily, IsGrownText}
 use Rattle.graft_runs.proofs.Grown.{end_own, grows_greedily, searched_own, with_limit}
 use Rattle.graft_runs.proofs.Sizes.{few_cuts}
 use Rattle.graft_runs.proofs.Texts.{limit_small}

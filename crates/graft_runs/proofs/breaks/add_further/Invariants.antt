@@ -1,6 +1,4 @@
-use Rattle.std.proofs.Common.{◌≡◌, ◌++◌, ◌∷◌, take, string_bytes}
-use Rattle.std.specs.List.{flat_map}
-use Rattle.certificate.specs.LineText.{break_text}
+use Rattle.graft_runs.proofs.Common.{◌≡◌, ◌++◌, ◌∷◌, take, string_bytes, flat_map, break_text}
 use Rattle.graft_runs.proofs.breaks.add_further.Given as goal
 
 abbrev pub invariant-loop-next : goal.invariant-loop-next

@@ -1,5 +1,4 @@
-use Rattle.std.proofs.Common.{◌≡◌, ◌++◌, take, string_bytes, map}
-use Rattle.certificate.specs.LineText.{row_line, lines_text}
+use Rattle.graft_runs.proofs.Common.{◌≡◌, ◌++◌, take, string_bytes, map, row_line, lines_text}
 use Rattle.graft_runs.proofs.breaks.add_rows.Given as goal
 
 abbrev pub invariant-loop-row : goal.invariant-loop-row

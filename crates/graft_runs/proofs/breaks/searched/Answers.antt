@@ -1,8 +1,4 @@
-use Rattle.std.proofs.Common.{◌≤◌, ◌^◌, false, List, length, sym, subst}
-use Rattle.shift_instance.specs.Rota.{rota_of}
-use Rattle.head_splits.specs.declared.Cut.{Cut}
-use Rattle.subtree_search.specs.Stepping.{IsGreedyRun}
-use Rattle.graft_runs.specs.Runs.{IsSearch}
+use Rattle.graft_runs.proofs.Common.{◌≤◌, ◌^◌, false, List, length, sym, subst, rota_of, Cut, IsGreedyRun, IsSearch}
 use Rattle.graft_runs.proofs.Grown.{never_asked}
 use Rattle.graft_runs.proofs.Sizes.{few_pins}
 use Rattle.graft_runs.proofs.breaks.searched.Goals as goal

@@ -1,6 +1,4 @@
-use Rattle.std.proofs.Common.{◌≡◌, ◌++◌, take, string_bytes, map}
-use Rattle.certificate.specs.LineText.{lines_text}
-use Rattle.graft_runs.specs.Texts.{open_line}
+use Rattle.graft_runs.proofs.Common.{◌≡◌, ◌++◌, take, string_bytes, map, lines_text, open_line}
 use Rattle.graft_runs.proofs.nodes.add_nodes.Given as goal
 
 abbrev pub invariant-loop-next : goal.invariant-loop-next

@@ -1,4 +1,4 @@
-use Rattle.std.proofs.Common.{sym, ◌∙◌}
+use Rattle.graft_runs.proofs.Common.{sym, ◌∙◌}
 use Rattle.graft_runs.proofs.Digits.{never_refused}
 use Rattle.graft_runs.proofs.numbers.number_within.Goals as goal
 

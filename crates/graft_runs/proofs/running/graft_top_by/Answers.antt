@@ -1,6 +1,4 @@
-use Rattle.std.proofs.Common.{map, string_bytes}
-use Rattle.check_runs.specs.Check.{Met}
-use Rattle.graft_runs.specs.Runs.{Explains}
+use Rattle.graft_runs.proofs.Common.{map, string_bytes, Met, Explains}
 use Rattle.graft_runs.proofs.Completed.{completed}
 use Rattle.graft_runs.proofs.Endings.{asked_for, explained}
 use Rattle.graft_runs.proofs.running.graft_top_by.Goals as goal

@@ -1,7 +1,4 @@
-use Rattle.std.proofs.Common.{◌∙◌, ℕ, List, subst}
-use Rattle.check_runs.specs.Check.{SinkMet}
-use Rattle.graft_runs.specs.declared.status.GraftStatus.TheVariants.{Written, Refused}
-use Rattle.graft_runs.specs.Running.{Told}
+use Rattle.graft_runs.proofs.Common.{◌∙◌, ℕ, List, subst, SinkMet, Written, Refused, Told}
 use Rattle.graft_runs.proofs.Endings.{told_ends, told_fault, told_text}
 use Rattle.graft_runs.proofs.running.run_over.Goals as goal
 

@@ -1,4 +1,4 @@
-use Rattle.std.proofs.Common.{inl, inr, refl}
+use Rattle.graft_runs.proofs.Common.{inl, inr, refl}
 use Rattle.graft_runs.proofs.running.tell.Goals as goal
 
 pub returns-in-Err : goal.returns-in-Err

@@ -1,5 +1,4 @@
-use Rattle.greedy.specs.Bounds.{bound_at}
-use Rattle.greedy.specs.Drafts.{Leads}
+use Rattle.greedy.proofs.Common.{bound_at, Leads}
 use Rattle.greedy.proofs.bounds.leading.Given as goal
 
 abbrev pub invariant-loop-shift : goal.invariant-loop-shift

@@ -1,10 +1,5 @@
-use Rattle.std.proofs.Common.{◌≡◌, ◌<◌, ◌≤ℤ◌, ◌∙◌, ℤ, pos, neg_ℤ, List, length, set, to_z, of_z, w64, sym, ap, subst, arith}
-use Rattle.std.proofs.lemmas.Bool.{false≢true}
-use Rattle.std.proofs.lemmas.Int.{ints}
-use Rattle.shift_instance.specs.Problem.{shift_list}
-use Rattle.greedy.specs.Bounds.{bound_at}
-use Rattle.greedy.specs.Drafts.{Leads}
-use Rattle.greedy.specs.Greedy.{gain}
+use Rattle.greedy.proofs.Common.{◌≡◌, ◌<◌, ◌≤ℤ◌, ◌∙◌, ℤ, pos, neg_ℤ, List, length, set, to_z, of_z, sym, ap, subst, arith, false≢true, ints, shift_list, bound_at, Leads, gain}
+use Rattle.std.proofs.Common.{w64}
 use Rattle.greedy.proofs.Bounding.{bounds_exact, bound_read, falls_short, gain_small, leading_shift, look_lowers, next_is, none_left}
 use Rattle.greedy.proofs.Keeping.{keeps_with}
 use Rattle.greedy.proofs.bounds.next_shift.Goals as goal

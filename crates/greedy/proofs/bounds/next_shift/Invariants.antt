@@ -1,5 +1,4 @@
-use Rattle.greedy.specs.Bounds.{AreBounds}
-use Rattle.greedy.specs.Kept.{KeepsEach}
+use Rattle.greedy.proofs.Common.{AreBounds, KeepsEach}
 use Rattle.greedy.proofs.Bounding.{all_above_zero}
 use Rattle.greedy.proofs.bounds.next_shift.Given as goal
 

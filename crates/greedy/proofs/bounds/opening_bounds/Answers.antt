@@ -1,4 +1,4 @@
-use Rattle.std.proofs.Common.{rules}
+use Rattle.greedy.proofs.Common.{rules}
 use Rattle.greedy.proofs.Bounding.{bounds_first}
 use Rattle.greedy.proofs.bounds.opening_bounds.Goals as goal
 

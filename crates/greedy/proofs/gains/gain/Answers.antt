@@ -1,7 +1,5 @@
-use Rattle.std.proofs.Common.{◌≡◌, ◌≤◌, ◌≤ℤ◌, ◌∙◌, ◌+◌, ◌*◌, ℕ, ℤ, pos, neg_ℤ, ◌+ℤ◌, to_z, of_z, w64, refl, sym, ap, ◌<◌, subst, arith, true, false}
-use Rattle.std.proofs.lemmas.Int.{ints}
-use Rattle.greedy.specs.Greedy.{day_value, is_wanted, marginal_prices}
-use Rattle.greedy.specs.Sizes.{IsWithin}
+use Rattle.greedy.proofs.Common.{◌≡◌, ◌≤◌, ◌≤ℤ◌, ◌∙◌, ◌+◌, ◌*◌, ℕ, ℤ, pos, neg_ℤ, ◌+ℤ◌, to_z, of_z, refl, sym, ap, ◌<◌, subst, arith, true, false, ints, day_value, is_wanted, marginal_prices, IsWithin}
+use Rattle.std.proofs.Common.{w64}
 use Rattle.greedy.proofs.DayValues.{value_small}
 use Rattle.greedy.proofs.Rounding.{counts_is, gain_more, gain_all, prices_small, within_more, within_same}
 use Rattle.greedy.proofs.gains.gain.Goals as goal

@@ -1,8 +1,4 @@
-use Rattle.std.proofs.Common.{◌≡◌, ◌*◌, pos, cond}
-use Rattle.break_rules.specs.Sums.{int_sum_by}
-use Rattle.shift_instance.specs.Problem.{below}
-use Rattle.greedy.specs.Greedy.{counts, value_on}
-use Rattle.greedy.specs.Sizes.{IsWithin}
+use Rattle.greedy.proofs.Common.{◌≡◌, ◌*◌, pos, cond, int_sum_by, below, counts, value_on, IsWithin}
 use Rattle.greedy.proofs.gains.gain.Given as goal
 
 abbrev pub invariant-loop-day : goal.invariant-loop-day

@@ -1,11 +1,4 @@
-use Rattle.std.proofs.Common.{◌≡◌, ◌<◌, ◌∙◌, inl, inr, ℕ, ℤ, List, length, length-set, get_or, set, sym, ap, subst, arith, Option, None, rules, to_z}
-use Rattle.std.specs.Prelude.{FitsSigned}
-use Rattle.std.specs.Int.{w64}
-use Rattle.std.proofs.lemmas.Int.{to_z-of_z}
-use Rattle.shift_instance.specs.Problem.{shift_list}
-use Rattle.shift_instance.proofs.Shifts.{some_at}
-use Rattle.price_sums.specs.Along.{sum_at}
-use Rattle.greedy.specs.Kept.{IsKnown}
+use Rattle.greedy.proofs.Common.{◌≡◌, ◌<◌, ◌∙◌, inl, inr, ℕ, ℤ, List, length, length-set, get_or, set, sym, ap, subst, arith, Option, None, rules, to_z, FitsSigned, w64, to_z-of_z, shift_list, some_at, sum_at, IsKnown}
 use Rattle.greedy.proofs.Keeping.{known_left, place_set, up_to}
 use Rattle.greedy.proofs.kept.forget_days.Goals.{then-before-day, else-before-day}
 use Rattle.greedy.proofs.kept.forget_days.Goals as goal

@@ -1,5 +1,4 @@
-use Rattle.std.proofs.Common.{◌≡◌, ◌<◌, ℕ, length, get_or, None}
-use Rattle.greedy.specs.Kept.{AreKnown, IsKnown}
+use Rattle.greedy.proofs.Common.{◌≡◌, ◌<◌, ℕ, length, get_or, None, AreKnown, IsKnown}
 use Rattle.greedy.proofs.kept.forget_days.Given as goal
 
 abbrev pub invariant-loop-day : goal.invariant-loop-day

@@ -1,6 +1,4 @@
-use Rattle.std.proofs.Common.{◌≡◌, ◌<◌, ◌≤◌, ℕ, [], length, get_or}
-use Rattle.shift_instance.specs.Problem.{shift_list}
-use Rattle.greedy.specs.Kept.{AreKnown}
+use Rattle.greedy.proofs.Common.{◌≡◌, ◌<◌, ◌≤◌, ℕ, [], length, get_or, shift_list, AreKnown}
 use Rattle.greedy.proofs.kept.forget_fallen.Given as goal
 
 abbrev pub invariant-loop-shift : goal.invariant-loop-shift

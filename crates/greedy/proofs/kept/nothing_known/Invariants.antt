@@ -1,5 +1,5 @@
-use Rattle.std.proofs.Common.{◌≡◌, length, None, All}
-use Rattle.std.specs.Prelude.{replicate}
+use Rattle.greedy.proofs.Common.{◌≡◌, length, None, replicate}
+use Rattle.std.proofs.Common.{All}
 use Rattle.greedy.proofs.kept.nothing_known.Given as goal
 
 abbrev pub invariant-shifts : goal.invariant-shifts

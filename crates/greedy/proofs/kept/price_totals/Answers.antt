@@ -1,9 +1,4 @@
-use Rattle.std.proofs.Common.{◌≡◌, ◌≤◌, ◌-ℤ◌, ◌∙◌, ℤ, List, sym, ap, subst, arith}
-use Rattle.std.specs.Prelude.{FitsSigned}
-use Rattle.std.specs.Int.{w64}
-use Rattle.shift_instance.specs.declared.Shift.{Shift}
-use Rattle.price_sums.specs.Along.{sum_at}
-use Rattle.price_sums.specs.Days.{sums_on}
+use Rattle.greedy.proofs.Common.{◌≡◌, ◌≤◌, ◌-ℤ◌, ◌∙◌, ℤ, List, sym, ap, subst, arith, FitsSigned, w64, Shift, sum_at, sums_on}
 use Rattle.price_sums.proofs.Prices.{some_at}
 use Rattle.greedy.proofs.Keeping.{total_between, total_fits}
 use Rattle.greedy.proofs.kept.price_totals.Goals as goal

@@ -1,6 +1,4 @@
-use Rattle.std.proofs.Common.{◌≡◌, ◌<◌, ℕ, length, get_or, Some, None}
-use Rattle.greedy.specs.Greedy.{day_value}
-use Rattle.greedy.specs.Kept.{AreKnown}
+use Rattle.greedy.proofs.Common.{◌≡◌, ◌<◌, ℕ, length, get_or, Some, None, day_value, AreKnown}
 use Rattle.greedy.proofs.known.find_unknown.Given as goal
 
 abbrev pub invariant-loop-day : goal.invariant-loop-day

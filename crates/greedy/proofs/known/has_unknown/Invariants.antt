@@ -1,5 +1,4 @@
-use Rattle.std.proofs.Common.{◌≡◌, ◌<◌, ℕ, get_or, true, None}
-use Rattle.std.specs.Prelude.{is_some}
+use Rattle.greedy.proofs.Common.{◌≡◌, ◌<◌, ℕ, get_or, true, None, is_some}
 use Rattle.greedy.proofs.known.has_unknown.Given as goal
 
 abbrev pub invariant-loop-day : goal.invariant-loop-day

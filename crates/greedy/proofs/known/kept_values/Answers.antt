@@ -1,6 +1,4 @@
-use Rattle.std.proofs.Common.{◌≤◌, ◌∙◌, ℤ, List, get_or, ap, subst, sym, arith, Option, Some, None}
-use Rattle.greedy.specs.Greedy.{day_value}
-use Rattle.greedy.specs.Kept.{AreAllKnown}
+use Rattle.greedy.proofs.Common.{◌≤◌, ◌∙◌, ℤ, List, get_or, ap, subst, sym, arith, Option, Some, None, day_value, AreAllKnown}
 use Rattle.greedy.proofs.Keeping.{some_known}
 use Rattle.greedy.proofs.known.kept_values.Goals.{then-is_none+in_ok-find_unknown, else-is_none+then-has_unknown+in_ok-values, else-is_none+else-has_unknown}
 use Rattle.greedy.proofs.known.kept_values.Goals as goal

@@ -1,8 +1,4 @@
-use Rattle.std.proofs.Common.{rules, ◌∙◌}
-use Rattle.std.specs.Prelude.{FitsSigned}
-use Rattle.std.specs.Int.{w64}
-use Rattle.std.proofs.lemmas.Int.{to_z-of_z}
-use Rattle.pricing.specs.Days.{IsMostOn}
+use Rattle.greedy.proofs.Common.{rules, ◌∙◌, FitsSigned, w64, to_z-of_z, IsMostOn}
 use Rattle.greedy.proofs.BestLists.{none_at}
 use Rattle.greedy.proofs.DayValues.{most_is, none_is, some_of}
 use Rattle.greedy.proofs.known.value_of_day.Goals as goal

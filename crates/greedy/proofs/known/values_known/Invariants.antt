@@ -1,4 +1,4 @@
-use Rattle.std.proofs.Common.{◌≡◌, ◌<◌, ℕ, ℤ, pos, length, get_or, Some, None}
+use Rattle.greedy.proofs.Common.{◌≡◌, ◌<◌, ℕ, ℤ, pos, length, get_or, Some, None}
 use Rattle.greedy.proofs.known.values_known.Given as goal
 
 abbrev pub invariant-loop-day : goal.invariant-loop-day

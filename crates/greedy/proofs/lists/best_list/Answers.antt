@@ -1,5 +1,4 @@
-use Rattle.std.proofs.Common.{◌≡◌, Some, List, [], sym, ap, ◌∙◌, rules}
-use Rattle.break_rules.specs.declared.Break.{Break}
+use Rattle.greedy.proofs.Common.{◌≡◌, Some, List, [], sym, ap, ◌∙◌, rules, Break}
 use Rattle.greedy.proofs.BestLists.{none_at, found_at, best_found, best_missing}
 use Rattle.greedy.proofs.PlainLists.{plain_best}
 use Rattle.greedy.proofs.lists.best_list.Goals as goal

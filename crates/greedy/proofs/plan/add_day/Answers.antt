@@ -1,7 +1,5 @@
-use Rattle.std.proofs.Common.{◌≡◌, ◌≤ℤ◌, ◌∙◌, pos, neg_ℤ, Some, None, to_z, of_z, w64, refl, sym, ap, subst, arith}
-use Rattle.std.proofs.lemmas.Int.{ints}
-use Rattle.greedy.specs.Greedy.{best_list, day_value, is_wanted}
-use Rattle.greedy.specs.Sizes.{IsWithin}
+use Rattle.greedy.proofs.Common.{◌≡◌, ◌≤ℤ◌, ◌∙◌, pos, neg_ℤ, Some, None, to_z, of_z, refl, sym, ap, subst, arith, ints, best_list, day_value, is_wanted, IsWithin}
+use Rattle.std.proofs.Common.{w64}
 use Rattle.greedy.proofs.DayValues.{missing_is, value_small}
 use Rattle.greedy.proofs.Growing.{best_legal}
 use Rattle.greedy.proofs.Rounding.{day_added, day_left, not_wanted}

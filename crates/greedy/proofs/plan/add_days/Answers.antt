@@ -1,4 +1,4 @@
-use Rattle.std.proofs.Common.{arith}
+use Rattle.greedy.proofs.Common.{arith}
 use Rattle.greedy.proofs.Rounding.{duties_more, duties_all, prices_small}
 use Rattle.greedy.proofs.plan.add_days.Goals as goal
 

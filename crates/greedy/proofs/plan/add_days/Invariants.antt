@@ -1,7 +1,4 @@
-use Rattle.std.proofs.Common.{◌≡◌, ◌++◌, map, filter}
-use Rattle.shift_instance.specs.Problem.{below}
-use Rattle.greedy.specs.Drafts.{IsDraft}
-use Rattle.greedy.specs.Greedy.{best_duty, counts}
+use Rattle.greedy.proofs.Common.{◌≡◌, ◌++◌, map, filter, below, IsDraft, best_duty, counts}
 use Rattle.greedy.proofs.plan.add_days.Given as goal
 
 abbrev pub invariant-loop-day : goal.invariant-loop-day

@@ -1,4 +1,4 @@
-use Rattle.std.proofs.Common.{rules}
+use Rattle.greedy.proofs.Common.{rules}
 use Rattle.greedy.proofs.Rounding.{last_round, next_round, opening_after, rounds_done, opening_leads}
 use Rattle.greedy.proofs.plan.greedy_draft.Goals as goal
 

@@ -1,8 +1,4 @@
-use Rattle.std.proofs.Common.{◌-◌}
-use Rattle.greedy.specs.Bounds.{AreBounds}
-use Rattle.greedy.specs.Drafts.{IsDraft, LeadsToGreedy}
-use Rattle.greedy.specs.Greedy.{IsAfterRounds}
-use Rattle.greedy.specs.Kept.{AreKept}
+use Rattle.greedy.proofs.Common.{◌-◌, AreBounds, IsDraft, LeadsToGreedy, IsAfterRounds, AreKept}
 use Rattle.greedy.proofs.plan.greedy_draft.Given as goal
 
 abbrev pub invariant-rounds : goal.invariant-rounds

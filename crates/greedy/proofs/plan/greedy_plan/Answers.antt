@@ -1,5 +1,4 @@
-use Rattle.std.proofs.Common.{refl}
-use Rattle.std.proofs.lemmas.Result.{IfOk-weaker}
+use Rattle.greedy.proofs.Common.{refl, IfOk-weaker}
 use Rattle.greedy.proofs.plan.greedy_plan.Goals as goal
 
 pub returns-clause-rows : goal.returns-clause-rows

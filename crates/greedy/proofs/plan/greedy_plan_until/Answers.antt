@@ -1,4 +1,4 @@
-use Rattle.std.proofs.Common.{◌∙◌}
+use Rattle.greedy.proofs.Common.{◌∙◌}
 use Rattle.greedy.proofs.Rounding.{plan_rows, plan_legal, plan_cheaper, rows_after}
 use Rattle.greedy.proofs.plan.greedy_plan_until.Goals as goal
 

@@ -1,6 +1,4 @@
-use Rattle.std.proofs.Common.{◌≡◌, ◌<◌, ◌∙◌, ℤ, Some, Vec, Global, length, refl, ap, arith}
-use Rattle.shift_instance.specs.Problem.{shift_list}
-use Rattle.greedy.specs.Greedy.{marginal_prices, new_duties, next_shift}
+use Rattle.greedy.proofs.Common.{◌≡◌, ◌<◌, ◌∙◌, ℤ, Some, Vec, Global, length, refl, ap, arith, shift_list, marginal_prices, new_duties, next_shift}
 use Rattle.greedy.proofs.BestLists.{none_at}
 use Rattle.greedy.proofs.Bounding.{bounds_after}
 use Rattle.greedy.proofs.DayValues.{some_of}

@@ -1,5 +1,4 @@
-use Rattle.std.proofs.Common.{◌∙◌, ap, arith, rules}
-use Rattle.shift_instance.specs.Rota.{cover}
+use Rattle.greedy.proofs.Common.{◌∙◌, ap, arith, rules, cover}
 use Rattle.greedy.proofs.Places.{prices_more, prices_all}
 use Rattle.greedy.proofs.prices.marginal_prices.Goals as goal
 

@@ -1,4 +1,4 @@
-use Rattle.std.proofs.Common.{◌≡◌, ◌<◌, ◌≤◌, ◌++◌, ◌∷◌, ◌∙◌, length, take, drop, rules}
+use Rattle.greedy.proofs.Common.{◌≡◌, ◌<◌, ◌≤◌, ◌++◌, ◌∷◌, ◌∙◌, length, take, drop, rules}
 use Rattle.greedy.proofs.Places.{add_alike, add_other, add_last, one_row}
 use Rattle.greedy.proofs.rows.add_one.Goals as goal
 use Rattle.greedy.proofs.rows.add_one.Goals.{else-at-len-via-then-at-len+else-is_alike, else-at-len-via-else-at-len}

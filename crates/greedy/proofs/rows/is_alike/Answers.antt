@@ -1,5 +1,4 @@
-use Rattle.std.proofs.Common.{◌≡◌, ◌∙◌, sym, rules}
-use Rattle.std.proofs.lemmas.Bool.{eqb-true}
+use Rattle.greedy.proofs.Common.{◌≡◌, ◌∙◌, sym, rules, eqb-true}
 use Rattle.greedy.proofs.RowSteps.{alike_is}
 use Rattle.greedy.proofs.rows.is_alike.Goals as goal
 use Rattle.greedy.proofs.rows.is_alike.Goals.{then-a-b, else-a-b}

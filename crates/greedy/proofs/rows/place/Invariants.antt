@@ -1,6 +1,4 @@
-use Rattle.std.proofs.Common.{◌≡◌, ◌++◌, take, drop}
-use Rattle.shift_instance.specs.Rota.{duty_of}
-use Rattle.greedy.specs.Drafts.{with_one_more}
+use Rattle.greedy.proofs.Common.{◌≡◌, ◌++◌, take, drop, duty_of, with_one_more}
 use Rattle.greedy.proofs.rows.place.Given as goal
 
 abbrev pub invariant-loop-at : goal.invariant-loop-at

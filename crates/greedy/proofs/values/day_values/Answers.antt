@@ -1,5 +1,4 @@
-use Rattle.std.proofs.Common.{pos, get_or, ◌∙◌}
-use Rattle.pricing.specs.Days.{AreMostByDay}
+use Rattle.greedy.proofs.Common.{pos, get_or, ◌∙◌, AreMostByDay}
 use Rattle.greedy.proofs.BestLists.{none_at}
 use Rattle.greedy.proofs.DayValues.{most_is, none_is, some_of, zeros}
 use Rattle.greedy.proofs.values.day_values.Goals as goal

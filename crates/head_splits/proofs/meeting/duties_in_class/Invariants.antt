@@ -1,6 +1,4 @@
-use Rattle.std.proofs.Common.{◌≡◌, ◌≤◌, ◌*◌, take}
-use Rattle.shift_instance.specs.Rota.{rota_of}
-use Rattle.head_splits.specs.Cuts.{class_count}
+use Rattle.head_splits.proofs.Common.{◌≡◌, ◌≤◌, ◌*◌, take, rota_of, class_count}
 use Rattle.head_splits.proofs.meeting.duties_in_class.Given as goal
 
 abbrev pub invariant-loop-row : goal.invariant-loop-row

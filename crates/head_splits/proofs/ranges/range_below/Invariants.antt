@@ -1,6 +1,4 @@
-use Rattle.std.proofs.Common.{◌≡◌, take}
-use Rattle.head_splits.specs.Cuts.{low, least_high}
-use Rattle.head_splits.specs.Settled.{class_of}
+use Rattle.head_splits.proofs.Common.{◌≡◌, take, low, least_high, class_of}
 use Rattle.head_splits.proofs.ranges.range_below.Given as goal
 
 abbrev pub invariant-loop-cut : goal.invariant-loop-cut

@@ -1,13 +1,5 @@
-use Rattle.std.proofs.Common.{◌≡◌, ◌++◌, ◌∷◌, [], nat_lt, None, Some, cond, ◌+◌, ◌<◌, ◌==◌, length, take, drop, true, false, List, slice_index_or, slice_get, arith, sym, ap, subst, ◌∙◌}
-use Rattle.std.specs.List.{flat_map}
-use Rattle.std.proofs.lemmas.List.{take_all}
-use Rattle.list_walks.specs.declared.steps.Way.{Way}
-use Rattle.list_walks.specs.Stands.{AreWaysOn}
-use Rattle.shift_instance.specs.declared.Duty.{Duty}
-use Rattle.head_splits.specs.Cuts.{low, high}
-use Rattle.head_splits.specs.Settled.{class_of}
-use Rattle.shift_instance.specs.AllDuties.{row_of}
-use Rattle.head_splits.specs.Below.{IsWalked, StandsOn, IsClear, duties_below}
+use Rattle.head_splits.proofs.Common.{◌≡◌, ◌++◌, ◌∷◌, [], nat_lt, None, Some, cond, ◌+◌, ◌<◌, ◌==◌, length, take, drop, true, false, List, slice_index_or, arith, sym, ap, subst, ◌∙◌, flat_map, take_all, WalkWay, AreWaysOn, Duty, low, high, class_of, row_of, IsWalked, StandsOn, IsClear, duties_below}
+use Rattle.std.proofs.Common.{slice_get}
 use Rattle.head_splits.proofs.Walked.{both_ok, no_some, index_get, flat_map_taken, flat_map_split, popped, more_walked, stop_walked, duty, whole_duties, part_duties, closed_walked, clear_more, whole_walked, stands_next}
 use Rattle.head_splits.proofs.settling.+walk_below.Goals as goal
 
@@ -34,7 +26,7 @@ returns-then-is_empty-clause-walked t c =
     let ways = c.in_ok-onward.onward.items in
     let same_ways : c.as_slice-ways.result.now ≡ ways = c.as_slice-ways.ensures.value in
     let on : AreWaysOn lists c.args.at list ways = c.in_ok-onward.ensures list c.requires.stands.1 in
-    let empty : (length ways == 0) ≡ true = ap (λ (vs : List Way). length vs == 0) (sym same_ways) ∙ sym c.is_empty.ensures ∙ c.if-is_empty.true in
+    let empty : (length ways == 0) ≡ true = ap (λ (vs : List WalkWay). length vs == 0) (sym same_ways) ∙ sym c.is_empty.ensures ∙ c.if-is_empty.true in
     let only = whole_duties i cuts s day lists c.args.at list ways c.requires.stands on empty in
     both_ok c.pass.result _ _ _ c.pass.ensures.found c.pass.ensures.rows (λ found is rows.
     whole_walked i cuts s day list found c.args.walk.now.rows.items c.pass.new.walk.rows.items c.requires.clear room only
@@ -51,14 +43,14 @@ walk_below-requires t c =
     let list = c.args.walk.now.place.prefix.items in
     let ws = c.as_slice-ways.result.now in
     let k = c.loop-way.way-index in
-    let none : Way = record { stop = record { start = 0; len = 0 }; at = record { spot = record { offset = 0; used = 0; lunches = 0 }; node = 0 } } in
-    let w : Way = slice_index_or ws k none in
+    let none : WalkWay = record { stop = record { start = 0; len = 0 }; at = record { spot = record { offset = 0; used = 0; lunches = 0 }; node = 0 } } in
+    let w : WalkWay = slice_index_or ws k none in
     let ways = c.in_ok-onward.onward.items in
     let same_ways : c.as_slice-ways.result.now ≡ ways = c.as_slice-ways.ensures.value in
     let on : AreWaysOn lists c.args.at list ways = c.in_ok-onward.ensures list c.requires.stands.1 in
     let longer : list ++ w.stop ∷ [] ≡ c.push.new.self.items = ap (λ l. l ++ w.stop ∷ []) (sym c.loop-way.invariant.prefix) ∙ sym c.in_ok-push.ensures.items in
     let room : 0 < high i cuts (class_of s day list) = omega (arith, c.if-high-eq0.false, (c.range_of-low.ensures i cuts c.requires.table).1) in
-    let next = stands_next i cuts s day lists c.args.at list ways k w c.requires.stands on (subst (λ (vs : List Way). slice_get vs k ≡ Some w) same_ways (index_get ws k none c.loop-way-test.true)) in
+    let next = stands_next i cuts s day lists c.args.at list ways k w c.requires.stands on (subst (λ (vs : List WalkWay). slice_get vs k ≡ Some w) same_ways (index_get ws k none c.loop-way-test.true)) in
     let stands : StandsOn i s lists w.at c.push.new.self.items = subst (StandsOn i s lists w.at) longer next.1 in
     let clear : IsClear i cuts s day c.push.new.self.items = subst (IsClear i cuts s day) longer (clear_more i cuts s day list w.stop c.requires.clear room) in (
       omega (arith, next.0, c.decreases),
@@ -81,14 +73,14 @@ returns-then-is_some-clause-walked t c =
     let list = c.args.walk.now.place.prefix.items in
     let ws = c.as_slice-ways.result.now in
     let k = c.loop-way.way-index in
-    let none : Way = record { stop = record { start = 0; len = 0 }; at = record { spot = record { offset = 0; used = 0; lunches = 0 }; node = 0 } } in
-    let w : Way = slice_index_or ws k none in
+    let none : WalkWay = record { stop = record { start = 0; len = 0 }; at = record { spot = record { offset = 0; used = 0; lunches = 0 }; node = 0 } } in
+    let w : WalkWay = slice_index_or ws k none in
     let ways = c.in_ok-onward.onward.items in
     let same_ways : c.as_slice-ways.result.now ≡ ways = c.as_slice-ways.ensures.value in
     let on : AreWaysOn lists c.args.at list ways = c.in_ok-onward.ensures list c.requires.stands.1 in
     let longer : list ++ w.stop ∷ [] ≡ c.push.new.self.items = ap (λ l. l ++ w.stop ∷ []) (sym c.loop-way.invariant.prefix) ∙ sym c.in_ok-push.ensures.items in
-    let some : (length ways == 0) ≡ false = ap (λ (vs : List Way). length vs == 0) (sym same_ways) ∙ sym c.is_empty.ensures ∙ c.if-is_empty.false in
-    let f : Way → List Duty = λ w. duties_below i s day (list ++ w.stop ∷ []) in
+    let some : (length ways == 0) ≡ false = ap (λ (vs : List WalkWay). length vs == 0) (sym same_ways) ∙ sym c.is_empty.ensures ∙ c.if-is_empty.false in
+    let f : WalkWay → List Duty = λ w. duties_below i s day (list ++ w.stop ∷ []) in
     let same : duties_below i c.loop-way.walk.place.shift c.loop-way.walk.place.day c.push.new.self.items ≡ f w =
     ap (λ z. duties_below i z c.loop-way.walk.place.day c.push.new.self.items) c.loop-way.invariant.shift ∙ ap (λ z. duties_below i s z c.push.new.self.items) c.loop-way.invariant.day
     ∙ ap (duties_below i s day) (sym longer) in
@@ -111,13 +103,13 @@ loop-way-preserved t c =
     let list = c.args.walk.now.place.prefix.items in
     let ws = c.as_slice-ways.result.now in
     let k = c.loop-way.way-index in
-    let none : Way = record { stop = record { start = 0; len = 0 }; at = record { spot = record { offset = 0; used = 0; lunches = 0 }; node = 0 } } in
-    let w : Way = slice_index_or ws k none in
+    let none : WalkWay = record { stop = record { start = 0; len = 0 }; at = record { spot = record { offset = 0; used = 0; lunches = 0 }; node = 0 } } in
+    let w : WalkWay = slice_index_or ws k none in
     let ways = c.in_ok-onward.onward.items in
     let same_ways : c.as_slice-ways.result.now ≡ ways = c.as_slice-ways.ensures.value in
     let on : AreWaysOn lists c.args.at list ways = c.in_ok-onward.ensures list c.requires.stands.1 in
     let longer : list ++ w.stop ∷ [] ≡ c.push.new.self.items = ap (λ l. l ++ w.stop ∷ []) (sym c.loop-way.invariant.prefix) ∙ sym c.in_ok-push.ensures.items in
-    let f : Way → List Duty = λ w. duties_below i s day (list ++ w.stop ∷ []) in
+    let f : WalkWay → List Duty = λ w. duties_below i s day (list ++ w.stop ∷ []) in
     let same : duties_below i c.loop-way.walk.place.shift c.loop-way.walk.place.day c.push.new.self.items ≡ f w =
     ap (λ z. duties_below i z c.loop-way.walk.place.day c.push.new.self.items) c.loop-way.invariant.shift ∙ ap (λ z. duties_below i s z c.push.new.self.items) c.loop-way.invariant.day
     ∙ ap (duties_below i s day) (sym longer) in
@@ -146,7 +138,7 @@ returns-clause-walked t c =
     let ways = c.in_ok-onward.onward.items in
     let same_ways : c.as_slice-ways.result.now ≡ ways = c.as_slice-ways.ensures.value in
     let on : AreWaysOn lists c.args.at list ways = c.in_ok-onward.ensures list c.requires.stands.1 in
-    let some : (length ways == 0) ≡ false = ap (λ (vs : List Way). length vs == 0) (sym same_ways) ∙ sym c.is_empty.ensures ∙ c.if-is_empty.false in
-    let f : Way → List Duty = λ w. duties_below i s day (list ++ w.stop ∷ []) in
+    let some : (length ways == 0) ≡ false = ap (λ (vs : List WalkWay). length vs == 0) (sym same_ways) ∙ sym c.is_empty.ensures ∙ c.if-is_empty.false in
+    let f : WalkWay → List Duty = λ w. duties_below i s day (list ++ w.stop ∷ []) in
     let all : take c.loop-way.way-index c.as_slice-ways.result.now ≡ ways = take_all c.loop-way.way-index c.as_slice-ways.result.now (omega (arith, c.loop-way-test.false)) ∙ same_ways in
     subst (λ ds. IsWalked i cuts ds None c.args.walk.now.rows.items c.loop-way.walk.rows.items) (ap (flat_map f) all ∙ sym (part_duties i cuts s day lists c.args.at list ways c.requires.stands on some)) c.loop-way.invariant.walked

@@ -1,7 +1,4 @@
-use Rattle.std.proofs.Common.{◌≡◌, ◌-◌, None, take, ◌++◌, [], ◌∷◌}
-use Rattle.std.specs.List.{flat_map}
-use Rattle.list_walks.specs.declared.steps.Way.{Way}
-use Rattle.head_splits.specs.Below.{IsWalked, duties_below}
+use Rattle.head_splits.proofs.Common.{◌≡◌, ◌-◌, None, take, ◌++◌, [], ◌∷◌, flat_map, WalkWay, IsWalked, duties_below}
 use Rattle.head_splits.proofs.settling.+walk_below.Given as goal
 
 abbrev pub decreases-walk_below : goal.decreases-walk_below
@@ -12,5 +9,5 @@ invariant-loop-way l = record {
   shift : l.walk.place.shift ≡ l.fn.walk.place.shift;
   day : l.walk.place.day ≡ l.fn.walk.place.day;
   prefix : l.walk.place.prefix.items ≡ l.fn.walk.place.prefix.items;
-  walked : IsWalked l.instance l.cuts (flat_map (λ (w : Way). duties_below l.instance l.fn.walk.place.shift l.fn.walk.place.day (l.fn.walk.place.prefix.items ++ w.stop ∷ [])) (take l.way-index l.ways)) None l.fn.walk.rows.items l.walk.rows.items;
+  walked : IsWalked l.instance l.cuts (flat_map (λ (w : WalkWay). duties_below l.instance l.fn.walk.place.shift l.fn.walk.place.day (l.fn.walk.place.prefix.items ++ w.stop ∷ [])) (take l.way-index l.ways)) None l.fn.walk.rows.items l.walk.rows.items;
 }

@@ -1,5 +1,4 @@
-use Rattle.std.proofs.Common.{◌≡◌, ◌≤◌, ◌*◌, take}
-use Rattle.shift_instance.specs.Rota.{rota_of, heads_on}
+use Rattle.head_splits.proofs.Common.{◌≡◌, ◌≤◌, ◌*◌, take, rota_of, heads_on}
 use Rattle.head_splits.proofs.settling.heads.Given as goal
 
 abbrev pub invariant-loop-row : goal.invariant-loop-row

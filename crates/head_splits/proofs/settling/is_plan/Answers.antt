@@ -1,8 +1,4 @@
-use Rattle.std.proofs.Common.{◌≡◌, ◌&&◌, nat_le, sym, ap, ◌∙◌}
-use Rattle.std.specs.List.{list_all}
-use Rattle.shift_instance.specs.declared.Row.{Row}
-use Rattle.shift_instance.specs.Rota.{rota_of, heads_on}
-use Rattle.head_splits.specs.Cuts.{meets}
+use Rattle.head_splits.proofs.Common.{◌≡◌, ◌&&◌, nat_le, sym, ap, ◌∙◌, list_all, Row, rota_of, heads_on, meets}
 use Rattle.head_splits.proofs.settling.is_plan.Goals as goal
 
 pub returns-then-are_few : goal.returns-then-are_few

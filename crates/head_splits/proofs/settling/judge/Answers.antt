@@ -1,5 +1,4 @@
-use Rattle.std.proofs.Common.{sym, ◌∙◌}
-use Rattle.std.proofs.lemmas.Bool.{not-true, not-false}
+use Rattle.head_splits.proofs.Common.{sym, ◌∙◌, not-true, not-false}
 use Rattle.head_splits.proofs.PlanRows.{plan_judged}
 use Rattle.head_splits.proofs.settling.judge.Goals as goal
 

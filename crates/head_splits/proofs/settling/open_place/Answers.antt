@@ -1,8 +1,4 @@
-use Rattle.std.proofs.Common.{◌≡◌, ◌≤◌, ◌<◌, ◌++◌, ◌∷◌, [], List, length, take, get_or, arith, sym, ap, ◌∙◌}
-use Rattle.std.proofs.lemmas.List.{take_more}
-use Rattle.break_rules.specs.declared.Break.{Break}
-use Rattle.head_splits.specs.Cuts.{low, high}
-use Rattle.head_splits.specs.Ranges.{class_at}
+use Rattle.head_splits.proofs.Common.{◌≡◌, ◌≤◌, ◌<◌, ◌++◌, ◌∷◌, [], List, length, take, get_or, arith, sym, ap, ◌∙◌, take_more, Break, low, high, class_at}
 use Rattle.head_splits.proofs.SplitPlaces.{place_found, whole_found, fixed_more}
 use Rattle.head_splits.proofs.settling.open_place.Goals as goal
 

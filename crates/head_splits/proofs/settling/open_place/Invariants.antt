@@ -1,6 +1,4 @@
-use Rattle.std.proofs.Common.{◌≡◌, ℕ, ◌<◌, false, nat_lt, take}
-use Rattle.head_splits.specs.Cuts.{low, high}
-use Rattle.head_splits.specs.Settled.{class_of}
+use Rattle.head_splits.proofs.Common.{◌≡◌, ℕ, ◌<◌, false, nat_lt, take, low, high, class_of}
 use Rattle.head_splits.proofs.settling.open_place.Given as goal
 
 abbrev pub invariant-loop-stop : goal.invariant-loop-stop

@@ -1,10 +1,4 @@
-use Rattle.std.proofs.Common.{Option, None, map, nat_lt, sym, ap, ◌∙◌}
-use Rattle.std.specs.List.{find}
-use Rattle.std.specs.Option.{option_map_or}
-use Rattle.shift_instance.specs.declared.Duty.{Duty}
-use Rattle.head_splits.specs.declared.Class.{Class}
-use Rattle.head_splits.specs.Cuts.{low, high}
-use Rattle.head_splits.specs.Settled.{class_of, prefixes}
+use Rattle.head_splits.proofs.Common.{Option, None, map, nat_lt, sym, ap, ◌∙◌, find, option_map_or, Duty, Class, low, high, class_of, prefixes}
 use Rattle.head_splits.proofs.WholeWalk.{settled_where_none, open_where_some}
 use Rattle.head_splits.proofs.settling.settled.Goals as goal
 

@@ -1,8 +1,4 @@
-use Rattle.std.proofs.Common.{◌≡◌, ◌+◌, [], None, ℕ, List, arith, sym, ap, subst, ◌∙◌}
-use Rattle.std.specs.List.{flat_map}
-use Rattle.shift_instance.specs.declared.Duty.{Duty}
-use Rattle.shift_instance.specs.Problem.{below}
-use Rattle.head_splits.specs.Below.{IsWalked, duties_below}
+use Rattle.head_splits.proofs.Common.{◌≡◌, ◌+◌, [], None, ℕ, List, arith, sym, ap, subst, ◌∙◌, flat_map, Duty, below, IsWalked, duties_below}
 use Rattle.head_splits.proofs.Walked.{no_some}
 use Rattle.head_splits.proofs.WholeWalk.{next_walked, stopped, shift_days}
 use Rattle.head_splits.proofs.settling.walk_days.Goals as goal

@@ -1,5 +1,4 @@
-use Rattle.std.proofs.Common.{None, sym, subst}
-use Rattle.head_splits.specs.Below.{IsWalked}
+use Rattle.head_splits.proofs.Common.{None, sym, subst, IsWalked}
 use Rattle.head_splits.proofs.Walked.{none_walked}
 use Rattle.head_splits.proofs.WholeWalk.{no_duties}
 use Rattle.head_splits.proofs.settling.walk_shift.Goals as goal

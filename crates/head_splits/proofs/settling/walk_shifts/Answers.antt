@@ -1,7 +1,4 @@
-use Rattle.std.proofs.Common.{◌≡◌, ◌+◌, length, None, arith, sym, subst, ◌∙◌}
-use Rattle.std.specs.List.{flat_map}
-use Rattle.shift_instance.specs.Problem.{below, shift_list}
-use Rattle.head_splits.specs.Below.{IsWalked, shift_duties}
+use Rattle.head_splits.proofs.Common.{◌≡◌, ◌+◌, length, None, arith, sym, subst, ◌∙◌, flat_map, below, shift_list, IsWalked, shift_duties}
 use Rattle.head_splits.proofs.Walked.{no_some}
 use Rattle.head_splits.proofs.WholeWalk.{next_walked, stopped}
 use Rattle.head_splits.proofs.settling.walk_shifts.Goals as goal

@@ -1,7 +1,4 @@
-use Rattle.std.proofs.Common.{◌≡◌, None, []}
-use Rattle.std.specs.List.{flat_map}
-use Rattle.shift_instance.specs.Problem.{below}
-use Rattle.head_splits.specs.Below.{IsWalked, shift_duties}
+use Rattle.head_splits.proofs.Common.{◌≡◌, None, [], flat_map, below, IsWalked, shift_duties}
 use Rattle.head_splits.proofs.settling.walk_shifts.Given as goal
 
 abbrev pub invariant-loop-shift : goal.invariant-loop-shift

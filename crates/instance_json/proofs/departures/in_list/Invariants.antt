@@ -1,7 +1,4 @@
-use Rattle.std.proofs.Common.{◌≡◌, ◌+◌, map, drop}
-use Rattle.std.specs.List.{enumerate_from}
-use Rattle.serde_json.specs.View.{view}
-use Rattle.instance_json.specs.Departures.{first_some, type_departure}
+use Rattle.instance_json.proofs.Common.{◌≡◌, ◌+◌, map, drop, enumerate_from, view, first_some, type_departure}
 use Rattle.instance_json.proofs.departures.in_list.Given as goal
 
 abbrev pub invariant-loop-value : goal.invariant-loop-value

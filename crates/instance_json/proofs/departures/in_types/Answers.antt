@@ -1,8 +1,4 @@
-use Rattle.std.proofs.Common.{map, codes, ap, ◌∙◌}
-use Rattle.std.proofs.lemmas.Result.{IfOk-weaker}
-use Rattle.std.specs.List.{enumerate_from}
-use Rattle.serde_json.specs.View.{view}
-use Rattle.instance_json.specs.Departures.{first_some, type_departure}
+use Rattle.instance_json.proofs.Common.{map, codes, ap, ◌∙◌, IfOk-weaker, enumerate_from, view, first_some, type_departure}
 use Rattle.instance_json.proofs.Lists.{views_at}
 use Rattle.instance_json.proofs.departures.in_types.Goals as goal
 

@@ -1,7 +1,4 @@
-use Rattle.std.proofs.Common.{◌∙◌}
-use Rattle.std.proofs.lemmas.Result.{IfOk-weaker}
-use Rattle.serde_json.specs.View.{view}
-use Rattle.instance_json.specs.Document.{number_up_to}
+use Rattle.instance_json.proofs.Common.{◌∙◌, IfOk-weaker, view, number_up_to}
 use Rattle.instance_json.proofs.Lists.{map_items_at}
 use Rattle.instance_json.proofs.document.longs_of.Goals as goal
 

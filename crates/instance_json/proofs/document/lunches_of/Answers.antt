@@ -1,6 +1,4 @@
-use Rattle.std.proofs.Common.{◌∙◌, codes}
-use Rattle.serde_json.specs.View.{view}
-use Rattle.instance_json.specs.Document.{lunch_of}
+use Rattle.instance_json.proofs.Common.{◌∙◌, codes, view, lunch_of}
 use Rattle.instance_json.proofs.Lists.{map_items_at}
 use Rattle.instance_json.proofs.document.lunches_of.Goals as goal
 

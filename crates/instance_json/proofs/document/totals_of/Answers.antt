@@ -1,6 +1,4 @@
-use Rattle.std.proofs.Common.{◌∙◌, codes}
-use Rattle.serde_json.specs.View.{view}
-use Rattle.instance_json.specs.Document.{total_of}
+use Rattle.instance_json.proofs.Common.{◌∙◌, codes, view, total_of}
 use Rattle.instance_json.proofs.Lists.{map_items_at}
 use Rattle.instance_json.proofs.document.totals_of.Goals as goal
 

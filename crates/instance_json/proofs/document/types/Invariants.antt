@@ -1,6 +1,4 @@
-use Rattle.std.proofs.Common.{◌≡◌, ◌++◌, map, drop}
-use Rattle.serde_json.specs.View.{view}
-use Rattle.instance_json.specs.Document.{kind_of}
+use Rattle.instance_json.proofs.Common.{◌≡◌, ◌++◌, map, drop, view, kind_of}
 use Rattle.instance_json.proofs.document.types.Given as goal
 
 abbrev pub invariant-loop-value : goal.invariant-loop-value

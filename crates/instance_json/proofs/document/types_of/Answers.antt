@@ -1,7 +1,4 @@
-use Rattle.std.proofs.Common.{◌∙◌, codes}
-use Rattle.std.proofs.lemmas.Result.{IfOk-weaker}
-use Rattle.serde_json.specs.View.{view}
-use Rattle.instance_json.specs.Document.{kind_of}
+use Rattle.instance_json.proofs.Common.{◌∙◌, codes, IfOk-weaker, view, kind_of}
 use Rattle.instance_json.proofs.Lists.{map_items_at}
 use Rattle.instance_json.proofs.document.types_of.Goals as goal
 

@@ -1,7 +1,4 @@
-use Rattle.std.proofs.Common.{ap, ◌∙◌}
-use Rattle.std.specs.List.{list_all}
-use Rattle.serde_json.specs.View.{view}
-use Rattle.instance_json.specs.Fields.{is_row}
+use Rattle.instance_json.proofs.Common.{ap, ◌∙◌, list_all, view, is_row}
 use Rattle.instance_json.proofs.Lists.{are_rows_of_list}
 use Rattle.instance_json.proofs.fields.are_whole_rows.Goals as goal
 

@@ -1,6 +1,4 @@
-use Rattle.std.proofs.Common.{ℕ, Bor, List, Some, None, not, option_map, ap, ◌∙◌}
-use Rattle.serde_json.specs.View.{view}
-use Rattle.instance_json.specs.Fields.{is_known}
+use Rattle.instance_json.proofs.Common.{ℕ, Bor, List, Some, None, not, option_map, ap, ◌∙◌, view, is_known}
 use Rattle.instance_json.proofs.Lists.{found_name}
 use Rattle.instance_json.proofs.fields.first_unknown.Goals as goal
 

@@ -1,10 +1,5 @@
-use Rattle.std.proofs.Common.{◌≡◌, ap, ◌∙◌, subst, sym, length, rules, None}
+use Rattle.instance_json.proofs.Common.{◌≡◌, ap, ◌∙◌, subst, sym, length, rules, None, legal_lists, first_cause, instance_causes, Problem, shift_list, generated}
 use Rattle.std.specs.Prelude.{All}
-use Rattle.break_rules.specs.Breaks.{legal_lists}
-use Rattle.break_rules.specs.Causes.{first_cause}
-use Rattle.shift_instance.specs.Faults.{instance_causes}
-use Rattle.shift_instance.specs.Problem.{Problem, shift_list}
-use Rattle.instance_json.specs.Generated.{generated}
 use Rattle.instance_json.proofs.Generation.{faultless, six_shifts, four_lists}
 use Rattle.instance_json.proofs.generating.generate.Goals as goal
 

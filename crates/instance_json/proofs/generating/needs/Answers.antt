@@ -1,5 +1,4 @@
-use Rattle.std.proofs.Common.{◌≡◌, ◌∙◌}
-use Rattle.instance_json.specs.Generated.{need_of}
+use Rattle.instance_json.proofs.Common.{◌≡◌, ◌∙◌, need_of}
 use Rattle.instance_json.proofs.Generation.{no_steps, no_needs, state_more, need_made, needs_more}
 use Rattle.instance_json.proofs.generating.needs.Goals as goal
 

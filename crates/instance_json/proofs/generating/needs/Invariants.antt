@@ -1,5 +1,4 @@
-use Rattle.std.proofs.Common.{◌≡◌}
-use Rattle.instance_json.specs.Generated.{state_after, draws_before, needs_of}
+use Rattle.instance_json.proofs.Common.{◌≡◌, state_after, draws_before, needs_of}
 use Rattle.instance_json.proofs.generating.needs.Given as goal
 
 abbrev pub invariant-loop-slot : goal.invariant-loop-slot

@@ -1,5 +1,4 @@
-use Rattle.std.proofs.Common.{◌≡◌}
-use Rattle.instance_json.specs.Reading.{refusal_of}
+use Rattle.instance_json.proofs.Common.{◌≡◌, refusal_of}
 use Rattle.instance_json.proofs.Readings.{problem_reading-ok, problem_reading-fault}
 use Rattle.instance_json.proofs.reading.instance_from.Goals as goal
 

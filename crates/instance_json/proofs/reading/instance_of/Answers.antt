@@ -1,5 +1,4 @@
-use Rattle.std.proofs.Common.{sym, ◌∙◌}
-use Rattle.serde_json.specs.View.{view}
+use Rattle.instance_json.proofs.Common.{sym, ◌∙◌, view}
 use Rattle.instance_json.proofs.Readings.{value_reading-refused, value_reading-document, answers_itself}
 use Rattle.instance_json.proofs.reading.instance_of.Goals as goal
 

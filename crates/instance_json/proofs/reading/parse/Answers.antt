@@ -1,5 +1,4 @@
-use Rattle.std.proofs.Common.{◌≡◌, None, sym, ap, ◌∙◌}
-use Rattle.serde_json.specs.Read.{read}
+use Rattle.instance_json.proofs.Common.{◌≡◌, None, sym, ap, ◌∙◌, read}
 use Rattle.instance_json.proofs.Readings.{value_of-other, value_of-text}
 use Rattle.instance_json.proofs.reading.parse.Goals as goal
 

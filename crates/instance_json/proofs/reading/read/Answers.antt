@@ -1,8 +1,4 @@
-use Rattle.std.proofs.Common.{◌≡◌, Some, None, sym, ap, ◌∙◌, option_map, Err, arith}
-use Rattle.std.specs.Option.{option_map_or}
-use Rattle.serde_json.specs.View.{view}
-use Rattle.instance_json.specs.declared.ReadRefusal.TheVariants.{NotJson}
-use Rattle.instance_json.specs.Reading.{reading_of, value_reading, value_of}
+use Rattle.instance_json.proofs.Common.{◌≡◌, Some, None, sym, ap, ◌∙◌, option_map, Err, arith, option_map_or, view, NotJson, reading_of, value_reading, value_of}
 use Rattle.instance_json.proofs.Readings.{reading_of-long, reading_of-short}
 use Rattle.instance_json.proofs.reading.read.Goals as goal
 

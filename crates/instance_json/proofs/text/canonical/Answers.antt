@@ -1,7 +1,4 @@
-use Rattle.std.proofs.Common.{◌≡◌, ap, ◌∙◌, string_bytes}
-use Rattle.serde_json.specs.View.{view}
-use Rattle.serde_json.specs.Written.{has_float, compact_text}
-use Rattle.instance_json.specs.Canonical.{document_data, canonical_text}
+use Rattle.instance_json.proofs.Common.{◌≡◌, ap, ◌∙◌, string_bytes, view, has_float, compact_text, document_data, canonical_text}
 use Rattle.instance_json.proofs.Texts.{has_float-document}
 use Rattle.instance_json.proofs.text.canonical.Goals as goal
 

@@ -1,9 +1,5 @@
-use Rattle.std.proofs.Common.{◌∙◌, map, codes, ap}
-use Rattle.serde_json.specs.Data.{put}
-use Rattle.serde_json.specs.View.{view, members_view}
+use Rattle.instance_json.proofs.Common.{◌∙◌, map, codes, ap, put, view, members_view, Problem, number_data, list_data, kind_data}
 use Rattle.serde_json.proofs.Views.{view-Object}
-use Rattle.shift_instance.specs.Problem.{Problem}
-use Rattle.instance_json.specs.Canonical.{number_data, list_data, kind_data}
 use Rattle.instance_json.proofs.Texts.{document_joined}
 use Rattle.instance_json.proofs.text.document_value.Goals as goal
 

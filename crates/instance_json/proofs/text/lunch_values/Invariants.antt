@@ -1,6 +1,4 @@
-use Rattle.std.proofs.Common.{◌≡◌, ◌++◌, map, drop}
-use Rattle.serde_json.specs.View.{view}
-use Rattle.instance_json.specs.Canonical.{lunch_data}
+use Rattle.instance_json.proofs.Common.{◌≡◌, ◌++◌, map, drop, view, lunch_data}
 use Rattle.instance_json.proofs.text.lunch_values.Given as goal
 
 abbrev pub invariant-loop-entry : goal.invariant-loop-entry

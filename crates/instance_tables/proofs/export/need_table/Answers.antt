@@ -1,10 +1,5 @@
-use Rattle.std.proofs.Common.{◌≡◌, ℕ, ◌++◌, IfOk, List, sym, ap, ◌∙◌, subst, arith}
-use Rattle.std.specs.List.{flat_map}
-use Rattle.std.proofs.lemmas.List.{flat_map_more, append-nil}
-use Rattle.csv.specs.Writing.{default_writer, row_text}
-use Rattle.shift_instance.specs.Problem.{below, slots}
+use Rattle.instance_tables.proofs.Common.{◌≡◌, ℕ, ◌++◌, IfOk, List, sym, ap, ◌∙◌, subst, arith, flat_map, flat_map_more, append-nil, default_writer, row_text, below, slots, need_columns, need_fields, need_text}
 use Rattle.shift_instance.proofs.Ranges.{below_next}
-use Rattle.instance_tables.specs.Settings.{need_columns, need_fields, need_text}
 use Rattle.instance_tables.proofs.export.need_table.Goals as goal
 
 pub loop-t-init : goal.loop-t-init

@@ -1,8 +1,4 @@
-use Rattle.std.proofs.Common.{◌≡◌, ◌++◌}
-use Rattle.std.specs.List.{flat_map}
-use Rattle.csv.specs.Writing.{default_writer, row_text}
-use Rattle.shift_instance.specs.Problem.{below}
-use Rattle.instance_tables.specs.Settings.{need_columns, need_fields}
+use Rattle.instance_tables.proofs.Common.{◌≡◌, ◌++◌, flat_map, default_writer, row_text, below, need_columns, need_fields}
 use Rattle.instance_tables.proofs.export.need_table.Given as goal
 
 abbrev pub invariant-loop-t : goal.invariant-loop-t

@@ -1,6 +1,4 @@
-use Rattle.std.proofs.Common.{◌≡◌, ◌++◌, take}
-use Rattle.std.specs.List.{flat_map}
-use Rattle.instance_tables.specs.Types.{type_row}
+use Rattle.instance_tables.proofs.Common.{◌≡◌, ◌++◌, take, flat_map, type_row}
 use Rattle.instance_tables.proofs.export.with_types.Given as goal
 
 abbrev pub invariant-loop-kind : goal.invariant-loop-kind

@@ -1,6 +1,4 @@
-use Rattle.std.proofs.Common.{◌≡◌, ◌++◌, take, codes, string_bytes}
-use Rattle.std.specs.List.{flat_map}
-use Rattle.instance_tables.specs.RuleRows.{lunch_text}
+use Rattle.instance_tables.proofs.Common.{◌≡◌, ◌++◌, take, codes, string_bytes, flat_map, lunch_text}
 use Rattle.instance_tables.proofs.export_rules.add_lunches.Given as goal
 
 abbrev pub invariant-loop-next : goal.invariant-loop-next

@@ -1,8 +1,4 @@
-use Rattle.std.proofs.Common.{◌≡◌, ℕ, ◌++◌, IfOk, List, ap, ◌∙◌, subst}
-use Rattle.std.specs.List.{flat_map}
-use Rattle.csv.specs.Writing.{default_writer, row_text}
-use Rattle.shift_instance.specs.Kind.{Kind}
-use Rattle.instance_tables.specs.RuleRows.{rule_columns, rule_row, rules_text}
+use Rattle.instance_tables.proofs.Common.{◌≡◌, ℕ, ◌++◌, IfOk, List, ap, ◌∙◌, subst, flat_map, default_writer, row_text, Kind, rule_columns, rule_row, rules_text}
 use Rattle.instance_tables.proofs.export_rules.rules_table.Goals as goal
 
 pub returns : goal.returns

@@ -1,6 +1,4 @@
-use Rattle.std.proofs.Common.{◌≡◌, ℕ, ◌++◌, IfOk, List, [], ◌∷◌, ap, ◌∙◌, subst}
-use Rattle.csv.specs.Writing.{default_writer, row_text}
-use Rattle.instance_tables.specs.RuleRows.{entries_text, lunch_text, total_text}
+use Rattle.instance_tables.proofs.Common.{◌≡◌, ℕ, ◌++◌, IfOk, List, [], ◌∷◌, ap, ◌∙◌, subst, default_writer, row_text, entries_text, lunch_text, total_text}
 use Rattle.instance_tables.proofs.export_rules.with_rule.Goals as goal
 
 -- two lists of fields whose first ones and whose rests are the same

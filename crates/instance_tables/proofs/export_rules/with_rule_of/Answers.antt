@@ -1,9 +1,4 @@
-use Rattle.std.proofs.Common.{◌≡◌, ℕ, Bool, true, false, ◌++◌, IfOk, List, [], if◌then◌else◌, sym, ap, ◌∙◌, subst}
-use Rattle.std.proofs.lemmas.List.{append-nil}
-use Rattle.csv.specs.Writing.{default_writer, row_text}
-use Rattle.shift_instance.specs.Kind.{Kind}
-use Rattle.instance_tables.specs.Types.{is_plain}
-use Rattle.instance_tables.specs.RuleRows.{rule_fields, rule_row}
+use Rattle.instance_tables.proofs.Common.{◌≡◌, ℕ, Bool, true, false, ◌++◌, IfOk, List, [], if◌then◌else◌, sym, ap, ◌∙◌, subst, append-nil, default_writer, row_text, Kind, is_plain, rule_fields, rule_row}
 use Rattle.instance_tables.proofs.export_rules.with_rule_of.Goals as goal
 
 -- the row of a type, by whether its rule is the plain one

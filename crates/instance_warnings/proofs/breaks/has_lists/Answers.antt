@@ -1,6 +1,4 @@
-use Rattle.std.proofs.Common.{◌≡◌, ◌+◌, ◌-◌, ◌<◌, ◌≤◌, [], ap, sym, ◌∙◌, arith}
-use Rattle.break_rules.specs.Breaks.{is_live}
-use Rattle.shift_instance.specs.Kind.{Kind}
+use Rattle.instance_warnings.proofs.Common.{◌≡◌, ◌+◌, ◌-◌, ◌<◌, ◌≤◌, [], ap, sym, ◌∙◌, arith, is_live, Kind}
 use Rattle.instance_warnings.proofs.Lists.{some_between, none_between}
 use Rattle.instance_warnings.proofs.breaks.has_lists.Goals as goal
 

@@ -1,5 +1,4 @@
-use Rattle.std.proofs.Common.{◌≡◌, ℕ, ◌<◌, ◌≤◌, false, []}
-use Rattle.break_rules.specs.Breaks.{is_live}
+use Rattle.instance_warnings.proofs.Common.{◌≡◌, ℕ, ◌<◌, ◌≤◌, false, [], is_live}
 use Rattle.instance_warnings.proofs.breaks.has_lists.Given as goal
 
 abbrev pub invariant-loop-len : goal.invariant-loop-len

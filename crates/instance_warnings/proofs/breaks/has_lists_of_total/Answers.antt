@@ -1,7 +1,4 @@
-use Rattle.std.proofs.Common.{◌≡◌, true, ap, sym, ◌∙◌, arith}
-use Rattle.break_rules.specs.declared.Rule.{Rule}
-use Rattle.shift_instance.specs.Kind.{Kind}
-use Rattle.instance_warnings.specs.Breaks.{has_lists, with_total}
+use Rattle.instance_warnings.proofs.Common.{◌≡◌, true, ap, sym, ◌∙◌, arith, Rule, Kind, has_lists, with_total}
 use Rattle.instance_warnings.proofs.Lists.{some_between}
 use Rattle.instance_warnings.proofs.breaks.has_lists_of_total.Goals as goal
 

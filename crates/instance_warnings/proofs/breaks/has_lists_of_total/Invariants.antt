@@ -1,5 +1,4 @@
-use Rattle.std.proofs.Common.{◌≡◌, ℕ, ◌<◌, false}
-use Rattle.instance_warnings.specs.Breaks.{has_lists, with_total}
+use Rattle.instance_warnings.proofs.Common.{◌≡◌, ℕ, ◌<◌, false, has_lists, with_total}
 use Rattle.instance_warnings.proofs.breaks.has_lists_of_total.Given as goal
 
 abbrev pub invariant-loop-total : goal.invariant-loop-total

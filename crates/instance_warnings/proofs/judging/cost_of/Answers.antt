@@ -1,8 +1,4 @@
-use Rattle.std.proofs.Common.{◌≡◌, ℕ, ◌+◌, ◌*◌, ◌<◌, ◌≤◌, List, All, get_or, take, sum_by, ap, sym, subst, ◌∙◌, arith}
-use Rattle.std.proofs.lemmas.List.Elements.{All-get_or}
-use Rattle.std.proofs.lemmas.List.Sums.{sum_by_more_le}
-use Rattle.shift_instance.specs.Problem.{slots, need_at}
-use Rattle.instance_warnings.specs.Reached.{unreached_cost}
+use Rattle.instance_warnings.proofs.Common.{◌≡◌, ℕ, ◌+◌, ◌*◌, ◌<◌, ◌≤◌, List, All, get_or, take, sum_by, ap, sym, subst, ◌∙◌, arith, All-get_or, sum_by_more_le, slots, need_at, unreached_cost}
 use Rattle.instance_warnings.proofs.Reached.{unreached_within, unreached_few}
 use Rattle.instance_warnings.proofs.judging.cost_of.Goals as goal
 

@@ -1,5 +1,4 @@
-use Rattle.std.proofs.Common.{◌≡◌, ◌*◌, sum_by, take}
-use Rattle.shift_instance.specs.Problem.{need_at}
+use Rattle.instance_warnings.proofs.Common.{◌≡◌, ◌*◌, sum_by, take, need_at}
 use Rattle.instance_warnings.proofs.judging.cost_of.Given as goal
 
 abbrev pub invariant-loop-t : goal.invariant-loop-t

@@ -1,5 +1,4 @@
-use Rattle.std.proofs.Common.{◌≡◌, ◌≤◌, max, fold}
-use Rattle.shift_instance.specs.Problem.{need_max_at, below}
+use Rattle.instance_warnings.proofs.Common.{◌≡◌, ◌≤◌, max, fold, need_max_at, below}
 use Rattle.instance_warnings.proofs.judging.most_wanted.Given as goal
 
 abbrev pub invariant-loop-t : goal.invariant-loop-t

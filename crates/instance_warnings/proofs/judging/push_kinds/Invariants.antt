@@ -1,5 +1,4 @@
-use Rattle.std.proofs.Common.{◌≡◌, ◌++◌, drop}
-use Rattle.std.specs.List.{enumerate_from, flat_map}
+use Rattle.instance_warnings.proofs.Common.{◌≡◌, ◌++◌, drop, enumerate_from, flat_map}
 use Rattle.instance_warnings.specs.Warnings.{kind_warning}
 use Rattle.instance_warnings.proofs.judging.push_kinds.Given as goal
 

@@ -1,6 +1,4 @@
-use Rattle.std.proofs.Common.{◌≡◌, ◌++◌, drop}
-use Rattle.std.specs.List.{enumerate_from, flat_map}
-use Rattle.instance_warnings.specs.Odd.{odd_kind}
+use Rattle.instance_warnings.proofs.Common.{◌≡◌, ◌++◌, drop, enumerate_from, flat_map, odd_kind}
 use Rattle.instance_warnings.proofs.judging.push_odd_kinds.Given as goal
 
 abbrev pub invariant-loop-k : goal.invariant-loop-k

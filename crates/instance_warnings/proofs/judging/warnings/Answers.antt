@@ -1,5 +1,4 @@
-use Rattle.std.proofs.Common.{◌≡◌, ap, sym, ◌∙◌}
-use Rattle.shift_instance.specs.Problem.{Problem}
+use Rattle.instance_warnings.proofs.Common.{◌≡◌, ap, sym, ◌∙◌, Problem}
 use Rattle.shift_instance.proofs.Made.{ruled_kinds}
 use Rattle.instance_warnings.proofs.judging.warnings.Goals as goal
 

@@ -1,5 +1,4 @@
-use Rattle.std.proofs.Common.{ℕ, max, fold, ap, sym, ◌∙◌, arith}
-use Rattle.shift_instance.specs.Problem.{need_at, below}
+use Rattle.instance_warnings.proofs.Common.{ℕ, max, fold, ap, sym, ◌∙◌, arith, need_at, below}
 use Rattle.instance_warnings.proofs.Reached.{greatest_next}
 use Rattle.instance_warnings.proofs.oddities.greatest_need.Goals as goal
 

@@ -1,4 +1,4 @@
-use Rattle.std.proofs.Common.{◌≡◌, max, fold, take}
+use Rattle.instance_warnings.proofs.Common.{◌≡◌, max, fold, take}
 use Rattle.instance_warnings.proofs.oddities.longest_of.Given as goal
 
 abbrev pub invariant-loop-kind : goal.invariant-loop-kind

@@ -1,6 +1,4 @@
-use Rattle.std.proofs.Common.{ℕ, ◌-◌, ◌≤◌, max, fold, ap, sym, ◌∙◌, arith}
-use Rattle.std.specs.List.{range_with_len}
-use Rattle.break_rules.specs.Breaks.{total_in}
+use Rattle.instance_warnings.proofs.Common.{ℕ, ◌-◌, ◌≤◌, max, fold, ap, sym, ◌∙◌, arith, range_with_len, total_in}
 use Rattle.instance_warnings.proofs.Lists.{greatest_more}
 use Rattle.instance_warnings.proofs.oddities.most_break.Goals as goal
 
@@ -11,4 +9,4 @@ loop-len-preserved c =
     let at = c.loop-len.len in
     let before : ℕ = fold (λ most len. max most (total_in totals len)) 0 (range_with_len low (at - low)) in
     let above : low ≤ at = omega arith in
-    c.max-most.ensures ∙ ap (λ (m : ℕ). max m c.total_among.result) c.loop-len.invariant ∙ ap (λ (n : ℕ). max before n) c.total_among.ensures ∙ sym (greatest_more (total_in totals) low at above)
+    c.max-most.ensures ∙ ap (λ (m : ℕ). max m c.total_among.result) c.loop-len.invariant ∙ ap (λ (n : ℕ). max before n) c.total_among.ensures.total ∙ sym (greatest_more (total_in totals) low at above)

@@ -1,6 +1,4 @@
-use Rattle.std.proofs.Common.{◌≡◌, ◌-◌, max, fold}
-use Rattle.std.specs.List.{range_with_len}
-use Rattle.break_rules.specs.Breaks.{total_in}
+use Rattle.instance_warnings.proofs.Common.{◌≡◌, ◌-◌, max, fold, range_with_len, total_in}
 use Rattle.instance_warnings.proofs.oddities.most_break.Given as goal
 
 abbrev pub invariant-loop-len : goal.invariant-loop-len

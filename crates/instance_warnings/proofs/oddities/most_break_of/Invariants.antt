@@ -1,5 +1,4 @@
-use Rattle.std.proofs.Common.{◌≡◌, max, fold, take}
-use Rattle.instance_warnings.specs.Odd.{most_break}
+use Rattle.instance_warnings.proofs.Common.{◌≡◌, max, fold, take, most_break}
 use Rattle.instance_warnings.proofs.oddities.most_break_of.Given as goal
 
 abbrev pub invariant-loop-kind : goal.invariant-loop-kind

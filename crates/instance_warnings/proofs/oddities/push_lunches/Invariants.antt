@@ -1,6 +1,4 @@
-use Rattle.std.proofs.Common.{◌≡◌, ◌++◌, drop}
-use Rattle.std.specs.List.{flat_map}
-use Rattle.instance_warnings.specs.Odd.{odd_lunch}
+use Rattle.instance_warnings.proofs.Common.{◌≡◌, ◌++◌, drop, flat_map, odd_lunch}
 use Rattle.instance_warnings.proofs.oddities.push_lunches.Given as goal
 
 abbrev pub invariant-loop-lunch : goal.invariant-loop-lunch

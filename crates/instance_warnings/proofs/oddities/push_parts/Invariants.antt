@@ -1,6 +1,4 @@
-use Rattle.std.proofs.Common.{◌≡◌, ◌++◌, drop}
-use Rattle.std.specs.List.{flat_map}
-use Rattle.instance_warnings.specs.Odd.{parted}
+use Rattle.instance_warnings.proofs.Common.{◌≡◌, ◌++◌, drop, flat_map, parted}
 use Rattle.instance_warnings.proofs.oddities.push_parts.Given as goal
 
 abbrev pub invariant-loop-entry : goal.invariant-loop-entry

@@ -1,6 +1,4 @@
-use Rattle.std.proofs.Common.{◌≡◌, ℕ, ap, ◌∙◌}
-use Rattle.shift_instance.specs.Problem.{Problem}
-use Rattle.shift_instance.specs.Rota.{cover}
+use Rattle.instance_warnings.proofs.Common.{◌≡◌, ℕ, ap, ◌∙◌, Problem, cover}
 use Rattle.instance_warnings.proofs.Reached.{missed_reached, reached_in_cover}
 use Rattle.instance_warnings.proofs.reaching.consider.Goals as goal
 

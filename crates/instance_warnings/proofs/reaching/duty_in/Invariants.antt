@@ -1,5 +1,4 @@
-use Rattle.std.proofs.Common.{ℕ, ◌<◌}
-use Rattle.instance_warnings.specs.Reached.{AvoidsShift}
+use Rattle.instance_warnings.proofs.Common.{ℕ, ◌<◌, AvoidsShift}
 use Rattle.instance_warnings.proofs.reaching.duty_in.Given as goal
 
 abbrev pub invariant-loop-shift : goal.invariant-loop-shift

@@ -1,5 +1,4 @@
-use Rattle.std.proofs.Common.{ℕ, ◌<◌}
-use Rattle.instance_warnings.specs.Reached.{AvoidsOn}
+use Rattle.instance_warnings.proofs.Common.{ℕ, ◌<◌, AvoidsOn}
 use Rattle.instance_warnings.proofs.reaching.duty_of_shift.Given as goal
 
 abbrev pub invariant-loop-day : goal.invariant-loop-day

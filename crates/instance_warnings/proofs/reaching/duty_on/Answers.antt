@@ -1,9 +1,6 @@
-use Rattle.std.proofs.Common.{◌≡◌, ℤ, pos, List, [], true, false, sym, subst, to_z, of_z}
+use Rattle.instance_warnings.proofs.Common.{◌≡◌, ℤ, pos, List, [], true, false, sym, subst, to_z, of_z, false≢true, IsBest, unit_prices}
 use lib.Signed.{le_z}
 use mir.Syntax.{w128}
-use Rattle.std.proofs.lemmas.Bool.{false≢true}
-use Rattle.shift_instance.specs.Worth.{IsBest}
-use Rattle.instance_warnings.specs.Reached.{unit_prices}
 use Rattle.instance_warnings.proofs.Reached.{best_reaches, best_avoids}
 use Rattle.instance_warnings.proofs.reaching.duty_on.Goals as goal
 

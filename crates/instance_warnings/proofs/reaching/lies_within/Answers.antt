@@ -1,4 +1,4 @@
-use Rattle.std.proofs.Common.{arith}
+use Rattle.instance_warnings.proofs.Common.{arith}
 use Rattle.instance_warnings.proofs.Reached.{apart_next, apart_avoids, len_of}
 use Rattle.instance_warnings.proofs.reaching.lies_within.Goals as goal
 

@@ -1,4 +1,4 @@
-use Rattle.std.proofs.Common.{ℕ, ◌<◌}
+use Rattle.instance_warnings.proofs.Common.{ℕ, ◌<◌}
 use Rattle.instance_warnings.proofs.Reached.{IsApart}
 use Rattle.instance_warnings.proofs.reaching.lies_within.Given as goal
 

@@ -1,9 +1,4 @@
-use Rattle.std.proofs.Common.{◌≡◌, ℕ, List, [], ◌∷◌, ◌++◌, true, false, subst, sym}
-use Rattle.std.specs.Prelude.{IsTrue, if◌then◌else◌}
-use Rattle.std.proofs.lemmas.List.Elements.{All-push}
-use Rattle.shift_instance.specs.declared.Duty.{Duty}
-use Rattle.shift_instance.specs.Rota.{is_legal_duty}
-use Rattle.instance_warnings.specs.Reached.{is_reached, AreLegal}
+use Rattle.instance_warnings.proofs.Common.{◌≡◌, ℕ, List, [], ◌∷◌, ◌++◌, true, false, subst, sym, IsTrue, if◌then◌else◌, All-push, Duty, is_legal_duty, is_reached, AreLegal}
 use Rattle.instance_warnings.proofs.Reached.{reached_by, not_reached, same_if, more_if}
 use Rattle.instance_warnings.proofs.reaching.reach.Goals as goal
 

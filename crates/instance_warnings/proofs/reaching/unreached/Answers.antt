@@ -1,5 +1,4 @@
-use Rattle.std.proofs.Common.{ℕ, List, [], ◌∷◌, ◌++◌, cond, ap, sym, ◌∙◌, arith}
-use Rattle.instance_warnings.specs.Reached.{is_missed}
+use Rattle.instance_warnings.proofs.Common.{ℕ, List, [], ◌∷◌, ◌++◌, cond, ap, sym, ◌∙◌, arith, is_missed}
 use Rattle.instance_warnings.proofs.Lists.{filter_next}
 use Rattle.instance_warnings.proofs.reaching.unreached.Goals as goal
 

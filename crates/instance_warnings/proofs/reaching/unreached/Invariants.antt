@@ -1,6 +1,4 @@
-use Rattle.std.proofs.Common.{◌≡◌, ◌≤◌, length, filter}
-use Rattle.shift_instance.specs.Problem.{below}
-use Rattle.instance_warnings.specs.Reached.{is_missed, AreLegal}
+use Rattle.instance_warnings.proofs.Common.{◌≡◌, ◌≤◌, length, filter, below, is_missed, AreLegal}
 use Rattle.instance_warnings.proofs.reaching.unreached.Given as goal
 
 abbrev pub invariant-loop-t : goal.invariant-loop-t

@@ -1,5 +1,4 @@
-use Rattle.std.proofs.Common.{map, string_bytes}
-use Rattle.join_runs.specs.Runs.{Met}
+use Rattle.join_runs.proofs.Common.{map, string_bytes, Met}
 use Rattle.join_runs.proofs.Completed.{completed}
 use Rattle.join_runs.proofs.Endings.{explained}
 use Rattle.join_runs.proofs.joining.join_top.Goals as goal

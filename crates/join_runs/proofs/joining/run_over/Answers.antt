@@ -1,10 +1,4 @@
-use Rattle.std.proofs.Common.{◌∙◌, map, subst, sym}
-use Rattle.check_runs.specs.Check.{SinkMet}
-use Rattle.join_runs.specs.declared.status.JoinStatus.{JoinStatus}
-use Rattle.join_runs.specs.declared.status.JoinStatus.TheVariants.{NoPart}
-use Rattle.join_runs.specs.Running.{IsUnjoined}
-use Rattle.join_runs.specs.Runs.{PartsMet}
-use Rattle.join_runs.specs.Status.{EndsBeforeParts}
+use Rattle.join_runs.proofs.Common.{◌∙◌, map, subst, sym, SinkMet, JoinStatus, NoPart, IsUnjoined, PartsMet, EndsBeforeParts}
 use Rattle.join_runs.proofs.Endings.{told_part, told_refusal}
 use Rattle.join_runs.proofs.joining.run_over.Goals as goal
 

@@ -1,4 +1,4 @@
-use Rattle.std.proofs.Common.{inl, inr, refl}
+use Rattle.join_runs.proofs.Common.{inl, inr, refl}
 use Rattle.join_runs.proofs.joining.tell.Goals as goal
 
 pub returns-in-Err : goal.returns-in-Err

@@ -1,4 +1,4 @@
-use Rattle.std.proofs.Common.{map}
+use Rattle.join_runs.proofs.Common.{map}
 use Rattle.join_runs.proofs.Before.{joined_agrees}
 use Rattle.join_runs.proofs.parts.joined_cert.Goals as goal
 

@@ -1,4 +1,4 @@
-use Rattle.std.proofs.Common.{refl}
+use Rattle.join_runs.proofs.Common.{refl}
 use Rattle.join_runs.proofs.Before.{placed}
 use Rattle.join_runs.proofs.parts.with_part.Goals as goal
 

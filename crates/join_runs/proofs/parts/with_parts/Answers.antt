@@ -1,7 +1,5 @@
-use Rattle.std.proofs.Common.{◌+◌, ◌<◌, ◌≤◌, ◌^◌, get_or, length, refl, subst, sym, arith}
+use Rattle.join_runs.proofs.Common.{◌+◌, ◌<◌, ◌≤◌, ◌^◌, get_or, length, refl, subst, sym, arith, Cert, SourceMet}
 use Rattle.std.proofs.lemmas.Result.{err_from_is_err_and}
-use Rattle.certificate.specs.declared.Cert.{Cert}
-use Rattle.check_runs.specs.Check.{SourceMet}
 use Rattle.join_runs.proofs.Before.{all_joined, begins, get_at, goes_on, joined_instance, joined_whole, stops}
 use Rattle.join_runs.proofs.Endings.{part_was_read}
 use Rattle.join_runs.proofs.parts.with_parts.Goals as goal

@@ -1,4 +1,4 @@
-use Rattle.std.proofs.Common.{◌≡◌, ℕ, ◌≤◌, List, length, ap, arith}
+use Rattle.join_runs.proofs.Common.{◌≡◌, ℕ, ◌≤◌, List, length, ap, arith}
 use Rattle.join_runs.proofs.Sizes.{few_lines}
 use Rattle.join_runs.proofs.reading.read_report.Goals as goal
 

@@ -1,5 +1,4 @@
-use Rattle.std.proofs.Common.{◌≡◌, take}
-use Rattle.shift_instance.specs.Rota.{rota_of}
+use Rattle.local_moves.proofs.Common.{◌≡◌, take, rota_of}
 use Rattle.local_moves.proofs.copying.duties_in.Given as goal
 
 abbrev pub invariant-loop-row : goal.invariant-loop-row

@@ -1,8 +1,4 @@
-use Rattle.std.proofs.Common.{◌≡◌, ◌+◌, ◌*◌, ◌<◌, ◌≤◌, ◌++◌, ◌∙◌, length, get_or, replicate, take, refl, sym, ap, subst, arith, rules}
-use Rattle.std.proofs.lemmas.Nat.{mul-add-lt}
-use Rattle.shift_instance.specs.declared.Duty.{Duty}
-use Rattle.shift_instance.specs.Problem.{shift_list}
-use Rattle.shift_instance.specs.Rota.{rota_of, heads_on}
+use Rattle.local_moves.proofs.Common.{◌≡◌, ◌+◌, ◌*◌, ◌<◌, ◌≤◌, ◌++◌, ◌∙◌, length, get_or, replicate, take, refl, sym, ap, subst, arith, rules, mul-add-lt, Duty, shift_list, rota_of, heads_on}
 use Rattle.local_moves.proofs.CountedRows.{next_row, heads_more}
 use Rattle.local_moves.proofs.draft.count_rows.Goals as goal
 

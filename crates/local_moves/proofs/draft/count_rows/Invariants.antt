@@ -1,6 +1,4 @@
-use Rattle.std.proofs.Common.{◌≡◌, ℕ, ◌+◌, ◌*◌, ◌<◌, length, get_or, take}
-use Rattle.shift_instance.specs.Problem.{shift_list}
-use Rattle.shift_instance.specs.Rota.{heads_on, rota_of}
+use Rattle.local_moves.proofs.Common.{◌≡◌, ℕ, ◌+◌, ◌*◌, ◌<◌, length, get_or, take, shift_list, heads_on, rota_of}
 use Rattle.local_moves.proofs.draft.count_rows.Given as goal
 
 abbrev pub invariant-loop-row : goal.invariant-loop-row

@@ -1,7 +1,4 @@
-use Rattle.std.proofs.Common.{◌≡◌, ◌+◌, ◌*◌, ◌<◌, ◌≤◌, ◌∙◌, set, get_or, ap, arith, rules}
-use Rattle.shift_instance.specs.Rota.{heads_on}
-use Rattle.shift_instance.proofs.Rotas.{legal_duty_parts}
-use Rattle.greedy.proofs.Growing.{draft_add, few_duties, rows_room}
+use Rattle.local_moves.proofs.Common.{◌≡◌, ◌+◌, ◌*◌, ◌<◌, ◌≤◌, ◌∙◌, set, get_or, ap, arith, rules, heads_on, legal_duty_parts, draft_add, few_duties, rows_room}
 use Rattle.local_moves.proofs.DraftFacts.{draft_sorted, heads_place}
 use Rattle.local_moves.proofs.keeping.put.Goals as goal
 

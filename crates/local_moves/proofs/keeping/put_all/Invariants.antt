@@ -1,7 +1,5 @@
-use Rattle.std.proofs.Common.{◌≡◌, ◌+◌, ◌≤◌, Bool, not, count_by, vec_capacity, vec_len}
-use Rattle.shift_instance.specs.declared.Duty.{Duty}
-use Rattle.shift_instance.specs.Rota.{is_legal_duty}
-use Rattle.greedy.specs.Drafts.{IsDraft}
+use Rattle.local_moves.proofs.Common.{◌≡◌, ◌+◌, ◌≤◌, Bool, not, vec_capacity, vec_len, Duty, is_legal_duty, IsDraft}
+use Rattle.std.proofs.Common.{count_by}
 use Rattle.local_moves.proofs.keeping.put_all.Given as goal
 
 abbrev pub invariant-loop-duty : goal.invariant-loop-duty

@@ -1,6 +1,4 @@
-use Rattle.std.proofs.Common.{◌≡◌, ◌+◌, ◌-◌, ◌*◌, ◌<◌, ◌≤◌, ◌∙◌, set, get_or, ap, subst, arith, rules}
-use Rattle.shift_instance.specs.Rota.{count_of, same_duty}
-use Rattle.shift_instance.proofs.Rotas.{legal_duty_parts}
+use Rattle.local_moves.proofs.Common.{◌≡◌, ◌+◌, ◌-◌, ◌*◌, ◌<◌, ◌≤◌, ◌∙◌, set, get_or, ap, subst, arith, rules, count_of, same_duty, legal_duty_parts}
 use Rattle.local_moves.proofs.DraftFacts.{draft_sorted, draft_alike, count_heads, heads_place}
 use Rattle.local_moves.proofs.Taking.{draft_less, legal_one}
 use Rattle.local_moves.proofs.keeping.take.Goals as goal

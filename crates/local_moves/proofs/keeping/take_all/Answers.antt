@@ -1,4 +1,4 @@
-use Rattle.std.proofs.Common.{◌≡◌, ◌≤◌, ◌∙◌, arith}
+use Rattle.local_moves.proofs.Common.{◌≡◌, ◌≤◌, ◌∙◌, arith}
 use Rattle.local_moves.proofs.DraftFacts.{next_there, taken_more}
 use Rattle.local_moves.proofs.keeping.take_all.Goals as goal
 

@@ -1,6 +1,4 @@
-use Rattle.std.proofs.Common.{◌≡◌, ◌≤◌, [], take, vec_capacity, vec_len}
-use Rattle.greedy.specs.Drafts.{IsDraft}
-use Rattle.local_moves.specs.Drafting.{IsExchanged}
+use Rattle.local_moves.proofs.Common.{◌≡◌, ◌≤◌, [], take, vec_capacity, vec_len, IsDraft, IsExchanged}
 use Rattle.local_moves.proofs.keeping.take_all.Given as goal
 
 abbrev pub invariant-loop-duty : goal.invariant-loop-duty

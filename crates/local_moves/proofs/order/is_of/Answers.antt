@@ -1,7 +1,5 @@
-use Rattle.std.proofs.Common.{◌≡◌, ◌∙◌, sym, rules}
+use Rattle.local_moves.proofs.Common.{◌≡◌, ◌∙◌, sym, rules, row_of, alike_is}
 use Rattle.std.proofs.lemmas.Bool.{eqb-true}
-use Rattle.shift_instance.specs.AllDuties.{row_of}
-use Rattle.greedy.proofs.RowSteps.{alike_is}
 use Rattle.local_moves.proofs.order.is_of.Goals as goal
 use Rattle.local_moves.proofs.order.is_of.Goals.{then-row-duty, else-row-duty}
 

@@ -1,4 +1,4 @@
-use Rattle.std.proofs.Common.{◌≡◌, ◌<◌, ◌≤◌, ◌++◌, ◌∷◌, ◌∙◌, cond, length, take, drop, sym, ap, rules}
+use Rattle.local_moves.proofs.Common.{◌≡◌, ◌<◌, ◌≤◌, ◌++◌, ◌∷◌, ◌∙◌, cond, length, take, drop, sym, ap, rules}
 use Rattle.local_moves.proofs.RowPlaces.{added_alike, added_other, added_last}
 use Rattle.local_moves.proofs.places.add_one.Goals as goal
 use Rattle.local_moves.proofs.places.add_one.Goals.{else-at-len-via-then-at-len+else-is_of, else-at-len-via-else-at-len}
@@ -14,9 +14,9 @@ pub returns-clause-rows : goal.returns-clause-rows
 returns-clause-rows c =
     let rows = c.args.rows.now.items in
     let k = c.place-at.result in
-    let put : c.insert-added.new.self.items ≡ take k rows ++ c.row_of.result ∷ drop k rows =
-    c.insert-added.ensures.items ∙ ap (λ b. cond b (take k rows ++ c.row_of.result ∷ drop k rows) rows) (c.insert-added.ensures.succeeds c.requires.room) in
-    put ∙ ap (λ r. take k rows ++ r ∷ drop k rows) c.row_of.ensures
+    let put : c.insert-added.new.self.items ≡ take k rows ++ c.of_one.result ∷ drop k rows =
+    c.insert-added.ensures.items ∙ ap (λ b. cond b (take k rows ++ c.of_one.result ∷ drop k rows) rows) (c.insert-added.ensures.succeeds c.requires.room) in
+    put ∙ ap (λ r. take k rows ++ r ∷ drop k rows) c.of_one.ensures.row
     ∙ elim c.else-at-len.branch [
       | else-at-len-via-then-at-len+else-is_of w ↦
           let l : k < length rows = search rules in

@@ -1,6 +1,5 @@
-use Rattle.std.proofs.Common.{◌∙◌, cond, sym, ap}
+use Rattle.local_moves.proofs.Common.{◌∙◌, cond, sym, ap, refl}
 use Rattle.local_moves.proofs.RowPlaces.{counted_read, counted_at, count_end}
-use Rattle.std.proofs.Common.{refl}
 use Rattle.local_moves.proofs.places.count_in.Goals as goal
 use Rattle.local_moves.proofs.places.count_in.Goals.{else-at-rows-via-then-at-rows+else-is_of, else-at-rows-via-else-at-rows}
 

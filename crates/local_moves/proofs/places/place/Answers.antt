@@ -1,4 +1,4 @@
-use Rattle.std.proofs.Common.{◌≡◌, ◌+◌, ◌-◌, ◌/◌, ◌<◌, ◌≤◌, ◌∙◌, length, sym, arith}
+use Rattle.local_moves.proofs.Common.{◌≡◌, ◌+◌, ◌-◌, ◌/◌, ◌<◌, ◌≤◌, ◌∙◌, length, sym, arith}
 use Rattle.local_moves.proofs.RowPlaces.{before_at, not_before_at}
 use Rattle.local_moves.proofs.places.place.Goals as goal
 

@@ -1,5 +1,4 @@
-use Rattle.std.proofs.Common.{ℕ, ◌-◌, ◌≤◌, length}
-use Rattle.local_moves.specs.Places.{AreBefore, IsNotBefore}
+use Rattle.local_moves.proofs.Common.{ℕ, ◌-◌, ◌≤◌, length, AreBefore, IsNotBefore}
 use Rattle.local_moves.proofs.places.place.Given as goal
 
 abbrev pub invariant-loop-low : goal.invariant-loop-low

@@ -1,5 +1,4 @@
-use Rattle.std.proofs.Common.{◌≡◌, ◌<◌, ◌≤◌, ◌∙◌, refl, length, subst, arith, rules}
-use Rattle.shift_instance.specs.declared.Row.{Row}
+use Rattle.local_moves.proofs.Common.{◌≡◌, ◌<◌, ◌≤◌, ◌∙◌, refl, length, subst, arith, rules, Row}
 use Rattle.local_moves.proofs.RowPlaces.{place_within, same_read, taken_some, taken_last}
 use Rattle.local_moves.proofs.places.take_one.Goals as goal
 

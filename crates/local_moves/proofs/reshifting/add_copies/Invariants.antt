@@ -1,5 +1,4 @@
-use Rattle.std.proofs.Common.{◌≡◌, ◌++◌, replicate}
-use Rattle.shift_instance.specs.Rota.{duty_of}
+use Rattle.local_moves.proofs.Common.{◌≡◌, ◌++◌, replicate, duty_of}
 use Rattle.local_moves.proofs.reshifting.add_copies.Given as goal
 
 abbrev pub invariant-loop : goal.invariant-loop

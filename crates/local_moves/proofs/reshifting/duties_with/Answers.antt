@@ -1,5 +1,4 @@
-use Rattle.std.proofs.Common.{◌≡◌, ◌++◌, replicate, rules}
-use Rattle.shift_instance.specs.Rota.{duty_of}
+use Rattle.local_moves.proofs.Common.{◌≡◌, ◌++◌, replicate, rules, duty_of}
 use Rattle.local_moves.proofs.Reshifts.{own_next, own_other}
 use Rattle.local_moves.proofs.reshifting.duties_with.Goals as goal
 use Rattle.local_moves.proofs.reshifting.duties_with.Goals.{then-row-shift+in_ok-add_copies, else-row-shift}

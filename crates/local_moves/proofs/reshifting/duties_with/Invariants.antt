@@ -1,5 +1,4 @@
-use Rattle.std.proofs.Common.{◌≡◌, ◌==◌, filter, take}
-use Rattle.shift_instance.specs.Rota.{rota_of}
+use Rattle.local_moves.proofs.Common.{◌≡◌, ◌==◌, filter, take, rota_of}
 use Rattle.local_moves.proofs.reshifting.duties_with.Given as goal
 
 abbrev pub invariant-loop-row : goal.invariant-loop-row

@@ -1,5 +1,4 @@
-use Rattle.std.proofs.Common.{◌≡◌, map, take}
-use Rattle.local_moves.specs.Moves.{reshifted}
+use Rattle.local_moves.proofs.Common.{◌≡◌, map, take, reshifted}
 use Rattle.local_moves.proofs.reshifting.gone_over.Given as goal
 
 abbrev pub invariant-loop-duty : goal.invariant-loop-duty

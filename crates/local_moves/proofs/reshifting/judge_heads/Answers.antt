@@ -1,5 +1,4 @@
-use Rattle.std.proofs.Common.{◌∙◌, sym, arith}
-use Rattle.shift_instance.specs.Rota.{rota_of}
+use Rattle.local_moves.proofs.Common.{◌∙◌, sym, arith, rota_of}
 use Rattle.local_moves.proofs.Reshifts.{heads_absent, heads_over, heads_fine}
 use Rattle.local_moves.proofs.reshifting.judge_heads.Goals as goal
 

@@ -1,5 +1,4 @@
-use Rattle.std.proofs.Common.{◌≡◌, ◌+◌, ◌∙◌, max, ap, arith}
-use Rattle.shift_instance.specs.Rota.{heads_on, rota_of}
+use Rattle.local_moves.proofs.Common.{◌≡◌, ◌+◌, ◌∙◌, max, ap, arith, heads_on, rota_of}
 use Rattle.local_moves.proofs.Reshifts.{greatest_more}
 use Rattle.local_moves.proofs.reshifting.most_heads.Goals as goal
 

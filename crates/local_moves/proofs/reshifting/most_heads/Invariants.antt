@@ -1,7 +1,4 @@
-use Rattle.std.proofs.Common.{◌≡◌, ◌+◌}
-use Rattle.shift_instance.specs.Problem.{below}
-use Rattle.shift_instance.specs.Rota.{heads_on, rota_of}
-use Rattle.local_moves.specs.Moves.{greatest}
+use Rattle.local_moves.proofs.Common.{◌≡◌, ◌+◌, below, heads_on, rota_of, greatest}
 use Rattle.local_moves.proofs.reshifting.most_heads.Given as goal
 
 abbrev pub invariant-loop-day : goal.invariant-loop-day

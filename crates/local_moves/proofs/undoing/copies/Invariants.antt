@@ -1,4 +1,4 @@
-use Rattle.std.proofs.Common.{◌≡◌, take}
+use Rattle.local_moves.proofs.Common.{◌≡◌, take}
 use Rattle.local_moves.proofs.undoing.copies.Given as goal
 
 abbrev pub invariant-loop-duty : goal.invariant-loop-duty

@@ -1,5 +1,4 @@
-use Rattle.std.proofs.Common.{◌≡◌, ◌∙◌, ℕ, List, map, sym, subst, rules, Vec, Global}
-use Rattle.post_codec.specs.Batches.{SpellPosts}
+use Rattle.migrate_runs.proofs.Common.{◌≡◌, ◌∙◌, ℕ, List, map, sym, subst, rules, Vec, Global, SpellPosts}
 use Rattle.recovery.specs.declared.fault.RebuildFault.TheVariants.{NoMemory}
 use Rattle.migrate_runs.proofs.Carried.{carried_over, only_headed_in, only_made, only_opened}
 use Rattle.migrate_runs.proofs.carrying.carry.Goals as goal

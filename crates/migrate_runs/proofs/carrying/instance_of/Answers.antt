@@ -1,6 +1,4 @@
-use Rattle.std.proofs.Common.{◌≡◌, rules}
-use Rattle.instance_json.specs.Canonical.{canonical_text}
-use Rattle.migrate_runs.specs.Migrate.{IsInstance}
+use Rattle.migrate_runs.proofs.Common.{◌≡◌, rules, canonical_text, IsInstance}
 use Rattle.migrate_runs.proofs.Carried.{not_read, other_text}
 use Rattle.migrate_runs.proofs.carrying.instance_of.Goals as goal
 

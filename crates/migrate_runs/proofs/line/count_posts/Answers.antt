@@ -1,6 +1,4 @@
-use Rattle.std.proofs.Common.{◌≡◌, ℕ, ◌+◌, List, length, take, refl, sym, subst, arith, Vec, Global}
-use Rattle.std.proofs.lemmas.List.{take_all}
-use Rattle.post_codec.specs.Spelling.{Spells}
+use Rattle.migrate_runs.proofs.Common.{◌≡◌, ℕ, ◌+◌, List, length, take, refl, sym, subst, arith, Vec, Global, take_all, Spells}
 use Rattle.migrate_runs.proofs.Counted.{IsCounted, counted, counted_more}
 use Rattle.migrate_runs.proofs.line.count_posts.Goals as goal
 

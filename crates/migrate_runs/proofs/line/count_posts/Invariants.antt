@@ -1,4 +1,4 @@
-use Rattle.std.proofs.Common.{take}
+use Rattle.migrate_runs.proofs.Common.{take}
 use Rattle.migrate_runs.proofs.Counted.{IsCounted}
 use Rattle.migrate_runs.proofs.line.count_posts.Given as goal
 

@@ -1,6 +1,4 @@
-use Rattle.std.proofs.Common.{◌≡◌, ℕ, ◌+◌, map, length, string_bytes, arith, rules, Vec, Global}
-use Rattle.std.proofs.lemmas.List.{length-map}
-use Rattle.migrate_runs.specs.Migrate.{HasFiles, Met}
+use Rattle.migrate_runs.proofs.Common.{◌≡◌, ℕ, ◌+◌, map, length, string_bytes, arith, rules, Vec, Global, length-map, HasFiles, Met}
 use Rattle.migrate_runs.proofs.Ending.{by_line, is_done, well_by_old}
 use Rattle.migrate_runs.proofs.Migrated.{same_later, same_moments}
 use Rattle.migrate_runs.proofs.migrating.migrate_run.Goals as goal

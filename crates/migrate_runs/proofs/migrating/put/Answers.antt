@@ -1,6 +1,4 @@
-use Rattle.std.proofs.Common.{map, arith, rules}
-use Rattle.gated_journal.specs.declared.TheConstants.{JOURNAL_MAX}
-use Rattle.gated_journal.specs.Format.{IsUnfinishedOr}
+use Rattle.migrate_runs.proofs.Common.{map, arith, rules, JOURNAL_MAX, IsUnfinishedOr}
 use Rattle.migrate_runs.proofs.Migrated.{looked_then}
 use Rattle.migrate_runs.proofs.migrating.put.Goals as goal
 

@@ -1,7 +1,4 @@
-use Rattle.std.proofs.Common.{◌≡◌, ◌<◌, ◌++◌, ℕ, List, [], length, take, ap, subst, sym, ◌∙◌, arith, length-append}
-use Rattle.std.proofs.lemmas.List.{append-nil, length-take-le}
-use Rattle.std.specs.Io.KnownBytes.{Consumes}
-use Rattle.plan_base.specs.Streams.{LosesFront}
+use Rattle.plan_base.proofs.Common.{◌≡◌, ◌<◌, ◌++◌, ℕ, List, [], length, take, ap, subst, sym, ◌∙◌, arith, length-append, append-nil, length-take-le, Consumes, LosesFront}
 use Rattle.plan_base.proofs.Taking.{none_consumed, more_consumed, kept_consumed, all_consumed, long_left, on_err}
 use Rattle.plan_base.proofs.reading.read_all.Goals as goal
 

@@ -1,5 +1,4 @@
-use Rattle.std.proofs.Common.{◌+◌, ◌-◌, ◌<◌, ◌≤◌, length}
-use Rattle.std.specs.Io.KnownBytes.{Consumes}
+use Rattle.plan_base.proofs.Common.{◌+◌, ◌-◌, ◌<◌, ◌≤◌, length, Consumes}
 use Rattle.plan_base.proofs.reading.read_all.Given as goal
 
 abbrev pub invariant-turns : goal.invariant-turns

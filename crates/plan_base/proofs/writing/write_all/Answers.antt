@@ -1,6 +1,4 @@
-use Rattle.std.proofs.Common.{◌≡◌, ◌-◌, ℕ, List, length, drop, take, ap, subst, arith, length-drop}
-use Rattle.std.proofs.lemmas.List.{take_all}
-use Rattle.std.specs.Io.KnownBytes.{Appends}
+use Rattle.plan_base.proofs.Common.{◌≡◌, ◌-◌, ℕ, List, length, drop, take, ap, subst, arith, length-drop, take_all, Appends}
 use Rattle.plan_base.proofs.Taking.{more_appended}
 use Rattle.plan_base.proofs.writing.write_all.Goals as goal
 

@@ -1,5 +1,4 @@
-use Rattle.std.proofs.Common.{◌-◌, ◌≤◌, length, take}
-use Rattle.std.specs.Io.KnownBytes.{Appends}
+use Rattle.plan_base.proofs.Common.{◌-◌, ◌≤◌, length, take, Appends}
 use Rattle.plan_base.proofs.writing.write_all.Given as goal
 
 abbrev pub invariant-pieces : goal.invariant-pieces

@@ -1,10 +1,4 @@
-use Rattle.std.proofs.Common.{ℕ, ◌++◌, ◌≤◌, Bor, List, length, map, ap, ◌∙◌, string_bytes}
-use Rattle.std.specs.List.{flat_map}
-use Rattle.std.proofs.lemmas.List.{take_all}
-use Rattle.shift_instance.specs.declared.Row.{Row}
-use Rattle.plan_tables.specs.Starting.{IsKnown}
-use Rattle.plan_tables.proofs.Starts.{mapped_at, text_more}
-use Rattle.plan_page.specs.Bars.{row_bar}
+use Rattle.plan_page.proofs.Common.{ℕ, ◌++◌, ◌≤◌, Bor, List, length, map, ap, ◌∙◌, string_bytes, flat_map, take_all, Row, IsKnown, mapped_at, text_more, row_bar}
 use Rattle.plan_page.proofs.bars.add_bars.Goals as goal
 
 pub add_row-requires-clause-listed : goal.add_row-requires-clause-listed

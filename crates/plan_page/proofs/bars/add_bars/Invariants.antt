@@ -1,6 +1,4 @@
-use Rattle.std.proofs.Common.{◌≡◌, ◌++◌, map, take, string_bytes}
-use Rattle.std.specs.List.{flat_map}
-use Rattle.plan_page.specs.Bars.{row_bar}
+use Rattle.plan_page.proofs.Common.{◌≡◌, ◌++◌, map, take, string_bytes, flat_map, row_bar}
 use Rattle.plan_page.proofs.bars.add_bars.Given as goal
 
 abbrev pub invariant-loop-row : goal.invariant-loop-row

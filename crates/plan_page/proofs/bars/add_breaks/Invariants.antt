@@ -1,6 +1,4 @@
-use Rattle.std.proofs.Common.{◌≡◌, ◌++◌, take, string_bytes}
-use Rattle.std.specs.List.{flat_map}
-use Rattle.plan_page.specs.Bars.{boxes, rest_of}
+use Rattle.plan_page.proofs.Common.{◌≡◌, ◌++◌, take, string_bytes, flat_map, boxes, rest_of}
 use Rattle.plan_page.proofs.bars.add_breaks.Given as goal
 
 abbrev pub invariant-loop-rest : goal.invariant-loop-rest

@@ -1,6 +1,4 @@
-use Rattle.std.proofs.Common.{◌≡◌, ◌++◌, take, string_bytes}
-use Rattle.std.specs.List.{flat_map}
-use Rattle.plan_page.specs.Bars.{rest_time}
+use Rattle.plan_page.proofs.Common.{◌≡◌, ◌++◌, take, string_bytes, flat_map, rest_time}
 use Rattle.plan_page.proofs.bars.add_each_rest.Given as goal
 
 abbrev pub invariant-loop-rest : goal.invariant-loop-rest

@@ -1,8 +1,5 @@
-use Rattle.std.proofs.Common.{◌≡◌, List, ℕ, OnOk, codes, ◌++◌, cond, ap, sym, subst, string_bytes}
+use Rattle.plan_page.proofs.Common.{◌≡◌, List, ℕ, OnOk, codes, ◌++◌, cond, ap, sym, subst, string_bytes, eq-eqb, ne_eqb, wanted_employees, cell}
 use Rattle.std.specs.Fmt.{decimal}
-use Rattle.std.proofs.lemmas.Bool.{eq-eqb, ne_eqb}
-use Rattle.plan_tables.specs.SummaryLines.{wanted_employees}
-use Rattle.plan_page.specs.Cells.{cell}
 use Rattle.plan_page.proofs.cells.add_wanted_employees.Goals as goal
 
 pub returns-then-slot : goal.returns-then-slot

@@ -1,8 +1,4 @@
-use Rattle.std.proofs.Common.{◌≡◌, List, ℕ, OnOk, codes, ◌++◌, cond, ap, sym, subst, string_bytes}
-use Rattle.std.proofs.lemmas.Bool.{eq-eqb, ne_eqb}
-use Rattle.plan_tables.specs.SummaryLines.{wanted_hours}
-use Rattle.plan_tables.specs.Times.{span_text}
-use Rattle.plan_page.specs.Cells.{cell}
+use Rattle.plan_page.proofs.Common.{◌≡◌, List, ℕ, OnOk, codes, ◌++◌, cond, ap, sym, subst, string_bytes, eq-eqb, ne_eqb, wanted_hours, span_text, cell}
 use Rattle.plan_page.proofs.cells.add_wanted_hours.Goals as goal
 
 pub returns-then-totals : goal.returns-then-totals

@@ -1,6 +1,4 @@
-use Rattle.std.proofs.Common.{string_bytes}
-use Rattle.plan_tables.proofs.Appending.{joined, joined_last}
-use Rattle.plan_page.specs.Chart.{chart}
+use Rattle.plan_page.proofs.Common.{string_bytes, joined, joined_last, chart}
 use Rattle.plan_page.proofs.chart.add_chart.Goals as goal
 
 pub returns : goal.returns

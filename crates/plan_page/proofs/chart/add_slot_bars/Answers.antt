@@ -1,9 +1,4 @@
-use Rattle.std.proofs.Common.{◌≡◌, ℕ, ◌++◌, List, sym, ap, ◌∙◌, arith, string_bytes}
-use Rattle.std.specs.List.{flat_map}
-use Rattle.std.proofs.lemmas.List.{flat_map_more}
-use Rattle.shift_instance.specs.Problem.{below, day_slots}
-use Rattle.shift_instance.proofs.Ranges.{below_next}
-use Rattle.plan_page.specs.Chart.{slot_bar}
+use Rattle.plan_page.proofs.Common.{◌≡◌, ℕ, ◌++◌, List, sym, ap, ◌∙◌, arith, string_bytes, flat_map, flat_map_more, below, day_slots, below_next, slot_bar}
 use Rattle.plan_page.proofs.chart.add_slot_bars.Goals as goal
 
 pub loop-n-preserved : goal.loop-n-preserved

@@ -1,8 +1,5 @@
-use Rattle.std.proofs.Common.{◌≡◌, ◌+◌, ℕ, [], ◌∷◌, max, fold, ap, sym, ◌∙◌, arith}
+use Rattle.plan_page.proofs.Common.{◌≡◌, ◌+◌, ℕ, [], ◌∷◌, max, fold, ap, sym, ◌∙◌, arith, Problem, below, need_max_at, cover, below_next}
 use Rattle.std.proofs.lemmas.List.Sums.{fold-append}
-use Rattle.shift_instance.specs.Problem.{Problem, below, need_max_at}
-use Rattle.shift_instance.specs.Rota.{cover}
-use Rattle.shift_instance.proofs.Ranges.{below_next}
 use Rattle.plan_page.proofs.chart.most_employees.Goals as goal
 
 pub loop-t-preserved : goal.loop-t-preserved

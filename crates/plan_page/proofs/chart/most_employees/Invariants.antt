@@ -1,6 +1,4 @@
-use Rattle.std.proofs.Common.{◌≡◌, ◌<◌, fold, max}
-use Rattle.shift_instance.specs.Problem.{below, need_max_at}
-use Rattle.shift_instance.specs.Rota.{cover}
+use Rattle.plan_page.proofs.Common.{◌≡◌, ◌<◌, fold, max, below, need_max_at, cover}
 use Rattle.plan_page.proofs.chart.most_employees.Given as goal
 
 abbrev pub invariant-loop-t : goal.invariant-loop-t

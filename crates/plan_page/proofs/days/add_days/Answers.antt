@@ -1,8 +1,4 @@
-use Rattle.std.proofs.Common.{◌++◌, Bor, List, ℕ, get_or, map, ap, ◌∙◌, string_bytes}
-use Rattle.shift_instance.specs.declared.Row.{Row}
-use Rattle.plan_tables.specs.declared.summary.DaySummary.{DaySummary}
-use Rattle.plan_tables.proofs.Numbered.{numbered_more}
-use Rattle.plan_page.specs.Page.{day_section}
+use Rattle.plan_page.proofs.Common.{◌++◌, Bor, List, ℕ, get_or, map, ap, ◌∙◌, string_bytes, Row, DaySummary, numbered_more, day_section}
 use Rattle.plan_page.proofs.days.add_days.Goals as goal
 
 pub loop-k-preserved : goal.loop-k-preserved

@@ -1,6 +1,4 @@
-use Rattle.std.proofs.Common.{◌≡◌, ◌++◌, map, take, string_bytes}
-use Rattle.std.specs.List.{enumerate_from, flat_map}
-use Rattle.plan_page.specs.Page.{day_section}
+use Rattle.plan_page.proofs.Common.{◌≡◌, ◌++◌, map, take, string_bytes, enumerate_from, flat_map, day_section}
 use Rattle.plan_page.proofs.days.add_days.Given as goal
 
 abbrev pub invariant-loop-k : goal.invariant-loop-k

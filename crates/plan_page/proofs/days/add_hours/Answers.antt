@@ -1,6 +1,4 @@
-use Rattle.std.proofs.Common.{string_bytes}
-use Rattle.plan_tables.proofs.Appending.{joined, joined_last}
-use Rattle.plan_page.specs.Page.{day_hours}
+use Rattle.plan_page.proofs.Common.{string_bytes, joined, joined_last, day_hours}
 use Rattle.plan_page.proofs.days.add_hours.Goals as goal
 
 pub returns : goal.returns

@@ -1,7 +1,4 @@
-use Rattle.std.proofs.Common.{ℕ, ◌++◌, ap, ◌∙◌, string_bytes}
-use Rattle.plan_tables.proofs.Appending.{joined, joined_last}
-use Rattle.plan_page.specs.Chart.{chart}
-use Rattle.plan_page.specs.Page.{day_pictures}
+use Rattle.plan_page.proofs.Common.{ℕ, ◌++◌, ap, ◌∙◌, string_bytes, joined, joined_last, chart, day_pictures}
 use Rattle.plan_page.proofs.days.add_pictures.Goals as goal
 
 pub returns : goal.returns

@@ -1,8 +1,4 @@
-use Rattle.std.proofs.Common.{◌≡◌, List, ℕ, OnOk, codes, ◌++◌, cond, ap, sym, subst, string_bytes}
-use Rattle.std.proofs.lemmas.Bool.{eq-eqb, ne_eqb}
-use Rattle.plan_tables.specs.SummaryLines.{wanted_hours}
-use Rattle.plan_tables.specs.Times.{span_text}
-use Rattle.plan_page.specs.Page.{spans_text}
+use Rattle.plan_page.proofs.Common.{◌≡◌, List, ℕ, OnOk, codes, ◌++◌, cond, ap, sym, subst, string_bytes, eq-eqb, ne_eqb, wanted_hours, span_text, spans_text}
 use Rattle.plan_page.proofs.days.add_wanted.Goals as goal
 
 pub returns-then-totals : goal.returns-then-totals

@@ -1,9 +1,6 @@
-use Rattle.std.proofs.Common.{ℕ, List, ◌++◌, sym, ap, ◌∙◌, string_bytes}
-use Rattle.std.specs.List.{flat_map}
+use Rattle.plan_page.proofs.Common.{ℕ, List, ◌++◌, sym, ap, ◌∙◌, string_bytes, flat_map, flat_map_more, map-id, escaped, escaped_char}
 use Rattle.std.proofs.lemmas.Iterator.{YieldsList-from_chars}
 use Rattle.std.proofs.lemmas.Iterator.Consumers.{YieldsList-end}
-use Rattle.std.proofs.lemmas.List.{flat_map_more, map-id}
-use Rattle.plan_page.specs.Escaping.{escaped, escaped_char}
 use Rattle.plan_page.proofs.escaping.add_escaped.Goals as goal
 
 pub loop-c-preserved : goal.loop-c-preserved

@@ -1,6 +1,4 @@
-use Rattle.std.proofs.Common.{◌≡◌, ◌++◌, string_bytes}
-use Rattle.std.specs.List.{flat_map}
-use Rattle.plan_page.specs.Escaping.{escaped_char}
+use Rattle.plan_page.proofs.Common.{◌≡◌, ◌++◌, string_bytes, flat_map, escaped_char}
 use Rattle.plan_page.proofs.escaping.add_escaped.Given as goal
 
 abbrev pub invariant-loop-c : goal.invariant-loop-c

@@ -1,6 +1,4 @@
-use Rattle.std.proofs.Common.{string_bytes}
-use Rattle.plan_tables.proofs.Appending.{joined, joined_last}
-use Rattle.plan_page.specs.Overview.{cost_table}
+use Rattle.plan_page.proofs.Common.{string_bytes, joined, joined_last, cost_table}
 use Rattle.plan_page.proofs.overview.add_cost.Goals as goal
 
 pub returns : goal.returns

@@ -1,6 +1,4 @@
-use Rattle.std.proofs.Common.{◌≡◌, ◌++◌, take, string_bytes}
-use Rattle.std.specs.List.{flat_map}
-use Rattle.plan_page.specs.Overview.{costly_row}
+use Rattle.plan_page.proofs.Common.{◌≡◌, ◌++◌, take, string_bytes, flat_map, costly_row}
 use Rattle.plan_page.proofs.overview.add_costly_slots.Given as goal
 
 abbrev pub invariant-loop-slot : goal.invariant-loop-slot

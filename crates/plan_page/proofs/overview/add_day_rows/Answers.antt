@@ -1,7 +1,4 @@
-use Rattle.std.proofs.Common.{◌++◌, List, ℕ, get_or, ap, ◌∙◌, string_bytes}
-use Rattle.plan_tables.specs.declared.summary.DaySummary.{DaySummary}
-use Rattle.plan_tables.proofs.Numbered.{numbered_more}
-use Rattle.plan_page.specs.Overview.{day_row}
+use Rattle.plan_page.proofs.Common.{◌++◌, List, ℕ, get_or, ap, ◌∙◌, string_bytes, DaySummary, numbered_more, day_row}
 use Rattle.plan_page.proofs.overview.add_day_rows.Goals as goal
 
 pub loop-k-preserved : goal.loop-k-preserved

@@ -1,6 +1,4 @@
-use Rattle.std.proofs.Common.{◌≡◌, ◌++◌, take, string_bytes}
-use Rattle.std.specs.List.{enumerate_from, flat_map}
-use Rattle.plan_page.specs.Overview.{day_row}
+use Rattle.plan_page.proofs.Common.{◌≡◌, ◌++◌, take, string_bytes, enumerate_from, flat_map, day_row}
 use Rattle.plan_page.proofs.overview.add_day_rows.Given as goal
 
 abbrev pub invariant-loop-k : goal.invariant-loop-k

@@ -1,17 +1,9 @@
-use Rattle.std.proofs.Common.{◌≡◌, List, [], Bor, length, map, ap, ◌∙◌}
-use Rattle.std.proofs.lemmas.List.{length-map}
+use Rattle.plan_page.proofs.Common.{◌≡◌, List, [], Bor, length, map, ap, ◌∙◌, length-map, Row, below, rota_of, DaySummary, IsKnown, by_start, known_by_start, page_text}
 use Rattle.std.proofs.lemmas.List.Elements.{All-same}
 use Rattle.std.proofs.lemmas.List.FromFn.{length-range_with_len}
 use Rattle.rota_cost.specs.Cover.{Covering}
 use Rattle.shift_instance.specs.declared.Duty.{Duty}
-use Rattle.shift_instance.specs.declared.Row.{Row}
-use Rattle.shift_instance.specs.Problem.{below}
-use Rattle.shift_instance.specs.Rota.{rota_of}
-use Rattle.plan_tables.specs.declared.summary.DaySummary.{DaySummary}
-use Rattle.plan_tables.specs.Starting.{IsKnown, by_start}
 use Rattle.plan_tables.specs.Tallies.{day_summary}
-use Rattle.plan_tables.proofs.Starts.{known_by_start}
-use Rattle.plan_page.specs.Page.{page_text}
 use Rattle.plan_page.proofs.page.plan_page.Goals as goal
 
 pub written-requires-clause-listed : goal.written-requires-clause-listed

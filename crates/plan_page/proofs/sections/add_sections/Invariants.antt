@@ -1,5 +1,4 @@
-use Rattle.std.proofs.Common.{◌≡◌, ◌++◌, take, string_bytes}
-use Rattle.std.specs.List.{flat_map}
+use Rattle.plan_page.proofs.Common.{◌≡◌, ◌++◌, take, string_bytes, flat_map}
 use Rattle.plan_page.specs.Sections.{section_text}
 use Rattle.plan_page.proofs.sections.add_sections.Given as goal
 

@@ -1,7 +1,4 @@
-use Rattle.std.proofs.Common.{◌++◌, ◌∙◌, length, map, replicate, take, refl, sym, ap, arith}
-use Rattle.std.proofs.lemmas.List.{length-map}
-use Rattle.shift_instance.specs.Rota.{duty_of, rota_of}
-use Rattle.plan_tables.specs.Attendance.{unbroken}
+use Rattle.plan_tables.proofs.Common.{◌++◌, ◌∙◌, length, map, replicate, take, refl, sym, ap, arith, length-map, duty_of, rota_of, unbroken}
 use Rattle.plan_tables.proofs.RowDuties.{row_at, unbroken_more}
 use Rattle.plan_tables.proofs.attendance.add_rows.Goals as goal
 

@@ -1,6 +1,4 @@
-use Rattle.std.proofs.Common.{◌≡◌, map, take}
-use Rattle.shift_instance.specs.Rota.{rota_of}
-use Rattle.plan_tables.specs.Attendance.{unbroken}
+use Rattle.plan_tables.proofs.Common.{◌≡◌, map, take, rota_of, unbroken}
 use Rattle.plan_tables.proofs.attendance.add_rows.Given as goal
 
 abbrev pub invariant-loop-row : goal.invariant-loop-row

@@ -1,6 +1,4 @@
-use Rattle.std.proofs.Common.{◌≡◌, ◌++◌, OnOk, string_bytes, List, ℕ, ap, subst, ◌∙◌}
-use Rattle.std.specs.Fmt.{decimal, styled_decimal}
-use Rattle.plan_tables.specs.Columns.{at_right}
+use Rattle.plan_tables.proofs.Common.{◌≡◌, ◌++◌, OnOk, string_bytes, List, ℕ, ap, subst, ◌∙◌, decimal, styled_decimal, at_right}
 use Rattle.plan_tables.proofs.Numbers.{number_at_right}
 use Rattle.plan_tables.proofs.columns.add_number.Goals as goal
 

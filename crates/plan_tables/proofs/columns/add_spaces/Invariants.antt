@@ -1,4 +1,4 @@
-use Rattle.std.proofs.Common.{◌≡◌, ◌++◌, replicate, string_bytes}
+use Rattle.plan_tables.proofs.Common.{◌≡◌, ◌++◌, replicate, string_bytes}
 use Rattle.plan_tables.proofs.columns.add_spaces.Given as goal
 
 abbrev pub invariant-loop : goal.invariant-loop

@@ -1,9 +1,7 @@
-use Rattle.std.proofs.Common.{ℕ, List, rules, subst}
+use Rattle.plan_tables.proofs.Common.{ℕ, List, rules, subst, CostlySlot, falling_cmp}
 use Rattle.std.proofs.lemmas.List.Sorted.{answers_always}
 use Rattle.std.specs.declared.cmp.Reverse.{Reverse}
 use Rattle.std.specs.List.Sorted.{IsPermutation, IsStableByKey}
-use Rattle.plan_tables.specs.declared.costliest.CostlySlot.{CostlySlot}
-use Rattle.plan_tables.specs.Costliest.{falling_cmp}
 use Rattle.plan_tables.proofs.costliest.costliest.Goals as goal
 
 pub returns : goal.returns

@@ -1,5 +1,4 @@
-use Rattle.std.proofs.Common.{List, ◌∷◌, [], ◌++◌, sym, ap, ◌∙◌}
-use Rattle.plan_tables.specs.declared.costliest.CostlySlot.{CostlySlot}
+use Rattle.plan_tables.proofs.Common.{List, ◌∷◌, [], ◌++◌, sym, ap, ◌∙◌, CostlySlot}
 use Rattle.plan_tables.proofs.Steps.{cheap_more, costly_more}
 use Rattle.plan_tables.proofs.costliest.costly_slots.Goals as goal
 use Rattle.plan_tables.proofs.costliest.costly_slots.Goals.{then-slot-gt0+in_ok-push, else-slot-gt0}

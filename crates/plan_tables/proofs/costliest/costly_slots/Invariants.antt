@@ -1,6 +1,4 @@
-use Rattle.std.proofs.Common.{◌≡◌, filter, map}
-use Rattle.shift_instance.specs.Problem.{below}
-use Rattle.plan_tables.specs.Costliest.{costly_slot, costs}
+use Rattle.plan_tables.proofs.Common.{◌≡◌, filter, map, below, costly_slot, costs}
 use Rattle.plan_tables.proofs.costliest.costly_slots.Given as goal
 
 abbrev pub invariant-loop-t : goal.invariant-loop-t

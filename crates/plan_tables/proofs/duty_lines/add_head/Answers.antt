@@ -1,5 +1,4 @@
-use Rattle.std.proofs.Common.{◌≡◌, ℕ, ◌++◌, OnOk, subst, string_bytes}
-use Rattle.plan_tables.specs.DutyLines.{duties_head, last_columns, longest_name}
+use Rattle.plan_tables.proofs.Common.{◌≡◌, ℕ, ◌++◌, OnOk, subst, string_bytes, duties_head, last_columns, longest_name}
 use Rattle.plan_tables.proofs.Appending.{joined_last}
 use Rattle.plan_tables.proofs.duty_lines.add_head.Goals as goal
 

@@ -1,10 +1,4 @@
-use Rattle.std.proofs.Common.{◌≡◌, ℕ, ◌++◌, ◌≤◌, Bor, List, length, map, ap, ◌∙◌}
-use Rattle.std.specs.List.{flat_map}
-use Rattle.std.proofs.lemmas.List.{take_all}
-use Rattle.std.proofs.lemmas.List.Elements.{All-same}
-use Rattle.shift_instance.specs.declared.Row.{Row}
-use Rattle.plan_tables.specs.DutyLines.{duties_head, row_line}
-use Rattle.plan_tables.specs.Starting.{IsKnown, by_start}
+use Rattle.plan_tables.proofs.Common.{◌≡◌, ℕ, ◌++◌, ◌≤◌, Bor, List, length, map, ap, ◌∙◌, flat_map, take_all, All-same, Row, duties_head, row_line, IsKnown, by_start}
 use Rattle.plan_tables.proofs.Starts.{known_by_start, mapped_at, text_more}
 use Rattle.plan_tables.proofs.duty_lines.duties_table.Goals as goal
 

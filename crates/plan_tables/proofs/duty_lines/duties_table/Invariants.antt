@@ -1,6 +1,4 @@
-use Rattle.std.proofs.Common.{◌≡◌, ◌++◌, map, take, string_bytes}
-use Rattle.std.specs.List.{flat_map}
-use Rattle.plan_tables.specs.DutyLines.{duties_head, row_line}
+use Rattle.plan_tables.proofs.Common.{◌≡◌, ◌++◌, map, take, string_bytes, flat_map, duties_head, row_line}
 use Rattle.plan_tables.proofs.duty_lines.duties_table.Given as goal
 
 abbrev pub invariant-loop-row : goal.invariant-loop-row

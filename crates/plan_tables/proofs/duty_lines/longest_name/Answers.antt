@@ -1,7 +1,5 @@
-use Rattle.std.proofs.Common.{◌≡◌, ◌≤◌, List, length, fold, max, ap, ◌∙◌}
-use Rattle.std.proofs.lemmas.List.{take_all}
+use Rattle.plan_tables.proofs.Common.{◌≡◌, ◌≤◌, List, length, fold, max, ap, ◌∙◌, take_all, Problem}
 use Rattle.shift_instance.specs.Kind.{Kind}
-use Rattle.shift_instance.specs.Problem.{Problem}
 use Rattle.plan_tables.proofs.duty_lines.longest_name.Goals as goal
 
 pub returns : goal.returns

@@ -1,4 +1,4 @@
-use Rattle.std.proofs.Common.{◌≡◌, fold, length, max, take}
+use Rattle.plan_tables.proofs.Common.{◌≡◌, fold, length, max, take}
 use Rattle.plan_tables.proofs.duty_lines.longest_name.Given as goal
 
 abbrev pub invariant-loop-kind : goal.invariant-loop-kind

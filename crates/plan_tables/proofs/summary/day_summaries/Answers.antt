@@ -1,8 +1,4 @@
-use Rattle.std.proofs.Common.{List, ◌∷◌, [], ◌++◌, map, sym, ap, ◌∙◌}
-use Rattle.shift_instance.specs.Problem.{below}
-use Rattle.shift_instance.specs.Rota.{rota_of}
-use Rattle.plan_tables.specs.declared.summary.DaySummary.{DaySummary}
-use Rattle.plan_tables.specs.Tallies.{day_summary}
+use Rattle.plan_tables.proofs.Common.{List, ◌∷◌, [], ◌++◌, map, sym, ap, ◌∙◌, below, rota_of, DaySummary, day_summary}
 use Rattle.plan_tables.proofs.Steps.{map_below_more}
 use Rattle.plan_tables.proofs.summary.day_summaries.Goals as goal
 

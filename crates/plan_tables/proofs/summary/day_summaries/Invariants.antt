@@ -1,7 +1,4 @@
-use Rattle.std.proofs.Common.{◌≡◌, map}
-use Rattle.shift_instance.specs.Problem.{below}
-use Rattle.shift_instance.specs.Rota.{rota_of}
-use Rattle.plan_tables.specs.Tallies.{day_summary}
+use Rattle.plan_tables.proofs.Common.{◌≡◌, map, below, rota_of, day_summary}
 use Rattle.plan_tables.proofs.summary.day_summaries.Given as goal
 
 abbrev pub invariant-loop-day : goal.invariant-loop-day

@@ -1,5 +1,4 @@
-use Rattle.std.proofs.Common.{string_bytes}
-use Rattle.plan_tables.specs.SummaryLines.{cost_lines}
+use Rattle.plan_tables.proofs.Common.{string_bytes, cost_lines}
 use Rattle.plan_tables.proofs.Appending.{joined, joined_last}
 use Rattle.plan_tables.proofs.summary_lines.add_cost.Goals as goal
 

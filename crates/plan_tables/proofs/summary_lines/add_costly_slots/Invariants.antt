@@ -1,6 +1,4 @@
-use Rattle.std.proofs.Common.{◌≡◌, ◌++◌, take, string_bytes}
-use Rattle.std.specs.List.{flat_map}
-use Rattle.plan_tables.specs.SummaryLines.{costly_line}
+use Rattle.plan_tables.proofs.Common.{◌≡◌, ◌++◌, take, string_bytes, flat_map, costly_line}
 use Rattle.plan_tables.proofs.summary_lines.add_costly_slots.Given as goal
 
 abbrev pub invariant-loop-slot : goal.invariant-loop-slot

@@ -1,5 +1,4 @@
-use Rattle.std.proofs.Common.{string_bytes}
-use Rattle.plan_tables.specs.SummaryLines.{days_head}
+use Rattle.plan_tables.proofs.Common.{string_bytes, days_head}
 use Rattle.plan_tables.proofs.Appending.{joined, joined_last}
 use Rattle.plan_tables.proofs.summary_lines.add_days_head.Goals as goal
 

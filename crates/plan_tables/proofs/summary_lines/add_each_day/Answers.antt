@@ -1,6 +1,4 @@
-use Rattle.std.proofs.Common.{◌++◌, List, ℕ, get_or, ap, ◌∙◌, string_bytes}
-use Rattle.plan_tables.specs.declared.summary.DaySummary.{DaySummary}
-use Rattle.plan_tables.specs.SummaryLines.{day_line}
+use Rattle.plan_tables.proofs.Common.{◌++◌, List, ℕ, get_or, ap, ◌∙◌, string_bytes, DaySummary, day_line}
 use Rattle.plan_tables.proofs.Numbered.{numbered_more}
 use Rattle.plan_tables.proofs.summary_lines.add_each_day.Goals as goal
 

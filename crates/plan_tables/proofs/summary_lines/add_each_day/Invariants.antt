@@ -1,6 +1,4 @@
-use Rattle.std.proofs.Common.{◌≡◌, ◌++◌, take, string_bytes}
-use Rattle.std.specs.List.{enumerate_from, flat_map}
-use Rattle.plan_tables.specs.SummaryLines.{day_line}
+use Rattle.plan_tables.proofs.Common.{◌≡◌, ◌++◌, take, string_bytes, enumerate_from, flat_map, day_line}
 use Rattle.plan_tables.proofs.summary_lines.add_each_day.Given as goal
 
 abbrev pub invariant-loop-k : goal.invariant-loop-k

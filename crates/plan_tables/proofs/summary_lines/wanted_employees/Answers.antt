@@ -1,8 +1,4 @@
-use Rattle.std.proofs.Common.{List, ℕ, codes, ◌++◌, cond, ap, sym, ◌∙◌, append_assoc}
-use Rattle.std.specs.Fmt.{decimal}
-use Rattle.std.proofs.lemmas.Bool.{ne_eqb}
-use Rattle.std.proofs.lemmas.Result.{IfOk-weaker}
-use Rattle.plan_tables.specs.SummaryLines.{wanted_employees}
+use Rattle.plan_tables.proofs.Common.{List, ℕ, codes, ◌++◌, cond, ap, sym, ◌∙◌, append_assoc, decimal, ne_eqb, IfOk-weaker, wanted_employees}
 use Rattle.plan_tables.proofs.summary_lines.wanted_employees.Goals as goal
 
 pub returns-else-least-most : goal.returns-else-least-most

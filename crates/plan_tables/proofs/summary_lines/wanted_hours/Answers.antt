@@ -1,8 +1,5 @@
-use Rattle.std.proofs.Common.{List, ℕ, codes, ◌++◌, cond, ap, sym, ◌∙◌, append_assoc}
-use Rattle.std.proofs.lemmas.Bool.{ne_eqb}
-use Rattle.std.proofs.lemmas.Result.{IfOk-weaker}
+use Rattle.plan_tables.proofs.Common.{List, ℕ, codes, ◌++◌, cond, ap, sym, ◌∙◌, append_assoc, ne_eqb, IfOk-weaker, wanted_hours}
 use Rattle.plan_tables.specs.Times.{hours_text, span_minutes, span_text}
-use Rattle.plan_tables.specs.SummaryLines.{wanted_hours}
 use Rattle.plan_tables.proofs.summary_lines.wanted_hours.Goals as goal
 
 pub returns-else-totals : goal.returns-else-totals

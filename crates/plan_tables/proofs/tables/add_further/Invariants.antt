@@ -1,5 +1,4 @@
-use Rattle.std.proofs.Common.{◌≡◌, ◌++◌, take, codes, string_bytes}
-use Rattle.std.specs.List.{flat_map}
+use Rattle.plan_tables.proofs.Common.{◌≡◌, ◌++◌, take, codes, string_bytes, flat_map}
 use Rattle.rota_writer.specs.Table.{break_text}
 use Rattle.plan_tables.proofs.tables.add_further.Given as goal
 

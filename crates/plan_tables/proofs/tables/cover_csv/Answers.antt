@@ -1,13 +1,6 @@
-use Rattle.std.proofs.Common.{◌≡◌, ℕ, ◌++◌, IfOk, List, sym, ap, ◌∙◌, subst, arith}
-use Rattle.std.specs.List.{flat_map}
-use Rattle.std.proofs.lemmas.List.{flat_map_more, append-nil}
-use Rattle.csv.specs.Writing.{default_writer, row_text}
+use Rattle.plan_tables.proofs.Common.{◌≡◌, ℕ, ◌++◌, IfOk, List, sym, ap, ◌∙◌, subst, arith, flat_map, flat_map_more, default_writer, row_text, Duty, below, slots, rota_of, below_next, cover_text, slot_columns, slot_fields}
+use Rattle.std.proofs.lemmas.List.{append-nil}
 use Rattle.rota_cost.specs.Cover.{Covering}
-use Rattle.shift_instance.specs.declared.Duty.{Duty}
-use Rattle.shift_instance.specs.Problem.{below, slots}
-use Rattle.shift_instance.specs.Rota.{rota_of}
-use Rattle.shift_instance.proofs.Ranges.{below_next}
-use Rattle.plan_tables.specs.Records.{cover_text, slot_columns, slot_fields}
 use Rattle.plan_tables.proofs.tables.cover_csv.Goals as goal
 
 pub loop-t-init : goal.loop-t-init

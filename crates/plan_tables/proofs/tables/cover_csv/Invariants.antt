@@ -1,9 +1,4 @@
-use Rattle.std.proofs.Common.{◌≡◌, ◌++◌}
-use Rattle.std.specs.List.{flat_map}
-use Rattle.csv.specs.Writing.{default_writer, row_text}
-use Rattle.shift_instance.specs.Problem.{below}
-use Rattle.shift_instance.specs.Rota.{rota_of}
-use Rattle.plan_tables.specs.Records.{slot_columns, slot_fields}
+use Rattle.plan_tables.proofs.Common.{◌≡◌, ◌++◌, flat_map, default_writer, row_text, below, rota_of, slot_columns, slot_fields}
 use Rattle.plan_tables.proofs.tables.cover_csv.Given as goal
 
 abbrev pub invariant-loop-t : goal.invariant-loop-t

@@ -1,11 +1,4 @@
-use Rattle.std.proofs.Common.{◌≡◌, ℕ, ◌++◌, ◌≤◌, Bor, IfOk, List, length, map, ap, ◌∙◌, subst}
-use Rattle.std.specs.List.{flat_map}
-use Rattle.std.proofs.lemmas.List.{take_all}
-use Rattle.std.proofs.lemmas.List.Elements.{All-same}
-use Rattle.csv.specs.Writing.{default_writer, row_text}
-use Rattle.shift_instance.specs.declared.Row.{Row}
-use Rattle.plan_tables.specs.Records.{duties_text, duty_columns, duty_record}
-use Rattle.plan_tables.specs.Starting.{IsKnown, by_start}
+use Rattle.plan_tables.proofs.Common.{◌≡◌, ℕ, ◌++◌, ◌≤◌, Bor, IfOk, List, length, map, ap, ◌∙◌, subst, flat_map, take_all, All-same, default_writer, row_text, Row, duties_text, duty_columns, duty_record, IsKnown, by_start}
 use Rattle.plan_tables.proofs.Starts.{known_by_start, mapped_at, text_more}
 use Rattle.plan_tables.proofs.tables.duties_csv.Goals as goal
 

@@ -1,7 +1,4 @@
-use Rattle.std.proofs.Common.{◌≡◌, ◌++◌, map, take}
-use Rattle.std.specs.List.{flat_map}
-use Rattle.csv.specs.Writing.{default_writer, row_text}
-use Rattle.plan_tables.specs.Records.{duty_columns, duty_record}
+use Rattle.plan_tables.proofs.Common.{◌≡◌, ◌++◌, map, take, flat_map, default_writer, row_text, duty_columns, duty_record}
 use Rattle.plan_tables.proofs.tables.duties_csv.Given as goal
 
 abbrev pub invariant-loop-row : goal.invariant-loop-row

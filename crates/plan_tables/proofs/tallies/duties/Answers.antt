@@ -1,6 +1,4 @@
-use Rattle.std.proofs.Common.{◌≡◌, ◌+◌, ◌∙◌, length, take, ap, arith}
-use Rattle.std.proofs.lemmas.List.{length-append, length-replicate}
-use Rattle.shift_instance.specs.Rota.{duty_of, rota_of}
+use Rattle.plan_tables.proofs.Common.{◌≡◌, ◌+◌, ◌∙◌, length, take, ap, arith, length-append, length-replicate, duty_of, rota_of}
 use Rattle.plan_tables.proofs.RowDuties.{row_at}
 use Rattle.plan_tables.proofs.tallies.duties.Goals as goal
 

@@ -1,5 +1,4 @@
-use Rattle.std.proofs.Common.{◌≡◌, length, take}
-use Rattle.shift_instance.specs.Rota.{rota_of}
+use Rattle.plan_tables.proofs.Common.{◌≡◌, length, take, rota_of}
 use Rattle.plan_tables.proofs.tallies.duties.Given as goal
 
 abbrev pub invariant-loop-row : goal.invariant-loop-row

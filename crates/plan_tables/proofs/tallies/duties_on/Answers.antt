@@ -1,7 +1,4 @@
-use Rattle.std.proofs.Common.{◌≤◌, arith, count_by, length, take}
-use Rattle.std.proofs.lemmas.List.Sums.{count_by-le-length}
-use Rattle.shift_instance.specs.Rota.{rota_of}
-use Rattle.plan_tables.specs.Tallies.{starts_on}
+use Rattle.plan_tables.proofs.Common.{◌≤◌, arith, count_by, length, take, count_by-le-length, rota_of, starts_on}
 use Rattle.plan_tables.proofs.RowDuties.{row_at}
 use Rattle.plan_tables.proofs.tallies.duties_on.Goals as goal
 

@@ -1,6 +1,4 @@
-use Rattle.std.proofs.Common.{◌≡◌, count_by, take}
-use Rattle.shift_instance.specs.Rota.{rota_of}
-use Rattle.plan_tables.specs.Tallies.{starts_on}
+use Rattle.plan_tables.proofs.Common.{◌≡◌, count_by, take, rota_of, starts_on}
 use Rattle.plan_tables.proofs.tallies.duties_on.Given as goal
 
 abbrev pub invariant-loop-row : goal.invariant-loop-row

@@ -1,8 +1,4 @@
-use Rattle.std.proofs.Common.{◌≡◌, ◌+◌, ◌==◌, Bool, List, cond, count_by, sym, ap, ◌∙◌, arith}
-use Rattle.std.specs.List.{list_any}
-use Rattle.shift_instance.specs.declared.Row.{Row}
-use Rattle.shift_instance.specs.Problem.{below}
-use Rattle.shift_instance.specs.Rota.{is_used, rota_of}
+use Rattle.plan_tables.proofs.Common.{◌≡◌, ◌+◌, ◌==◌, Bool, List, cond, count_by, sym, ap, ◌∙◌, arith, list_any, Row, below, is_used, rota_of}
 use Rattle.plan_tables.proofs.Steps.{used_row, used_more}
 use Rattle.plan_tables.proofs.tallies.shifts_used.Goals as goal
 use Rattle.plan_tables.proofs.tallies.shifts_used.Goals.{then-has_row, else-has_row}

@@ -1,6 +1,4 @@
-use Rattle.std.proofs.Common.{◌≡◌, ◌≤◌, count_by}
-use Rattle.shift_instance.specs.Problem.{below}
-use Rattle.shift_instance.specs.Rota.{is_used, rota_of}
+use Rattle.plan_tables.proofs.Common.{◌≡◌, ◌≤◌, count_by, below, is_used, rota_of}
 use Rattle.plan_tables.proofs.tallies.shifts_used.Given as goal
 
 abbrev pub invariant-loop-shift : goal.invariant-loop-shift

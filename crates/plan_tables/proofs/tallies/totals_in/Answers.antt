@@ -1,7 +1,4 @@
-use Rattle.std.proofs.Common.{◌≡◌, ◌+◌, ap, ◌∙◌, arith}
-use Rattle.shift_instance.specs.Problem.{Problem, need_at, need_max_at}
-use Rattle.shift_instance.specs.Rota.{cover}
-use Rattle.plan_tables.specs.Attendance.{over_at, under_at}
+use Rattle.plan_tables.proofs.Common.{◌≡◌, ◌+◌, ap, ◌∙◌, arith, Problem, need_at, need_max_at, cover, over_at, under_at}
 use Rattle.plan_tables.proofs.SlotSums.{sum_range_more}
 use Rattle.plan_tables.proofs.tallies.totals_in.Goals as goal
 

@@ -1,8 +1,4 @@
-use Rattle.std.proofs.Common.{◌≡◌, ◌*◌, ◌^◌, ◌≤◌, sum_by}
-use Rattle.std.specs.List.{range_with_len}
-use Rattle.shift_instance.specs.Problem.{need_at, need_max_at}
-use Rattle.shift_instance.specs.Rota.{cover}
-use Rattle.plan_tables.specs.Attendance.{over_at, under_at}
+use Rattle.plan_tables.proofs.Common.{◌≡◌, ◌*◌, ◌^◌, ◌≤◌, sum_by, range_with_len, need_at, need_max_at, cover, over_at, under_at}
 use Rattle.plan_tables.proofs.tallies.totals_in.Given as goal
 
 abbrev pub invariant-loop-k : goal.invariant-loop-k

@@ -1,4 +1,4 @@
-use Rattle.std.proofs.Common.{◌≡◌, length}
+use Rattle.planning_runs.proofs.Common.{◌≡◌, length}
 use Rattle.planning_runs.proofs.beside.lent.Given as goal
 
 abbrev pub invariant-loop-name : goal.invariant-loop-name

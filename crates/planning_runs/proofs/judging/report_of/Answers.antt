@@ -1,6 +1,4 @@
-use Rattle.std.proofs.Common.{List, ℕ, subst, sym}
-use Rattle.certificate.specs.Departing.{Spells}
-use Rattle.certificate.proofs.Alone.{written}
+use Rattle.planning_runs.proofs.Common.{List, ℕ, subst, sym, Spells, written}
 use Rattle.planning_runs.proofs.judging.report_of.Goals as goal
 
 pub returns : goal.returns

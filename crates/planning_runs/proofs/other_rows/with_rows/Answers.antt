@@ -1,11 +1,4 @@
-use Rattle.std.proofs.Common.{ℕ, List, IsTrue, Some, sym, subst}
-use Rattle.shift_instance.specs.declared.Row.{Row}
-use Rattle.shift_instance.specs.Rota.{are_legal_rows}
-use Rattle.certificate.specs.declared.Cert.{Cert}
-use Rattle.certificate.specs.Accepted.{is_accepted}
-use Rattle.certificate.specs.Departing.{Spells}
-use Rattle.certificate.specs.Text.{Agrees}
-use Rattle.certificate.proofs.Alone.{written}
+use Rattle.planning_runs.proofs.Common.{ℕ, List, IsTrue, Some, sym, subst, Row, are_legal_rows, Cert, is_accepted, Spells, Agrees, written}
 use Rattle.planning_runs.proofs.Rows.{accepted, agrees, is_with_rows, rows_of_plan}
 use Rattle.planning_runs.proofs.other_rows.with_rows.Goals as goal
 

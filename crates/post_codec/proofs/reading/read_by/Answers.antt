@@ -1,5 +1,4 @@
-use Rattle.std.proofs.Common.{ap, subst, ◌∙◌, arith}
-use Rattle.post_codec.specs.Reading.{reading, IsRead}
+use Rattle.post_codec.proofs.Common.{ap, subst, ◌∙◌, arith, reading, IsRead}
 use Rattle.post_codec.proofs.Formats.{found, reads_spelling}
 use Rattle.post_codec.proofs.Departing.{fault_of, gives_posts}
 use Rattle.post_codec.proofs.reading.read_by.Goals as goal

@@ -1,7 +1,4 @@
-use Rattle.std.proofs.Common.{arith}
-use Rattle.std.proofs.lemmas.Grind.{common_steps}
-use Rattle.std.proofs.lemmas.List.Elements.{All-more}
-use Rattle.post_codec.specs.Spelling.{FitsBreak}
+use Rattle.post_codec.proofs.Common.{arith, common_steps, All-more, FitsBreak}
 use Rattle.post_codec.proofs.writing.put_breaks.Goals as goal
 
 pub loop-item-preserved : goal.loop-item-preserved

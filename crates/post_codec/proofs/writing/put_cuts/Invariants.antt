@@ -1,7 +1,4 @@
-use Rattle.std.proofs.Common.{◌≡◌, ◌++◌, length, take}
-use Rattle.std.specs.List.{flat_map}
-use Rattle.post_codec.specs.declared.price_width.PriceWidth.TheVariants.{Five}
-use Rattle.post_codec.specs.Spelling.{u32_bytes, price_bytes}
+use Rattle.post_codec.proofs.Common.{◌≡◌, ◌++◌, length, take, flat_map, Five, u32_bytes, price_bytes}
 use Rattle.post_codec.proofs.writing.put_cuts.Given as goal
 
 abbrev pub invariant-loop-item : goal.invariant-loop-item

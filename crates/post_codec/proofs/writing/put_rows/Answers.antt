@@ -1,7 +1,4 @@
-use Rattle.std.proofs.Common.{arith, subst}
-use Rattle.std.proofs.lemmas.Grind.{common_steps}
-use Rattle.std.proofs.lemmas.List.Elements.{All-more}
-use Rattle.post_codec.specs.Spelling.{FitsRow}
+use Rattle.post_codec.proofs.Common.{arith, subst, common_steps, All-more, FitsRow}
 use Rattle.post_codec.proofs.writing.put_rows.Goals as goal
 
 pub loop-item-preserved : goal.loop-item-preserved

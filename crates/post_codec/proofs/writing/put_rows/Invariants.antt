@@ -1,7 +1,4 @@
-use Rattle.std.proofs.Common.{◌≡◌, ◌++◌, length, take}
-use Rattle.std.specs.Prelude.{All}
-use Rattle.std.specs.List.{flat_map}
-use Rattle.post_codec.specs.Spelling.{u32_bytes, row_bytes, FitsRow}
+use Rattle.post_codec.proofs.Common.{◌≡◌, ◌++◌, length, take, All, flat_map, u32_bytes, row_bytes, FitsRow}
 use Rattle.post_codec.proofs.writing.put_rows.Given as goal
 
 abbrev pub invariant-loop-item : goal.invariant-loop-item

@@ -1,5 +1,4 @@
-use Rattle.std.proofs.Common.{arith}
-use Rattle.std.proofs.lemmas.Grind.{common_steps}
+use Rattle.post_codec.proofs.Common.{arith, common_steps}
 use Rattle.post_codec.proofs.writing.put_slots.Goals as goal
 
 pub loop-item-preserved : goal.loop-item-preserved

@@ -1,8 +1,4 @@
-use Rattle.std.proofs.Common.{arith, subst}
-use Rattle.std.proofs.lemmas.Grind.{common_steps}
-use Rattle.std.proofs.lemmas.List.Elements.{All-more}
-use Rattle.post_codec.specs.declared.price_width.PriceWidth.TheVariants.{Five}
-use Rattle.post_codec.specs.Spelling.{FitsPost}
+use Rattle.post_codec.proofs.Common.{arith, subst, common_steps, All-more, Five, FitsPost}
 use Rattle.post_codec.proofs.writing.write.Goals as goal
 
 pub loop-item-preserved : goal.loop-item-preserved

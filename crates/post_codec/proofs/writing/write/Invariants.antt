@@ -1,8 +1,4 @@
-use Rattle.std.proofs.Common.{◌≡◌, ◌++◌, length, take}
-use Rattle.std.specs.Prelude.{All}
-use Rattle.std.specs.List.{flat_map}
-use Rattle.post_codec.specs.declared.price_width.PriceWidth.TheVariants.{Five}
-use Rattle.post_codec.specs.Spelling.{u16_bytes, post_bytes, FitsPost}
+use Rattle.post_codec.proofs.Common.{◌≡◌, ◌++◌, length, take, All, flat_map, Five, u16_bytes, post_bytes, FitsPost}
 use Rattle.post_codec.proofs.writing.write.Given as goal
 
 abbrev pub invariant-loop-item : goal.invariant-loop-item

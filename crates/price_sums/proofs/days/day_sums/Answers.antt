@@ -1,11 +1,4 @@
-use Rattle.std.proofs.Common.{◌≡◌, ℕ, ℤ, length-append, ◌+◌, ◌*◌, ◌%◌, ◌+ℤ◌, ◌<◌, ◌≤◌, List, ◌++◌, ◌∷◌, [], length, refl, sym, ap, subst, ◌∙◌, arith}
-use Rattle.std.specs.Int.RustNames.{unsigned_abs}
-use Rattle.std.proofs.lemmas.List.{length-map}
-use Rattle.std.proofs.lemmas.Nat.{mod_below}
-use Rattle.shift_instance.specs.Problem.{day_slots, slots}
-use Rattle.shift_instance.specs.Worth.{price_of}
-use Rattle.price_sums.specs.Along.{sum_at, price_in}
-use Rattle.price_sums.specs.Days.{sums_on}
+use Rattle.price_sums.proofs.Common.{◌≡◌, ℕ, ℤ, length-append, ◌+◌, ◌*◌, ◌%◌, ◌+ℤ◌, ◌<◌, ◌≤◌, List, ◌++◌, ◌∷◌, [], length, refl, sym, ap, subst, ◌∙◌, arith, unsigned_abs, length-map, mod_below, day_slots, slots, price_of, sum_at, price_in, sums_on}
 use Rattle.price_sums.proofs.Prices.{price_small, next_size, last_sum, prices_more, sizes_more}
 use Rattle.price_sums.proofs.Windows.{behind_slot, before_slot, sums_more}
 use Rattle.price_sums.proofs.days.day_sums.Goals as goal

@@ -1,9 +1,4 @@
-use Rattle.std.proofs.Common.{◌≡◌, ℕ, ◌+◌, ◌*◌, ◌%◌, ◌<◌, ◌≤◌, length}
-use Rattle.std.specs.Int.RustNames.{unsigned_abs}
-use Rattle.shift_instance.specs.Problem.{day_slots, slots}
-use Rattle.shift_instance.specs.Worth.{price_of}
-use Rattle.price_sums.specs.Along.{sum_at, price_in}
-use Rattle.price_sums.specs.Days.{sums_on}
+use Rattle.price_sums.proofs.Common.{◌≡◌, ℕ, ◌+◌, ◌*◌, ◌%◌, ◌<◌, ◌≤◌, length, unsigned_abs, day_slots, slots, price_of, sum_at, price_in, sums_on}
 use Rattle.price_sums.proofs.days.day_sums.Given as goal
 
 abbrev pub invariant-loop : goal.invariant-loop

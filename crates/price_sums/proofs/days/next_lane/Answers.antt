@@ -1,8 +1,4 @@
-use Rattle.std.proofs.Common.{◌≡◌, ◌+◌, ◌*◌, ◌%◌, ◌<◌, ℤ, pos, ◌+ℤ◌, length, length-set, sym, ap, ◌∙◌, subst, arith, get_or, to_z, of_z}
-use Rattle.std.specs.Int.{w64}
-use Rattle.std.proofs.lemmas.Nat.{mod_below}
-use Rattle.shift_instance.specs.Worth.{price_of}
-use Rattle.price_sums.specs.Along.{sum_at}
+use Rattle.price_sums.proofs.Common.{◌≡◌, ◌+◌, ◌*◌, ◌%◌, ◌<◌, ℤ, pos, ◌+ℤ◌, length, length-set, sym, ap, ◌∙◌, subst, arith, get_or, to_z, of_z, w64, mod_below, price_of, sum_at}
 use Rattle.price_sums.proofs.Prices.{price_small}
 use Rattle.price_sums.proofs.Windows.{behind_day, kept_sum, lane_more}
 use Rattle.price_sums.proofs.days.next_lane.Goals as goal

@@ -1,6 +1,4 @@
-use Rattle.std.proofs.Common.{◌≡◌, ℕ, ◌+◌, ◌*◌, ◌%◌, ◌<◌, ◌+ℤ◌, length}
-use Rattle.shift_instance.specs.Worth.{price_of}
-use Rattle.price_sums.specs.Along.{sum_at}
+use Rattle.price_sums.proofs.Common.{◌≡◌, ℕ, ◌+◌, ◌*◌, ◌%◌, ◌<◌, ◌+ℤ◌, length, price_of, sum_at}
 use Rattle.price_sums.proofs.days.next_lane.Given as goal
 
 abbrev pub invariant-loop-day : goal.invariant-loop-day

@@ -1,6 +1,4 @@
-use Rattle.std.proofs.Common.{◌≡◌, ◌<◌, ◌+ℤ◌, ℕ, length, FitsSigned}
-use Rattle.std.specs.Int.{w64}
-use Rattle.price_sums.specs.Along.{sum_at}
+use Rattle.price_sums.proofs.Common.{◌≡◌, ◌<◌, ◌+ℤ◌, ℕ, length, FitsSigned, w64, sum_at}
 use Rattle.price_sums.proofs.lanes.lane_total.Given as goal
 
 abbrev pub invariant-loop-k : goal.invariant-loop-k

@@ -1,6 +1,4 @@
-use Rattle.std.proofs.Common.{◌≡◌, ◌<◌, ◌≤◌, ℕ, length}
-use Rattle.std.specs.Int.{int_max}
-use Rattle.price_sums.specs.Along.{sum_at}
+use Rattle.price_sums.proofs.Common.{◌≡◌, ◌<◌, ◌≤◌, ℕ, length, int_max, sum_at}
 use Rattle.price_sums.proofs.lanes.raise_lane.Given as goal
 
 abbrev pub invariant-loop-k : goal.invariant-loop-k

@@ -1,11 +1,4 @@
-use Rattle.std.proofs.Common.{◌≡◌, ℕ, ℤ, pos, length-append, ◌+◌, ◌*◌, ◌%◌, ◌+ℤ◌, ◌<◌, ◌≤◌, List, ◌++◌, ◌∷◌, [], length, sym, ap, subst, ◌∙◌, arith, get_or, to_z, of_z}
-use Rattle.std.specs.Int.{w64}
-use Rattle.std.specs.Int.RustNames.{unsigned_abs}
-use Rattle.std.proofs.lemmas.Nat.{mod_below}
-use Rattle.shift_instance.specs.declared.Shift.{Shift}
-use Rattle.shift_instance.specs.Problem.{slot_of, slots}
-use Rattle.shift_instance.specs.Worth.{price_of}
-use Rattle.price_sums.specs.Along.{sum_at, price_in}
+use Rattle.price_sums.proofs.Common.{◌≡◌, ℕ, ℤ, pos, length-append, ◌+◌, ◌*◌, ◌%◌, ◌+ℤ◌, ◌<◌, ◌≤◌, List, ◌++◌, ◌∷◌, [], length, sym, ap, subst, ◌∙◌, arith, get_or, to_z, of_z, w64, unsigned_abs, mod_below, Shift, slot_of, slots, price_of, sum_at, price_in}
 use Rattle.price_sums.proofs.Prices.{price_small, next_size, next_sum, next_fits, last_sum, prices_more, sizes_more, next_slot_is, some_at}
 use Rattle.price_sums.proofs.sums.price_sums.Goals as goal
 

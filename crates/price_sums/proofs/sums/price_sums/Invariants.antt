@@ -1,11 +1,4 @@
-use Rattle.std.proofs.Common.{◌≡◌, ◌+◌, ◌*◌, ◌<◌, ◌≤◌, ℕ, length, Some}
-use Rattle.std.specs.Prelude.{slice_get}
-use Rattle.std.specs.Int.RustNames.{unsigned_abs}
-use Rattle.break_rules.specs.declared.Rule.{Rule}
-use Rattle.shift_instance.specs.declared.Shift.{Shift}
-use Rattle.shift_instance.specs.Problem.{shift_list, slot_of}
-use Rattle.shift_instance.specs.Worth.{price_of}
-use Rattle.price_sums.specs.Along.{sum_at, price_in}
+use Rattle.price_sums.proofs.Common.{◌≡◌, ◌+◌, ◌*◌, ◌<◌, ◌≤◌, ℕ, length, Some, slice_get, unsigned_abs, Rule, Shift, shift_list, slot_of, price_of, sum_at, price_in}
 use Rattle.price_sums.proofs.sums.price_sums.Given as goal
 
 abbrev pub invariant-loop : goal.invariant-loop

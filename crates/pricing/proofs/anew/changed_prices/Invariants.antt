@@ -1,5 +1,4 @@
-use Rattle.std.proofs.Common.{◌≡◌, take}
-use Rattle.pricing.specs.Tables.{repriced}
+use Rattle.pricing.proofs.Common.{◌≡◌, take, repriced}
 use Rattle.pricing.proofs.anew.changed_prices.Given as goal
 
 abbrev pub invariant-loop-slot : goal.invariant-loop-slot

@@ -1,7 +1,4 @@
-use Rattle.break_rules.specs.declared.Rule.{Rule}
-use Rattle.shift_instance.specs.declared.Shift.{Shift}
-use Rattle.pricing.specs.Tables.{IsShiftOf}
-use Rattle.pricing.specs.Keeping.{IsLastChange}
+use Rattle.pricing.proofs.Common.{Rule, Shift, IsShiftOf, IsLastChange}
 use Rattle.pricing.proofs.anew.last_change.Given as goal
 
 abbrev pub invariant-loop-offset : goal.invariant-loop-offset

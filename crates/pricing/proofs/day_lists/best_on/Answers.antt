@@ -1,10 +1,4 @@
-use Rattle.std.proofs.Common.{[], refl, ◌∙◌}
-use Rattle.std.specs.Int.{w64}
-use mir.Syntax.{w128}
-use Rattle.std.proofs.lemmas.Int.{to_z-of_z}
-use Rattle.price_sums.specs.Along.{sum_at}
-use Rattle.price_sums.specs.Days.{sums_on}
-use Rattle.break_layers.specs.Rests.{Priced}
+use Rattle.pricing.proofs.Common.{[], refl, ◌∙◌, w64, w128, to_z-of_z, sum_at, sums_on, Priced}
 use Rattle.pricing.proofs.Beyond.{best_prices}
 use Rattle.pricing.proofs.day_lists.best_on.Goals as goal
 

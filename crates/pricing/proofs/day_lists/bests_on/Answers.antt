@@ -1,7 +1,4 @@
-use Rattle.std.proofs.Common.{◌≡◌, ◌++◌, ◌∷◌, [], ℕ, ℤ, pos, List, length, length-append, sym, ap, subst, ◌∙◌, arith}
-use Rattle.break_rules.specs.declared.Break.{Break}
-use Rattle.price_sums.specs.Days.{sums_on}
-use Rattle.pricing.specs.Days.{IsBestBy, best_at}
+use Rattle.pricing.proofs.Common.{◌≡◌, ◌++◌, ◌∷◌, [], ℕ, ℤ, pos, List, length, length-append, sym, ap, subst, ◌∙◌, arith, Break, sums_on, IsBestBy, best_at}
 use Rattle.pricing.proofs.Followed.{each_more}
 use Rattle.pricing.proofs.day_lists.bests_on.Goals as goal
 

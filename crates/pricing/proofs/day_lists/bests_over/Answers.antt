@@ -1,8 +1,4 @@
-use Rattle.std.proofs.Common.{rules, ◌≡◌, ◌+◌, ◌<◌, ℤ, List, length, refl, sym, ◌∙◌, subst, arith}
-use Rattle.std.specs.Prelude.{slice_get}
-use Rattle.shift_instance.specs.Problem.{shift_list}
-use Rattle.price_sums.specs.Days.{sums_on}
-use Rattle.pricing.specs.Values.{AreBestRests}
+use Rattle.pricing.proofs.Common.{rules, ◌≡◌, ◌+◌, ◌<◌, ℤ, List, length, refl, sym, ◌∙◌, subst, arith, slice_get, shift_list, sums_on, AreBestRests}
 use Rattle.pricing.proofs.Daily.{own_graph, opening_at, no_list, none_below}
 use Rattle.pricing.proofs.Followed.{rests_of_days, bests_of_days}
 use Rattle.pricing.proofs.day_lists.bests_over.Goals as goal

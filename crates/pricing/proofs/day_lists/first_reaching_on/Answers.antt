@@ -1,12 +1,4 @@
-use Rattle.std.proofs.Common.{◌≡◌, ◌+◌, ◌++◌, ◌∷◌, [], List, inl, inr, take, drop, get_or, refl, sym, ap, subst, ◌∙◌, to_z, of_z}
-use Rattle.std.specs.Int.{w64}
-use Rattle.std.proofs.lemmas.Int.{to_z-of_z}
-use Rattle.std.proofs.lemmas.List.{take_all, take_more, drop_more, take-append-drop}
-use Rattle.break_rules.specs.Lists.{Has}
-use Rattle.break_rules.proofs.Lists.{Has-append_cases}
-use Rattle.break_graph.specs.declared.Edge.{Edge}
-use Rattle.price_sums.specs.Days.{sums_on}
-use Rattle.pricing.specs.Values.{reach_of}
+use Rattle.pricing.proofs.Common.{◌≡◌, ◌+◌, ◌++◌, ◌∷◌, [], List, inl, inr, take, drop, get_or, refl, sym, ap, subst, ◌∙◌, to_z, of_z, w64, to_z-of_z, take_all, take_more, drop_more, take-append-drop, Has, Has-append_cases, Edge, sums_on, reach_of}
 use Rattle.pricing.proofs.Most.{has_at}
 use Rattle.pricing.proofs.day_lists.first_reaching_on.Goals as goal
 

@@ -1,8 +1,4 @@
-use Rattle.std.proofs.Common.{◌≡◌, take}
-use Rattle.break_rules.specs.Lists.{Has}
-use Rattle.break_graph.specs.declared.Edge.{Edge}
-use Rattle.price_sums.specs.Days.{sums_on}
-use Rattle.pricing.specs.Values.{reach_of, AreFit}
+use Rattle.pricing.proofs.Common.{◌≡◌, take, Has, Edge, sums_on, reach_of, AreFit}
 use Rattle.pricing.proofs.day_lists.first_reaching_on.Given as goal
 
 abbrev pub invariant-loop-next : goal.invariant-loop-next

@@ -1,9 +1,4 @@
-use Rattle.std.proofs.Common.{◌≡◌, ◌++◌, [], ◌∷◌, List, refl, sym, subst}
-use Rattle.break_rules.specs.declared.Break.{Break}
-use Rattle.break_graph.specs.Graph.{StandsAt}
-use Rattle.price_sums.specs.Days.{sums_on}
-use Rattle.pricing.specs.Values.{LeadsOn}
-use Rattle.break_layers.specs.Rests.{IsBestTail}
+use Rattle.pricing.proofs.Common.{◌≡◌, ◌++◌, [], ◌∷◌, List, refl, sym, subst, Break, StandsAt, sums_on, LeadsOn, IsBestTail}
 use Rattle.pricing.proofs.Walks.{leads_on, leads_end}
 use Rattle.pricing.proofs.day_lists.list_on.Goals as goal
 

@@ -1,8 +1,4 @@
-use Rattle.std.proofs.Common.{◌++◌, [], List}
-use Rattle.break_rules.specs.declared.Break.{Break}
-use Rattle.break_graph.specs.Graph.{StandsAt}
-use Rattle.price_sums.specs.Days.{sums_on}
-use Rattle.break_layers.specs.Rests.{IsBestTail}
+use Rattle.pricing.proofs.Common.{◌++◌, [], List, Break, StandsAt, sums_on, IsBestTail}
 use Rattle.pricing.proofs.day_lists.list_on.Given as goal
 
 abbrev pub invariant-loop-edge : goal.invariant-loop-edge

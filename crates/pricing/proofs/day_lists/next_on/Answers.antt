@@ -1,14 +1,4 @@
-use Rattle.std.proofs.Common.{◌≡◌, ◌+ℤ◌, ℤ, List, sym, ap, subst, ◌∙◌, to_z, of_z, FitsSigned}
-use Rattle.std.specs.Prelude.{MatchOption}
-use Rattle.std.specs.Int.{w64}
-use Rattle.std.proofs.lemmas.Int.{to_z-of_z}
-use Rattle.break_rules.specs.Walk.{end_of_all}
-use Rattle.break_rules.specs.Lists.{Has}
-use Rattle.break_graph.specs.declared.Edge.{Edge}
-use Rattle.break_graph.specs.Graph.{node_at}
-use Rattle.price_sums.specs.Along.{sum_at, resumes}
-use Rattle.price_sums.specs.Days.{sums_on}
-use Rattle.pricing.specs.Values.{reach_of, AreFit, IsFirstWith}
+use Rattle.pricing.proofs.Common.{◌≡◌, ◌+ℤ◌, ℤ, List, sym, ap, subst, ◌∙◌, to_z, of_z, FitsSigned, MatchOption, w64, to_z-of_z, end_of_all, Has, Edge, node_at, sum_at, resumes, sums_on, reach_of, AreFit, IsFirstWith}
 use Rattle.pricing.proofs.Walks.{whole_fits, first_leads, leads_back}
 use Rattle.pricing.proofs.day_lists.next_on.Goals as goal
 

@@ -1,8 +1,4 @@
-use Rattle.std.proofs.Common.{rules, ◌≡◌, ◌+◌, ◌∙◌, ℤ, List, [], length, ap, sym, subst, arith, to_z, of_z}
-use Rattle.std.specs.Int.{w64}
-use Rattle.std.proofs.lemmas.Int.{to_z-of_z}
-use Rattle.price_sums.specs.Along.{sum_at}
-use Rattle.pricing.specs.Values.{IsValue}
+use Rattle.pricing.proofs.Common.{rules, ◌≡◌, ◌+◌, ◌∙◌, ℤ, List, [], length, ap, sym, subst, arith, to_z, of_z, w64, to_z-of_z, sum_at, IsValue}
 use Rattle.pricing.proofs.Daily.{no_nodes, none_below, opening_at}
 use Rattle.pricing.proofs.day_value.most_by_nodes.Goals as goal
 

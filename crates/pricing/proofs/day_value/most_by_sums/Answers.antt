@@ -1,11 +1,5 @@
-use Rattle.std.proofs.Common.{rules, ◌≡◌, ℤ, List, [], Option, false, subst, sym}
-use Rattle.std.specs.Prelude.{MatchOption, FitsSigned}
-use Rattle.std.specs.Int.{w64}
-use Rattle.std.proofs.lemmas.Int.{to_z-of_z}
-use Rattle.break_rules.specs.declared.Break.{Break}
-use Rattle.break_rules.specs.Breaks.{is_legal}
-use Rattle.break_layers.specs.Rests.{IsMostEarned}
-use Rattle.pricing.specs.Values.{IsValue}
+use Rattle.pricing.proofs.Common.{rules, ◌≡◌, ℤ, List, [], Option, false, subst, sym, MatchOption, w64, to_z-of_z, Break, is_legal, IsMostEarned, IsValue}
+use Rattle.std.specs.Prelude.{FitsSigned}
 use Rattle.pricing.proofs.Layered.{value_of_most}
 use Rattle.pricing.proofs.day_value.most_by_sums.Goals as goal
 

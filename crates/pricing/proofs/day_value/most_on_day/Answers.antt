@@ -1,14 +1,5 @@
-use Rattle.std.proofs.Common.{rules, ◌≡◌, ◌∙◌, ℤ, List, [], Option, Some, None, false, refl, sym, ap, subst}
-use Rattle.std.specs.Prelude.{MatchOption, IfSome, FitsSigned, slice_get}
-use Rattle.std.specs.Int.{w64}
-use Rattle.std.proofs.lemmas.Int.{to_z-of_z}
-use Rattle.break_rules.specs.declared.Break.{Break}
-use Rattle.break_rules.specs.Breaks.{is_legal}
-use Rattle.shift_instance.specs.Problem.{shift_list}
-use Rattle.price_sums.specs.Along.{AreSums}
-use Rattle.price_sums.specs.Days.{sums_on}
-use Rattle.pricing.specs.Days.{IsMostOn}
-use Rattle.pricing.specs.Values.{IsValue}
+use Rattle.pricing.proofs.Common.{rules, ◌≡◌, ◌∙◌, ℤ, List, [], Option, Some, None, false, refl, sym, ap, subst, MatchOption, IfSome, slice_get, w64, to_z-of_z, Break, is_legal, shift_list, AreSums, sums_on, IsMostOn, IsValue}
+use Rattle.std.specs.Prelude.{FitsSigned}
 use Rattle.pricing.proofs.Daily.{most_of_value, own_graph}
 use Rattle.pricing.proofs.Followed.{sums_of_days}
 use Rattle.pricing.proofs.day_value.most_on_day.Goals as goal

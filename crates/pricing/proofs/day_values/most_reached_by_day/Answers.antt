@@ -1,8 +1,4 @@
-use Rattle.std.proofs.Common.{◌+◌, sym, subst}
-use Rattle.break_graph.specs.declared.Edge.{Edge}
-use Rattle.price_sums.specs.Along.{sum_at}
-use Rattle.price_sums.specs.Days.{sums_on}
-use Rattle.pricing.specs.Values.{reach_of}
+use Rattle.pricing.proofs.Common.{◌+◌, sym, subst, Edge, sum_at, sums_on, reach_of}
 use Rattle.pricing.proofs.Most.{IsMostBefore, most_first, most_more, most_all, has_at, has_got}
 use Rattle.pricing.proofs.day_values.most_reached_by_day.Goals as goal
 

@@ -1,7 +1,4 @@
-use Rattle.std.proofs.Common.{ℕ, ◌<◌}
-use Rattle.price_sums.specs.Along.{sum_at}
-use Rattle.price_sums.specs.Days.{sums_on}
-use Rattle.pricing.specs.Values.{reach_of, AreFit}
+use Rattle.pricing.proofs.Common.{ℕ, ◌<◌, sum_at, sums_on, reach_of, AreFit}
 use Rattle.pricing.proofs.Most.{IsMostBefore}
 use Rattle.pricing.proofs.day_values.most_reached_by_day.Given as goal
 

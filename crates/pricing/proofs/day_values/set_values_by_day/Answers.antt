@@ -1,9 +1,5 @@
-use Rattle.std.proofs.Common.{◌≡◌, ◌+◌, ◌++◌, ◌∷◌, [], ℤ, List, length, length-append, sym, ap, subst, ◌∙◌, arith}
-use Rattle.price_sums.specs.Along.{sum_at}
-use Rattle.price_sums.specs.Days.{sums_on}
-use Rattle.pricing.specs.Values.{AreValues}
+use Rattle.pricing.proofs.Common.{◌≡◌, ◌+◌, ◌++◌, ◌∷◌, [], ℤ, List, length, length-append, sym, ap, subst, ◌∙◌, arith, sum_at, sums_on, AreValues, length-map}
 use Rattle.pricing.proofs.ByEdges.{values_more, map-append}
-use Rattle.std.proofs.lemmas.List.{length-map}
 use Rattle.pricing.proofs.day_values.set_values_by_day.Goals as goal
 
 pub loop-k-init : goal.loop-k-init

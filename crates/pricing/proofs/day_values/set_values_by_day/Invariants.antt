@@ -1,7 +1,4 @@
-use Rattle.std.proofs.Common.{◌≡◌, ◌<◌, ℕ, length}
-use Rattle.price_sums.specs.Along.{AreSums}
-use Rattle.price_sums.specs.Days.{sums_on}
-use Rattle.pricing.specs.Values.{AreValues}
+use Rattle.pricing.proofs.Common.{◌≡◌, ◌<◌, ℕ, length, AreSums, sums_on, AreValues}
 use Rattle.pricing.proofs.day_values.set_values_by_day.Given as goal
 
 abbrev pub invariant-loop-k : goal.invariant-loop-k

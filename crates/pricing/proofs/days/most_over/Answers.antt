@@ -1,8 +1,4 @@
-use Rattle.std.proofs.Common.{rules, ℤ, List, refl, sym, ap, ◌∙◌, arith}
-use Rattle.std.specs.Prelude.{slice_get}
-use Rattle.shift_instance.specs.Problem.{shift_list}
-use Rattle.price_sums.specs.Along.{sum_at}
-use Rattle.price_sums.specs.Days.{sums_on}
+use Rattle.pricing.proofs.Common.{rules, ℤ, List, refl, sym, ap, ◌∙◌, arith, slice_get, shift_list, sum_at, sums_on}
 use Rattle.pricing.proofs.Daily.{own_graph, most_of_days, no_list, none_below}
 use Rattle.pricing.proofs.days.most_over.Goals as goal
 

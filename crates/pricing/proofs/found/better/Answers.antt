@@ -1,8 +1,4 @@
-use Rattle.std.proofs.Common.{ℤ, ◌+ℤ◌, List, Option, Some, ap, sym, subst, ◌∙◌, to_z, of_z}
-use mir.Syntax.{w128}
-use Rattle.break_rules.specs.declared.Break.{Break}
-use Rattle.pricing.specs.declared.found.Found.{Found}
-use Rattle.pricing.specs.Found.{Keeps, is_better}
+use Rattle.pricing.proofs.Common.{ℤ, ◌+ℤ◌, List, Option, Some, ap, sym, subst, ◌∙◌, to_z, of_z, w128, Break, Found, Keeps, is_better}
 use Rattle.pricing.proofs.Covered.{covers_itself, covers_better, covers_worse, worth_made}
 use Rattle.pricing.proofs.found.better.Goals as goal
 

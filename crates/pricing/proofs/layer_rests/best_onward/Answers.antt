@@ -1,13 +1,4 @@
-use Rattle.std.proofs.Common.{◌≡◌, ◌++◌, [], ◌∷◌, List, ℤ, true, map, refl, sym, ap, subst, ◌∙◌, Some}
-use Rattle.std.specs.Prelude.{slice_get}
-use Rattle.break_rules.specs.declared.Break.{Break}
-use Rattle.break_rules.specs.Breaks.{is_live}
-use Rattle.break_rules.specs.Walk.{nexts_of, spot_of}
-use Rattle.break_rules.proofs.Lists.{from_filter}
-use Rattle.break_rules.proofs.Reaching.{live_walks}
-use Rattle.break_layers.specs.declared.ways.Way.{Way}
-use Rattle.break_layers.specs.Ways.{live_stops}
-use Rattle.pricing.specs.Keeping.{IsBestWay}
+use Rattle.pricing.proofs.Common.{◌≡◌, ◌++◌, [], ◌∷◌, List, ℤ, true, map, refl, sym, ap, subst, ◌∙◌, Some, slice_get, Break, is_live, nexts_of, spot_of, from_filter, live_walks, Way, live_stops, IsBestWay}
 use Rattle.pricing.proofs.Ways.{enough_none, enough_onward}
 use Rattle.pricing.proofs.layer_rests.best_onward.Goals as goal
 

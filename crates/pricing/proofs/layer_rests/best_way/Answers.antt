@@ -1,16 +1,4 @@
-use Rattle.std.proofs.Common.{◌≡◌, ◌+◌, ◌++◌, [], ◌∷◌, List, true, map, take, get_or, sym, ap, subst, ◌∙◌}
-use Rattle.std.specs.Int.{w64}
-use Rattle.std.proofs.lemmas.Int.{to_z-of_z}
-use Rattle.std.proofs.lemmas.List.{take_more}
-use Rattle.break_rules.specs.declared.Break.{Break}
-use Rattle.break_rules.specs.Breaks.{is_live}
-use Rattle.break_rules.specs.Walk.{nexts_of, spot_of}
-use Rattle.break_rules.specs.Lists.{Has, Sorted}
-use Rattle.break_rules.proofs.Lists.{Has-map, from_filter}
-use Rattle.break_rules.proofs.Ordered.{Sorted-filter, Sorted-breaks, IsLessBreak}
-use Rattle.break_layers.specs.declared.ways.Way.{Way}
-use Rattle.break_layers.specs.Ways.{live_stops}
-use Rattle.pricing.specs.Keeping.{IsBestWay, better_way, is_named}
+use Rattle.pricing.proofs.Common.{◌≡◌, ◌+◌, ◌++◌, [], ◌∷◌, List, true, map, take, get_or, sym, ap, subst, ◌∙◌, w64, to_z-of_z, take_more, Break, is_live, nexts_of, spot_of, Has, Sorted, Has-map, from_filter, Sorted-filter, Sorted-breaks, IsLessBreak, Way, live_stops, IsBestWay, better_way, is_named}
 use Rattle.pricing.proofs.Most.{has_at}
 use Rattle.pricing.proofs.ByEdges.{has_place, map-append}
 use Rattle.pricing.proofs.Ways.{sorted_before, way_more, way_named}

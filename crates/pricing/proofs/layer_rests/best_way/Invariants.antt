@@ -1,5 +1,4 @@
-use Rattle.std.proofs.Common.{map, take}
-use Rattle.pricing.specs.Keeping.{IsBestWay}
+use Rattle.pricing.proofs.Common.{map, take, IsBestWay}
 use Rattle.pricing.proofs.layer_rests.best_way.Given as goal
 
 abbrev pub invariant-loop-way : goal.invariant-loop-way

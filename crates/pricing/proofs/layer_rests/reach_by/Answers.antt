@@ -1,8 +1,4 @@
-use Rattle.std.proofs.Common.{◌++◌, ◌∷◌, [], List, ℤ, ap, ◌∙◌, to_z, of_z}
-use Rattle.std.specs.Int.{w64}
-use Rattle.std.proofs.lemmas.Int.{to_z-of_z}
-use Rattle.break_rules.proofs.Reaching.{live_walks}
-use Rattle.price_sums.specs.Along.{sum_at}
+use Rattle.pricing.proofs.Common.{◌++◌, ◌∷◌, [], List, ℤ, ap, ◌∙◌, to_z, of_z, w64, to_z-of_z, live_walks, sum_at}
 use Rattle.pricing.proofs.Ways.{reach_made}
 use Rattle.pricing.proofs.layer_rests.reach_by.Goals as goal
 

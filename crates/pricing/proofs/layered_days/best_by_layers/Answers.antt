@@ -1,11 +1,5 @@
-use Rattle.std.proofs.Common.{rules, ◌≡◌, ◌∙◌, ℤ, false, List, Option, subst}
-use Rattle.std.specs.Prelude.{MatchOption, FitsSigned}
-use Rattle.std.specs.Int.{w64}
-use mir.Syntax.{w128}
-use Rattle.std.proofs.lemmas.Int.{to_z-of_z}
-use Rattle.break_rules.specs.declared.Break.{Break}
-use Rattle.break_rules.specs.Breaks.{is_legal}
-use Rattle.break_layers.specs.Rests.{IsBestList, Priced}
+use Rattle.pricing.proofs.Common.{rules, ◌≡◌, ◌∙◌, ℤ, false, List, Option, subst, MatchOption, w64, w128, to_z-of_z, Break, is_legal, IsBestList, Priced}
+use Rattle.std.specs.Prelude.{FitsSigned}
 use Rattle.pricing.proofs.Layered.{plain_best}
 use Rattle.pricing.proofs.layered_days.best_by_layers.Goals as goal
 

@@ -1,9 +1,4 @@
-use Rattle.std.proofs.Common.{◌≡◌, ◌<◌, ℕ, false, List, Option, length, sym, subst, ◌∙◌}
-use Rattle.std.specs.Prelude.{MatchOption}
-use Rattle.break_rules.specs.declared.Break.{Break}
-use Rattle.break_rules.specs.Breaks.{is_legal}
-use Rattle.price_sums.specs.Days.{sums_on}
-use Rattle.pricing.specs.Days.{IsBestBy, best_at}
+use Rattle.pricing.proofs.Common.{◌≡◌, ◌<◌, ℕ, false, List, Option, length, sym, subst, ◌∙◌, MatchOption, Break, is_legal, sums_on, IsBestBy, best_at}
 use Rattle.pricing.proofs.Followed.{bests_of_days, sums_of_days}
 use Rattle.pricing.proofs.layered_days.bests_by_layers.Goals as goal
 

@@ -1,10 +1,4 @@
-use Rattle.std.proofs.Common.{◌≡◌, ◌++◌, ◌∷◌, [], ℕ, ℤ, pos, false, List, Option, length, length-append, sym, ap, subst, ◌∙◌, arith}
-use Rattle.std.specs.Prelude.{MatchOption}
-use Rattle.break_rules.specs.declared.Break.{Break}
-use Rattle.break_rules.specs.Breaks.{is_legal}
-use Rattle.price_sums.specs.Along.{AreSums}
-use Rattle.price_sums.specs.Days.{sums_on}
-use Rattle.pricing.specs.Days.{IsBestBy, best_at}
+use Rattle.pricing.proofs.Common.{◌≡◌, ◌++◌, ◌∷◌, [], ℕ, ℤ, pos, false, List, Option, length, length-append, sym, ap, subst, ◌∙◌, arith, MatchOption, Break, is_legal, AreSums, sums_on, IsBestBy, best_at}
 use Rattle.pricing.proofs.Followed.{each_more}
 use Rattle.pricing.proofs.layered_days.bests_of_days.Goals as goal
 

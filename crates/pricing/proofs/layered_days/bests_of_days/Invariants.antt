@@ -1,6 +1,4 @@
-use Rattle.std.proofs.Common.{◌≡◌, ◌<◌, ℕ, length}
-use Rattle.price_sums.specs.Days.{sums_on}
-use Rattle.pricing.specs.Days.{IsBestBy, best_at}
+use Rattle.pricing.proofs.Common.{◌≡◌, ◌<◌, ℕ, length, sums_on, IsBestBy, best_at}
 use Rattle.pricing.proofs.layered_days.bests_of_days.Given as goal
 
 abbrev pub invariant-loop-day : goal.invariant-loop-day

@@ -1,10 +1,4 @@
-use Rattle.std.proofs.Common.{◌≡◌, ◌<◌, ℕ, ℤ, [], false, List, Option, subst, arith}
-use Rattle.std.specs.Prelude.{MatchOption}
-use Rattle.break_rules.specs.declared.Break.{Break}
-use Rattle.break_rules.specs.Breaks.{is_legal}
-use Rattle.price_sums.specs.Along.{AreSums, sum_at}
-use Rattle.price_sums.specs.Days.{sums_on}
-use Rattle.break_layers.specs.Rests.{IsMostEarned}
+use Rattle.pricing.proofs.Common.{◌≡◌, ◌<◌, ℕ, ℤ, [], false, List, Option, subst, arith, MatchOption, Break, is_legal, AreSums, sum_at, sums_on, IsMostEarned}
 use Rattle.pricing.proofs.Daily.{most_of_values}
 use Rattle.pricing.proofs.Followed.{sums_of_days}
 use Rattle.pricing.proofs.Layered.{value_of_most}

@@ -1,6 +1,5 @@
-use Rattle.std.proofs.Common.{◌≡◌}
+use Rattle.pricing.proofs.Common.{◌≡◌, sum_at}
 use Rattle.std.specs.Prelude.{map, take}
-use Rattle.price_sums.specs.Along.{sum_at}
 use Rattle.pricing.proofs.layered_days.sums_of_day.Given as goal
 
 abbrev pub invariant-loop-lane : goal.invariant-loop-lane

@@ -1,12 +1,4 @@
-use Rattle.std.proofs.Common.{◌≡◌, ◌+◌, ◌*◌, ◌≤◌, ◌∷◌, [], ℤ, pos, ◌+ℤ◌, ◌-ℤ◌, drop, get_or, sym, ap, subst, ◌∙◌, arith, to_z, of_z, FitsSigned}
-use Rattle.std.specs.Int.{w64}
-use Rattle.std.specs.Int.RustNames.{unsigned_abs}
-use Rattle.std.proofs.lemmas.Int.{ints, to_z-of_z}
-use Rattle.std.proofs.lemmas.List.{drop_more, drop_all}
-use Rattle.break_rules.specs.declared.Break.{Break}
-use Rattle.break_rules.specs.Breaks.{end_of}
-use Rattle.price_sums.specs.Along.{sum_at, earned_from, price_in}
-use Rattle.price_sums.proofs.Stretches.{Spaced, difference_fits, sum_more, sum_fits, sum_last, whole_fits, earned_size, spaced_list}
+use Rattle.pricing.proofs.Common.{◌≡◌, ◌+◌, ◌*◌, ◌≤◌, ◌∷◌, [], ℤ, pos, ◌+ℤ◌, ◌-ℤ◌, drop, get_or, sym, ap, subst, ◌∙◌, arith, to_z, of_z, FitsSigned, w64, unsigned_abs, ints, to_z-of_z, drop_more, drop_all, Break, end_of, sum_at, earned_from, price_in, Spaced, difference_fits, sum_more, sum_fits, sum_last, whole_fits, earned_size, spaced_list}
 use Rattle.pricing.proofs.rests.earned_along.Goals as goal
 
 pub loop-stop-init : goal.loop-stop-init

@@ -1,6 +1,4 @@
-use Rattle.std.proofs.Common.{◌≡◌, ◌+ℤ◌, drop}
-use Rattle.price_sums.specs.Along.{earned_from, price_in}
-use Rattle.price_sums.proofs.Stretches.{Spaced}
+use Rattle.pricing.proofs.Common.{◌≡◌, ◌+ℤ◌, drop, earned_from, price_in, Spaced}
 use Rattle.pricing.proofs.rests.earned_along.Given as goal
 
 abbrev pub invariant-loop-stop : goal.invariant-loop-stop

@@ -1,8 +1,4 @@
-use Rattle.std.proofs.Common.{◌≡◌, ℤ, false, List, Option, subst}
-use Rattle.std.specs.Prelude.{MatchOption}
-use Rattle.break_rules.specs.declared.Break.{Break}
-use Rattle.break_rules.specs.Breaks.{is_legal}
-use Rattle.break_layers.specs.Rests.{IsBestList}
+use Rattle.pricing.proofs.Common.{◌≡◌, ℤ, false, List, Option, subst, MatchOption, Break, is_legal, IsBestList}
 use Rattle.pricing.proofs.Beyond.{best_where_alike}
 use Rattle.pricing.proofs.search.best_alike.Goals as goal
 

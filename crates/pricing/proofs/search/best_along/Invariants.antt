@@ -1,4 +1,4 @@
-use Rattle.pricing.specs.Found.{IsFound, Keeps, CoversAlong}
+use Rattle.pricing.proofs.Common.{IsFound, Keeps, CoversAlong}
 use Rattle.pricing.proofs.search.best_along.Given as goal
 
 abbrev pub invariant-loop-end : goal.invariant-loop-end

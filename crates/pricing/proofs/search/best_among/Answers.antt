@@ -1,7 +1,4 @@
-use Rattle.std.proofs.Common.{◌≡◌, ◌++◌, ◌∷◌, [], inl, refl, sym, subst}
-use Rattle.break_rules.specs.Lists.{Has}
-use Rattle.break_rules.proofs.Lists.{Has-append_left, Has-append_right}
-use Rattle.pricing.specs.Found.{Covers}
+use Rattle.pricing.proofs.Common.{◌≡◌, ◌++◌, ◌∷◌, [], inl, refl, sym, subst, Has, Has-append_left, Has-append_right, Covers}
 use Rattle.pricing.proofs.Onward.{left_or_covered}
 use Rattle.pricing.proofs.search.best_among.Goals as goal
 

@@ -1,7 +1,4 @@
-use Rattle.std.proofs.Common.{◌⊎◌, List, length}
-use Rattle.break_rules.specs.declared.Break.{Break}
-use Rattle.break_rules.specs.Lists.{Has}
-use Rattle.pricing.specs.Found.{IsLegal, IsFound, Keeps, Covers}
+use Rattle.pricing.proofs.Common.{◌⊎◌, List, length, Break, Has, IsLegal, IsFound, Keeps, Covers}
 use Rattle.pricing.proofs.search.best_among.Given as goal
 
 abbrev pub invariant-loop-list : goal.invariant-loop-list

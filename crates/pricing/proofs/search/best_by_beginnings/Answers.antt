@@ -1,7 +1,4 @@
-use Rattle.std.proofs.Common.{◌≡◌, inl, inr, ℕ, List, [], length, get_or, sym, ap, subst, ◌∙◌, arith, eqb-true}
-use Rattle.std.proofs.lemmas.List.{get_or-map, length-map}
-use Rattle.break_rules.specs.declared.Break.{Break}
-use Rattle.pricing.specs.Found.{CoversFrom}
+use Rattle.pricing.proofs.Common.{◌≡◌, inl, inr, ℕ, List, [], length, get_or, sym, ap, subst, ◌∙◌, arith, eqb-true, get_or-map, length-map, Break, CoversFrom}
 use Rattle.pricing.proofs.Beyond.{below_or_at, best_of_beginnings}
 use Rattle.pricing.proofs.Covered.{keeps_from}
 use Rattle.pricing.proofs.Firsts.{alike_without}

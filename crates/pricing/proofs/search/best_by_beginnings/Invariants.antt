@@ -1,5 +1,4 @@
-use Rattle.std.proofs.Common.{ℕ, ◌<◌, ◌≤◌, ◌+◌, [], get_or}
-use Rattle.pricing.specs.Found.{IsFound, CoversFrom}
+use Rattle.pricing.proofs.Common.{ℕ, ◌<◌, ◌≤◌, ◌+◌, [], get_or, IsFound, CoversFrom}
 use Rattle.pricing.proofs.search.best_by_beginnings.Given as goal
 
 abbrev pub invariant-loop-front : goal.invariant-loop-front

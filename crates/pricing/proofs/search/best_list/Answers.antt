@@ -1,8 +1,4 @@
-use Rattle.std.proofs.Common.{◌≡◌, ℤ, ◌+ℤ◌, List, [], ◌∷◌, length, ap, sym, subst, ◌∙◌, refl, arith, eqb-true}
-use Rattle.std.specs.Prelude.{IfOk}
-use Rattle.break_rules.specs.declared.Break.{Break}
-use Rattle.price_sums.specs.Along.{price_in, earned_from}
-use Rattle.pricing.specs.Found.{IsBestFound}
+use Rattle.pricing.proofs.Common.{◌≡◌, ℤ, ◌+ℤ◌, List, [], ◌∷◌, length, ap, sym, subst, ◌∙◌, refl, arith, eqb-true, IfOk, Break, price_in, earned_from, IsBestFound}
 use Rattle.pricing.proofs.Beyond.{ok_map}
 use Rattle.pricing.proofs.Covered.{best_same}
 use Rattle.pricing.proofs.search.best_list.Goals as goal

@@ -1,16 +1,4 @@
-use Rattle.std.proofs.Common.{rules, ◌≡◌, ap, sym, subst, ◌∙◌, FitsSigned}
-use mir.Syntax.{w128}
-use Rattle.std.specs.Prelude.{slice_get}
-use Rattle.std.proofs.lemmas.Int.{to_z-of_z}
-use Rattle.break_rules.specs.declared.Rule.{Rule}
-use Rattle.shift_instance.specs.declared.Shift.{Shift}
-use Rattle.shift_instance.specs.Problem.{shift_list}
-use Rattle.shift_instance.specs.Valid.{IsShift}
-use Rattle.shift_instance.specs.Worth.{IsBest}
-use Rattle.break_layers.specs.Rests.{IsBestRest, Priced}
-use Rattle.pricing.specs.Values.{priced_of}
-use Rattle.pricing.specs.Found.{IsLegal, worth_of}
-use Rattle.price_sums.proofs.Prices.{some_at}
+use Rattle.pricing.proofs.Common.{rules, ◌≡◌, ap, sym, subst, ◌∙◌, FitsSigned, w128, slice_get, to_z-of_z, Rule, Shift, shift_list, IsShift, IsBest, IsBestRest, Priced, priced_of, IsLegal, worth_of, some_at}
 use Rattle.pricing.proofs.Worths.{some_of, short_shift, best_is, found_some}
 use Rattle.pricing.proofs.search.best_over.Goals as goal
 

@@ -1,4 +1,4 @@
-use Rattle.std.proofs.Common.{pos, [], arith}
+use Rattle.pricing.proofs.Common.{pos, [], arith}
 use Rattle.pricing.proofs.Beyond.{along_more, best_of_all}
 use Rattle.pricing.proofs.Covered.{keeps_from}
 use Rattle.pricing.proofs.search.best_with.Goals as goal

@@ -1,5 +1,4 @@
-use Rattle.std.proofs.Common.{ℕ, ◌<◌, [], pos, length, get_or}
-use Rattle.pricing.specs.Found.{IsFound, CoversFrom, CoversAlong}
+use Rattle.pricing.proofs.Common.{ℕ, ◌<◌, [], pos, length, get_or, IsFound, CoversFrom, CoversAlong}
 use Rattle.pricing.proofs.search.best_with.Given as goal
 
 abbrev pub invariant-loop-prefix : goal.invariant-loop-prefix

@@ -1,13 +1,4 @@
-use Rattle.std.proofs.Common.{◌≡◌, ℤ, List, length, get_or, sym, ap, subst, ◌∙◌, ◌≤◌, ◌+◌, arith, to_z, of_z}
-use Rattle.std.proofs.lemmas.List.{take_all}
-use Rattle.std.proofs.lemmas.List.Elements.{All-get_or}
-use Rattle.std.specs.Int.RustNames.{unsigned_abs}
-use Rattle.break_rules.specs.declared.Break.{Break}
-use Rattle.patterns.specs.Bonuses.{with_added}
-use Rattle.break_rules.specs.Bonuses.{bonus_of}
-use Rattle.pricing.specs.Found.{leads_further}
-use Rattle.std.specs.Int.{w64}
-use Rattle.price_sums.proofs.Prices.{kept_small}
+use Rattle.pricing.proofs.Common.{◌≡◌, ℤ, List, length, get_or, sym, ap, subst, ◌∙◌, ◌≤◌, ◌+◌, arith, to_z, of_z, take_all, All-get_or, unsigned_abs, Break, with_added, bonus_of, leads_further, w64, kept_small}
 use Rattle.pricing.proofs.Tries.{sums_more, prefixes_more, prefixes_kept}
 use Rattle.pricing.proofs.search.trie_of.Goals as goal
 

@@ -1,7 +1,4 @@
-use Rattle.std.proofs.Common.{◌≡◌, List, take, true}
-use Rattle.break_rules.specs.declared.Break.{Break}
-use Rattle.break_rules.specs.Bonuses.{bonus_of}
-use Rattle.pricing.specs.Found.{leads_further}
+use Rattle.pricing.proofs.Common.{◌≡◌, List, take, true, Break, bonus_of, leads_further}
 use Rattle.pricing.proofs.search.trie_of.Given as goal
 
 abbrev pub invariant-loop-prefix : goal.invariant-loop-prefix

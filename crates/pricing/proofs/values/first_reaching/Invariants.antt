@@ -1,7 +1,4 @@
-use Rattle.std.proofs.Common.{◌≡◌, take}
-use Rattle.break_rules.specs.Lists.{Has}
-use Rattle.break_graph.specs.declared.Edge.{Edge}
-use Rattle.pricing.specs.Values.{reach_of, AreFit}
+use Rattle.pricing.proofs.Common.{◌≡◌, take, Has, Edge, reach_of, AreFit}
 use Rattle.pricing.proofs.values.first_reaching.Given as goal
 
 abbrev pub invariant-loop-next : goal.invariant-loop-next

@@ -1,8 +1,4 @@
-use Rattle.std.proofs.Common.{◌≡◌, ◌+◌, sym, ap, subst, ◌∙◌, to_z, of_z}
-use Rattle.std.specs.Int.{w64, int_max}
-use Rattle.std.proofs.lemmas.Int.{to_z-of_z}
-use Rattle.break_graph.specs.declared.Edge.{Edge}
-use Rattle.pricing.specs.Values.{reach_of}
+use Rattle.pricing.proofs.Common.{◌≡◌, ◌+◌, sym, ap, subst, ◌∙◌, to_z, of_z, w64, int_max, to_z-of_z, Edge, reach_of}
 use Rattle.pricing.proofs.Most.{IsMostBefore, most_first, most_more, most_all, has_at, has_got}
 use Rattle.pricing.proofs.values.most_reached.Goals as goal
 

@@ -1,4 +1,4 @@
-use Rattle.pricing.specs.Values.{reach_of, AreFit}
+use Rattle.pricing.proofs.Common.{reach_of, AreFit}
 use Rattle.pricing.proofs.Most.{IsMostBefore}
 use Rattle.pricing.proofs.values.most_reached.Given as goal
 

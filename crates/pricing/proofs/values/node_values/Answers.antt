@@ -1,7 +1,4 @@
-use Rattle.std.proofs.Common.{◌≡◌, ◌+◌, ◌++◌, ◌∷◌, [], ℤ, length, length-append, sym, ap, subst, ◌∙◌, arith}
-use Rattle.std.specs.Int.{w64}
-use Rattle.std.proofs.lemmas.Int.{to_z-of_z}
-use Rattle.pricing.specs.Values.{AreValues}
+use Rattle.pricing.proofs.Common.{◌≡◌, ◌+◌, ◌++◌, ◌∷◌, [], ℤ, length, length-append, sym, ap, subst, ◌∙◌, arith, w64, to_z-of_z, AreValues}
 use Rattle.pricing.proofs.ByEdges.{values_more}
 use Rattle.pricing.proofs.values.node_values.Goals as goal
 

@@ -1,5 +1,4 @@
-use Rattle.std.proofs.Common.{◌≡◌, length}
-use Rattle.pricing.specs.Values.{AreValues}
+use Rattle.pricing.proofs.Common.{◌≡◌, length, AreValues}
 use Rattle.pricing.proofs.values.node_values.Given as goal
 
 abbrev pub invariant-loop-k : goal.invariant-loop-k

@@ -1,9 +1,4 @@
-use Rattle.std.proofs.Common.{◌≤◌, ◌<◌, ◌≡◌, ◌∙◌, sym, subst, arith, to_z, of_z}
-use Rattle.std.specs.Int.{w64}
-use Rattle.std.proofs.lemmas.Int.{to_z-of_z}
-use Rattle.break_rules.specs.declared.Spot.{Spot}
-use Rattle.break_graph.specs.Graph.{node_at}
-use Rattle.pricing.specs.Values.{IsValue}
+use Rattle.pricing.proofs.Common.{◌≤◌, ◌<◌, ◌≡◌, ◌∙◌, sym, subst, arith, to_z, of_z, w64, to_z-of_z, Spot, node_at, IsValue}
 use Rattle.pricing.proofs.values.value_anew.Goals as goal
 
 pub returns-then-spot-last-clause-value : goal.returns-then-spot-last-clause-value

@@ -1,12 +1,4 @@
-use Rattle.std.proofs.Common.{◌≡◌, ◌≢◌, inl, inr, ℤ, ◌-ℤ◌, ◌⊎◌, List, [], ◌∷◌, to_z, of_z, true, ◌==◌, refl, sym, ap, subst, ◌∙◌, FitsSigned, length}
-use Rattle.std.specs.Int.{w64}
-use Rattle.break_rules.specs.Breaks.{is_legal}
-use Rattle.break_rules.specs.Walk.{end_of_all}
-use Rattle.break_graph.specs.declared.Edge.{Edge}
-use Rattle.break_graph.specs.Graph.{node_at}
-use Rattle.std.proofs.lemmas.Int.{to_z-of_z}
-use Rattle.price_sums.specs.Along.{sum_at, resumes}
-use Rattle.pricing.specs.Values.{reach_of, AreFit, IsMostReached, IsValue}
+use Rattle.pricing.proofs.Common.{◌≡◌, ◌≢◌, inl, inr, ℤ, ◌-ℤ◌, ◌⊎◌, List, [], ◌∷◌, to_z, of_z, true, ◌==◌, refl, sym, ap, subst, ◌∙◌, FitsSigned, length, w64, is_legal, end_of_all, Edge, node_at, to_z-of_z, sum_at, resumes, reach_of, AreFit, IsMostReached, IsValue}
 use Rattle.pricing.proofs.ByEdges.{fits, value_by_edges, value_at_end, value_small}
 use Rattle.pricing.proofs.values.value_of.Goals as goal
 

@@ -1,12 +1,4 @@
-use Rattle.std.proofs.Common.{◌≡◌, ◌+◌, ◌++◌, ◌∷◌, [], ◌<◌, ◌≤◌, ℕ, ℤ, List, length, take, length-append, nat_le, sym, ap, subst, ◌∙◌, arith, inl, inr, to_z, of_z}
-use Rattle.std.specs.Int.{w64}
-use Rattle.std.specs.List.{count_by}
-use Rattle.std.proofs.lemmas.Bool.{cases_lt, le-leb, lt-leb}
-use Rattle.std.proofs.lemmas.Int.{to_z-of_z}
-use Rattle.std.proofs.lemmas.List.Sums.{count_by_more_yes, count_by_more_no}
-use Rattle.break_graph.specs.declared.Node.{Node}
-use Rattle.break_graph.specs.Graph.{node_at}
-use Rattle.pricing.specs.Values.{AreValues, IsValue}
+use Rattle.pricing.proofs.Common.{◌≡◌, ◌+◌, ◌++◌, ◌∷◌, [], ◌<◌, ◌≤◌, ℕ, ℤ, List, length, take, length-append, nat_le, sym, ap, subst, ◌∙◌, arith, inl, inr, to_z, of_z, w64, count_by, cases_lt, le-leb, lt-leb, to_z-of_z, count_by_more_yes, count_by_more_no, Node, node_at, AreValues, IsValue}
 use Rattle.pricing.proofs.ByEdges.{values_more}
 use Rattle.pricing.proofs.Reached.{count_first}
 use Rattle.pricing.proofs.values.values_anew.Given.{Over}

@@ -1,6 +1,4 @@
-use Rattle.std.proofs.Common.{◌≡◌, ◌≤◌, ◌+◌, length, take, nat_le}
-use Rattle.std.specs.List.{count_by}
-use Rattle.pricing.specs.Values.{AreValues}
+use Rattle.pricing.proofs.Common.{◌≡◌, ◌≤◌, ◌+◌, length, take, nat_le, count_by, AreValues}
 use Rattle.pricing.proofs.values.values_anew.Given as goal
 
 abbrev pub invariant-loop-k : goal.invariant-loop-k

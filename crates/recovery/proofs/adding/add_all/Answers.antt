@@ -1,4 +1,4 @@
-use Rattle.search_core.proofs.Taking.{taking_more, taking_stops}
+use Rattle.recovery.proofs.Common.{taking_more, taking_stops}
 use Rattle.recovery.proofs.Found.{next_found}
 use Rattle.recovery.proofs.adding.add_all.Goals as goal
 

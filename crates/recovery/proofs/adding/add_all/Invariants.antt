@@ -1,4 +1,4 @@
-use Rattle.search_core.proofs.Taking.{Taking}
+use Rattle.recovery.proofs.Common.{Taking}
 use Rattle.recovery.proofs.adding.add_all.Given as goal
 
 abbrev pub invariant-loop-post : goal.invariant-loop-post

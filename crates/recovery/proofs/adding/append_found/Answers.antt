@@ -1,7 +1,4 @@
-use Rattle.std.proofs.Common.{◌≡◌, max, rules, subst, sym}
-use Rattle.std.specs.Prelude.{IsSome}
-use Rattle.search_core.specs.Book.{step}
-use Rattle.search_core.specs.State.{StateView, value_of}
+use Rattle.recovery.proofs.Common.{◌≡◌, max, rules, subst, sym, IsSome, step, StateView, value_of}
 use Rattle.recovery.proofs.Found.{found_allowed}
 use Rattle.recovery.proofs.adding.append_found.Goals as goal
 

@@ -1,5 +1,4 @@
-use Rattle.std.proofs.Common.{◌≡◌, ◌∙◌, sym}
-use Rattle.recovery.specs.NodeCuts.{cuts_at}
+use Rattle.recovery.proofs.Common.{◌≡◌, ◌∙◌, sym, cuts_at}
 use Rattle.recovery.proofs.Found.{bound_is}
 use Rattle.recovery.proofs.Copies.{same_items, same_prices}
 use Rattle.recovery.proofs.findings.bound_found.Goals as goal

@@ -1,4 +1,4 @@
-use Rattle.std.proofs.Common.{rules, arith}
+use Rattle.recovery.proofs.Common.{rules, arith}
 use Rattle.std.proofs.lemmas.Grind.{common_steps}
 use Rattle.recovery.proofs.Found.{found_more}
 use Rattle.recovery.proofs.findings.findings_of.Goals as goal

@@ -1,5 +1,4 @@
-use Rattle.std.proofs.Common.{◌≡◌, length, take}
-use Rattle.recovery.specs.Findings.{AreFoundIn}
+use Rattle.recovery.proofs.Common.{◌≡◌, length, take, AreFoundIn}
 use Rattle.recovery.proofs.findings.findings_of.Given as goal
 
 abbrev pub invariant-loop-post : goal.invariant-loop-post

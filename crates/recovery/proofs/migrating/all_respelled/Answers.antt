@@ -1,5 +1,4 @@
-use Rattle.std.proofs.Common.{ℕ, List, subst}
-use Rattle.recovery.specs.Migrating.{SpellSame}
+use Rattle.recovery.proofs.Common.{ℕ, List, subst, SpellSame}
 use Rattle.recovery.proofs.Migrated.{respelled_next}
 use Rattle.recovery.proofs.migrating.all_respelled.Goals as goal
 

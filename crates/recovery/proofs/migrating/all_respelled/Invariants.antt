@@ -1,6 +1,4 @@
-use Rattle.std.proofs.Common.{map, take}
-use Rattle.std.specs.List.{AllZip}
-use Rattle.recovery.specs.Migrating.{SpellSame}
+use Rattle.recovery.proofs.Common.{map, take, AllZip, SpellSame}
 use Rattle.recovery.proofs.migrating.all_respelled.Given as goal
 
 abbrev pub invariant-loop-record : goal.invariant-loop-record

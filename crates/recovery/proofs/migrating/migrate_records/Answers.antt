@@ -1,5 +1,4 @@
-use Rattle.std.proofs.Common.{map, rules}
-use Rattle.post_codec.specs.declared.price_width.PriceWidth.TheVariants.{Eight}
+use Rattle.recovery.proofs.Common.{map, rules, Eight}
 use Rattle.recovery.proofs.Folds.{none_rejected}
 use Rattle.recovery.proofs.Migrated.{same_book}
 use Rattle.recovery.proofs.migrating.migrate_records.Goals as goal

@@ -1,6 +1,4 @@
-use Rattle.std.proofs.Common.{◌≡◌, fold, take}
-use Rattle.recovery.specs.NodeCuts.{nodes_after}
-use Rattle.recovery.specs.Reads.{all_posts}
+use Rattle.recovery.proofs.Common.{◌≡◌, fold, take, nodes_after, all_posts}
 use Rattle.recovery.proofs.rebuilding.add_all_nodes.Given as goal
 
 abbrev pub invariant-loop-outcome : goal.invariant-loop-outcome

@@ -1,4 +1,4 @@
-use Rattle.std.proofs.Common.{rules}
+use Rattle.recovery.proofs.Common.{rules}
 use Rattle.recovery.proofs.Trees.{post_more}
 use Rattle.recovery.proofs.rebuilding.add_nodes.Goals as goal
 

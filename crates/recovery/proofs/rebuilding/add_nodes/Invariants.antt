@@ -1,5 +1,4 @@
-use Rattle.std.proofs.Common.{◌≡◌, fold, take}
-use Rattle.recovery.specs.NodeCuts.{nodes_after}
+use Rattle.recovery.proofs.Common.{◌≡◌, fold, take, nodes_after}
 use Rattle.recovery.proofs.rebuilding.add_nodes.Given as goal
 
 abbrev pub invariant-loop-post : goal.invariant-loop-post

@@ -1,8 +1,4 @@
-use Rattle.std.proofs.Common.{◌≡◌, ◌∙◌, ◌+◌, ℕ, List, Vec, Global, Option, ap, fold, map, subst, sym, take}
-use Rattle.recovery.specs.Findings.{AreFoundIn}
-use Rattle.recovery.specs.NodeCuts.{nodes_after, nodes_of}
-use Rattle.recovery.specs.Reads.{all_posts, posts_in, AreAllFound, Outcome}
-use Rattle.recovery.specs.Records.{MakeBookBy}
+use Rattle.recovery.proofs.Common.{◌≡◌, ◌∙◌, ◌+◌, ℕ, List, Vec, Global, Option, ap, fold, map, subst, sym, take, AreFoundIn, nodes_after, nodes_of, all_posts, posts_in, AreAllFound, Outcome, MakeBookBy}
 use Rattle.recovery.proofs.Folds.{reads_of, zip_of}
 use Rattle.recovery.proofs.Trees.{more_nodes}
 use Rattle.recovery.proofs.rebuilding.add_part.Goals as goal

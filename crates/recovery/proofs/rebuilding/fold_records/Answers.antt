@@ -1,5 +1,4 @@
-use Rattle.std.proofs.Common.{◌≡◌, length, arith, rules}
-use Rattle.std.proofs.lemmas.Option.{slice_get_within}
+use Rattle.recovery.proofs.Common.{◌≡◌, length, arith, rules, slice_get_within}
 use Rattle.recovery.proofs.Folds.{found_here, folding_at, folding_done, folding_found, folding_grown, folding_more, folding_starts, folding_stops, folding_tree, tree_here}
 use Rattle.recovery.proofs.rebuilding.fold_records.Goals as goal
 

@@ -1,4 +1,4 @@
-use Rattle.std.proofs.Common.{◌≤◌, ℕ, Vec, Global, arith, length, map, rules}
+use Rattle.recovery.proofs.Common.{◌≤◌, ℕ, Vec, Global, arith, length, map, rules}
 use Rattle.recovery.proofs.Folds.{all_made, front_starts, none_rejected}
 use Rattle.recovery.proofs.rebuilding.rebuild_by.Goals as goal
 

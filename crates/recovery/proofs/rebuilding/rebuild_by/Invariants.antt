@@ -1,4 +1,4 @@
-use Rattle.std.proofs.Common.{◌-◌, length}
+use Rattle.recovery.proofs.Common.{◌-◌, length}
 use Rattle.recovery.proofs.Folds.{FrontMade}
 use Rattle.recovery.proofs.rebuilding.rebuild_by.Given as goal
 

@@ -1,5 +1,4 @@
-use Rattle.std.proofs.Common.{◌≡◌, ◌++◌, length}
-use Rattle.report_grafts.specs.Branches.{branches_of}
+use Rattle.report_grafts.proofs.Common.{◌≡◌, ◌++◌, length, branches_of}
 use Rattle.report_grafts.proofs.branches.branches_of.Given as goal
 
 abbrev pub invariant-loop-branches : goal.invariant-loop-branches

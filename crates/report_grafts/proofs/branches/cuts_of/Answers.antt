@@ -1,7 +1,4 @@
-use Rattle.std.proofs.Common.{◌≡◌, ℕ, ◌-◌, ◌/◌, ◌%◌, ◌<◌, Bool, ◌==◌, [], ◌∷◌, ◌++◌, length, refl, ap, ◌∙◌, arith, Some}
-use Rattle.std.specs.Prelude.{slice_get}
-use Rattle.std.proofs.lemmas.Option.{slice_get_read}
-use Rattle.head_splits.specs.declared.Cut.{Cut}
+use Rattle.report_grafts.proofs.Common.{◌≡◌, ℕ, ◌-◌, ◌/◌, ◌%◌, ◌<◌, Bool, ◌==◌, [], ◌∷◌, ◌++◌, length, refl, ap, ◌∙◌, arith, Some, slice_get, slice_get_read, Cut}
 use Rattle.report_grafts.proofs.Trees.{cuts_gone, halves, node_falls, part_cut, small_number}
 use Rattle.report_grafts.proofs.branches.cuts_of.Goals as goal
 

@@ -1,6 +1,4 @@
-use Rattle.std.proofs.Common.{◌≡◌, ◌≤◌, ◌*◌, ◌++◌, [], List, length, reverse}
-use Rattle.head_splits.specs.Nodes.{Node}
-use Rattle.report_grafts.specs.Branches.{cuts_at, MakeNodes}
+use Rattle.report_grafts.proofs.Common.{◌≡◌, ◌≤◌, ◌*◌, ◌++◌, [], List, length, reverse, Node, cuts_at, MakeNodes}
 use Rattle.report_grafts.proofs.branches.cuts_of.Given as goal
 
 abbrev pub invariant-loop-at : goal.invariant-loop-at

@@ -1,4 +1,4 @@
-use Rattle.std.proofs.lemmas.Result.{err_from_is_err_and}
+use Rattle.report_grafts.proofs.Common.{err_from_is_err_and}
 use Rattle.report_grafts.proofs.exporting.export.Goals as goal
 
 pub returns-in_err-branches-clause-fault : goal.returns-in_err-branches-clause-fault

@@ -1,7 +1,5 @@
-use Rattle.std.proofs.Common.{◌≡◌, ◌∷◌, ◌++◌, [], ap, subst, ◌∙◌}
-use Rattle.certificate.specs.declared.proof_lines.Line.{Line}
+use Rattle.report_grafts.proofs.Common.{◌≡◌, ◌∷◌, ◌++◌, [], ap, subst, ◌∙◌, Line, grafted_line}
 use Rattle.certificate.specs.KeptLines.{Reads}
-use Rattle.report_grafts.specs.Grafted.{grafted_line}
 use Rattle.report_grafts.proofs.Grafts.{fit_rest, grafted_more}
 use Rattle.report_grafts.proofs.grafting.add_grafted.Goals as goal
 

@@ -1,7 +1,4 @@
-use Rattle.std.proofs.Common.{◌≡◌, ◌<◌, ◌+◌, ◌*◌, ◌^◌, ◌++◌, length, map}
-use Rattle.std.specs.Prelude.{All}
-use Rattle.certificate.specs.Accepted.{node_of}
-use Rattle.report_grafts.specs.Grafted.{grafted_line}
+use Rattle.report_grafts.proofs.Common.{◌≡◌, ◌<◌, ◌+◌, ◌*◌, ◌^◌, ◌++◌, length, map, All, node_of, grafted_line}
 use Rattle.report_grafts.proofs.grafting.add_grafted.Given as goal
 
 abbrev pub invariant-loop-line : goal.invariant-loop-line

@@ -1,4 +1,4 @@
-use Rattle.std.proofs.Common.{◌≡◌, ◌++◌, length}
+use Rattle.report_grafts.proofs.Common.{◌≡◌, ◌++◌, length}
 use Rattle.report_grafts.proofs.grafting.add_lines.Given as goal
 
 abbrev pub invariant-loop-line : goal.invariant-loop-line

@@ -1,6 +1,4 @@
-use Rattle.std.proofs.Common.{arith, None}
-use Rattle.certificate.specs.declared.CertStatus.TheVariants.{Bound}
-use Rattle.report_grafts.specs.Grafted.{found_by}
+use Rattle.report_grafts.proofs.Common.{arith, None, Bound, found_by}
 use Rattle.report_grafts.proofs.Plans.{claim_refused, claim_tells}
 use Rattle.report_grafts.proofs.grafting.found_by.Goals as goal
 

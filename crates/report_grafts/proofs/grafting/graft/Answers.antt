@@ -1,11 +1,4 @@
-use Rattle.std.proofs.Common.{rules, arith, ◌≡◌, ◌^◌, ◌+◌, ◌*◌, ◌<◌, ◌≤◌, List, length, sym, ap, subst, ◌∙◌}
-use Rattle.std.specs.Prelude.{All}
-use Rattle.std.proofs.lemmas.Result.{err_from_is_err_and}
-use Rattle.certificate.specs.declared.Cert.{Cert}
-use Rattle.certificate.specs.declared.proof_lines.Line.{Line}
-use Rattle.certificate.specs.Accepted.{node_of}
-use Rattle.report_grafts.specs.Faults.{HasOpenEnd}
-use Rattle.report_grafts.specs.Grafted.{found_by, grafted_lines, grafted_plan}
+use Rattle.report_grafts.proofs.Common.{rules, arith, ◌≡◌, ◌^◌, ◌+◌, ◌*◌, ◌<◌, ◌≤◌, List, length, sym, ap, subst, ◌∙◌, All, err_from_is_err_and, Cert, Line, node_of, HasOpenEnd, found_by, grafted_lines, grafted_plan}
 use Rattle.report_grafts.proofs.Ends.{export_grafted}
 use Rattle.report_grafts.proofs.Plans.{accepted_agrees}
 use Rattle.report_grafts.proofs.Grafts.{branches_number, graft_accepted, graft_better, lines_are, lines_good, open_end, run_fits, splits_few}

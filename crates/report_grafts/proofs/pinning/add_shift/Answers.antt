@@ -1,6 +1,4 @@
-use Rattle.std.proofs.Common.{ap, ◌++◌, ◌∙◌}
-use Rattle.shift_instance.specs.Rota.{heads_on, rota_of}
-use Rattle.report_grafts.specs.Pins.{pins_on}
+use Rattle.report_grafts.proofs.Common.{ap, ◌++◌, ◌∙◌, heads_on, rota_of, pins_on}
 use Rattle.report_grafts.proofs.Pinned.{one_more}
 use Rattle.report_grafts.proofs.pinning.add_shift.Goals as goal
 

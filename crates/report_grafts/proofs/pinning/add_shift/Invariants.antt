@@ -1,8 +1,4 @@
-use Rattle.std.proofs.Common.{◌≡◌, ◌++◌}
-use Rattle.std.specs.List.{flat_map}
-use Rattle.shift_instance.specs.Problem.{below}
-use Rattle.shift_instance.specs.Rota.{heads_on, rota_of}
-use Rattle.report_grafts.specs.Pins.{pins_on}
+use Rattle.report_grafts.proofs.Common.{◌≡◌, ◌++◌, flat_map, below, heads_on, rota_of, pins_on}
 use Rattle.report_grafts.proofs.pinning.add_shift.Given as goal
 
 abbrev pub invariant-loop-day : goal.invariant-loop-day

@@ -1,5 +1,4 @@
-use Rattle.std.proofs.Common.{◌≡◌, ◌≤◌, arith}
-use Rattle.shift_instance.specs.Rota.{heads_on, rota_of}
+use Rattle.report_grafts.proofs.Common.{◌≡◌, ◌≤◌, arith, heads_on, rota_of}
 use Rattle.report_grafts.proofs.Pinned.{heads_counted, heads_few}
 use Rattle.report_grafts.proofs.pinning.heads_on.Goals as goal
 

@@ -1,6 +1,4 @@
-use Rattle.std.proofs.Common.{[]}
-use Rattle.shift_instance.specs.Rota.{rota_of}
-use Rattle.report_grafts.specs.Pins.{pins_of_shift}
+use Rattle.report_grafts.proofs.Common.{[], rota_of, pins_of_shift}
 use Rattle.report_grafts.proofs.Pinned.{one_more}
 use Rattle.report_grafts.proofs.pinning.pins.Goals as goal
 

@@ -1,8 +1,4 @@
-use Rattle.std.proofs.Common.{◌≡◌, [], ◌++◌}
-use Rattle.std.specs.List.{flat_map}
-use Rattle.shift_instance.specs.Problem.{below}
-use Rattle.shift_instance.specs.Rota.{rota_of}
-use Rattle.report_grafts.specs.Pins.{pins_of_shift}
+use Rattle.report_grafts.proofs.Common.{◌≡◌, [], ◌++◌, flat_map, below, rota_of, pins_of_shift}
 use Rattle.report_grafts.proofs.pinning.pins.Given as goal
 
 abbrev pub invariant-loop-shift : goal.invariant-loop-shift

@@ -1,4 +1,4 @@
-use Rattle.std.proofs.Common.{◌≡◌, ◌++◌, length}
+use Rattle.report_joins.proofs.Common.{◌≡◌, ◌++◌, length}
 use Rattle.report_joins.proofs.joining.lines_of.Given as goal
 
 abbrev pub invariant-loop-list : goal.invariant-loop-list

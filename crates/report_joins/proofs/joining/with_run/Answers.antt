@@ -1,8 +1,4 @@
-use Rattle.std.proofs.Common.{◌≡◌, ◌∷◌, ◌++◌, [], ap, subst, ◌∙◌}
-use Rattle.certificate.specs.declared.proof_lines.Line.{Line}
-use Rattle.certificate.specs.KeptLines.{Reads}
-use Rattle.report_grafts.specs.Grafted.{grafted_line}
-use Rattle.report_grafts.proofs.Grafts.{fit_rest, grafted_more}
+use Rattle.report_joins.proofs.Common.{◌≡◌, ◌∷◌, ◌++◌, [], ap, subst, ◌∙◌, Line, Reads, grafted_line, fit_rest, grafted_more}
 use Rattle.report_joins.proofs.joining.with_run.Goals as goal
 
 pub loop-lines-preserved : goal.loop-lines-preserved

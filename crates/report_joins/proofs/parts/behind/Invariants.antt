@@ -1,4 +1,4 @@
-use Rattle.std.proofs.Common.{◌≡◌, ◌++◌, take}
+use Rattle.report_joins.proofs.Common.{◌≡◌, ◌++◌, take}
 use Rattle.report_joins.proofs.parts.behind.Given as goal
 
 abbrev pub invariant-loop-at : goal.invariant-loop-at

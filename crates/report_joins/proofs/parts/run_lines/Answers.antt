@@ -1,6 +1,4 @@
-use Rattle.std.proofs.Common.{◌≡◌, ◌∷◌, ◌+◌, [], length, subst, ap, rules}
-use Rattle.certificate.specs.KeptLines.{Reads}
-use Rattle.report_joins.specs.Numbers.{with_node}
+use Rattle.report_joins.proofs.Common.{◌≡◌, ◌∷◌, ◌+◌, [], length, subst, ap, rules, Reads, with_node}
 use Rattle.report_joins.proofs.Reading.{run_first, run_leaves, run_more, some_more}
 use Rattle.report_joins.proofs.parts.run_lines.Goals as goal
 

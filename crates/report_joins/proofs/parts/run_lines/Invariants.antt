@@ -1,5 +1,4 @@
-use Rattle.std.proofs.Common.{◌≡◌, ◌<◌, ◌∷◌, ◌++◌, length, map}
-use Rattle.report_grafts.specs.Grafted.{grafted_line}
+use Rattle.report_joins.proofs.Common.{◌≡◌, ◌<◌, ◌∷◌, ◌++◌, length, map, grafted_line}
 use Rattle.report_joins.proofs.parts.run_lines.Given as goal
 
 abbrev pub invariant-loop-run : goal.invariant-loop-run

@@ -1,6 +1,4 @@
-use Rattle.std.proofs.Common.{◌≡◌, ◌∷◌, length, subst}
-use Rattle.std.proofs.lemmas.Result.{err_from_is_err_and}
-use Rattle.certificate.specs.KeptLines.{Reads}
+use Rattle.report_joins.proofs.Common.{◌≡◌, ◌∷◌, length, subst, err_from_is_err_and, Reads}
 use Rattle.report_joins.proofs.Reading.{left_is, splits_are}
 use Rattle.report_joins.proofs.parts.run_of.Goals as goal
 

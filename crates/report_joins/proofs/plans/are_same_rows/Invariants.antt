@@ -1,4 +1,4 @@
-use Rattle.std.proofs.Common.{◌≡◌, ◌≤◌, ◌-◌, length, take}
+use Rattle.report_joins.proofs.Common.{◌≡◌, ◌≤◌, ◌-◌, length, take}
 use Rattle.report_joins.proofs.plans.are_same_rows.Given as goal
 
 abbrev pub invariant-loop-at : goal.invariant-loop-at

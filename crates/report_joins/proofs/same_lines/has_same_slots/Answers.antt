@@ -1,6 +1,4 @@
-use Rattle.std.proofs.Common.{◌∙◌, sym}
-use Rattle.std.proofs.lemmas.Bool.Decides.{Decides-int_eq}
-use Rattle.std.proofs.lemmas.Slice.Eq.{slice_eq-Decides}
+use Rattle.report_joins.proofs.Common.{◌∙◌, sym, Decides-int_eq, slice_eq-Decides}
 use Rattle.report_joins.proofs.same_lines.has_same_slots.Goals as goal
 
 pub returns : goal.returns

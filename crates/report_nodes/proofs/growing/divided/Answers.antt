@@ -1,6 +1,4 @@
-use Rattle.std.proofs.Common.{◌+◌}
-use Rattle.std.specs.Prelude.{slice_get}
-use Rattle.head_splits.specs.declared.Side.TheVariants.{AtMost, AtLeast}
+use Rattle.report_nodes.proofs.Common.{◌+◌, slice_get, AtMost, AtLeast}
 use Rattle.report_nodes.proofs.Grown.{part_at, parts_added}
 use Rattle.report_nodes.proofs.growing.divided.Goals as goal
 

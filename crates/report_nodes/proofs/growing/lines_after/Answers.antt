@@ -1,8 +1,5 @@
-use Rattle.std.proofs.Common.{◌≡◌, ◌∷◌, [], ◌∙◌, ap, subst, sym, List, Some}
-use Rattle.std.specs.Option.{option_map}
-use Rattle.certificate.specs.declared.proof_lines.Line.{Line}
+use Rattle.report_nodes.proofs.Common.{◌≡◌, ◌∷◌, [], ◌∙◌, ap, subst, sym, List, Some, option_map, Line, nodes_after}
 use Rattle.certificate.specs.KeptLines.{Reads}
-use Rattle.certificate.specs.Accepted.{nodes_after}
 use Rattle.report_nodes.proofs.Grown.{Grows, grows_few, grows_first, grows_more}
 use Rattle.report_nodes.proofs.growing.lines_after.Goals as goal
 

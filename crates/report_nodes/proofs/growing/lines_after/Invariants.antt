@@ -1,4 +1,4 @@
-use Rattle.std.proofs.Common.{◌≡◌, length}
+use Rattle.report_nodes.proofs.Common.{◌≡◌, length}
 use Rattle.report_nodes.proofs.Grown.{Grows}
 use Rattle.report_nodes.proofs.growing.lines_after.Given as goal
 

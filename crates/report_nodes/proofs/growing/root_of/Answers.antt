@@ -1,5 +1,4 @@
-use Rattle.std.proofs.Common.{◌≡◌, ◌∷◌, [], rules}
-use Rattle.head_splits.specs.Nodes.{new_node}
+use Rattle.report_nodes.proofs.Common.{◌≡◌, ◌∷◌, [], rules, new_node}
 use Rattle.report_nodes.proofs.Grown.{root_room}
 use Rattle.report_nodes.proofs.growing.root_of.Goals as goal
 

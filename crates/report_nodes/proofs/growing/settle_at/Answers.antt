@@ -1,4 +1,4 @@
-use Rattle.std.proofs.Common.{sym}
+use Rattle.report_nodes.proofs.Common.{sym}
 use Rattle.cert_check.proofs.Causes.{settle_bad, settle_good}
 use Rattle.report_nodes.proofs.Grown.{cuts_at_place, unsplit_of}
 use Rattle.report_nodes.proofs.growing.settle_at.Goals as goal

@@ -1,8 +1,6 @@
-use Rattle.std.proofs.Common.{◌≤◌, ◌^◌, ◌∙◌, sym, subst, ℕ, length, List, rules}
+use Rattle.report_nodes.proofs.Common.{◌≤◌, ◌^◌, ◌∙◌, sym, subst, ℕ, length, List, rules, Node, OpenNode}
 use Rattle.std.proofs.lemmas.List.Sorted.{answers_always}
 use Rattle.std.specs.List.Sorted.{IsPermutation}
-use Rattle.head_splits.specs.Nodes.{Node}
-use Rattle.report_nodes.specs.declared.listing.OpenNode.{OpenNode}
 use Rattle.report_nodes.proofs.Grown.{few_nodes, listed_open, made_nodes}
 use Rattle.report_nodes.proofs.listing.open_nodes.Goals as goal
 

@@ -1,5 +1,4 @@
-use Rattle.std.proofs.Common.{◌≡◌, ◌++◌, drop}
-use Rattle.report_nodes.specs.Listed.{open_from}
+use Rattle.report_nodes.proofs.Common.{◌≡◌, ◌++◌, drop, open_from}
 use Rattle.report_nodes.proofs.listing.open_of.Given as goal
 
 abbrev pub invariant-loop-k : goal.invariant-loop-k

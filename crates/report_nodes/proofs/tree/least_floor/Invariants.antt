@@ -1,5 +1,4 @@
-use Rattle.std.proofs.Common.{◌≡◌, cond, fold, min, take}
-use Rattle.head_splits.specs.Nodes.{Node}
+use Rattle.report_nodes.proofs.Common.{◌≡◌, cond, fold, min, take, Node}
 use Rattle.report_nodes.proofs.tree.least_floor.Given as goal
 
 abbrev pub invariant-loop-node : goal.invariant-loop-node

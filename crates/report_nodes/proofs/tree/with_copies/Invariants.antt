@@ -1,4 +1,4 @@
-use Rattle.std.proofs.Common.{◌≡◌, ◌++◌, take}
+use Rattle.report_nodes.proofs.Common.{◌≡◌, ◌++◌, take}
 use Rattle.report_nodes.proofs.tree.with_copies.Given as goal
 
 abbrev pub invariant-loop-node : goal.invariant-loop-node

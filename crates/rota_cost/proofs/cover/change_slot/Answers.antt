@@ -1,7 +1,4 @@
-use Rattle.std.proofs.Common.{◌≡◌, ◌+◌, ◌*◌, ◌≤◌, get_or, set, arith}
-use Rattle.shift_instance.specs.Problem.{slots}
-use Rattle.shift_instance.specs.Rota.{slot_cost}
-use Rattle.rota_cost.specs.Counted.{slots_cost}
+use Rattle.rota_cost.proofs.Common.{◌≡◌, ◌+◌, ◌*◌, ◌≤◌, get_or, set, arith, slots, slot_cost, slots_cost}
 use Rattle.rota_cost.proofs.Sums.{sum_below_at, sum_below_set, slots_most}
 use Rattle.rota_cost.proofs.cover.change_slot.Goals as goal
 

@@ -1,5 +1,4 @@
-use Rattle.std.proofs.Common.{ℕ, ◌+◌, ◌≤◌, List, get_or, arith, ap, refl, sym, ◌∙◌, subst}
-use Rattle.rota_cost.specs.Counted.{changed, slots_cost}
+use Rattle.rota_cost.proofs.Common.{ℕ, ◌+◌, ◌≤◌, List, get_or, arith, ap, refl, sym, ◌∙◌, subst, changed, slots_cost}
 use Rattle.rota_cost.proofs.Marks.{IsFor, IsMarked, marked_skip, marked_more, marked_most, marked_all}
 use Rattle.rota_cost.proofs.Counts.{changed_grows}
 use Rattle.rota_cost.proofs.cover.change_slots.Goals as goal

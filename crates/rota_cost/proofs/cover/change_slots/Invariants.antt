@@ -1,5 +1,4 @@
-use Rattle.std.proofs.Common.{◌≡◌}
-use Rattle.rota_cost.specs.Counted.{changed, slots_cost}
+use Rattle.rota_cost.proofs.Common.{◌≡◌, changed, slots_cost}
 use Rattle.rota_cost.proofs.Marks.{IsMarked}
 use Rattle.rota_cost.proofs.cover.change_slots.Given as goal
 

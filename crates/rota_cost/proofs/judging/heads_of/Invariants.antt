@@ -1,5 +1,4 @@
-use Rattle.std.proofs.Common.{◌≡◌, ◌≤◌, ◌*◌, take}
-use Rattle.rota_cost.specs.RowFaults.{heads_of}
+use Rattle.rota_cost.proofs.Common.{◌≡◌, ◌≤◌, ◌*◌, take, heads_of}
 use Rattle.rota_cost.proofs.judging.heads_of.Given as goal
 
 abbrev pub invariant-loop-row : goal.invariant-loop-row

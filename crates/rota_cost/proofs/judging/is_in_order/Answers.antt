@@ -1,4 +1,4 @@
-use Rattle.std.proofs.Common.{arith, sym, ◌∙◌}
+use Rattle.rota_cost.proofs.Common.{arith, sym, ◌∙◌}
 use Rattle.rota_cost.proofs.RowLaw.{order_last}
 use Rattle.rota_cost.proofs.judging.is_in_order.Goals as goal
 

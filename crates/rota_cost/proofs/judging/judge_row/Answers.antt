@@ -1,4 +1,4 @@
-use Rattle.std.proofs.Common.{sym, ◌∙◌}
+use Rattle.rota_cost.proofs.Common.{sym, ◌∙◌}
 use Rattle.rota_cost.proofs.Runs.{run_next}
 use Rattle.rota_cost.proofs.judging.judge_row.Goals as goal
 

@@ -1,6 +1,4 @@
-use Rattle.std.proofs.Common.{◌≡◌, take, drop}
-use Rattle.rota_cost.specs.RowFaults.{fault_from, row_fault}
-use Rattle.rota_cost.specs.Run.{IsRun}
+use Rattle.rota_cost.proofs.Common.{◌≡◌, take, drop, fault_from, row_fault, IsRun}
 use Rattle.rota_cost.proofs.judging.judge_rows.Given as goal
 
 abbrev pub invariant-loop-i : goal.invariant-loop-i

@@ -1,4 +1,4 @@
-use Rattle.shift_instance.proofs.Alike.{alike_cost, alike_from_counts}
+use Rattle.rota_cost.proofs.Common.{alike_cost, alike_from_counts}
 use Rattle.rota_cost.proofs.laws.cost_knows_no_order.Goals as goal
 
 pub returns : goal.returns

@@ -1,5 +1,4 @@
-use Rattle.std.proofs.Common.{◌≡◌, Bool, true, false, cond, ℕ, ◌+◌, ◌≤◌, ◌^◌, arith, refl, sym, ◌∙◌, ap, get_or, subst}
-use Rattle.shift_instance.specs.Rota.{duty_of, works}
+use Rattle.rota_cost.proofs.Common.{◌≡◌, Bool, true, false, cond, ℕ, ◌+◌, ◌≤◌, ◌^◌, arith, refl, sym, ◌∙◌, ap, get_or, subst, duty_of, works}
 use Rattle.rota_cost.proofs.Marks.{IsFor, IsMarked, unmarked, marked_skip, marked_more, marked_all}
 use Rattle.rota_cost.proofs.recounting.add_row.Goals as goal
 use Rattle.rota_cost.proofs.recounting.add_row.Goals.{then-works, else-works}

@@ -1,5 +1,4 @@
-use Rattle.std.proofs.Common.{◌+◌}
-use Rattle.shift_instance.specs.Rota.{duty_of}
+use Rattle.rota_cost.proofs.Common.{◌+◌, duty_of}
 use Rattle.rota_cost.proofs.Marks.{IsMarked}
 use Rattle.rota_cost.proofs.recounting.add_row.Given as goal
 

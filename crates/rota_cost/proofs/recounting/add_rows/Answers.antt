@@ -1,6 +1,5 @@
-use Rattle.std.proofs.Common.{◌≡◌, ◌≤◌, arith, get_or}
+use Rattle.rota_cost.proofs.Common.{◌≡◌, ◌≤◌, arith, get_or, cover, rota_of}
 use Rattle.rota_cost.proofs.Counting.{row_at, cover_end, cover_few}
-use Rattle.shift_instance.specs.Rota.{cover, rota_of}
 use Rattle.rota_cost.proofs.recounting.add_rows.Goals as goal
 
 pub add_row-requires-clause-shift : goal.add_row-requires-clause-shift

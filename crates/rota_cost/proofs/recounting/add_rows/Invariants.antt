@@ -1,6 +1,4 @@
-use Rattle.std.proofs.Common.{◌≡◌, ℕ, ◌<◌, take, sum_by, get_or}
-use Rattle.shift_instance.specs.Problem.{slots}
-use Rattle.rota_cost.specs.Working.{working}
+use Rattle.rota_cost.proofs.Common.{◌≡◌, ℕ, ◌<◌, take, sum_by, get_or, slots, working}
 use Rattle.rota_cost.proofs.recounting.add_rows.Given as goal
 
 abbrev pub invariant-loop-row : goal.invariant-loop-row

@@ -1,7 +1,4 @@
-use Rattle.std.proofs.Common.{ℕ, ◌≤◌, arith, ap, ◌∙◌}
-use Rattle.std.proofs.lemmas.List.{get_or-replicate}
-use Rattle.shift_instance.specs.Problem.{slots}
-use Rattle.shift_instance.specs.Rota.{rota_of}
+use Rattle.rota_cost.proofs.Common.{ℕ, ◌≤◌, arith, ap, ◌∙◌, get_or-replicate, slots, rota_of}
 use Rattle.rota_cost.proofs.Counting.{cost_from}
 use Rattle.rota_cost.proofs.recounting.recount.Goals as goal
 

@@ -1,4 +1,4 @@
-use Rattle.std.proofs.Common.{ℕ, ◌+◌, ◌≤◌, arith, refl, sym, subst, Bool, List, length}
+use Rattle.rota_cost.proofs.Common.{ℕ, ◌+◌, ◌≤◌, arith, refl, sym, subst, Bool, List, length}
 use Rattle.rota_cost.proofs.Counting.{row_at}
 use Rattle.rota_cost.proofs.Seen.{IsSeen, seen_none, skipped, marked, few_used, seen_all}
 use Rattle.rota_cost.proofs.recounting.shifts_used.Goals as goal

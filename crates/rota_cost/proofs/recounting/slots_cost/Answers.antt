@@ -1,7 +1,4 @@
-use Rattle.std.proofs.Common.{◌≡◌, ℕ, ◌+◌, ◌≤◌, arith, ap, ◌∙◌, sym, sum_by, get_or}
-use Rattle.shift_instance.specs.Problem.{below}
-use Rattle.shift_instance.specs.Rota.{slot_cost}
-use Rattle.shift_instance.proofs.Ranges.{sum_below_more}
+use Rattle.rota_cost.proofs.Common.{◌≡◌, ℕ, ◌+◌, ◌≤◌, arith, ap, ◌∙◌, sym, sum_by, get_or, below, slot_cost, sum_below_more}
 use Rattle.rota_cost.proofs.recounting.slots_cost.Goals as goal
 
 pub overflow_add-total : goal.overflow_add-total

@@ -1,6 +1,4 @@
-use Rattle.std.proofs.Common.{◌≡◌, ◌≤◌, ◌*◌, ◌^◌, sum_by, get_or}
-use Rattle.shift_instance.specs.Problem.{below}
-use Rattle.shift_instance.specs.Rota.{slot_cost}
+use Rattle.rota_cost.proofs.Common.{◌≡◌, ◌≤◌, ◌*◌, ◌^◌, sum_by, get_or, below, slot_cost}
 use Rattle.rota_cost.proofs.recounting.slots_cost.Given as goal
 
 abbrev pub invariant-loop-t : goal.invariant-loop-t

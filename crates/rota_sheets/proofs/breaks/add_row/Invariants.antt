@@ -1,4 +1,4 @@
-use Rattle.std.proofs.Common.{◌≡◌, ◌++◌}
+use Rattle.rota_sheets.proofs.Common.{◌≡◌, ◌++◌}
 use Rattle.rota_sheets.proofs.BreaksMore.{first_breaks}
 use Rattle.rota_sheets.proofs.breaks.add_row.Given as goal
 

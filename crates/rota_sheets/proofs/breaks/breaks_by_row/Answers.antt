@@ -1,4 +1,4 @@
-use Rattle.plan_tables.proofs.RowDuties.{row_at}
+use Rattle.rota_sheets.proofs.Common.{row_at}
 use Rattle.rota_sheets.proofs.breaks.breaks_by_row.Goals as goal
 
 pub add_row-requires : goal.add_row-requires

@@ -1,6 +1,4 @@
-use Rattle.std.proofs.Common.{◌≡◌, take}
-use Rattle.std.specs.List.{flat_map}
-use Rattle.rota_sheets.specs.TakenBreaks.{breaks_of_row}
+use Rattle.rota_sheets.proofs.Common.{◌≡◌, take, flat_map, breaks_of_row}
 use Rattle.rota_sheets.proofs.breaks.breaks_by_row.Given as goal
 
 abbrev pub invariant-loop-row : goal.invariant-loop-row

@@ -1,7 +1,4 @@
-use Rattle.std.proofs.Common.{ℕ, List, rules, subst}
-use Rattle.std.proofs.lemmas.List.Sorted.{answers_always}
-use Rattle.std.specs.List.Sorted.{IsPermutation}
-use Rattle.rota_sheets.specs.declared.breaks.TakenBreak.{TakenBreak}
+use Rattle.rota_sheets.proofs.Common.{ℕ, List, rules, subst, answers_always, IsPermutation, TakenBreak}
 use Rattle.rota_sheets.proofs.breaks.taken_breaks.Goals as goal
 
 pub returns : goal.returns

@@ -1,6 +1,4 @@
-use Rattle.std.proofs.Common.{◌≡◌, ◌+◌, Bool, cond, count_by, take, sym, ap, ◌∙◌, arith}
-use Rattle.shift_instance.specs.Rota.{rota_of}
-use Rattle.plan_tables.specs.Tallies.{starts_on}
+use Rattle.rota_sheets.proofs.Common.{◌≡◌, ◌+◌, Bool, cond, count_by, take, sym, ap, ◌∙◌, arith, rota_of, starts_on}
 use Rattle.rota_sheets.proofs.Counting.{counts_row}
 use Rattle.rota_sheets.proofs.heads.duties_on.Goals as goal
 use Rattle.rota_sheets.proofs.heads.duties_on.Goals.{then-row_starts_on, else-row_starts_on}

@@ -1,6 +1,4 @@
-use Rattle.std.proofs.Common.{◌≡◌, ◌+◌, Bool, cond, count_by, take, sym, ap, ◌∙◌, arith}
-use Rattle.shift_instance.specs.Rota.{rota_of}
-use Rattle.rota_sheets.specs.Heads.{starts_with}
+use Rattle.rota_sheets.proofs.Common.{◌≡◌, ◌+◌, Bool, cond, count_by, take, sym, ap, ◌∙◌, arith, rota_of, starts_with}
 use Rattle.rota_sheets.proofs.Counting.{counts_row}
 use Rattle.rota_sheets.proofs.heads.heads_on.Goals as goal
 use Rattle.rota_sheets.proofs.heads.heads_on.Goals.{then-row_starts_with, else-row_starts_with}

@@ -1,6 +1,4 @@
-use Rattle.std.proofs.Common.{◌≡◌, ◌≤◌, count_by, take}
-use Rattle.shift_instance.specs.Rota.{rota_of}
-use Rattle.rota_sheets.specs.Heads.{starts_with}
+use Rattle.rota_sheets.proofs.Common.{◌≡◌, ◌≤◌, count_by, take, rota_of, starts_with}
 use Rattle.rota_sheets.proofs.heads.heads_on.Given as goal
 
 abbrev pub invariant-loop-row : goal.invariant-loop-row

@@ -1,9 +1,5 @@
-use Rattle.std.proofs.Common.{◌≡◌, ◌==◌, List, [], ◌∷◌, ◌++◌, sym, ap, ◌∙◌}
-use Rattle.std.specs.List.{list_any}
-use Rattle.shift_instance.specs.declared.Row.{Row}
-use Rattle.shift_instance.specs.Rota.{is_used, rota_of}
+use Rattle.rota_sheets.proofs.Common.{◌≡◌, ◌==◌, List, [], ◌∷◌, ◌++◌, sym, ap, ◌∙◌, list_any, Row, is_used, rota_of, UsedShift}
 use Rattle.plan_tables.proofs.Steps.{used_row}
-use Rattle.rota_sheets.specs.declared.heads.UsedShift.{UsedShift}
 use Rattle.rota_sheets.proofs.UsedMore.{unused_more, used_more}
 use Rattle.rota_sheets.proofs.heads.used_by_number.Goals as goal
 use Rattle.rota_sheets.proofs.heads.used_by_number.Goals.{then-has_row+in_ok-push, else-has_row}

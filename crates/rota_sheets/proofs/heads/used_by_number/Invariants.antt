@@ -1,5 +1,4 @@
-use Rattle.std.proofs.Common.{◌≡◌}
-use Rattle.shift_instance.specs.Rota.{rota_of}
+use Rattle.rota_sheets.proofs.Common.{◌≡◌, rota_of}
 use Rattle.rota_sheets.proofs.UsedMore.{used_below}
 use Rattle.rota_sheets.proofs.heads.used_by_number.Given as goal
 

@@ -1,7 +1,4 @@
-use Rattle.std.proofs.Common.{ℕ, List, rules, subst}
-use Rattle.std.proofs.lemmas.List.Sorted.{answers_always}
-use Rattle.std.specs.List.Sorted.{IsPermutation}
-use Rattle.rota_sheets.specs.declared.heads.UsedShift.{UsedShift}
+use Rattle.rota_sheets.proofs.Common.{ℕ, List, rules, subst, answers_always, IsPermutation, UsedShift}
 use Rattle.rota_sheets.proofs.heads.used_shifts.Goals as goal
 
 pub returns : goal.returns

@@ -1,4 +1,4 @@
-use Rattle.std.proofs.Common.{◌*◌, ◌≤◌}
+use Rattle.rota_sheets.proofs.Common.{◌*◌, ◌≤◌}
 use Rattle.rota_sheets.proofs.heads_lines.add_line.Given as goal
 
 abbrev pub invariant-loop-day : goal.invariant-loop-day

@@ -1,6 +1,4 @@
-use Rattle.std.proofs.Common.{◌≡◌, ◌++◌, map, take, string_bytes}
-use Rattle.std.specs.List.{flat_map}
-use Rattle.rota_table.specs.Fields.{break_fields}
+use Rattle.rota_table.proofs.Common.{◌≡◌, ◌++◌, map, take, string_bytes, flat_map, break_fields}
 use Rattle.rota_table.proofs.fields.add_breaks.Given as goal
 
 abbrev pub invariant-loop-b : goal.invariant-loop-b

@@ -1,9 +1,4 @@
-use Rattle.std.proofs.Common.{ℕ, ◌++◌, List, map, string_bytes, sym, ap, ◌∙◌}
-use Rattle.std.specs.List.{flat_map}
-use Rattle.std.proofs.lemmas.List.{flat_map_more}
-use Rattle.shift_instance.specs.Problem.{below}
-use Rattle.shift_instance.proofs.Ranges.{below_next}
-use Rattle.rota_table.specs.Fields.{lacking_fields}
+use Rattle.rota_table.proofs.Common.{ℕ, ◌++◌, List, map, string_bytes, sym, ap, ◌∙◌, flat_map, flat_map_more, below, below_next, lacking_fields}
 use Rattle.rota_table.proofs.fields.add_lacking.Goals as goal
 
 pub loop-preserved : goal.loop-preserved

@@ -1,7 +1,4 @@
-use Rattle.std.proofs.Common.{◌≡◌, ◌++◌, map, string_bytes}
-use Rattle.std.specs.List.{flat_map}
-use Rattle.shift_instance.specs.Problem.{below}
-use Rattle.rota_table.specs.Fields.{lacking_fields}
+use Rattle.rota_table.proofs.Common.{◌≡◌, ◌++◌, map, string_bytes, flat_map, below, lacking_fields}
 use Rattle.rota_table.proofs.fields.add_lacking.Given as goal
 
 abbrev pub invariant-loop : goal.invariant-loop

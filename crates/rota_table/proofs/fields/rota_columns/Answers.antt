@@ -1,9 +1,4 @@
-use Rattle.std.proofs.Common.{◌≡◌, ℕ, ◌++◌, List, sym, ap, ◌∙◌, arith}
-use Rattle.std.specs.List.{flat_map}
-use Rattle.std.proofs.lemmas.List.{flat_map_more}
-use Rattle.shift_instance.specs.Problem.{below}
-use Rattle.shift_instance.proofs.Ranges.{below_next}
-use Rattle.rota_table.specs.Fields.{break_columns, first_columns}
+use Rattle.rota_table.proofs.Common.{◌≡◌, ℕ, ◌++◌, List, sym, ap, ◌∙◌, arith, flat_map, flat_map_more, below, below_next, break_columns, first_columns}
 use Rattle.rota_table.proofs.fields.rota_columns.Goals as goal
 
 pub loop-number-preserved : goal.loop-number-preserved

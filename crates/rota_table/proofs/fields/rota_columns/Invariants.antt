@@ -1,7 +1,4 @@
-use Rattle.std.proofs.Common.{◌≡◌, ◌++◌, map, string_bytes}
-use Rattle.std.specs.List.{flat_map}
-use Rattle.shift_instance.specs.Problem.{below}
-use Rattle.rota_table.specs.Fields.{break_columns, first_columns}
+use Rattle.rota_table.proofs.Common.{◌≡◌, ◌++◌, map, string_bytes, flat_map, below, break_columns, first_columns}
 use Rattle.rota_table.proofs.fields.rota_columns.Given as goal
 
 abbrev pub invariant-loop-number : goal.invariant-loop-number

@@ -1,4 +1,4 @@
-use Rattle.std.proofs.Common.{◌≡◌, ◌-◌, fold, take}
+use Rattle.rota_table.proofs.Common.{◌≡◌, ◌-◌, fold, take}
 use Rattle.rota_table.proofs.fields.worked_slots.Given as goal
 
 abbrev pub invariant-loop-b : goal.invariant-loop-b

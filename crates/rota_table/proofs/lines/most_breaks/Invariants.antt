@@ -1,4 +1,4 @@
-use Rattle.std.proofs.Common.{◌≡◌, fold, length, max, take}
+use Rattle.rota_table.proofs.Common.{◌≡◌, fold, length, max, take}
 use Rattle.rota_table.proofs.lines.most_breaks.Given as goal
 
 abbrev pub invariant-loop-row : goal.invariant-loop-row

@@ -1,13 +1,8 @@
-use Rattle.std.proofs.Common.{◌≡◌, ℕ, ◌++◌, ◌≤◌, Bor, IfOk, List, length, map, ap, subst, ◌∙◌}
-use Rattle.std.specs.List.{flat_map}
-use Rattle.std.proofs.lemmas.List.{take_all}
+use Rattle.rota_table.proofs.Common.{◌≡◌, ℕ, ◌++◌, ◌≤◌, Bor, IfOk, List, length, map, ap, subst, ◌∙◌, flat_map, take_all, default_writer, row_text, rota_columns, most_breaks, rota_text, row_records}
 use Rattle.std.proofs.lemmas.List.Elements.{All-same}
-use Rattle.csv.specs.Writing.{default_writer, row_text}
 use Rattle.shift_instance.specs.declared.Row.{Row}
 use Rattle.plan_tables.specs.Starting.{IsKnown, by_start}
 use Rattle.plan_tables.proofs.Starts.{known_by_start, mapped_at, text_more}
-use Rattle.rota_table.specs.Fields.{rota_columns}
-use Rattle.rota_table.specs.Lines.{most_breaks, rota_text, row_records}
 use Rattle.rota_table.proofs.lines.rota_csv.Goals as goal
 
 pub with_row-requires : goal.with_row-requires

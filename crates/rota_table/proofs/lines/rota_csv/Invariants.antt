@@ -1,8 +1,4 @@
-use Rattle.std.proofs.Common.{◌≡◌, ◌++◌, map, take}
-use Rattle.std.specs.List.{flat_map}
-use Rattle.csv.specs.Writing.{default_writer, row_text}
-use Rattle.rota_table.specs.Fields.{rota_columns}
-use Rattle.rota_table.specs.Lines.{most_breaks, row_records}
+use Rattle.rota_table.proofs.Common.{◌≡◌, ◌++◌, map, take, flat_map, default_writer, row_text, rota_columns, most_breaks, row_records}
 use Rattle.rota_table.proofs.lines.rota_csv.Given as goal
 
 abbrev pub invariant-loop-row : goal.invariant-loop-row

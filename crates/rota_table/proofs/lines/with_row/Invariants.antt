@@ -1,7 +1,5 @@
-use Rattle.std.proofs.Common.{◌≡◌, ◌++◌, replicate}
-use Rattle.std.specs.List.{flat_map}
+use Rattle.rota_table.proofs.Common.{◌≡◌, ◌++◌, replicate, flat_map, duty_record}
 use Rattle.shift_instance.specs.Rota.{duty_of}
-use Rattle.rota_table.specs.Lines.{duty_record}
 use Rattle.rota_table.proofs.lines.with_row.Given as goal
 
 abbrev pub invariant-loop : goal.invariant-loop

@@ -1,6 +1,4 @@
-use Rattle.std.proofs.Common.{◌≡◌, ◌++◌, take, codes, string_bytes}
-use Rattle.std.specs.List.{flat_map}
-use Rattle.rota_writer.specs.Table.{break_text}
+use Rattle.rota_writer.proofs.Common.{◌≡◌, ◌++◌, take, codes, string_bytes, flat_map, break_text}
 use Rattle.rota_writer.proofs.table_lines.add_further.Given as goal
 
 abbrev pub invariant-loop-next : goal.invariant-loop-next

@@ -1,6 +1,4 @@
-use Rattle.std.proofs.Common.{◌<◌, List, length, get_or, subst, sym, ap, ◌∙◌}
-use Rattle.shift_instance.specs.declared.Row.{Row}
-use Rattle.shift_instance.specs.Problem.{shift_list}
+use Rattle.rota_writer.proofs.Common.{◌<◌, List, length, get_or, subst, sym, ap, ◌∙◌, Row, shift_list}
 use Rattle.rota_cost.proofs.Counting.{row_duty}
 use Rattle.rota_writer.proofs.table_lines.table.Goals as goal
 

@@ -1,5 +1,4 @@
-use Rattle.std.proofs.Common.{◌≡◌, take, string_bytes}
-use Rattle.rota_writer.specs.Table.{table_text}
+use Rattle.rota_writer.proofs.Common.{◌≡◌, take, string_bytes, table_text}
 use Rattle.rota_writer.proofs.table_lines.table.Given as goal
 
 abbrev pub invariant-loop-row : goal.invariant-loop-row

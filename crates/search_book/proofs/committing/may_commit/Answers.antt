@@ -1,7 +1,4 @@
-use Rattle.std.proofs.Common.{◌≡◌, ◌<◌, length, Some, ap, sym, ◌∙◌, subst, arith}
-use Rattle.search_core.specs.Book.{Book}
-use Rattle.search_core.specs.Core.{hand}
-use Rattle.search_core.specs.Kept.{cuts_in}
+use Rattle.search_book.proofs.Common.{◌≡◌, ◌<◌, length, Some, ap, sym, ◌∙◌, subst, arith, Book, hand, cuts_in}
 use Rattle.search_book.proofs.Committed.{none_told}
 use Rattle.search_book.proofs.Handing.{cuts_are, is_there}
 use Rattle.search_book.proofs.committing.may_commit.Goals as goal

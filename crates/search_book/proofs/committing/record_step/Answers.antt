@@ -1,11 +1,4 @@
-use Rattle.std.proofs.Common.{◌≡◌, List, ℕ, true, not, ap, sym, ◌∙◌, subst, arith, refl}
-use Rattle.std.proofs.lemmas.Bool.{eqb-true}
-use Rattle.shift_instance.specs.Problem.{Problem}
-use Rattle.search_core.specs.Book.{Book, is_node_and}
-use Rattle.search_core.specs.Drafting.{Drafts, Makes}
-use Rattle.search_core.specs.Kept.{cuts_in}
-use Rattle.search_core.specs.Steps.{after_step, Fits}
-use Rattle.search_book.specs.Committing.{StepFails}
+use Rattle.search_book.proofs.Common.{◌≡◌, List, ℕ, true, not, ap, sym, ◌∙◌, subst, arith, refl, eqb-true, Problem, Book, is_node_and, Drafts, Makes, cuts_in, after_step, Fits, StepFails}
 use Rattle.search_book.proofs.Committed.{some_there, step_allowed, step_fails, step_idle, step_recorded}
 use Rattle.search_book.proofs.committing.record_step.Goals as goal
 

@@ -1,4 +1,4 @@
-use Rattle.std.proofs.Common.{◌≡◌, ◌≤◌, ◌-◌, length, take}
+use Rattle.search_book.proofs.Common.{◌≡◌, ◌≤◌, ◌-◌, length, take}
 use Rattle.search_book.proofs.head.difference.Given as goal
 
 abbrev pub invariant-loop-at : goal.invariant-loop-at

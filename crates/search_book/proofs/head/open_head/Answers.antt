@@ -1,7 +1,5 @@
-use Rattle.std.proofs.Common.{ℕ, List, subst}
+use Rattle.search_book.proofs.Common.{ℕ, List, subst, err_from_is_err_and, OpenFails}
 use Rattle.std.specs.Prelude.{Option}
-use Rattle.std.proofs.lemmas.Result.{err_from_is_err_and}
-use Rattle.gated_journal.specs.Faults.{OpenFails}
 use Rattle.search_book.proofs.Heads.{head_cause}
 use Rattle.search_book.proofs.head.open_head.Goals as goal
 

@@ -1,9 +1,4 @@
-use Rattle.std.proofs.Common.{List, ℕ, subst}
-use Rattle.gated_journal.proofs.Once.{stands_once}
-use Rattle.instance_json.specs.Canonical.{canonical_text}
-use Rattle.post_codec.proofs.Formats.{one_list}
-use Rattle.post_codec.specs.Batches.{SpellPosts}
-use Rattle.post_codec.proofs.Batches.{posts_once}
+use Rattle.search_book.proofs.Common.{List, ℕ, subst, stands_once, canonical_text, one_list, SpellPosts, posts_once}
 use Rattle.search_book.proofs.laws.one_history.Goals as goal
 
 pub returns : goal.returns

@@ -1,6 +1,4 @@
-use Rattle.std.proofs.Common.{◌≡◌, ◌+◌, ◌≤◌, ℕ, List, length, sym, subst, arith}
-use Rattle.open_nodes.specs.Listed.{Entry}
-use Rattle.search_book.specs.Listing.{ListsBelow}
+use Rattle.search_book.proofs.Common.{◌≡◌, ◌+◌, ◌≤◌, ℕ, List, length, sym, subst, arith, Entry, ListsBelow}
 use Rattle.search_book.proofs.Listings.{all_below, new_below, one_below}
 use Rattle.search_book.proofs.listing.all_open.Goals as goal
 

@@ -1,5 +1,4 @@
-use Rattle.std.proofs.Common.{◌+◌, ◌≤◌}
-use Rattle.search_book.specs.Listing.{ListsBelow}
+use Rattle.search_book.proofs.Common.{◌+◌, ◌≤◌, ListsBelow}
 use Rattle.search_book.proofs.listing.all_open.Given as goal
 
 abbrev pub invariant-loop-node : goal.invariant-loop-node

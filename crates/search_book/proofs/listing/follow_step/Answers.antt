@@ -1,7 +1,4 @@
-use Rattle.std.proofs.Common.{◌≡◌, ℕ, ◌+◌, ◌<◌, ◌≤◌, List, ap, sym, ◌∙◌, subst, arith, false, nat_lt}
-use Rattle.std.specs.List.{filter}
-use Rattle.open_nodes.specs.Listed.{has_node, Entry}
-use Rattle.search_book.specs.Listing.{with_open}
+use Rattle.search_book.proofs.Common.{◌≡◌, ℕ, ◌+◌, ◌<◌, ◌≤◌, List, ap, sym, ◌∙◌, subst, arith, false, nat_lt, filter, has_node, Entry, with_open}
 use Rattle.search_book.proofs.Listings.{below_low, dropped_below, kept_below, low_new, low_next, IsBelow}
 use Rattle.search_book.proofs.listing.follow_step.Goals as goal
 use Rattle.search_book.proofs.listing.follow_step.Goals.{then-cost-best, else-cost-best}

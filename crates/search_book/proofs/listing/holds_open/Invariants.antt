@@ -1,7 +1,4 @@
-use Rattle.std.proofs.Common.{◌≡◌, ◌<◌, ℕ, false}
-use Rattle.std.specs.Option.{option_map_or}
-use Rattle.search_core.specs.Book.{is_node_and, is_open}
-use Rattle.search_core.specs.Core.{hand}
+use Rattle.search_book.proofs.Common.{◌≡◌, ◌<◌, ℕ, false, option_map_or, is_node_and, is_open, hand}
 use Rattle.search_book.proofs.listing.holds_open.Given as goal
 
 abbrev pub invariant-loop-worker : goal.invariant-loop-worker

@@ -1,9 +1,4 @@
-use Rattle.std.proofs.Common.{List, ℕ, ap, refl, sym, subst}
-use Rattle.std.specs.Prelude.{IfSome}
-use Rattle.post_codec.proofs.Formats.{one_list}
-use Rattle.search_book.specs.Opening.{IsBegun, IsOpenedFrom}
-use Rattle.search_book.specs.PostLog.{PostLogView}
-use Rattle.search_book.specs.Posts.{bytes_used}
+use Rattle.search_book.proofs.Common.{List, ℕ, ap, refl, sym, subst, IfSome, one_list, IsBegun, IsOpenedFrom, PostLogView, bytes_used}
 use Rattle.search_book.proofs.Opens.{opened_from}
 use Rattle.search_book.proofs.log_opening.open_log.Goals as goal
 

@@ -1,14 +1,5 @@
-use Rattle.std.proofs.Common.{◌≡◌, ℕ, List, map, ap, sym, ◌∙◌, subst, arith, Vec, Global}
-use Rattle.std.specs.Prelude.{IfSome}
-use Rattle.std.proofs.lemmas.Result.{err_from_is_err_and}
-use Rattle.instance_json.specs.Canonical.{canonical_text}
-use Rattle.post_codec.specs.declared.post.Post.{Post}
+use Rattle.search_book.proofs.Common.{◌≡◌, ℕ, List, map, ap, sym, ◌∙◌, subst, arith, Vec, Global, IfSome, err_from_is_err_and, canonical_text, Post, MakeBook, Refuses, Book, HeadCause, IsFound}
 use Rattle.recovery.specs.declared.fault.RebuildFault.TheVariants.{NoMemory as RebuildsMemory}
-use Rattle.recovery.specs.Records.{MakeBook}
-use Rattle.recovery.specs.Refusals.{Refuses}
-use Rattle.search_core.specs.Book.{Book}
-use Rattle.search_book.specs.Head.{HeadCause}
-use Rattle.search_book.specs.Opening.{IsFound}
 use Rattle.search_book.proofs.Opens.{only_head, only_rebuild, rebuild_keeps}
 use Rattle.search_book.proofs.log_opening.open_state.Goals as goal
 

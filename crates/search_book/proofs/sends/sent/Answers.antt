@@ -1,4 +1,4 @@
-use denote.Param.Send.{param_send, arg_send}
+use Rattle.search_book.proofs.Common.{param_send, arg_send}
 use Rattle.search_book.proofs.Crosses.{book_send}
 use Rattle.search_book.proofs.sends.sent.Goals as goal
 

@@ -1,4 +1,4 @@
-use Rattle.std.proofs.Common.{take}
+use Rattle.search_core.proofs.Common.{take}
 use Rattle.std.specs.Fmt.{HasWritten, IsPlainFormatter}
 use Rattle.search_core.specs.FaultText.{more_breaks_text}
 use Rattle.search_core.proofs.class_text.write_more_breaks.Given as goal

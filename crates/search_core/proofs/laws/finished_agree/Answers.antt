@@ -1,6 +1,4 @@
-use Rattle.std.proofs.Common.{subst, sym}
-use Rattle.shift_instance.specs.Problem.{Problem}
-use Rattle.search_core.specs.Book.{IsSound}
+use Rattle.search_core.proofs.Common.{subst, sym, Problem, IsSound}
 use Rattle.search_core.proofs.Floors.{finished_cost, finished_floor}
 use Rattle.search_core.proofs.laws.finished_agree.Goals as goal
 

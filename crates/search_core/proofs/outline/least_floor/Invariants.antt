@@ -1,5 +1,4 @@
-use Rattle.std.proofs.Common.{◌≡◌, cond, fold, min, take}
-use Rattle.search_core.specs.declared.outline.NodeState.{NodeState}
+use Rattle.search_core.proofs.Common.{◌≡◌, cond, fold, min, take, NodeState}
 use Rattle.search_core.proofs.outline.least_floor.Given as goal
 
 abbrev pub invariant-loop-node : goal.invariant-loop-node

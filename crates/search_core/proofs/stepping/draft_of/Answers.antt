@@ -1,15 +1,4 @@
-use Rattle.std.proofs.Common.{◌≡◌, false, List, [], Option, sym, ◌∙◌, ap, subst}
-use Rattle.std.specs.Prelude.{IfSome, IsTrue}
-use Rattle.shift_instance.specs.Problem.{Problem}
-use Rattle.rota_cost.specs.Costed.{Costing}
-use Rattle.head_splits.specs.declared.Cut.{Cut}
-use Rattle.head_splits.specs.Nodes.{settled_floor}
-use Rattle.head_splits.specs.Settled.{is_settled}
-use Rattle.post_codec.specs.declared.post.Post.{Post}
-use Rattle.post_codec.specs.declared.post.Post.TheVariants.{Priced}
-use Rattle.search_core.specs.Steps.{followed_by, plan_posts, where_open, FitsClose}
-use Rattle.search_core.specs.declared.drafting.Draft.{Draft}
-use Rattle.search_core.specs.Drafting.{IsDraft}
+use Rattle.search_core.proofs.Common.{◌≡◌, false, List, [], Option, sym, ◌∙◌, ap, subst, IfSome, IsTrue, Problem, Costing, Cut, settled_floor, is_settled, Post, Priced, followed_by, plan_posts, where_open, FitsClose, StepDraft, IsDraft}
 use Rattle.search_core.proofs.Stepped.{draft_start, plan_instance, posts_as_settled, posts_by_price, posts_by_split}
 use Rattle.search_core.proofs.stepping.draft_of.Goals as goal
 
@@ -17,7 +6,7 @@ pub returns-in_ok-add_prices-in-ByPrice-clause-drafts : goal.returns-in_ok-add_p
 returns-in_ok-add_prices-in-ByPrice-clause-drafts c = λ i b valid fits after.
     let s = c.args.step in
     let w = c.args.worker in
-    let start : Draft = record { posts = c.new.result; values = c.new-2.result; best = c.args.best; floor = c.args.floor } in
+    let start : StepDraft = record { posts = c.new.result; values = c.new-2.result; best = c.args.best; floor = c.args.floor } in
     let one = c.in_ok-add_plan.ensures.drafts i b s.node s.proved.cuts [] valid fits.plan (draft_start i b s.node s.proved.cuts start c.new.ensures.items c.new-2.ensures.items after) in
     let two = c.in_ok-add_prices-in-ByPrice.ensures.drafts i b (plan_posts w s.plan b) valid fits.proved one in
     (false, subst (λ (l : List Post). IsDraft i b s.node s.proved.cuts l c.add_prices.new.self false) (posts_by_price i b w s c.in-ByPrice.is) two)
@@ -28,7 +17,7 @@ returns-in_ok-add_split-in-Split-clause-drafts c = λ i b valid fits after.
     let w = c.args.worker in
     let class = c.in-Split.class in
     let m = c.in-Split.m in
-    let start : Draft = record { posts = c.new.result; values = c.new-2.result; best = c.args.best; floor = c.args.floor } in
+    let start : StepDraft = record { posts = c.new.result; values = c.new-2.result; best = c.args.best; floor = c.args.floor } in
     let close = subst (FitsClose i s.proved.cuts) c.in-Split.is fits.close in
     let one = c.in_ok-add_plan.ensures.drafts i b s.node s.proved.cuts [] valid fits.plan (draft_start i b s.node s.proved.cuts start c.new.ensures.items c.new-2.ensures.items after) in
     let two = c.in_ok-add_prices-in-Split.ensures.drafts i b (plan_posts w s.plan b) valid fits.proved one in
@@ -41,7 +30,7 @@ returns-in_ok-add_settled-in-Settled-clause-drafts c = λ i b valid fits after.
     let s = c.args.step in
     let w = c.args.worker in
     let node = c.in-Settled.settled in
-    let start : Draft = record { posts = c.new.result; values = c.new-2.result; best = c.args.best; floor = c.args.floor } in
+    let start : StepDraft = record { posts = c.new.result; values = c.new-2.result; best = c.args.best; floor = c.args.floor } in
     let close = subst (FitsClose i s.proved.cuts) c.in-Settled.is fits.close in
     let sealed = c.floor-floor.ensures.settled in
     let plan = c.into_plan.ensures.plan in

@@ -1,6 +1,4 @@
-use Rattle.std.proofs.Common.{◌<◌, ◌≤◌, ℕ, false, sym, ◌∙◌, ap, subst, arith}
-use Rattle.search_core.specs.Steps.{posts_of}
-use Rattle.search_core.specs.Drafting.{best_with, floor_with, IsAfter}
+use Rattle.search_core.proofs.Common.{◌<◌, ◌≤◌, ℕ, false, sym, ◌∙◌, ap, subst, arith, posts_of, best_with, floor_with, IsAfter}
 use Rattle.search_core.proofs.Closing.{closed_as_settled, closed_by_split}
 use Rattle.search_core.proofs.Stepped.{after_by_price, leaves_none, leaves_with}
 use Rattle.search_core.proofs.stepping.stays_open.Goals as goal

@@ -1,7 +1,4 @@
-use Rattle.std.proofs.Common.{◌≡◌, ◌∙◌, ap, sym, subst, List}
-use Rattle.shift_instance.specs.Kind.{Kind}
-use Rattle.shift_instance.specs.Problem.{Problem}
-use Rattle.shift_instance.specs.Graphs.{AreGraphs}
+use Rattle.shift_instance.proofs.Common.{◌≡◌, ◌∙◌, ap, sym, subst, List, Kind, Problem, AreGraphs}
 use Rattle.shift_instance.proofs.Made.{inside, listed_kinds, few_listed, ruled_kinds}
 use Rattle.shift_instance.proofs.Instance.completed.Goals as goal
 

@@ -1,11 +1,4 @@
-use Rattle.std.proofs.Common.{◌≡◌, ℕ, ◌+◌, ◌∙◌, ap, arith, get_or, sym, List, Some, refl}
-use Rattle.std.specs.Prelude.{slice_get}
-use Rattle.std.specs.Arc.{arc_value}
-use Rattle.std.proofs.lemmas.Bool.{ltb-true}
-use Rattle.std.proofs.lemmas.Option.{slice_get_read}
-use Rattle.break_graph.specs.declared.Node.{Node}
-use Rattle.shift_instance.specs.Kind.{Kind}
-use Rattle.shift_instance.specs.Problem.{Problem}
+use Rattle.shift_instance.proofs.Common.{◌≡◌, ℕ, ◌+◌, ◌∙◌, ap, arith, get_or, sym, List, Some, refl, slice_get, arc_value, ltb-true, slice_get_read, Node, Kind, Problem}
 use Rattle.shift_instance.proofs.KeptGraphs.{graph_found}
 use Rattle.shift_instance.proofs.Instance.kept_graph.Goals as goal
 

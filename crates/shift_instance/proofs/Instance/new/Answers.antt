@@ -1,4 +1,4 @@
-use Rattle.std.proofs.Common.{sym}
+use Rattle.shift_instance.proofs.Common.{sym}
 use Rattle.shift_instance.proofs.Judged.{answered}
 use Rattle.shift_instance.proofs.Instance.new.Goals as goal
 

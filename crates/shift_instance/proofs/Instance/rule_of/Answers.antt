@@ -1,8 +1,4 @@
-use Rattle.std.proofs.Common.{◌≡◌, ℕ, ◌∙◌, ap, arith, get_or, subst, sym}
-use Rattle.std.specs.Prelude.{slice_get, IsSomeAnd}
-use Rattle.break_rules.proofs.Ranges.{ranges_from_none}
-use Rattle.shift_instance.specs.Kind.{Kind}
-use Rattle.shift_instance.specs.Problem.{shift_list}
+use Rattle.shift_instance.proofs.Common.{◌≡◌, ℕ, ◌∙◌, ap, arith, get_or, subst, sym, slice_get, IsSomeAnd, ranges_from_none, Kind, shift_list}
 use Rattle.shift_instance.proofs.Shifts.{rule_found, found_passes}
 use Rattle.shift_instance.proofs.Instance.rule_of.Goals as goal
 

@@ -1,5 +1,4 @@
-use Rattle.std.proofs.Common.{ap, ◌∙◌, get_or, subst}
-use Rattle.shift_instance.specs.Valid.{IsValid}
+use Rattle.shift_instance.proofs.Common.{ap, ◌∙◌, get_or, subst, IsValid}
 use Rattle.shift_instance.proofs.Shifts.{shift_found, found_within}
 use Rattle.shift_instance.proofs.Instance.shift.Goals as goal
 

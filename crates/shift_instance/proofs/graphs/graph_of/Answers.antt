@@ -1,6 +1,4 @@
-use Rattle.std.proofs.Common.{◌≡◌, ◌+◌, sym, ap, ◌∙◌, arith}
-use Rattle.std.specs.Arc.{arc_value}
-use Rattle.shift_instance.specs.Kind.{Kind}
+use Rattle.shift_instance.proofs.Common.{◌≡◌, ◌+◌, sym, ap, ◌∙◌, arith, arc_value, Kind}
 use Rattle.shift_instance.proofs.KeptGraphs.{graph_at}
 use Rattle.shift_instance.proofs.graphs.graph_of.Goals as goal
 

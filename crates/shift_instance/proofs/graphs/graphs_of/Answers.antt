@@ -1,9 +1,4 @@
-use Rattle.std.proofs.Common.{[], ◌∷◌, map, ap, subst, ◌∙◌, arith}
-use Rattle.std.specs.Prelude.{IfSome}
-use Rattle.std.specs.Arc.{arc_value}
-use Rattle.std.proofs.lemmas.List.{length-map, map-append}
-use Rattle.break_graph.specs.Graph.{IsGraph}
-use Rattle.shift_instance.specs.Kind.{Kind}
+use Rattle.shift_instance.proofs.Common.{[], ◌∷◌, map, ap, subst, ◌∙◌, arith, IfSome, arc_value, length-map, map-append, IsGraph, Kind}
 use Rattle.shift_instance.proofs.KeptGraphs.{graphs_more}
 use Rattle.shift_instance.proofs.graphs.graphs_of.Goals as goal
 

@@ -1,6 +1,4 @@
-use Rattle.std.proofs.Common.{◌≡◌, ◌-◌, length, map}
-use Rattle.std.specs.Arc.{arc_value}
-use Rattle.shift_instance.specs.Graphs.{AreGraphsOf}
+use Rattle.shift_instance.proofs.Common.{◌≡◌, ◌-◌, length, map, arc_value, AreGraphsOf}
 use Rattle.shift_instance.proofs.graphs.graphs_of.Given as goal
 
 abbrev pub invariant-loop-len : goal.invariant-loop-len

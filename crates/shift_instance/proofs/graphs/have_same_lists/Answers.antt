@@ -1,5 +1,4 @@
-use Rattle.std.proofs.Common.{sym, ◌∙◌}
-use Rattle.std.proofs.lemmas.Bool.{false≢true}
+use Rattle.shift_instance.proofs.Common.{sym, ◌∙◌, false≢true}
 use Rattle.std.proofs.lemmas.Slice.Eq.{slice_eq-Decides}
 use Rattle.shift_instance.proofs.SameRules.{same_pair_decides, same_lunch_decides}
 use Rattle.shift_instance.proofs.graphs.have_same_lists.Goals as goal

@@ -1,5 +1,4 @@
-use Rattle.std.proofs.Common.{refl, arith}
-use Rattle.std.proofs.lemmas.Option.{slice_get_read}
+use Rattle.shift_instance.proofs.Common.{refl, arith, slice_get_read}
 use Rattle.shift_instance.proofs.KeptGraphs.{types_more}
 use Rattle.shift_instance.proofs.graphs.type_graphs.Goals as goal
 

@@ -1,5 +1,4 @@
-use Rattle.std.proofs.Common.{◌≡◌, length}
-use Rattle.shift_instance.specs.Graphs.{AreGraphs}
+use Rattle.shift_instance.proofs.Common.{◌≡◌, length, AreGraphs}
 use Rattle.shift_instance.proofs.graphs.type_graphs.Given as goal
 
 abbrev pub invariant-loop-kind : goal.invariant-loop-kind

@@ -1,6 +1,4 @@
-use Rattle.std.proofs.Common.{◌≡◌, ◌≤◌, ◌+◌, ◌*◌, ◌^◌, drop, length}
-use Rattle.std.specs.List.{enumerate_from, flat_map}
-use Rattle.shift_instance.specs.Problem.{shifts_of_kind}
+use Rattle.shift_instance.proofs.Common.{◌≡◌, ◌≤◌, ◌+◌, ◌*◌, ◌^◌, drop, length, enumerate_from, flat_map, shifts_of_kind}
 use Rattle.shift_instance.proofs.judging.count_shifts.Given as goal
 
 abbrev pub invariant-loop-kind : goal.invariant-loop-kind

@@ -1,10 +1,5 @@
-use Rattle.std.proofs.Common.{◌≤◌, ◌∙◌, List, length, sym, ap, subst}
-use Rattle.std.specs.Prelude.{if◌then◌else◌, Some, None}
-use Rattle.std.specs.List.{flat_map, enumerate_from}
-use Rattle.std.proofs.lemmas.Bool.{lt-ltb, le-ltb}
-use Rattle.shift_instance.specs.declared.InstanceFault.TheVariants.{TooManyShifts}
-use Rattle.shift_instance.specs.Kind.{Kind}
-use Rattle.shift_instance.specs.Problem.{Problem, shifts_of_kind}
+use Rattle.shift_instance.proofs.Common.{◌≤◌, ◌∙◌, List, length, sym, ap, subst, if◌then◌else◌, flat_map, enumerate_from, lt-ltb, le-ltb, TooManyShifts, Kind, Problem, shifts_of_kind}
+use Rattle.std.specs.Prelude.{Some, None}
 use Rattle.shift_instance.proofs.Judged.{causes_front, causes_last, few_kinds}
 use Rattle.shift_instance.proofs.judging.judge.Goals as goal
 

@@ -1,7 +1,4 @@
-use Rattle.std.proofs.Common.{◌≡◌, drop, map}
-use Rattle.std.specs.List.{enumerate_from, zip}
-use Rattle.break_rules.specs.Causes.{first_cause}
-use Rattle.shift_instance.specs.Faults.{band_cause}
+use Rattle.shift_instance.proofs.Common.{◌≡◌, drop, map, enumerate_from, zip, first_cause, band_cause}
 use Rattle.shift_instance.proofs.judging.judge_ends.Given as goal
 
 abbrev pub invariant-loop-t : goal.invariant-loop-t

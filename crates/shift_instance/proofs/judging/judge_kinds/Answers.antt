@@ -1,4 +1,4 @@
-use Rattle.shift_instance.specs.Faults.{types_causes}
+use Rattle.shift_instance.proofs.Common.{types_causes}
 use Rattle.shift_instance.proofs.Judged.{type_fault, type_passes}
 use Rattle.shift_instance.proofs.judging.judge_kinds.Goals as goal
 

@@ -1,7 +1,4 @@
-use Rattle.std.proofs.Common.{◌≡◌, drop, take}
-use Rattle.std.specs.List.{enumerate_from, flat_map}
-use Rattle.break_rules.specs.Causes.{first_cause}
-use Rattle.shift_instance.specs.Faults.{kind_causes, types_causes}
+use Rattle.shift_instance.proofs.Common.{◌≡◌, drop, take, enumerate_from, flat_map, first_cause, kind_causes, types_causes}
 use Rattle.shift_instance.proofs.judging.judge_kinds.Given as goal
 
 abbrev pub invariant-loop-k : goal.invariant-loop-k

@@ -1,8 +1,4 @@
-use Rattle.std.proofs.Common.{◌∙◌, ◌/◌, ℕ, List, sym, ap}
-use Rattle.break_rules.specs.Causes.{first_cause}
-use Rattle.shift_instance.specs.Kind.{Kind}
-use Rattle.shift_instance.specs.Problem.{Problem, day_slots}
-use Rattle.shift_instance.specs.Faults.{period_causes, wanted_causes, size_causes, types_causes}
+use Rattle.shift_instance.proofs.Common.{◌∙◌, ◌/◌, ℕ, List, sym, ap, first_cause, Kind, Problem, day_slots, period_causes, wanted_causes, size_causes, types_causes}
 use Rattle.shift_instance.proofs.Judged.{need_of_each, causes_of_needs, causes_of_sizes, causes_of_kinds}
 use Rattle.shift_instance.proofs.judging.judge_parts.Goals as goal
 

@@ -1,4 +1,4 @@
-use Rattle.break_rules.specs.RuleFaults.{rule_causes}
+use Rattle.shift_instance.proofs.Common.{rule_causes}
 use Rattle.shift_instance.proofs.Judged.{rule_fault, no_rule_fault}
 use Rattle.shift_instance.proofs.judging.judge_rule.Goals as goal
 

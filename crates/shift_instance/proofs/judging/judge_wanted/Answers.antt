@@ -1,9 +1,4 @@
-use Rattle.std.proofs.Common.{◌∙◌, ℕ, List, sym, ap, map}
-use Rattle.std.specs.List.{enumerate_from}
-use Rattle.break_rules.specs.Causes.{first_cause}
-use Rattle.break_rules.proofs.Causes.{first_left, first_right}
-use Rattle.shift_instance.specs.Problem.{Problem}
-use Rattle.shift_instance.specs.Faults.{need_cause, band_causes}
+use Rattle.shift_instance.proofs.Common.{◌∙◌, ℕ, List, sym, ap, map, enumerate_from, first_cause, first_left, first_right, Problem, need_cause, band_causes}
 use Rattle.shift_instance.proofs.judging.judge_wanted.Goals as goal
 
 pub returns-in-Some : goal.returns-in-Some

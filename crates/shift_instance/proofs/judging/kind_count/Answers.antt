@@ -1,5 +1,4 @@
-use Rattle.std.proofs.Common.{◌≡◌, ◌∙◌, ℕ, ◌+◌, ◌-◌, ◌*◌, ap, sym}
-use Rattle.shift_instance.specs.Kind.{Kind}
+use Rattle.shift_instance.proofs.Common.{◌≡◌, ◌∙◌, ℕ, ◌+◌, ◌-◌, ◌*◌, ap, sym, Kind}
 use Rattle.shift_instance.proofs.Made.{length_kind}
 use Rattle.shift_instance.proofs.judging.kind_count.Goals as goal
 

@@ -1,6 +1,4 @@
-use Rattle.std.proofs.Common.{◌≡◌, ◌++◌, drop}
-use Rattle.std.specs.List.{enumerate_from, flat_map}
-use Rattle.shift_instance.specs.Listing.{shifts_of}
+use Rattle.shift_instance.proofs.Common.{◌≡◌, ◌++◌, drop, enumerate_from, flat_map, shifts_of}
 use Rattle.shift_instance.proofs.listing.list_shifts.Given as goal
 
 abbrev pub invariant-loop-k : goal.invariant-loop-k

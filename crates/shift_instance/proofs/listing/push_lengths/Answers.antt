@@ -1,7 +1,4 @@
-use Rattle.std.proofs.Common.{subst}
-use Rattle.shift_instance.specs.Kind.{Kind}
-use Rattle.shift_instance.specs.Listing.{IsListed, starting}
-use Rattle.std.proofs.Common.{◌≡◌, ◌++◌, sym}
+use Rattle.shift_instance.proofs.Common.{subst, Kind, IsListed, starting, ◌≡◌, ◌++◌, sym}
 use Rattle.shift_instance.proofs.Made.{lengths_more, lengths_all}
 use Rattle.shift_instance.proofs.listing.push_lengths.Goals as goal
 

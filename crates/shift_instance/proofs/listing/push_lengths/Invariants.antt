@@ -1,6 +1,4 @@
-use Rattle.std.proofs.Common.{◌≡◌, ◌++◌, ◌-◌, map}
-use Rattle.std.specs.List.{range_with_len}
-use Rattle.shift_instance.specs.Listing.{shift_at}
+use Rattle.shift_instance.proofs.Common.{◌≡◌, ◌++◌, ◌-◌, map, range_with_len, shift_at}
 use Rattle.shift_instance.proofs.listing.push_lengths.Given as goal
 
 abbrev pub invariant-loop-len : goal.invariant-loop-len

@@ -1,7 +1,4 @@
-use Rattle.std.proofs.Common.{◌≡◌, ℕ, ◌++◌, ◌-◌, ap, subst, arith}
-use Rattle.std.specs.List.{range_with_len, flat_map}
-use Rattle.shift_instance.specs.Kind.{Kind}
-use Rattle.shift_instance.specs.Listing.{starting}
+use Rattle.shift_instance.proofs.Common.{◌≡◌, ℕ, ◌++◌, ◌-◌, ap, subst, arith, range_with_len, flat_map, Kind, starting}
 use Rattle.shift_instance.proofs.Made.{starts_more, starts_all}
 use Rattle.shift_instance.proofs.listing.push_starts.Goals as goal
 

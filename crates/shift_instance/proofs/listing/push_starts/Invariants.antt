@@ -1,6 +1,4 @@
-use Rattle.std.proofs.Common.{◌≡◌, ◌++◌, ◌-◌}
-use Rattle.std.specs.List.{range_with_len, flat_map}
-use Rattle.shift_instance.specs.Listing.{starting}
+use Rattle.shift_instance.proofs.Common.{◌≡◌, ◌++◌, ◌-◌, range_with_len, flat_map, starting}
 use Rattle.shift_instance.proofs.listing.push_starts.Given as goal
 
 abbrev pub invariant-loop-start : goal.invariant-loop-start

@@ -1,8 +1,4 @@
-use Rattle.std.proofs.Common.{◌≡◌, ℕ, ◌+◌, ◌<◌, ◌≤◌, Option, Some, cond, nat_le, subst, sym, ap, ◌∙◌}
-use Rattle.std.specs.Option.{option_map_or}
-use Rattle.shift_instance.specs.Problem.{Problem, need_at}
-use Rattle.shift_instance.specs.Rota.{cover}
-use Rattle.short_cover.specs.declared.least.LeastCover.{LeastCover}
+use Rattle.short_cover.proofs.Common.{◌≡◌, ℕ, ◌+◌, ◌<◌, ◌≤◌, Option, Some, cond, nat_le, subst, sym, ap, ◌∙◌, option_map_or, Problem, need_at, cover, LeastCover}
 use Rattle.short_cover.proofs.LeastSteps.{IsLeastSoFar, least_unwanted, least_wanted}
 use Rattle.short_cover.proofs.least.least_among.Goals as goal
 use Rattle.short_cover.proofs.least.least_among.Goals.{then-wanted-gt0, else-wanted-gt0}

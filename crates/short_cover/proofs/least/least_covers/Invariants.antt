@@ -1,6 +1,4 @@
-use Rattle.std.proofs.Common.{◌≡◌, ℕ, ◌<◌, length}
-use Rattle.std.specs.Prelude.{IsSomeAnd, slice_get}
-use Rattle.short_cover.specs.LeastCovers.{IsLeastOn}
+use Rattle.short_cover.proofs.Common.{◌≡◌, ℕ, ◌<◌, length, IsSomeAnd, slice_get, IsLeastOn}
 use Rattle.short_cover.proofs.least.least_covers.Given as goal
 
 abbrev pub invariant-loop-day : goal.invariant-loop-day

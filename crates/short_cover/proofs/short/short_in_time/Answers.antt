@@ -1,5 +1,4 @@
-use Rattle.std.proofs.Common.{List, ◌∷◌, [], ◌++◌, sym, ap, ◌∙◌}
-use Rattle.short_cover.specs.declared.short.ShortSlot.{ShortSlot}
+use Rattle.short_cover.proofs.Common.{List, ◌∷◌, [], ◌++◌, sym, ap, ◌∙◌, ShortSlot}
 use Rattle.short_cover.proofs.Steps.{enough_more, short_more}
 use Rattle.short_cover.proofs.short.short_in_time.Goals as goal
 use Rattle.short_cover.proofs.short.short_in_time.Goals.{then-slot+in_ok-push, else-slot}

@@ -1,6 +1,4 @@
-use Rattle.std.proofs.Common.{◌≡◌, filter, map}
-use Rattle.shift_instance.specs.Problem.{below}
-use Rattle.short_cover.specs.ShortSlots.{is_short, short_slot}
+use Rattle.short_cover.proofs.Common.{◌≡◌, filter, map, below, is_short, short_slot}
 use Rattle.short_cover.proofs.short.short_in_time.Given as goal
 
 abbrev pub invariant-loop-t : goal.invariant-loop-t

@@ -1,8 +1,7 @@
-use Rattle.std.proofs.Common.{ℕ, ◌-◌, List, rules, subst}
+use Rattle.short_cover.proofs.Common.{ℕ, ◌-◌, List, rules, subst, ShortSlot}
 use Rattle.std.proofs.lemmas.List.Sorted.{answers_always}
 use Rattle.std.specs.declared.cmp.Reverse.{Reverse}
 use Rattle.std.specs.List.Sorted.{IsPermutation}
-use Rattle.short_cover.specs.declared.short.ShortSlot.{ShortSlot}
 use Rattle.short_cover.proofs.short.short_slots.Goals as goal
 
 pub returns : goal.returns

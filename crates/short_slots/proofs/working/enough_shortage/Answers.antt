@@ -1,6 +1,4 @@
-use Rattle.std.proofs.Common.{◌≡◌, ◌*◌, ◌≤◌, arith}
-use Rattle.std.proofs.Math.Nat.{mul-le-mul_left}
-use Rattle.shift_instance.specs.Problem.{slots}
+use Rattle.short_slots.proofs.Common.{◌≡◌, ◌*◌, ◌≤◌, arith, mul-le-mul_left, slots}
 use Rattle.short_slots.proofs.Ones.{few_most}
 use Rattle.short_slots.proofs.working.enough_shortage.Goals as goal
 

@@ -1,5 +1,4 @@
-use Rattle.std.proofs.Common.{◌≡◌, ℕ, pos, ◌≤◌, max, get_or, ap, ◌∙◌, arith}
-use Rattle.std.specs.Prelude.{unsigned_abs}
+use Rattle.short_slots.proofs.Common.{◌≡◌, ℕ, pos, ◌≤◌, max, get_or, ap, ◌∙◌, arith, unsigned_abs}
 use Rattle.short_slots.proofs.Ones.{narrow, greatest_each}
 use Rattle.short_slots.proofs.working.greatest_of.Goals as goal
 

@@ -1,5 +1,4 @@
-use Rattle.std.proofs.Common.{ℕ, pos, ◌<◌, ◌≤◌, get_or}
-use Rattle.std.specs.Prelude.{unsigned_abs}
+use Rattle.short_slots.proofs.Common.{ℕ, pos, ◌<◌, ◌≤◌, get_or, unsigned_abs}
 use Rattle.short_slots.proofs.working.greatest_of.Given as goal
 
 abbrev pub invariant-loop-day : goal.invariant-loop-day

@@ -1,11 +1,5 @@
-use Rattle.std.proofs.Common.{◌≡◌, ℕ, ℤ, ◌<◌, false, Option, Some, List, ap, sym, subst}
-use Rattle.std.specs.Prelude.{MatchOption}
-use Rattle.break_rules.specs.declared.Break.{Break}
+use Rattle.short_slots.proofs.Common.{◌≡◌, ℕ, ℤ, ◌<◌, false, Option, Some, List, ap, sym, subst, MatchOption, Break, AreMostByDay, Problem, is_list_of, ones}
 use Rattle.price_sums.specs.Days.{Priced}
-use Rattle.pricing.specs.Days.{AreMostByDay}
-use Rattle.shift_instance.specs.Problem.{Problem}
-use Rattle.shift_instance.specs.Rota.{is_list_of}
-use Rattle.short_slots.specs.Worked.{ones}
 use Rattle.short_slots.proofs.Ones.{most_of_values, small_values}
 use Rattle.short_slots.proofs.working.most_of_shift.Goals as goal
 

@@ -1,5 +1,4 @@
-use Rattle.std.proofs.Common.{◌≡◌, ◌≤◌, length, arith}
-use Rattle.shift_instance.specs.Problem.{shift_list}
+use Rattle.short_slots.proofs.Common.{◌≡◌, ◌≤◌, length, arith, shift_list}
 use Rattle.short_slots.proofs.Ones.{one_below, all_below}
 use Rattle.short_slots.proofs.working.most_worked.Goals as goal
 

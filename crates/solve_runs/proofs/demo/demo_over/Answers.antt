@@ -1,10 +1,5 @@
-use Rattle.std.proofs.Common.{◌∙◌, ℕ, sym, ap, map, arith}
-use Rattle.std.proofs.lemmas.List.{length-map}
+use Rattle.solve_runs.proofs.Common.{◌∙◌, ℕ, sym, ap, map, arith, length-map, is_reported, ToldMet, SinkMet, status_at}
 use Rattle.plan_base.specs.contracts.mem_disk.MemDiskDisk.TheImpl.{ghosts}
-use Rattle.solve_runs.specs.Searching.{is_reported}
-use Rattle.solve_runs.specs.Served.{ToldMet}
-use Rattle.solve_runs.specs.Streams.{SinkMet}
-use Rattle.solve_runs.specs.Writing.{status_at}
 use Rattle.solve_runs.proofs.Ending.{stopped_run}
 use Rattle.solve_runs.proofs.Telling.{Element}
 use Rattle.solve_runs.proofs.Demos.{demonstrated, demonstrated_in_part, forgotten, one_untold}

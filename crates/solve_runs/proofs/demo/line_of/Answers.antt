@@ -1,4 +1,4 @@
-use Rattle.std.proofs.Common.{◌≡◌, ℕ, subst, List}
+use Rattle.solve_runs.proofs.Common.{◌≡◌, ℕ, subst, List}
 use Rattle.std.specs.Prelude.{IfOk}
 use Rattle.solve_runs.proofs.Demos.{same_line}
 use Rattle.solve_runs.proofs.demo.line_of.Goals as goal

@@ -1,5 +1,4 @@
-use Rattle.std.proofs.Common.{◌∙◌, ℕ, ap, map, arith}
-use Rattle.std.proofs.lemmas.List.{length-map}
+use Rattle.solve_runs.proofs.Common.{◌∙◌, ℕ, ap, map, arith, length-map}
 use Rattle.solve_runs.proofs.Telling.{Element}
 use Rattle.solve_runs.proofs.Demos.{forgotten, one_untold}
 use Rattle.solve_runs.proofs.demo.run_demo.Goals as goal

@@ -1,5 +1,4 @@
-use Rattle.std.proofs.Common.{◌∙◌, ℕ, map, arith}
-use Rattle.std.proofs.lemmas.Bool.{false≢true}
+use Rattle.solve_runs.proofs.Common.{◌∙◌, ℕ, map, arith, false≢true}
 use Rattle.solve_runs.proofs.Demos.{are_committed, one_told, searches_of}
 use Rattle.solve_runs.proofs.Telling.{map_last, map_single, Element}
 use Rattle.solve_runs.proofs.demo.search_all.Goals as goal

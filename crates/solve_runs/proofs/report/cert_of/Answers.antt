@@ -1,13 +1,7 @@
-use Rattle.std.proofs.Common.{◌≡◌, ◌∙◌, ◌<◌, ◌^◌, ℕ, ap, arith, length, List, Option, Some, subst, sym, true}
+use Rattle.solve_runs.proofs.Common.{◌≡◌, ◌∙◌, ◌<◌, ◌^◌, ℕ, ap, arith, length, List, Option, Some, subst, sym, true, Cert, Line, is_accepted, lines_of, Agrees, status_of_book}
 use Rattle.shift_instance.specs.declared.Row.{Row}
-use Rattle.certificate.specs.declared.Cert.{Cert}
 use Rattle.certificate.specs.declared.CertStatus.{CertStatus}
-use Rattle.certificate.specs.declared.proof_lines.Line.{Line}
-use Rattle.certificate.specs.Accepted.{is_accepted}
-use Rattle.certificate.specs.History.{lines_of}
-use Rattle.certificate.specs.Text.{Agrees}
 use Rattle.search_core.proofs.Fits.{class_few, rows_fit}
-use Rattle.solve_runs.specs.Report.{status_of_book}
 use Rattle.solve_runs.proofs.Accepting.{accepted, has_text}
 use Rattle.solve_runs.proofs.report.cert_of.Goals as goal
 

@@ -1,11 +1,4 @@
-use Rattle.std.proofs.Common.{◌≡◌, ℕ, true, List, rules, subst, sym}
-use Rattle.shift_instance.specs.Problem.{Problem}
-use Rattle.certificate.specs.declared.Cert.{Cert}
-use Rattle.certificate.specs.Accepted.{is_accepted}
-use Rattle.shift_instance.specs.Valid.{IsValid}
-use Rattle.certificate.specs.Departing.{Spells}
-use Rattle.certificate.specs.Text.{HasText}
-use Rattle.solve_runs.specs.Report.{cert_of}
+use Rattle.solve_runs.proofs.Common.{◌≡◌, ℕ, true, List, rules, subst, sym, Problem, Cert, is_accepted, IsValid, Spells, HasText, cert_of}
 use Rattle.solve_runs.proofs.Reading.{output_reads}
 use Rattle.solve_runs.proofs.report.report_of.Goals as goal
 use Rattle.solve_runs.proofs.report.report_of.Goals.{then-with_table+in_ok-lines+in_ok-extend_from_slice, else-with_table}

@@ -1,10 +1,5 @@
-use Rattle.std.proofs.Common.{◌∙◌, ap, sym, subst, ℕ, List, map}
-use Rattle.std.specs.Prelude.{Result, true}
-use Rattle.search_book.specs.Search.{SearchView}
-use Rattle.solve_runs.specs.Run.{OverDisk}
-use Rattle.solve_runs.specs.Searching.{SearchEnds}
-use Rattle.solve_runs.specs.Session.{met_of}
-use Rattle.solve_runs.specs.Streams.{SinkMet}
+use Rattle.solve_runs.proofs.Common.{◌∙◌, ap, sym, subst, ℕ, List, map, Result, SearchView, OverDisk, SearchEnds, met_of, SinkMet}
+use Rattle.std.specs.Prelude.{true}
 use Rattle.solve_runs.proofs.Telling.{Element}
 use Rattle.solve_runs.proofs.Written.{over_book, same_end, without_book}
 use Rattle.solve_runs.proofs.run.end_search.Goals as goal

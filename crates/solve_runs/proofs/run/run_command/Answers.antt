@@ -1,8 +1,4 @@
-use Rattle.std.proofs.Common.{◌≡◌, ◌∙◌, ap, inl, inr, refl, sym, ℕ, map, List, arith, vec_len}
-use Rattle.std.specs.Prelude.{unwrap_or}
-use Rattle.std.proofs.lemmas.List.{length-map}
-use Rattle.solve_words.specs.Asked.{asked}
-use Rattle.solve_runs.specs.Words.{workers_unsaid, Command}
+use Rattle.solve_runs.proofs.Common.{◌≡◌, ◌∙◌, ap, inl, inr, refl, sym, ℕ, map, List, arith, vec_len, unwrap_or, length-map, asked, workers_unsaid, Command}
 use Rattle.solve_runs.proofs.Explaining.{demo_of_first, ends_turned, no_demonstration, none_in, not_unread, search_explains, some_workers, too_many}
 use Rattle.solve_runs.proofs.Limits.{served_are, still_within}
 use Rattle.solve_runs.proofs.Telling.{have_same, map_take, Element}

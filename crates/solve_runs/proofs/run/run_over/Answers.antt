@@ -1,5 +1,4 @@
-use Rattle.std.proofs.Common.{◌∙◌, ap, sym, subst, ℕ, map}
-use Rattle.solve_runs.specs.Session.{met_of}
+use Rattle.solve_runs.proofs.Common.{◌∙◌, ap, sym, subst, ℕ, map, met_of}
 use Rattle.solve_runs.proofs.Ending.{uncalled}
 use Rattle.solve_runs.proofs.Explaining.{none_in, not_early, over_ends, unread_ends}
 use Rattle.solve_runs.proofs.Telling.{map_take, Element}

@@ -1,9 +1,5 @@
-use Rattle.std.proofs.Common.{ap, refl, sym, ℕ, subst, map, option_map, Option, Some, None, string_bytes, List, Global}
-use Rattle.std.specs.Prelude.{IfSome}
-use Rattle.solve_words.specs.Asked.{asked}
-use Rattle.solve_words.specs.Words.{from_number, Asks, IsReadAs, IsWithin}
+use Rattle.solve_runs.proofs.Common.{ap, refl, sym, ℕ, subst, map, option_map, Option, Some, None, string_bytes, List, Global, IfSome, asked, from_number, Asks, IsReadAs, IsWithin, met_of, IsUncalled}
 use Rattle.solve_words.specs.declared.command.Command.{Command as Spoken}
-use Rattle.solve_runs.specs.Session.{met_of, IsUncalled}
 use Rattle.solve_runs.proofs.Ending.{uncalled}
 use Rattle.solve_runs.proofs.Explaining.{asks_read, explains_turned, no_command, none_in, read_asked, unasked, unknown, unread_of}
 use Rattle.solve_runs.proofs.Telling.{Element}

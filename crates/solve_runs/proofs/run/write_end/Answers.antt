@@ -1,5 +1,4 @@
-use Rattle.std.proofs.Common.{◌∙◌, inl, inr, sym}
-use Rattle.std.proofs.lemmas.Bool.{false≢true}
+use Rattle.solve_runs.proofs.Common.{◌∙◌, inl, inr, sym, false≢true}
 use Rattle.solve_runs.proofs.run.write_end.Goals as goal
 
 pub returns-then-not-is_reported-clause-status : goal.returns-then-not-is_reported-clause-status

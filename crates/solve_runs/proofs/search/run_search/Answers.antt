@@ -1,5 +1,4 @@
-use Rattle.std.proofs.Common.{◌∙◌, ap, ℕ, List, map, arith, refl, vec_len}
-use Rattle.std.proofs.lemmas.List.{length-map}
+use Rattle.solve_runs.proofs.Common.{◌∙◌, ap, ℕ, List, map, arith, refl, vec_len, length-map}
 use Rattle.solve_runs.proofs.Ending.{same_answer, search_of_all, uncalled}
 use Rattle.solve_runs.proofs.Limits.{served_are, still_enough}
 use Rattle.solve_runs.proofs.Telling.{have_same, map_take, Element}

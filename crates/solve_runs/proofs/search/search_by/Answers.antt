@@ -1,8 +1,6 @@
-use Rattle.std.proofs.Common.{sum_by, vec_len, arith}
+use Rattle.solve_runs.proofs.Common.{sum_by, vec_len, arith, IsFresh, board_of}
 use denote.Param.Send.{param_send, arg_send}
-use Rattle.search_core.specs.Calls.{IsFresh}
 use Rattle.search_book.proofs.Crosses.{book_send}
-use Rattle.search_book.specs.Search.{board_of}
 use Rattle.solve_runs.proofs.Ending.{run_ends}
 use Rattle.solve_runs.proofs.Telling.{are_told}
 use Rattle.solve_runs.proofs.search.search_by.Goals as goal

@@ -1,7 +1,4 @@
-use Rattle.std.proofs.Common.{◌∙◌, ℕ, List, ap, inl, refl, subst, sym, map, vec_len}
-use Rattle.solve_runs.specs.Searching.{end_of, end_unopened, HasSearched}
-use Rattle.solve_runs.specs.Served.{ToldMet}
-use Rattle.solve_runs.specs.Session.{met_of}
+use Rattle.solve_runs.proofs.Common.{◌∙◌, ℕ, List, ap, inl, refl, subst, sym, map, vec_len, end_of, end_unopened, HasSearched, ToldMet, met_of}
 use Rattle.solve_runs.proofs.Ending.{never_stopped, not_opened, same_answer, stopped_run}
 use Rattle.solve_runs.proofs.Sessions.{has_searched, Known, on_some, whatever}
 use Rattle.solve_runs.proofs.Telling.{map_through, untold_of, Element}

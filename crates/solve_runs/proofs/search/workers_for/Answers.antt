@@ -1,5 +1,4 @@
-use Rattle.std.proofs.Common.{◌∙◌, sym, ap, min}
-use Rattle.std.proofs.lemmas.List.{length-map}
+use Rattle.solve_runs.proofs.Common.{◌∙◌, sym, ap, min, length-map}
 use Rattle.solve_runs.proofs.search.workers_for.Goals as goal
 
 pub returns : goal.returns

@@ -1,5 +1,4 @@
-use Rattle.std.proofs.Common.{◌≡◌, ◌+◌, ◌++◌, map, vec_len}
-use Rattle.std.specs.Vec.{vec_capacity}
+use Rattle.solve_runs.proofs.Common.{◌≡◌, ◌+◌, ◌++◌, map, vec_len, vec_capacity}
 use Rattle.solve_runs.proofs.seats.advisers_of.Given as goal
 
 abbrev pub invariant-loop-seats : goal.invariant-loop-seats

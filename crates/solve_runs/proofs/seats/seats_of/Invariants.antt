@@ -1,5 +1,4 @@
-use Rattle.std.proofs.Common.{◌≡◌, ◌+◌, ◌++◌, All, map, vec_len}
-use Rattle.std.specs.Vec.{vec_capacity}
+use Rattle.solve_runs.proofs.Common.{◌≡◌, ◌+◌, ◌++◌, All, map, vec_len, vec_capacity}
 use Rattle.solve_runs.proofs.seats.seats_of.Given as goal
 
 abbrev pub invariant-loop-advisers : goal.invariant-loop-advisers

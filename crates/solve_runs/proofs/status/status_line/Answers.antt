@@ -1,6 +1,4 @@
-use Rattle.std.proofs.Common.{◌≡◌, subst, sym, IfOk, string_bytes}
-use Rattle.solve_runs.specs.Status.{status_text}
-use Rattle.solve_runs.specs.declared.status.Status.{Status}
+use Rattle.solve_runs.proofs.Common.{◌≡◌, subst, sym, IfOk, string_bytes, status_text, Status}
 use Rattle.solve_runs.proofs.status.status_line.Goals as goal
 
 pub returns-in-Workers : goal.returns-in-Workers

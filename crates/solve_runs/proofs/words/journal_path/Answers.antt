@@ -1,6 +1,4 @@
-use Rattle.std.proofs.Common.{◌∙◌, ap, ℕ, subst, map, option_map, string_bytes, List, Option, None, Some, Global}
-use Rattle.solve_words.specs.Asked.{asked}
-use Rattle.solve_words.specs.Words.{from_number, over_journal, IsReadAs}
+use Rattle.solve_runs.proofs.Common.{◌∙◌, ap, ℕ, subst, map, option_map, string_bytes, List, Option, None, Some, Global, asked, from_number, over_journal, IsReadAs}
 use Rattle.solve_words.specs.declared.command.Command.{Command}
 use Rattle.solve_runs.proofs.Paths.{demonstration_unnamed, journal_named, nothing_named}
 use Rattle.solve_runs.proofs.words.journal_path.Goals as goal

@@ -1,8 +1,4 @@
-use Rattle.std.proofs.Common.{◌≡◌, ◌∙◌, ◌-◌, ◌≤◌, sym, ap, ap₂, subst, ℕ, List, [], ◌∷◌, map, take, drop, get_or, length, codes, option_map, Option, Some, string_bytes, Global, arith}
-use Rattle.std.proofs.lemmas.List.{take_all}
-use Rattle.std.proofs.lemmas.Slice.Eq.{bytes_eq-Decides}
-use Rattle.solve_words.specs.Asked.{given}
-use Rattle.solve_words.specs.Words.{Asked, IsFoundIn, IsReadAs}
+use Rattle.solve_words.proofs.Common.{◌≡◌, ◌∙◌, ◌-◌, ◌≤◌, sym, ap, ap₂, subst, ℕ, List, [], ◌∷◌, map, take, drop, get_or, length, codes, option_map, Option, Some, string_bytes, Global, arith, take_all, bytes_eq-Decides, given, Asked, IsFoundIn, IsReadAs}
 use Rattle.solve_words.specs.declared.texts.Texts.{Texts}
 use Rattle.solve_words.proofs.Finding.{read_some}
 use Rattle.solve_words.proofs.Within.{read_within}

@@ -1,4 +1,4 @@
-use Rattle.std.proofs.Common.{sym, ◌∙◌}
+use Rattle.solve_words.proofs.Common.{sym, ◌∙◌}
 use Rattle.solve_words.proofs.Digits.{never_refused}
 use Rattle.solve_words.proofs.numbers.number_within.Goals as goal
 

@@ -1,7 +1,6 @@
-use Rattle.std.proofs.Common.{◌∙◌, ap, true}
+use Rattle.solve_words.proofs.Common.{◌∙◌, ap, true, app_of_fields, on_top}
 use Rattle.clap.specs.declared.builder.command.Command.{Command}
 use Rattle.clap.specs.declared.builder.command.Command.TheOpen.{Command-F}
-use Rattle.clap.specs.Simple.{app_of_fields, on_top}
 use Rattle.solve_words.proofs.texts.bare_command.Goals as goal
 
 pub returns : goal.returns

@@ -1,7 +1,6 @@
-use Rattle.std.proofs.Common.{◌∙◌, ap, Some}
+use Rattle.solve_words.proofs.Common.{◌∙◌, ap, Some, Arg, rule_of}
 use Rattle.clap.specs.declared.builder.action.ArgAction.TheVariants.{SetTrue}
-use Rattle.clap.specs.declared.builder.arg.Arg.{Arg}
-use Rattle.clap.specs.Words.{Rule, rule_of}
+use Rattle.clap.specs.Words.{Rule}
 use Rattle.solve_words.proofs.texts.flag_word.Goals as goal
 
 pub returns-clause-rule : goal.returns-clause-rule

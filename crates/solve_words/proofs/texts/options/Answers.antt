@@ -1,7 +1,4 @@
-use Rattle.std.proofs.Common.{◌∙◌, ap, ap₂}
-use Rattle.std.proofs.lemmas.Result.{IfOk-weaker}
-use Rattle.clap.specs.Words.{with_rule}
-use Rattle.solve_words.specs.Options.{with_options, with_flags}
+use Rattle.solve_words.proofs.Common.{◌∙◌, ap, ap₂, IfOk-weaker, with_rule, with_options, with_flags}
 use Rattle.solve_words.proofs.texts.options.Goals as goal
 
 pub returns : goal.returns

@@ -1,15 +1,6 @@
-use Rattle.std.proofs.Common.{◌≡◌, ◌≢◌, ◌∙◌, sym, ap, subst, refl, true, false, List, [], map, string_bytes, codes, Global}
-use Rattle.std.proofs.lemmas.Bool.{false≢true}
+use Rattle.solve_words.proofs.Common.{◌≡◌, ◌≢◌, ◌∙◌, sym, ap, subst, refl, true, false, List, [], map, string_bytes, codes, Global, false≢true, fault_of, is_simple_and_free, is_simple, matches_of, kind_of, first_of, one_of, rows_of, Text, App, app_of, first_value-rows, list_any-map, one_text-rows, has_separator, is_separator, options_app, local, table, thorough, turns}
 use Rattle.clap.specs.declared.error.kind.ErrorKind.TheVariants as kind
-use Rattle.clap.specs.Faults.{fault_of, is_simple_and_free}
 use Rattle.clap.specs.Matches.{found_of, one_text}
-use Rattle.clap.specs.Simple.{is_simple, matches_of}
-use Rattle.clap.specs.Values.{kind_of}
-use Rattle.clap.specs.Walk.{first_of, one_of, rows_of, Text}
-use Rattle.clap.specs.Words.{App, app_of}
-use Rattle.clap.proofs.WalkLemmas.{first_value-rows, list_any-map, one_text-rows}
-use Rattle.solve_words.specs.Options.{has_separator, is_separator, options_app}
-use Rattle.solve_words.specs.Words.{local, table, thorough, turns}
 use Rattle.solve_words.proofs.Finding.{fault_found, flag_found, has_fault, separator_found, texts_found}
 use Rattle.solve_words.proofs.Giving.{said_by, same_given}
 use Rattle.solve_words.proofs.texts.texts_in.Goals as goal

@@ -1,5 +1,4 @@
-use Rattle.std.proofs.Common.{◌≡◌, cond, fold, min, take}
-use Rattle.head_splits.specs.Nodes.{Node}
+use Rattle.subtree_search.proofs.Common.{◌≡◌, cond, fold, min, take, Node}
 use Rattle.subtree_search.proofs.choosing.least_floor.Given as goal
 
 abbrev pub invariant-loop-node : goal.invariant-loop-node

@@ -1,6 +1,4 @@
-use Rattle.std.proofs.Common.{◌≡◌, ◌∙◌, length, refl, Some}
-use Rattle.std.specs.Prelude.{slice_get}
-use Rattle.std.proofs.lemmas.Option.{slice_get_read}
+use Rattle.subtree_search.proofs.Common.{◌≡◌, ◌∙◌, length, refl, Some, slice_get, slice_get_read}
 use Rattle.subtree_search.proofs.Chosen.{chosen, passed_over, taken_over}
 use Rattle.subtree_search.proofs.choosing.next_open.Goals as goal
 use Rattle.subtree_search.proofs.choosing.next_open.Goals.{then-is_open, else-is_open}

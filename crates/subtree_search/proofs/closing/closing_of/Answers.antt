@@ -1,4 +1,4 @@
-use Rattle.std.proofs.Common.{◌∙◌, sym}
+use Rattle.subtree_search.proofs.Common.{◌∙◌, sym}
 use Rattle.subtree_search.proofs.Lawful.{split_advised, split_settling}
 use Rattle.subtree_search.proofs.closing.closing_of.Goals as goal
 

@@ -1,11 +1,5 @@
-use Rattle.std.proofs.Common.{◌≡◌, ◌⊎◌, ◌∙◌, ◌<◌, ◌≤◌, ◌^◌, false, arith, ap, sym, subst}
-use Rattle.std.specs.Prelude.{IsTrue}
-use Rattle.advisers.specs.Advised.{IsOwn}
+use Rattle.subtree_search.proofs.Common.{◌≡◌, ◌⊎◌, ◌∙◌, ◌<◌, ◌≤◌, ◌^◌, false, arith, ap, sym, subst, IsTrue, IsOwn, map_ok, is_finished, Run, run_of, IsGreedyRun, IsSearched, greedy_step}
 use Rattle.advisers.specs.Hearing.{Planned}
-use Rattle.head_splits.proofs.Walked.{map_ok}
-use Rattle.report_grafts.specs.Run.{is_finished, Run}
-use Rattle.subtree_search.specs.Stepping.{run_of, IsGreedyRun, IsSearched}
-use Rattle.subtree_search.specs.Stepping.AreGreedySteps.{greedy_step}
 use Rattle.subtree_search.proofs.Solved.{asked_few, greedy_are, greedy_is, greedy_run, is_greedy, never_asked, never_ends, next_few, next_number, opened_greedy, opened_within, own_after, own_opening, run_ends, run_finished, searched_run, sound_run, step_smaller, stops, takes, takes_within, within_budget}
 use Rattle.subtree_search.proofs.solving.solve_below.Goals as goal
 

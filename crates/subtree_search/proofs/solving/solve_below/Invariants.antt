@@ -1,6 +1,4 @@
-use Rattle.std.proofs.Common.{◌≡◌, ◌-◌, ◌≤◌}
-use Rattle.advisers.specs.Advised.{IsOwn}
-use Rattle.subtree_search.specs.Stepping.{AreGreedySteps}
+use Rattle.subtree_search.proofs.Common.{◌≡◌, ◌-◌, ◌≤◌, IsOwn, AreGreedySteps}
 use Rattle.subtree_search.proofs.solving.solve_below.Given as goal
 
 abbrev pub invariant-loop-node : goal.invariant-loop-node

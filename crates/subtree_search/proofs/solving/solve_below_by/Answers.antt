@@ -1,9 +1,4 @@
-use Rattle.std.proofs.Common.{◌≡◌, ◌⊎◌, ◌∙◌, ◌<◌, ◌≤◌, ◌^◌, true, arith}
-use Rattle.std.specs.Prelude.{IsTrue}
-use Rattle.head_splits.proofs.Walked.{map_ok}
-use Rattle.report_grafts.specs.Run.{is_finished, Run}
-use Rattle.subtree_search.specs.Stepping.{run_of, IsSearched}
-use Rattle.subtree_search.specs.Stepping.AreSteps.{one_more}
+use Rattle.subtree_search.proofs.Common.{◌≡◌, ◌⊎◌, ◌∙◌, ◌<◌, ◌≤◌, ◌^◌, true, arith, IsTrue, map_ok, is_finished, Run, run_of, IsSearched, one_more}
 use Rattle.subtree_search.proofs.Solved.{asked_few, is_step, next_few, next_number, opened, opened_within, run_ends, run_finished, searched_run, sound_run, step_smaller, stops, takes, takes_within, within_budget, within_longer}
 use Rattle.subtree_search.proofs.solving.solve_below_by.Goals as goal
 

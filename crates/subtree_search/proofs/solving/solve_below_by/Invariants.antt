@@ -1,5 +1,4 @@
-use Rattle.std.proofs.Common.{◌≡◌, ◌-◌, ◌≤◌}
-use Rattle.subtree_search.specs.Stepping.{AreSteps}
+use Rattle.subtree_search.proofs.Common.{◌≡◌, ◌-◌, ◌≤◌, AreSteps}
 use Rattle.subtree_search.proofs.solving.solve_below_by.Given as goal
 
 abbrev pub invariant-loop-node : goal.invariant-loop-node

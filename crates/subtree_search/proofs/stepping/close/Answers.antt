@@ -1,4 +1,4 @@
-use Rattle.std.specs.Prelude.{slice_get}
+use Rattle.subtree_search.proofs.Common.{slice_get}
 use Rattle.subtree_search.proofs.Stepped.{closed_by_price, closed_open}
 use Rattle.subtree_search.proofs.stepping.close.Goals as goal
 

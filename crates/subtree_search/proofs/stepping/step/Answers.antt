@@ -1,4 +1,4 @@
-use Rattle.std.proofs.Common.{◌≡◌, ◌<◌, ◌^◌, length, arith}
+use Rattle.subtree_search.proofs.Common.{◌≡◌, ◌<◌, ◌^◌, length, arith}
 use Rattle.subtree_search.proofs.Stepped.{step_made, there_offered}
 use Rattle.subtree_search.proofs.stepping.step.Goals as goal
 

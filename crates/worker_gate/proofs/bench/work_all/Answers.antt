@@ -1,7 +1,4 @@
-use Rattle.std.proofs.Common.{subst, sym}
-use Rattle.board_lock.specs.declared.roots.BoardRoot.{BoardRoot}
-use Rattle.worker_gate.specs.Turned.{HasBadge}
-use Rattle.worker_gate.specs.Workers.{KnowsBoard}
+use Rattle.worker_gate.proofs.Common.{subst, sym, BoardRoot, HasBadge, KnowsBoard}
 use Rattle.worker_gate.proofs.bench.work_all.Goals as goal
 
 pub for_each_mut-requires-clause-accepts : goal.for_each_mut-requires-clause-accepts

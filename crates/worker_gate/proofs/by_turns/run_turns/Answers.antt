@@ -1,4 +1,4 @@
-use Rattle.std.proofs.Common.{sum_by, vec_len}
+use Rattle.worker_gate.proofs.Common.{sum_by, vec_len}
 use Rattle.worker_gate.proofs.Ran.{ran_begins, ran_enough, ran_exact, ran_few, ran_posts, ran_same, ran_within}
 use Rattle.worker_gate.proofs.by_turns.run_turns.Goals as goal
 

@@ -1,11 +1,5 @@
-use Rattle.std.proofs.Common.{◌≡◌, ◌∙◌, Option, Some, None, refl, subst, sym}
-use Rattle.std.specs.Prelude.{IsFalse, MatchOption}
-use Rattle.head_splits.specs.Settled.{is_settled}
-use Rattle.advice.specs.declared.advice.Splitting.{Splitting}
-use Rattle.dual_bound.specs.Fixing.{IsFixing}
+use Rattle.worker_gate.proofs.Common.{◌≡◌, ◌∙◌, Option, Some, None, refl, subst, sym, IsFalse, MatchOption, is_settled, Splitting, IsFixing, Open, lawful_split}
 use Rattle.dual_bound.specs.declared.settling.Fixing.{Fixing}
-use Rattle.dual_bound.specs.declared.settling.Fixing.TheVariants.{Open}
-use Rattle.worker_gate.specs.Decision.{lawful_split}
 use Rattle.worker_gate.proofs.Lawful.{open_fits, split_fits}
 use Rattle.worker_gate.proofs.decision.close_of.Goals as goal
 

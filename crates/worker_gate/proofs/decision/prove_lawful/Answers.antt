@@ -1,10 +1,4 @@
-use Rattle.std.proofs.Common.{◌≡◌, ◌∙◌, List, sym, subst}
-use Rattle.std.specs.Prelude.{IfOk}
-use Rattle.break_rules.specs.Causes.{first_cause}
-use Rattle.head_splits.specs.declared.Cut.{Cut}
-use Rattle.head_splits.specs.declared.Prices.{Prices}
-use Rattle.dual_bound.specs.Faults.{price_causes, Answers}
-use Rattle.dual_bound.specs.Proved.{Proving}
+use Rattle.worker_gate.proofs.Common.{◌≡◌, ◌∙◌, List, sym, subst, IfOk, first_cause, Cut, Prices, price_causes, Answers, Proving}
 use Rattle.worker_gate.proofs.Lawful.{lawful, unlawful}
 use Rattle.worker_gate.proofs.decision.prove_lawful.Goals as goal
 

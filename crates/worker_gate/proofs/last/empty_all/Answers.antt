@@ -1,7 +1,4 @@
-use Rattle.std.proofs.Common.{◌≡◌, ◌<◌, ◌+◌, ◌^◌, None, length, slice_index_or, slice_set, arith, ap, ◌∙◌, sym, subst}
-use Rattle.search_core.specs.Core.{hand}
-use Rattle.board_lock.specs.Roots.{root_at}
-use Rattle.worker_gate.specs.Workers.{KnowsBoard}
+use Rattle.worker_gate.proofs.Common.{◌≡◌, ◌<◌, ◌+◌, ◌^◌, None, length, slice_index_or, slice_set, arith, ap, ◌∙◌, sym, subst, hand, root_at, KnowsBoard}
 use Rattle.worker_gate.proofs.Hands.{all_emptied, emptied_more}
 use Rattle.worker_gate.proofs.Pointwise.{any_default, set_each}
 use Rattle.worker_gate.proofs.News.{set_more, tells_on, told_at, Tells}

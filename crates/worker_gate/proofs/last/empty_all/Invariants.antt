@@ -1,7 +1,4 @@
-use Rattle.std.proofs.Common.{◌≡◌, ◌<◌, ◌+◌, ◌^◌, ℕ, None, length, slice_index_or}
-use Rattle.search_core.specs.Core.{hand}
-use Rattle.board_lock.specs.Roots.{root_at}
-use Rattle.worker_gate.specs.Workers.{IsToldLast}
+use Rattle.worker_gate.proofs.Common.{◌≡◌, ◌<◌, ◌+◌, ◌^◌, ℕ, None, length, slice_index_or, hand, root_at, IsToldLast}
 use Rattle.worker_gate.proofs.last.empty_all.Given as goal
 
 abbrev pub invariant-loop-place : goal.invariant-loop-place

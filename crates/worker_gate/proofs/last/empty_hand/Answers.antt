@@ -1,5 +1,4 @@
-use Rattle.std.proofs.Common.{◌≡◌, arith, None}
-use Rattle.search_core.specs.Core.{hand}
+use Rattle.worker_gate.proofs.Common.{◌≡◌, arith, None, hand}
 use Rattle.worker_gate.proofs.Hands.{empty_already}
 use Rattle.worker_gate.proofs.last.empty_hand.Goals as goal
 

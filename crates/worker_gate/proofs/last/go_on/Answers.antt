@@ -1,4 +1,4 @@
-use Rattle.std.proofs.Common.{◌≡◌, ◌<◌, ◌+◌, arith, ap, ◌∙◌}
+use Rattle.worker_gate.proofs.Common.{◌≡◌, ◌<◌, ◌+◌, arith, ap, ◌∙◌}
 use Rattle.worker_gate.proofs.Hands.{budget_merely}
 use Rattle.worker_gate.proofs.Rounds.{some_free}
 use Rattle.worker_gate.proofs.last.go_on.Goals as goal

@@ -1,7 +1,4 @@
-use Rattle.std.proofs.Common.{◌≡◌, ◌<◌, ◌+◌, ◌-◌, ◌^◌, None}
-use Rattle.search_core.specs.Core.{empty_hands}
-use Rattle.board_lock.specs.Roots.{root_at}
-use Rattle.worker_gate.specs.Workers.{IsToldLast}
+use Rattle.worker_gate.proofs.Common.{◌≡◌, ◌<◌, ◌+◌, ◌-◌, ◌^◌, None, empty_hands, root_at, IsToldLast}
 use Rattle.worker_gate.proofs.last.go_on.Given as goal
 
 abbrev pub invariant-loop-noted : goal.invariant-loop-noted

@@ -1,8 +1,4 @@
-use Rattle.std.proofs.Common.{List, subst}
-use Rattle.head_splits.specs.declared.Cut.{Cut}
-use Rattle.search_core.specs.Board.{book_at}
-use Rattle.search_core.specs.Kept.{cuts_in}
-use Rattle.worker_gate.specs.Decision.{IsDecision}
+use Rattle.worker_gate.proofs.Common.{List, subst, Cut, book_at, cuts_in, IsDecision}
 use Rattle.worker_gate.proofs.run.decide_taken.Goals as goal
 
 pub returns-clause-decision : goal.returns-clause-decision

@@ -1,7 +1,4 @@
-use Rattle.std.proofs.Common.{sym, subst}
-use Rattle.shift_instance.specs.Problem.{Problem}
-use Rattle.search_core.specs.Board.{BoardView}
-use Rattle.search_core.specs.Steps.{Fits}
+use Rattle.worker_gate.proofs.Common.{sym, subst, Problem, BoardView, Fits}
 use Rattle.worker_gate.proofs.Runs.{closes_step, cut_off, decides_before, holds_step, round_tells}
 use Rattle.worker_gate.proofs.run.round.Goals as goal
 

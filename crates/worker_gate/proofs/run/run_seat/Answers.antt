@@ -1,8 +1,4 @@
-use Rattle.std.proofs.Common.{◌≡◌, ◌∙◌, arith, refl, rules, subst, sym, Option, None, Some}
-use Rattle.std.specs.Prelude.{MatchOption}
-use Rattle.search_core.specs.Board.{BoardView}
-use Rattle.worker_gate.specs.declared.run.RunEnd.{RunEnd}
-use Rattle.worker_gate.specs.Runs.{committed, IsRun}
+use Rattle.worker_gate.proofs.Common.{◌≡◌, ◌∙◌, arith, refl, rules, subst, sym, Option, None, Some, MatchOption, BoardView, RunEnd, committed, IsRun}
 use Rattle.worker_gate.proofs.Runs.{next_run, next_told, run_enough, run_few, run_posts, run_tells, start_run, start_told, IsToldRun}
 use Rattle.worker_gate.proofs.run.run_seat.Goals as goal
 

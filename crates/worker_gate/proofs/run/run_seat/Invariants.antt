@@ -1,7 +1,5 @@
-use Rattle.std.proofs.Common.{◌≡◌, ◌<◌, ◌+◌, ◌^◌}
-use Rattle.std.specs.Prelude.{true, IfSome, MatchOption}
-use Rattle.worker_gate.specs.declared.run.RunEnd.TheVariants.{Stopped}
-use Rattle.worker_gate.specs.Runs.{committed, IsRun}
+use Rattle.worker_gate.proofs.Common.{◌≡◌, ◌<◌, ◌+◌, ◌^◌, IfSome, MatchOption, Stopped, committed, IsRun}
+use Rattle.std.specs.Prelude.{true}
 use Rattle.worker_gate.proofs.Runs.{steps_left, IsToldRun}
 use Rattle.worker_gate.proofs.run.run_seat.Given as goal
 

@@ -1,7 +1,6 @@
-use Rattle.std.proofs.Common.{◌∙◌, arith, ap, length, refl}
+use Rattle.worker_gate.proofs.Common.{◌∙◌, arith, ap, length, refl, root_at}
 use Rattle.worker_gate.proofs.Moved.{written}
 use Rattle.worker_gate.proofs.Telling.{first_then}
-use Rattle.board_lock.specs.Roots.{root_at}
 use Rattle.worker_gate.proofs.News.{each_then_first, tells_on, tells_same, told_at, Tells}
 use Rattle.worker_gate.proofs.running.finish_all.Goals as goal
 

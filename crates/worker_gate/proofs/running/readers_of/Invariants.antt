@@ -1,5 +1,4 @@
-use Rattle.std.proofs.Common.{◌≤◌, ◌-◌, vec_len}
-use Rattle.std.specs.Vec.{vec_capacity}
+use Rattle.worker_gate.proofs.Common.{◌≤◌, ◌-◌, vec_len, vec_capacity}
 use Rattle.worker_gate.proofs.running.readers_of.Given as goal
 
 abbrev pub invariant-loop-readers : goal.invariant-loop-readers

@@ -1,13 +1,6 @@
-use Rattle.std.proofs.Common.{◌<◌, ◌^◌, ◌∙◌, arith, refl, sym, ap, subst, length, slice_index_or, sum_by, vec_len}
-use Rattle.std.proofs.lemmas.List.{length-map}
-use Rattle.board_lock.specs.Passes.{root_of}
-use Rattle.worker_gate.specs.Turned.{HasBadge}
-use Rattle.board_lock.proofs.Turned.{no_turns}
-use Rattle.worker_gate.specs.Workers.{KnowsBoard, WorkersEnd}
+use Rattle.worker_gate.proofs.Common.{◌<◌, ◌^◌, ◌∙◌, arith, refl, sym, ap, subst, length, slice_index_or, sum_by, vec_len, length-map, root_of, HasBadge, no_turns, KnowsBoard, WorkersEnd, root_at, IsToldLast}
 use Rattle.worker_gate.proofs.Moved.{sum_none}
 use Rattle.worker_gate.proofs.Rooted.{all_know, knows}
-use Rattle.board_lock.specs.Roots.{root_at}
-use Rattle.worker_gate.specs.Workers.{IsToldLast}
 use Rattle.worker_gate.proofs.News.{each_on, each_through, tells_on, told_at, told_nothing, Tells}
 use Rattle.worker_gate.proofs.Telling.{told_through}
 use Rattle.worker_gate.proofs.running.run_in.Goals as goal

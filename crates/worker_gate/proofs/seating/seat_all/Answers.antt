@@ -1,6 +1,4 @@
-use Rattle.std.proofs.Common.{false, ◌≡◌, ◌∙◌, arith, subst}
-use Rattle.board_lock.specs.Passes.{root_of}
-use Rattle.worker_gate.specs.Turned.{HasBadge}
+use Rattle.worker_gate.proofs.Common.{false, ◌≡◌, ◌∙◌, arith, subst, root_of, HasBadge}
 use Rattle.worker_gate.proofs.Moved.{all_more, all_rest, all_placed, moved_on}
 use Rattle.worker_gate.proofs.seating.seat_all.Goals as goal
 

@@ -1,7 +1,4 @@
-use Rattle.std.proofs.Common.{false, ◌≡◌, ◌<◌, ◌+◌, ◌++◌, ℕ, All, length, map, slice_index_or, vec_len}
-use Rattle.std.specs.Vec.{vec_capacity}
-use Rattle.board_lock.specs.Passes.{root_of, IsOutside}
-use Rattle.worker_gate.specs.Turned.{HasBadge}
+use Rattle.worker_gate.proofs.Common.{false, ◌≡◌, ◌<◌, ◌+◌, ◌++◌, ℕ, All, length, map, slice_index_or, vec_len, vec_capacity, root_of, IsOutside, HasBadge}
 use Rattle.worker_gate.proofs.seating.seat_all.Given as goal
 
 abbrev pub invariant-loop-seats : goal.invariant-loop-seats

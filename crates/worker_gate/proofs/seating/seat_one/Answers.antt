@@ -1,4 +1,4 @@
-use Rattle.std.proofs.Common.{◌∙◌, refl}
+use Rattle.worker_gate.proofs.Common.{◌∙◌, refl}
 use Rattle.worker_gate.proofs.seating.seat_one.Goals as goal
 
 pub returns-clause-rests : goal.returns-clause-rests

@@ -1,4 +1,4 @@
-use Rattle.std.proofs.Common.{◌≡◌, ◌∙◌, arith, map, sym}
+use Rattle.worker_gate.proofs.Common.{◌≡◌, ◌∙◌, arith, map, sym}
 use Rattle.worker_gate.proofs.Moved.{all_more, moved_back, sum_more}
 use Rattle.worker_gate.proofs.seating.unseat_all.Goals as goal
 

@@ -1,5 +1,4 @@
-use Rattle.std.proofs.Common.{◌≡◌, ◌+◌, ◌++◌, All, map, sum_by, vec_len}
-use Rattle.std.specs.Vec.{vec_capacity}
+use Rattle.worker_gate.proofs.Common.{◌≡◌, ◌+◌, ◌++◌, All, map, sum_by, vec_len, vec_capacity}
 use Rattle.worker_gate.proofs.seating.unseat_all.Given as goal
 
 abbrev pub invariant-loop-bench : goal.invariant-loop-bench

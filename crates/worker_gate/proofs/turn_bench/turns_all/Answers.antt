@@ -1,7 +1,4 @@
-use Rattle.std.proofs.Common.{◌<◌, arith, length, slice_index_or, subst, sym}
-use Rattle.board_lock.specs.declared.roots.BoardRoot.{BoardRoot}
-use Rattle.worker_gate.specs.Turned.{HasTurns}
-use Rattle.worker_gate.specs.Workers.{KnowsBoard}
+use Rattle.worker_gate.proofs.Common.{◌<◌, arith, length, slice_index_or, subst, sym, BoardRoot, HasTurns, KnowsBoard}
 use Rattle.worker_gate.proofs.turn_bench.turns_all.Goals as goal
 
 pub for_each_mut-requires-clause-accepts : goal.for_each_mut-requires-clause-accepts

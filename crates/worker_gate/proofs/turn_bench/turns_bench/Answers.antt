@@ -1,4 +1,4 @@
-use Rattle.std.proofs.Common.{◌∙◌, arith, length, ap}
+use Rattle.worker_gate.proofs.Common.{◌∙◌, arith, length, ap}
 use Rattle.worker_gate.proofs.Moved.{written}
 use Rattle.worker_gate.proofs.turn_bench.turns_bench.Goals as goal
 

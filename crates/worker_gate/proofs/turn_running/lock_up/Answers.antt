@@ -1,4 +1,4 @@
-use Rattle.std.proofs.Common.{◌∙◌, ap, sym}
+use Rattle.worker_gate.proofs.Common.{◌∙◌, ap, sym}
 use Rattle.worker_gate.proofs.Snapped.{same_root}
 use Rattle.worker_gate.proofs.turn_running.lock_up.Goals as goal
 

@@ -1,10 +1,4 @@
-use Rattle.std.proofs.Common.{◌<◌, ◌^◌, ◌∙◌, Some, arith, refl, sym, ap, subst, length, slice_index_or, sum_by, vec_len}
-use Rattle.std.proofs.lemmas.List.{length-map}
-use Rattle.board_lock.specs.Roots.{root_at}
-use Rattle.board_lock.proofs.Turned.{no_turns}
-use Rattle.worker_gate.specs.Passing.{FollowOn}
-use Rattle.worker_gate.specs.Turned.{HasTurns}
-use Rattle.worker_gate.specs.Workers.{IsToldLast, WorkersEnd}
+use Rattle.worker_gate.proofs.Common.{◌<◌, ◌^◌, ◌∙◌, Some, arith, refl, sym, ap, subst, length, slice_index_or, sum_by, vec_len, length-map, root_at, no_turns, FollowOn, HasTurns, IsToldLast, WorkersEnd}
 use Rattle.worker_gate.proofs.Dealt.{new_count}
 use Rattle.worker_gate.proofs.Moved.{sum_none}
 use Rattle.worker_gate.proofs.News.{each_on, each_through, tells_on, told_at, told_nothing, Tells}

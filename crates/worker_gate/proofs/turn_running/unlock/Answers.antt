@@ -1,7 +1,4 @@
-use Rattle.std.proofs.Common.{◌∙◌, Some}
-use Rattle.std.proofs.lemmas.Option.{same_Some}
-use Rattle.board_lock.specs.Roots.{root_at}
-use Rattle.turn_lock.specs.Seats.{new_seat}
+use Rattle.worker_gate.proofs.Common.{◌∙◌, Some, same_Some, root_at, new_seat}
 use Rattle.worker_gate.proofs.turn_running.unlock.Goals as goal
 
 pub returns-clause-root : goal.returns-clause-root

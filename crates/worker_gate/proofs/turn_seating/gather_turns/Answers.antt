@@ -1,5 +1,4 @@
-use Rattle.std.proofs.Common.{◌≡◌, ◌∙◌, ◌+◌, ◌<◌, ◌≤◌, Some, arith, ap, length, refl, slice_index_or}
-use Rattle.worker_gate.specs.Turned.{HasTurns}
+use Rattle.worker_gate.proofs.Common.{◌≡◌, ◌∙◌, ◌+◌, ◌<◌, ◌≤◌, Some, arith, ap, length, refl, slice_index_or, HasTurns}
 use Rattle.worker_gate.proofs.Moved.{all_more}
 use Rattle.worker_gate.proofs.Pointwise.{any_default, set_each}
 use Rattle.worker_gate.proofs.turn_seating.gather_turns.Goals as goal

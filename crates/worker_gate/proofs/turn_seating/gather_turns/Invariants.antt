@@ -1,6 +1,4 @@
-use Rattle.std.proofs.Common.{◌≡◌, ◌<◌, ◌≤◌, ℕ, All, Some, length, slice_index_or, vec_len}
-use Rattle.std.specs.Vec.{vec_capacity}
-use Rattle.worker_gate.specs.Turned.{HasTurns}
+use Rattle.worker_gate.proofs.Common.{◌≡◌, ◌<◌, ◌≤◌, ℕ, All, Some, length, slice_index_or, vec_len, vec_capacity, HasTurns}
 use Rattle.worker_gate.proofs.turn_seating.gather_turns.Given as goal
 
 abbrev pub invariant-loop-place : goal.invariant-loop-place

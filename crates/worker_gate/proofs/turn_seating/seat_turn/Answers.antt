@@ -1,4 +1,4 @@
-use Rattle.std.proofs.Common.{Some, refl}
+use Rattle.worker_gate.proofs.Common.{Some, refl}
 use Rattle.worker_gate.proofs.turn_seating.seat_turn.Goals as goal
 
 pub returns-clause-rests : goal.returns-clause-rests

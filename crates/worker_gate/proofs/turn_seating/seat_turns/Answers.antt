@@ -1,6 +1,4 @@
-use Rattle.std.proofs.Common.{false, ◌≡◌, ◌∙◌, arith, ap, length, refl, suc, sym, Some, vec_len}
-use Rattle.turn_lock.specs.Seats.{new_seats}
-use Rattle.worker_gate.specs.Turned.{HasTurns}
+use Rattle.worker_gate.proofs.Common.{false, ◌≡◌, ◌∙◌, arith, ap, length, refl, suc, sym, Some, vec_len, new_seats, HasTurns}
 use Rattle.worker_gate.proofs.Moved.{all_more, all_rest, all_placed, moved_on}
 use Rattle.worker_gate.proofs.Dealt.{new_count, seats_rest}
 use Rattle.worker_gate.proofs.turn_seating.seat_turns.Goals as goal

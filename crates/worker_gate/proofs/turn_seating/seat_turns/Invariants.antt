@@ -1,7 +1,4 @@
-use Rattle.std.proofs.Common.{false, ◌≡◌, ◌<◌, ◌+◌, ◌++◌, ℕ, All, length, map, slice_index_or, vec_len, Some}
-use Rattle.std.specs.Vec.{vec_capacity}
-use Rattle.turn_lock.specs.Seats.{new_seats}
-use Rattle.worker_gate.specs.Turned.{HasTurns}
+use Rattle.worker_gate.proofs.Common.{false, ◌≡◌, ◌<◌, ◌+◌, ◌++◌, ℕ, All, length, map, slice_index_or, vec_len, Some, vec_capacity, new_seats, HasTurns}
 use Rattle.worker_gate.proofs.turn_seating.seat_turns.Given as goal
 
 abbrev pub invariant-loop-seats : goal.invariant-loop-seats

@@ -1,6 +1,4 @@
-use Rattle.std.proofs.Common.{List, subst, ◌∙◌}
-use Rattle.head_splits.specs.declared.Cut.{Cut}
-use Rattle.search_core.specs.Steps.{FitsClose}
+use Rattle.worker_gate.proofs.Common.{List, subst, ◌∙◌, Cut, FitsClose}
 use Rattle.worker_gate.proofs.worker.closed_again.Goals as goal
 
 pub returns-clause-fits : goal.returns-clause-fits

@@ -1,5 +1,4 @@
-use Rattle.std.proofs.Common.{◌≡◌, ◌<◌, ◌+◌, ◌^◌, true, false}
-use Rattle.worker_gate.specs.Workers.{IsToldLast, KnowsBoard}
+use Rattle.worker_gate.proofs.Common.{◌≡◌, ◌<◌, ◌+◌, ◌^◌, true, false, IsToldLast, KnowsBoard}
 use Rattle.worker_gate.proofs.worker.rounds.Given as goal
 
 abbrev pub invariant-loop : goal.invariant-loop

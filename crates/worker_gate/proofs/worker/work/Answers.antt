@@ -1,4 +1,4 @@
-use Rattle.std.proofs.Common.{refl, subst, ◌∙◌}
+use Rattle.worker_gate.proofs.Common.{refl, subst, ◌∙◌}
 use Rattle.worker_gate.proofs.News.{told_at}
 use Rattle.worker_gate.proofs.worker.work.Goals as goal
 

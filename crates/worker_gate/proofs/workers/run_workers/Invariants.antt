@@ -1,4 +1,4 @@
-use Rattle.std.proofs.Common.{Some, vec_len}
+use Rattle.worker_gate.proofs.Common.{Some, vec_len}
 use Rattle.worker_gate.proofs.workers.run_workers.Given as goal
 
 abbrev pub ghosts-run_in-L-Ledger : goal.ghosts-run_in-L-Ledger

@@ -1,10 +1,4 @@
-use Rattle.std.proofs.Common.{◌≡◌, ◌+◌, ◌≤◌, ℕ, arith, subst, sym, ◌∙◌}
-use Rattle.std.proofs.Math.Logic.{∥∥₁_map}
-use Rattle.shift_instance.specs.Problem.{Problem}
-use Rattle.search_core.specs.Board.{BoardView}
-use Rattle.search_core.specs.Calls.{IsFresh}
-use Rattle.search_core.specs.Steps.{Fits}
-use Rattle.board_lock.specs.Turns.{AreTurns}
+use Rattle.board_lock.proofs.Common.{◌≡◌, ◌+◌, ◌≤◌, ℕ, arith, subst, sym, ◌∙◌, ∥∥₁_map, Problem, BoardView, IsFresh, Fits, AreTurns}
 use Rattle.board_lock.proofs.Shutting.{commit_halted, commit_shut, refusal_halted, refusal_shut}
 use Rattle.board_lock.proofs.Turned.{few_merely, same_merely, turn_commit, turn_refusal}
 use Rattle.board_lock.proofs.held.Held.commit.Goals as goal

@@ -1,6 +1,4 @@
-use Rattle.std.proofs.Common.{◌≡◌, ℕ, subst, sym, ◌∙◌}
-use Rattle.std.proofs.Math.Logic.{∥∥₁_map}
-use Rattle.board_lock.specs.Turns.{AreTurns}
+use Rattle.board_lock.proofs.Common.{◌≡◌, ℕ, subst, sym, ◌∙◌, ∥∥₁_map, AreTurns}
 use Rattle.board_lock.proofs.held.Held.into_board.Goals as goal
 
 pub returns-clause-turns : goal.returns-clause-turns

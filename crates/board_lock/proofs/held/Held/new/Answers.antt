@@ -1,4 +1,4 @@
-use Rattle.std.proofs.Common.{ap, sym, ◌∙◌, None, Some}
+use Rattle.board_lock.proofs.Common.{ap, sym, ◌∙◌, None, Some}
 use Rattle.board_lock.proofs.Shutting.{is_same}
 use Rattle.board_lock.proofs.Turned.{no_turns}
 use Rattle.board_lock.proofs.held.Held.new.Goals as goal

@@ -1,5 +1,4 @@
-use Rattle.std.proofs.Math.Logic.{∥∥₁_map}
-use Rattle.search_core.specs.Board.{BoardView}
+use Rattle.board_lock.proofs.Common.{∥∥₁_map, BoardView}
 use Rattle.board_lock.proofs.Shutting.{take_halted, take_shut}
 use Rattle.board_lock.proofs.Turned.{turn_take}
 use Rattle.board_lock.proofs.held.Held.take.Goals as goal

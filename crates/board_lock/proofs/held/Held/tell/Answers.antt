@@ -1,8 +1,4 @@
-use Rattle.std.proofs.Common.{◌≡◌, ℕ, ap, arith, subst, sym, ◌∙◌}
-use Rattle.std.proofs.Math.Logic.{∥∥₁_map}
-use Rattle.search_core.specs.Board.{BoardView}
-use Rattle.best_cell.specs.Told.{last_of}
-use Rattle.board_lock.specs.Turns.{AreTurns}
+use Rattle.board_lock.proofs.Common.{◌≡◌, ℕ, ap, arith, subst, sym, ◌∙◌, ∥∥₁_map, BoardView, last_of, AreTurns}
 use Rattle.board_lock.proofs.Costs.{last_push}
 use Rattle.board_lock.proofs.held.Held.tell.Goals as goal
 

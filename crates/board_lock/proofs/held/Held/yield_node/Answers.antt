@@ -1,6 +1,4 @@
-use Rattle.std.proofs.Common.{ap, ◌∙◌}
-use Rattle.std.proofs.Math.Logic.{∥∥₁_map}
-use Rattle.search_core.specs.Board.{BoardView}
+use Rattle.board_lock.proofs.Common.{ap, ◌∙◌, ∥∥₁_map, BoardView}
 use Rattle.board_lock.proofs.Shutting.{is_same, same_is}
 use Rattle.board_lock.proofs.Turned.{turn_yield}
 use Rattle.board_lock.proofs.held.Held.yield_node.Goals as goal

@@ -1,4 +1,4 @@
-use Rattle.std.proofs.Common.{arith, sym, ◌∙◌}
+use Rattle.board_lock.proofs.Common.{arith, sym, ◌∙◌}
 use Rattle.board_lock.proofs.Keeps.{splits}
 use Rattle.board_lock.proofs.lock.Lock.another.Goals as goal
 

@@ -1,5 +1,4 @@
-use Rattle.std.proofs.Common.{arith, ◌∷◌, Some, ap, sym, ◌∙◌}
-use Rattle.atomic_table.specs.Table.{rest}
+use Rattle.board_lock.proofs.Common.{arith, ◌∷◌, Some, ap, sym, ◌∙◌, rest}
 use Rattle.board_lock.proofs.Keeps.{tries_as}
 use Rattle.board_lock.proofs.lock.Lock.enter.Goals as goal
 

@@ -1,5 +1,4 @@
-use Rattle.std.proofs.Common.{arith, ap, sym, ◌∙◌}
-use Rattle.atomic_table.specs.Table.{rest}
+use Rattle.board_lock.proofs.Common.{arith, ap, sym, ◌∙◌, rest}
 use Rattle.board_lock.proofs.Keeps.{frees_as}
 use Rattle.board_lock.proofs.lock.Lock.leave.Goals as goal
 

@@ -1,4 +1,4 @@
-use Rattle.std.proofs.Common.{arith, sym, ◌∙◌}
+use Rattle.board_lock.proofs.Common.{arith, sym, ◌∙◌}
 use Rattle.board_lock.proofs.Keeps.{retires_as}
 use Rattle.board_lock.proofs.lock.Lock.retire.Goals as goal
 

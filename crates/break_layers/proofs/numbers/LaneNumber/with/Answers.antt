@@ -1,8 +1,4 @@
-use Rattle.std.proofs.Common.{rules, ◌≡◌, ◌≢◌, ◌<◌, ◌+ℤ◌, ℤ, pos, length, length-set, get_or, sym, ap, subst, ◌∙◌, arith, to_z, of_z, FitsSigned}
-use Rattle.std.specs.Int.{w64}
-use Rattle.std.proofs.lemmas.Int.{to_z-of_z}
-use Rattle.price_sums.specs.Along.{sum_at}
-use Rattle.break_layers.specs.declared.windows.TheConstants.{NOTHING}
+use Rattle.break_layers.proofs.Common.{rules, ◌≡◌, ◌≢◌, ◌<◌, ◌+ℤ◌, ℤ, pos, length, length-set, get_or, sym, ap, subst, ◌∙◌, arith, to_z, of_z, FitsSigned, w64, to_z-of_z, sum_at, NOTHING}
 use Rattle.break_layers.proofs.Rows.{lane_more}
 use Rattle.break_layers.proofs.numbers.LaneNumber.with.Goals as goal
 

@@ -1,7 +1,4 @@
-use Rattle.std.proofs.Common.{◌≡◌, ◌≢◌, ◌<◌, ◌-ℤ◌, ℕ, length, FitsSigned}
-use Rattle.std.specs.Int.{w64}
-use Rattle.price_sums.specs.Along.{sum_at}
-use Rattle.break_layers.specs.declared.windows.TheConstants.{NOTHING}
+use Rattle.break_layers.proofs.Common.{◌≡◌, ◌≢◌, ◌<◌, ◌-ℤ◌, ℕ, length, FitsSigned, w64, sum_at, NOTHING}
 use Rattle.break_layers.proofs.numbers.LaneNumber.without.Given as goal
 
 abbrev pub invariant-loop-k : goal.invariant-loop-k

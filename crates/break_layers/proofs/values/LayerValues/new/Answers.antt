@@ -1,7 +1,4 @@
-use Rattle.std.proofs.Common.{◌≡◌, ℤ, List, map, sym, subst, ◌∙◌, arith}
-use Rattle.std.proofs.lemmas.List.{map-id}
-use Rattle.price_sums.specs.Along.{AreSums}
-use Rattle.break_layers.specs.Layered.{AreLayers}
+use Rattle.break_layers.proofs.Common.{◌≡◌, ℤ, List, map, sym, subst, ◌∙◌, arith, map-id, AreSums, AreLayers}
 use Rattle.break_layers.proofs.values.LayerValues.new.Goals as goal
 
 pub invariant_of-result : goal.invariant_of-result

@@ -1,11 +1,4 @@
-use Rattle.std.proofs.Common.{◌≡◌, true, false, Option, sym, subst}
-use Rattle.std.specs.Prelude.{MatchOption}
-use Rattle.break_rules.specs.declared.Spot.{Spot}
-use Rattle.break_rules.specs.Breaks.{is_live}
-use Rattle.break_rules.specs.Walk.{spot_of}
-use Rattle.break_rules.proofs.Reaching.{not_live}
-use Rattle.break_layers.specs.Rests.{Priced}
-use Rattle.break_layers.specs.Layered.{AreLayers}
+use Rattle.break_layers.proofs.Common.{◌≡◌, true, false, Option, sym, subst, MatchOption, Spot, is_live, spot_of, not_live, Priced, AreLayers}
 use Rattle.break_layers.proofs.Following.{most_live}
 use Rattle.break_layers.proofs.values.LayerValues.spot_behind.Goals as goal
 

@@ -1,10 +1,4 @@
-use Rattle.std.proofs.Common.{◌≡◌, false, List, IsTrue, subst, sym}
-use Rattle.std.specs.Prelude.{MatchOption}
-use Rattle.break_rules.specs.declared.Break.{Break}
-use Rattle.break_rules.specs.Breaks.{is_live}
-use Rattle.break_rules.specs.Walk.{is_walk, spot_of}
-use Rattle.break_layers.specs.Rests.{IsMostEarned, Priced}
-use Rattle.break_layers.specs.Layered.{AreLayers}
+use Rattle.break_layers.proofs.Common.{◌≡◌, false, List, IsTrue, subst, sym, MatchOption, Break, is_live, is_walk, spot_of, IsMostEarned, Priced, AreLayers}
 use Rattle.break_layers.proofs.values.LayerValues.value_at.Goals as goal
 
 pub returns : goal.returns

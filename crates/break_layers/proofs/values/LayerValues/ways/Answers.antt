@@ -1,12 +1,4 @@
-use Rattle.std.proofs.Common.{◌≡◌, ℕ, List, [], ◌∷◌, ◌++◌, Some, IsTrue, map, subst, sym, ◌∙◌, ap}
-use Rattle.std.specs.Prelude.{slice_get}
-use Rattle.std.proofs.lemmas.Result.{IfOk-weaker}
-use Rattle.break_rules.specs.declared.Break.{Break}
-use Rattle.break_rules.specs.Walk.{is_walk, spot_of}
-use Rattle.break_layers.specs.declared.ways.Way.{Way}
-use Rattle.break_layers.specs.Rests.{Priced}
-use Rattle.break_layers.specs.Layered.{AreLayers}
-use Rattle.break_layers.specs.Ways.{live_stops}
+use Rattle.break_layers.proofs.Common.{◌≡◌, ℕ, List, [], ◌∷◌, ◌++◌, Some, IsTrue, map, subst, sym, ◌∙◌, ap, slice_get, IfOk-weaker, Break, is_walk, spot_of, Way, Priced, AreLayers, live_stops}
 use Rattle.break_layers.proofs.LiveWays.{stops_by, spot_by}
 use Rattle.break_layers.proofs.values.LayerValues.ways.Goals as goal
 

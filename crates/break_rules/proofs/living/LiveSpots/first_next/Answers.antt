@@ -1,6 +1,4 @@
-use Rattle.std.proofs.Common.{◌≡◌, Bool, sym, ap, subst, ◌∙◌, List}
-use Rattle.break_rules.specs.declared.Rule.{Rule}
-use Rattle.break_rules.specs.Live.{Setting, place_of, AreKnown}
+use Rattle.break_rules.proofs.Common.{◌≡◌, Bool, sym, ap, subst, ◌∙◌, List, Rule, Setting, place_of, AreKnown}
 use Rattle.break_rules.proofs.Reaching.{all_known}
 use Rattle.break_rules.proofs.living.LiveSpots.first_next.Goals as goal
 

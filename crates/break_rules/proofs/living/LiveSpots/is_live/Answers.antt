@@ -1,8 +1,4 @@
-use Rattle.std.proofs.Common.{◌≡◌, Bool, true, false, List, slice_index_or, ap, subst, ◌∙◌}
-use Rattle.break_rules.specs.declared.Break.{Break}
-use Rattle.break_rules.specs.Breaks.{is_live}
-use Rattle.break_rules.specs.Live.{Setting, place_of}
-use Rattle.break_rules.specs.Walk.{spot_of, is_walk}
+use Rattle.break_rules.proofs.Common.{◌≡◌, Bool, true, false, List, slice_index_or, ap, subst, ◌∙◌, Break, is_live, Setting, place_of, spot_of, is_walk}
 use Rattle.break_rules.proofs.Reaching.{known_at}
 use Rattle.break_rules.proofs.living.LiveSpots.is_live.Goals as goal
 

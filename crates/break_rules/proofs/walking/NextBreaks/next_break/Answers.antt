@@ -1,6 +1,4 @@
-use Rattle.std.proofs.Common.{◌≡◌, ◌⊎◌, [], ◌+◌, ◌≤◌, ◌<◌, inl, inr, sym, ap, subst, ◌∙◌, arith, filter}
-use Rattle.break_rules.specs.Next.{IsAt, shortest_of}
-use Rattle.break_rules.specs.Walk.{may_follow, breaks_left}
+use Rattle.break_rules.proofs.Common.{◌≡◌, ◌⊎◌, [], ◌+◌, ◌≤◌, ◌<◌, inl, inr, sym, ap, subst, ◌∙◌, arith, filter, IsAt, shortest_of, may_follow, breaks_left}
 use Rattle.break_rules.proofs.Left.{filter_left_yes, none_left}
 use Rattle.break_rules.proofs.Steps.{follows_at, next_start, at_next}
 use Rattle.break_rules.proofs.walking.NextBreaks.next_break.Goals as goal

@@ -1,6 +1,4 @@
-use Rattle.std.proofs.Common.{◌≡◌, ◌-◌, filter}
-use Rattle.break_rules.specs.Next.{IsAt}
-use Rattle.break_rules.specs.Walk.{may_follow, breaks_left}
+use Rattle.break_rules.proofs.Common.{◌≡◌, ◌-◌, filter, IsAt, may_follow, breaks_left}
 use Rattle.break_rules.proofs.walking.NextBreaks.next_break.Given as goal
 
 abbrev pub invariant-loop-self : goal.invariant-loop-self

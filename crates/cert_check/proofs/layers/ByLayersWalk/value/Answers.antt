@@ -1,8 +1,4 @@
-use Rattle.std.proofs.Common.{◌∙◌, sym, subst}
-use Rattle.std.specs.Int.{w64}
-use Rattle.std.proofs.lemmas.Int.{to_z-of_z}
-use Rattle.price_sums.specs.Along.{Completes}
-use Rattle.cert_check.specs.Rests.{rest_worth, IsGreatest}
+use Rattle.cert_check.proofs.Common.{◌∙◌, sym, subst, w64, to_z-of_z, Completes, rest_worth, IsGreatest}
 use Rattle.cert_check.proofs.WaysOn.{spot_value}
 use Rattle.cert_check.proofs.layers.ByLayersWalk.value.Goals as goal
 

@@ -1,9 +1,4 @@
-use Rattle.std.proofs.Common.{◌≡◌, ◌∙◌, List, ap, map, sym, subst}
-use Rattle.std.proofs.lemmas.Result.{IfOk-weaker}
-use Rattle.break_rules.specs.declared.Break.{Break}
-use Rattle.break_rules.specs.declared.Spot.{Spot}
-use Rattle.break_layers.specs.declared.ways.Way.{Way}
-use Rattle.cert_check.specs.Walks.{AreWays, IsAtSpot}
+use Rattle.cert_check.proofs.Common.{◌≡◌, ◌∙◌, List, ap, map, sym, subst, IfOk-weaker, Break, Spot, Way, AreWays, IsAtSpot}
 use Rattle.cert_check.proofs.WaysOn.{spot_ways}
 use Rattle.cert_check.proofs.layers.ByLayersWalk.ways.Goals as goal
 

@@ -1,8 +1,4 @@
-use Rattle.std.proofs.Common.{◌≡◌, ℕ, List, map, sym, subst}
-use Rattle.std.proofs.lemmas.Result.{IfOk-weaker}
-use Rattle.break_rules.specs.declared.Break.{Break}
-use Rattle.break_graph.specs.declared.Edge.{Edge}
-use Rattle.cert_check.specs.Walks.{AreWays, IsAtNode}
+use Rattle.cert_check.proofs.Common.{◌≡◌, ℕ, List, map, sym, subst, IfOk-weaker, Break, Edge, AreWays, IsAtNode}
 use Rattle.cert_check.proofs.WaysOn.{node_ways}
 use Rattle.cert_check.proofs.nodes.ByNodesWalk.ways.Goals as goal
 

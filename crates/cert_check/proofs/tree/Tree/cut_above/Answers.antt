@@ -1,11 +1,4 @@
-use Rattle.std.proofs.Common.{◌≡◌, ℕ, Option, rules, Some}
-use Rattle.std.specs.Prelude.{slice_get, vec_len}
-use Rattle.std.specs.Option.{option_map}
-use Rattle.std.proofs.lemmas.Option.{slice_get_read}
-use Rattle.std.proofs.lemmas.Result.{IfOk-weaker}
-use Rattle.head_splits.specs.declared.Cut.{Cut}
-use Rattle.cert_check.specs.declared.tree.Part.{Part}
-use Rattle.cert_check.specs.Tree.{IsCutAbove}
+use Rattle.cert_check.proofs.Common.{◌≡◌, ℕ, Option, rules, Some, slice_get, vec_len, option_map, slice_get_read, IfOk-weaker, Cut, Part, IsCutAbove}
 use Rattle.cert_check.proofs.KeptNodes.{within_kept, above_is}
 use Rattle.cert_check.proofs.tree.Tree.cut_above.Goals as goal
 

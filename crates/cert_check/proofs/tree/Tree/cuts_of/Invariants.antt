@@ -1,5 +1,4 @@
-use Rattle.std.proofs.Common.{◌≡◌, ◌+◌, ◌<◌, ◌≤◌, ◌++◌, length, reverse}
-use Rattle.cert_check.specs.Tree.{cuts_at}
+use Rattle.cert_check.proofs.Common.{◌≡◌, ◌+◌, ◌<◌, ◌≤◌, ◌++◌, length, reverse, cuts_at}
 use Rattle.cert_check.proofs.tree.Tree.cuts_of.Given as goal
 
 abbrev pub invariant-loop-list : goal.invariant-loop-list

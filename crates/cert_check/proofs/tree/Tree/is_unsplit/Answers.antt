@@ -1,7 +1,4 @@
-use Rattle.std.proofs.Common.{◌≡◌, length, rules, sym, ◌∙◌, Some, arith}
-use Rattle.std.specs.Prelude.{slice_get}
-use Rattle.std.proofs.lemmas.Option.{slice_get_read}
-use Rattle.std.proofs.lemmas.Bool.{le-ltb}
+use Rattle.cert_check.proofs.Common.{◌≡◌, length, rules, sym, ◌∙◌, Some, arith, slice_get, slice_get_read, le-ltb}
 use Rattle.cert_check.proofs.KeptNodes.{not_within, unsplit_is}
 use Rattle.cert_check.proofs.tree.Tree.is_unsplit.Goals as goal
 

@@ -1,5 +1,4 @@
-use Rattle.std.proofs.Common.{◌≡◌, List, length, rules, ap, arith}
-use Rattle.head_splits.specs.Nodes.{Node}
+use Rattle.cert_check.proofs.Common.{◌≡◌, List, length, rules, ap, arith, Node}
 use Rattle.cert_check.proofs.KeptNodes.{count_is}
 use Rattle.cert_check.proofs.tree.Tree.len.Goals as goal
 

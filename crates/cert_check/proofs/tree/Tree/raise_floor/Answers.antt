@@ -1,6 +1,4 @@
-use Rattle.std.proofs.Common.{◌≡◌, rules, Some}
-use Rattle.std.specs.Prelude.{slice_get, vec_len}
-use Rattle.std.proofs.lemmas.Option.{slice_get_read}
+use Rattle.cert_check.proofs.Common.{◌≡◌, rules, Some, slice_get, vec_len, slice_get_read}
 use Rattle.cert_check.proofs.KeptNodes.{within_kept, floor_raised}
 use Rattle.cert_check.proofs.tree.Tree.raise_floor.Goals as goal
 

@@ -1,6 +1,4 @@
-use Rattle.std.proofs.Common.{◌≡◌, rules, refl, Some}
-use Rattle.std.specs.Prelude.{slice_get, vec_len}
-use Rattle.std.proofs.lemmas.Option.{slice_get_read}
+use Rattle.cert_check.proofs.Common.{◌≡◌, rules, refl, Some, slice_get, vec_len, slice_get_read}
 use Rattle.cert_check.proofs.KeptNodes.{within_kept, older_set, floor_set}
 use Rattle.cert_check.proofs.tree.Tree.set_floor.Goals as goal
 

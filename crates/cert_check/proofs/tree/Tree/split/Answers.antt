@@ -1,7 +1,4 @@
-use Rattle.std.proofs.Common.{◌≡◌, ◌∷◌, ◌++◌, [], List, set, rules, sym, ap, ◌∙◌, true, Some}
-use Rattle.std.specs.Prelude.{slice_get, vec_len}
-use Rattle.std.proofs.lemmas.Option.{slice_get_read}
-use Rattle.cert_check.specs.declared.tree.Kept.{Kept}
+use Rattle.cert_check.proofs.Common.{◌≡◌, ◌∷◌, ◌++◌, [], List, set, rules, sym, ap, ◌∙◌, true, Some, slice_get, vec_len, slice_get_read, KeptNode}
 use Rattle.cert_check.proofs.KeptNodes.{within_kept, same_some, split_kept}
 use Rattle.cert_check.proofs.tree.Tree.split.Goals as goal
 
@@ -18,11 +15,11 @@ invariant_of-self-2 c =
     let less = within_kept kept c.args.self.now c.args.node (vec_len c.self.inside.kept) c.self.view_is (search rules) c.requires.there in
     let at : slice_get kept c.args.node ≡ Some x = slice_get_read kept (vec_len c.self.inside.kept) c.args.node x (search rules) less (search rules) in
     let first : slice_get kept c.args.node ≡ Some c.index.result.now = slice_get_read kept (vec_len c.self.inside.kept) c.args.node c.index.result.now (search rules) less c.index.ensures in
-    let floor : c.index.result.now.floor ≡ x.floor = ap (λ (n : Kept). n.floor) (same_some c.index.result.now x (sym first ∙ at)) in
+    let floor : c.index.result.now.floor ≡ x.floor = ap (λ (n : KeptNode). n.floor) (same_some c.index.result.now x (sym first ∙ at)) in
     (split_kept kept c.push_reserved-2.new.self.items c.args.self.now c.args.node x c.new_part.result c.new_part-2.result c.args.class.now c.args.m c.index.result.now.floor
     c.self.invariant c.self.view_is at floor (search rules) (search rules)
     (c.push_reserved-2.ensures.items
-    ∙ ap (λ (l : List Kept). l ++ c.new_part-2.result ∷ []) (c.push_reserved.ensures.items ∙ ap (λ (l : List Kept). set l c.args.node (record { part = x.part; floor = x.floor; split = true }) ++ c.new_part.result ∷ []) c.reserve.ensures.items))).0
+    ∙ ap (λ (l : List KeptNode). l ++ c.new_part-2.result ∷ []) (c.push_reserved.ensures.items ∙ ap (λ (l : List KeptNode). set l c.args.node (record { part = x.part; floor = x.floor; split = true }) ++ c.new_part.result ∷ []) c.reserve.ensures.items))).0
 
 pub returns : goal.returns
 returns c =
@@ -31,8 +28,8 @@ returns c =
     let less = within_kept kept c.args.self.now c.args.node (vec_len c.self.inside.kept) c.self.view_is (search rules) c.requires.there in
     let at : slice_get kept c.args.node ≡ Some x = slice_get_read kept (vec_len c.self.inside.kept) c.args.node x (search rules) less (search rules) in
     let first : slice_get kept c.args.node ≡ Some c.index.result.now = slice_get_read kept (vec_len c.self.inside.kept) c.args.node c.index.result.now (search rules) less c.index.ensures in
-    let floor : c.index.result.now.floor ≡ x.floor = ap (λ (n : Kept). n.floor) (same_some c.index.result.now x (sym first ∙ at)) in
+    let floor : c.index.result.now.floor ≡ x.floor = ap (λ (n : KeptNode). n.floor) (same_some c.index.result.now x (sym first ∙ at)) in
     (split_kept kept c.push_reserved-2.new.self.items c.args.self.now c.args.node x c.new_part.result c.new_part-2.result c.args.class.now c.args.m c.index.result.now.floor
     c.self.invariant c.self.view_is at floor (search rules) (search rules)
     (c.push_reserved-2.ensures.items
-    ∙ ap (λ (l : List Kept). l ++ c.new_part-2.result ∷ []) (c.push_reserved.ensures.items ∙ ap (λ (l : List Kept). set l c.args.node (record { part = x.part; floor = x.floor; split = true }) ++ c.new_part.result ∷ []) c.reserve.ensures.items))).1
+    ∙ ap (λ (l : List KeptNode). l ++ c.new_part-2.result ∷ []) (c.push_reserved.ensures.items ∙ ap (λ (l : List KeptNode). set l c.args.node (record { part = x.part; floor = x.floor; split = true }) ++ c.new_part.result ∷ []) c.reserve.ensures.items))).1

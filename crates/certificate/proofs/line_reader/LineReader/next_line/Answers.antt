@@ -1,4 +1,4 @@
-use Rattle.std.proofs.Common.{◌∙◌, sym, arith}
+use Rattle.certificate.proofs.Common.{◌∙◌, sym, arith}
 use Rattle.certificate.proofs.Kept.{none_left, next_of, never_stops}
 use Rattle.certificate.proofs.line_reader.LineReader.next_line.Goals as goal
 

@@ -1,10 +1,4 @@
-use Rattle.std.proofs.Common.{◌<◌, ◌≤◌, ℕ, ℤ, List, All, length, subst, sym, ap, ◌∙◌, arith}
-use Rattle.std.specs.Int.RustNames.{unsigned_abs}
-use Rattle.break_rules.specs.declared.Break.{Break}
-use Rattle.shift_instance.specs.Problem.{slots}
-use Rattle.head_splits.proofs.Priced.{priced}
-use Rattle.bound_sums.proofs.Priced.{slots_small}
-use Rattle.pricing.specs.Tables.{Tabled, MeanTheSame, repriced}
+use Rattle.dual_bound.proofs.Common.{◌<◌, ◌≤◌, ℕ, ℤ, List, All, length, subst, sym, ap, ◌∙◌, arith, unsigned_abs, Break, slots, priced, slots_small, Tabled, MeanTheSame, repriced}
 use Rattle.dual_bound.proofs.KeptTables.{slots_named, prices_named, repriced_to}
 use Rattle.dual_bound.proofs.day_tables.DayTables.reprice.Goals as goal
 

@@ -1,7 +1,4 @@
-use Rattle.std.proofs.Common.{◌<◌, ℤ, List, length, sym, ap, ◌∙◌, subst}
-use Rattle.break_rules.specs.declared.Break.{Break}
-use Rattle.pricing.specs.Days.{best_at}
-use Rattle.dual_bound.specs.Pricer.{AreBests}
+use Rattle.dual_bound.proofs.Common.{◌<◌, ℤ, List, length, sym, ap, ◌∙◌, subst, Break, best_at, AreBests}
 use Rattle.dual_bound.proofs.Kept.{bests_read, values_of_bests}
 use Rattle.dual_bound.proofs.pricer.BestsDayValues.of_shift.Goals as goal
 

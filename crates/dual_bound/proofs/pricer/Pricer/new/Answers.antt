@@ -1,8 +1,4 @@
-use Rattle.std.proofs.Common.{List, sym, ap, ◌∙◌, subst}
-use Rattle.shift_instance.specs.Problem.{Problem}
-use Rattle.head_splits.specs.declared.Cut.{Cut}
-use Rattle.dual_bound.specs.KeptTables.{AreAllKept}
-use Rattle.dual_bound.specs.Pricer.{IsPriced, Pricing}
+use Rattle.dual_bound.proofs.Common.{List, sym, ap, ◌∙◌, subst, Problem, Cut, AreAllKept, IsPriced, Pricing}
 use Rattle.dual_bound.proofs.Causes.{passes}
 use Rattle.dual_bound.proofs.pricer.Pricer.new.Goals as goal
 

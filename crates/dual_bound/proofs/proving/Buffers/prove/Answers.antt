@@ -1,6 +1,4 @@
-use Rattle.std.proofs.Common.{subst, sym}
-use Rattle.shift_instance.specs.Problem.{Problem}
-use Rattle.dual_bound.specs.Proved.{Proving, IsProved}
+use Rattle.dual_bound.proofs.Common.{subst, sym, Problem, Proving, IsProved}
 use Rattle.dual_bound.proofs.Causes.{passes}
 use Rattle.dual_bound.proofs.proving.Buffers.prove.Goals as goal
 

@@ -1,7 +1,5 @@
-use Rattle.std.proofs.Common.{◌≡◌, ◌≤◌, ℕ, subst, sym, ap, ◌∙◌}
-use Rattle.shift_instance.specs.Rota.{cost}
+use Rattle.dual_bound.proofs.Common.{◌≡◌, ◌≤◌, ℕ, subst, sym, ap, ◌∙◌, cost, Proving, IsProved}
 use Rattle.head_splits.proofs.Duality.{weak_duality}
-use Rattle.dual_bound.specs.Proved.{Proving, IsProved}
 use Rattle.dual_bound.proofs.proving.Proved.bound.Goals as goal
 
 pub returns-clause-below : goal.returns-clause-below

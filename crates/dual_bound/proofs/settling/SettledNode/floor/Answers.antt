@@ -1,6 +1,4 @@
-use Rattle.std.proofs.Common.{ap, ◌∙◌}
-use Rattle.head_splits.specs.Nodes.{settled_floor}
-use Rattle.dual_bound.specs.Settling.{Settling}
+use Rattle.dual_bound.proofs.Common.{ap, ◌∙◌, settled_floor, Settling}
 use Rattle.dual_bound.proofs.PlanFloor.{plan_floor}
 use Rattle.dual_bound.proofs.settling.SettledNode.floor.Goals as goal
 

@@ -1,9 +1,4 @@
-use Rattle.std.proofs.Common.{◌≡◌, ◌+◌, ◌≤◌, ℕ, List, [], ◌∷◌, ◌++◌, length, sym, ◌∙◌, ap, subst, arith}
-use Rattle.std.specs.Prelude.{IfSome}
-use Rattle.std.specs.Option.{option_map}
-use Rattle.plan_base.specs.Disk.{overwritten, WritesPart, HoldsThroughout}
-use Rattle.gated_journal.specs.Format.{spelled, end_after}
-use Rattle.gated_journal.specs.View.{JournalView}
+use Rattle.gated_journal.proofs.Common.{◌≡◌, ◌+◌, ◌≤◌, ℕ, List, [], ◌∷◌, ◌++◌, length, sym, ◌∙◌, ap, subst, arith, IfSome, option_map, overwritten, WritesPart, HoldsThroughout, spelled, end_after, JournalView}
 use Rattle.gated_journal.proofs.Spelling.{length-spelled-push}
 use Rattle.gated_journal.proofs.Puts.{synced, first_moments, both_moments, stored}
 use Rattle.gated_journal.proofs.journal.Journal.put.Goals as goal

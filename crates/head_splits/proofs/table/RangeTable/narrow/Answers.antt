@@ -1,9 +1,4 @@
-use Rattle.std.proofs.Common.{◌≡◌, ℕ, ap, ◌∙◌, refl}
-use Rattle.head_splits.specs.declared.table.Place.{Place}
-use Rattle.head_splits.specs.declared.table.RangeTable.{RangeTable}
-use Rattle.head_splits.specs.Cuts.{raised, lowered}
-use Rattle.head_splits.specs.Settled.{class_of}
-use Rattle.head_splits.specs.Ranges.{class_at}
+use Rattle.head_splits.proofs.Common.{◌≡◌, ℕ, ap, ◌∙◌, refl, Place, RangeTable, raised, lowered, class_of, class_at}
 use Rattle.head_splits.proofs.Narrowed.{narrowed, range_after}
 use Rattle.head_splits.proofs.table.RangeTable.narrow.Goals as goal
 

@@ -1,5 +1,4 @@
-use Rattle.std.proofs.Common.{take}
-use Rattle.head_splits.specs.Ranges.{AreRanges}
+use Rattle.head_splits.proofs.Common.{take, AreRanges}
 use Rattle.head_splits.proofs.table.RangeTable.new.Given as goal
 
 abbrev pub invariant-loop-cut : goal.invariant-loop-cut

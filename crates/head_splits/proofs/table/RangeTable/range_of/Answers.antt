@@ -1,6 +1,4 @@
-use Rattle.std.proofs.Common.{◌≡◌, ℕ, ap, ◌∙◌}
-use Rattle.std.specs.Option.{unwrap_or}
-use Rattle.head_splits.specs.Ranges.{range_in}
+use Rattle.head_splits.proofs.Common.{◌≡◌, ℕ, ap, ◌∙◌, unwrap_or, range_in}
 use Rattle.head_splits.proofs.table.RangeTable.range_of.Goals as goal
 
 pub returns : goal.returns

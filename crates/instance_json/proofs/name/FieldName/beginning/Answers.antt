@@ -1,8 +1,4 @@
-use Rattle.std.proofs.Common.{◌≡◌, ◌≤◌, take, IsUtf8, sym, ap, ◌∙◌, subst, arith}
-use Rattle.std.proofs.lemmas.List.{length-take}
-use Rattle.std.proofs.lemmas.Str.{utf8_valid_len_le}
-use Rattle.std.proofs.lemmas.Result.{IfOk-weaker}
-use Rattle.std.specs.Str.Lossy.{utf8_valid_len}
+use Rattle.instance_json.proofs.Common.{◌≡◌, ◌≤◌, take, IsUtf8, sym, ap, ◌∙◌, subst, arith, length-take, utf8_valid_len_le, IfOk-weaker, utf8_valid_len}
 use Rattle.instance_json.proofs.Names.{first_bytes, shown-text, shown-cut}
 use Rattle.instance_json.proofs.name.FieldName.beginning.Goals as goal
 

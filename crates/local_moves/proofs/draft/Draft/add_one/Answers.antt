@@ -1,10 +1,4 @@
-use Rattle.std.proofs.Common.{◌≡◌, ◌+◌, ◌≤◌, ◌∷◌, [], List, sym, subst}
-use Rattle.break_rules.proofs.Causes.{no_cause}
-use Rattle.shift_instance.specs.declared.Duty.{Duty}
-use Rattle.shift_instance.specs.Rota.{heads_on, rota_of}
-use Rattle.local_moves.specs.declared.moves.Move.TheVariants.{Add}
-use Rattle.local_moves.specs.Drafting.{IsExchanged}
-use Rattle.local_moves.specs.Moves.{move_causes}
+use Rattle.local_moves.proofs.Common.{◌≡◌, ◌+◌, ◌≤◌, ◌∷◌, [], List, sym, subst, no_cause, Duty, heads_on, rota_of, Add, IsExchanged, move_causes}
 use Rattle.local_moves.proofs.Applied.{now_legal, one_room, added}
 use Rattle.local_moves.proofs.draft.Draft.add_one.Goals as goal
 

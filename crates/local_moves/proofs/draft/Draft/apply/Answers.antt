@@ -1,11 +1,5 @@
-use Rattle.std.proofs.Common.{◌≡◌, ◌∙◌, None, sym, ap, subst}
-use Rattle.std.specs.Prelude.{MatchResult, OnOk}
-use Rattle.break_rules.specs.Causes.{first_cause}
-use Rattle.shift_instance.specs.declared.Duty.{Duty}
-use Rattle.shift_instance.specs.Rota.{rota_of}
+use Rattle.local_moves.proofs.Common.{◌≡◌, ◌∙◌, None, sym, ap, subst, MatchResult, OnOk, first_cause, Duty, rota_of, Add, Drop, Rebreak, Answers, AreSameDuties, move_causes, moved}
 use Rattle.local_moves.specs.declared.moves.Move.{Move}
-use Rattle.local_moves.specs.declared.moves.Move.TheVariants.{Add, Drop, Rebreak}
-use Rattle.local_moves.specs.Moves.{Answers, AreSameDuties, move_causes, moved}
 use Rattle.local_moves.proofs.draft.Draft.apply.Goals as goal
 
 pub returns-in_ok-duty-in-Add-clause-fault : goal.returns-in_ok-duty-in-Add-clause-fault

@@ -1,12 +1,4 @@
-use Rattle.std.proofs.Common.{◌≡◌, ◌∙◌, ◌+◌, ◌≤◌, List, not, sym, ap, subst, arith}
-use Rattle.std.specs.List.{count_by}
-use Rattle.shift_instance.specs.declared.Duty.{Duty}
-use Rattle.shift_instance.specs.declared.Row.{Row}
-use Rattle.shift_instance.specs.Problem.{Problem}
-use Rattle.shift_instance.specs.Rota.{are_legal_rows, heads_on, is_legal_duty, rota_of}
-use Rattle.shift_instance.proofs.Rotas.{heads_within}
-use Rattle.rota_cost.proofs.Counting.{legal_rows_parts}
-use Rattle.local_moves.specs.Drafting.{IsExchanged}
+use Rattle.local_moves.proofs.Common.{◌≡◌, ◌∙◌, ◌+◌, ◌≤◌, List, not, sym, ap, subst, arith, count_by, Duty, Row, Problem, are_legal_rows, heads_on, is_legal_duty, rota_of, heads_within, legal_rows_parts, IsExchanged}
 use Rattle.local_moves.proofs.Views.{all_legal, assigned_rows, legal_for, same_drafting}
 use Rattle.local_moves.proofs.draft.Draft.assign_from.Goals as goal
 

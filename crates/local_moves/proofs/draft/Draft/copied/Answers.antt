@@ -1,5 +1,4 @@
-use Rattle.std.proofs.Common.{◌≡◌, ◌∙◌, IfOk, sym, subst}
-use Rattle.local_moves.specs.Drafting.{Drafting}
+use Rattle.local_moves.proofs.Common.{◌≡◌, ◌∙◌, IfOk, sym, subst, Drafting}
 use Rattle.local_moves.proofs.Views.{same_drafting}
 use Rattle.local_moves.proofs.draft.Draft.copied.Goals as goal
 

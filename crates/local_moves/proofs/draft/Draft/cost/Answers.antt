@@ -1,4 +1,4 @@
-use Rattle.std.proofs.Common.{◌∙◌, ℕ, ◌<◌, sym, subst}
+use Rattle.local_moves.proofs.Common.{◌∙◌, ℕ, ◌<◌, sym, subst}
 use Rattle.local_moves.proofs.DraftCosts.{view_below}
 use Rattle.local_moves.proofs.DraftFacts.{view_cost, view_legal}
 use Rattle.local_moves.proofs.draft.Draft.cost.Goals as goal

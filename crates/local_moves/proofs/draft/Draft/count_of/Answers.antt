@@ -1,6 +1,4 @@
-use Rattle.std.proofs.Common.{subst, sym}
-use Rattle.break_rules.specs.Lists.{Sorted}
-use Rattle.local_moves.specs.Places.{IsBefore}
+use Rattle.local_moves.proofs.Common.{subst, sym, Sorted, IsBefore}
 use Rattle.local_moves.proofs.DraftFacts.{draft_sorted}
 use Rattle.local_moves.proofs.draft.Draft.count_of.Goals as goal
 

@@ -1,10 +1,4 @@
-use Rattle.std.proofs.Common.{◌≡◌, ◌+◌, ◌≤◌, ◌∷◌, [], List, refl, sym, subst, arith}
-use Rattle.break_rules.proofs.Causes.{no_cause}
-use Rattle.shift_instance.specs.declared.Duty.{Duty}
-use Rattle.shift_instance.specs.Rota.{count_of, heads_on, rota_of}
-use Rattle.local_moves.specs.declared.moves.Move.TheVariants.{Drop}
-use Rattle.local_moves.specs.Drafting.{IsExchanged}
-use Rattle.local_moves.specs.Moves.{move_causes}
+use Rattle.local_moves.proofs.Common.{◌≡◌, ◌+◌, ◌≤◌, ◌∷◌, [], List, refl, sym, subst, arith, no_cause, Duty, count_of, heads_on, rota_of, Drop, IsExchanged, move_causes}
 use Rattle.local_moves.proofs.Applied.{now_legal, one_there, no_more_heads, dropped}
 use Rattle.local_moves.proofs.draft.Draft.drop_one.Goals as goal
 

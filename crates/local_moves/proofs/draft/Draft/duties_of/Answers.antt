@@ -1,7 +1,4 @@
-use Rattle.std.proofs.Common.{◌≡◌, ◌∙◌, sym, ap, arith}
-use Rattle.shift_instance.specs.Problem.{Problem}
-use Rattle.shift_instance.specs.Rota.{heads_on, rota_of}
-use Rattle.rota_cost.proofs.Counting.{legal_rows_parts}
+use Rattle.local_moves.proofs.Common.{◌≡◌, ◌∙◌, sym, ap, arith, Problem, heads_on, rota_of, legal_rows_parts}
 use Rattle.local_moves.proofs.DraftFacts.{view_legal}
 use Rattle.local_moves.proofs.ShiftDuties.{duties_before, before_none, before_more_days, before_all}
 use Rattle.local_moves.proofs.draft.Draft.duties_of.Goals as goal

@@ -1,5 +1,4 @@
-use Rattle.std.proofs.Common.{◌≡◌, ◌*◌, ◌≤◌}
-use Rattle.shift_instance.specs.Rota.{rota_of}
+use Rattle.local_moves.proofs.Common.{◌≡◌, ◌*◌, ◌≤◌, rota_of}
 use Rattle.local_moves.proofs.ShiftDuties.{duties_before}
 use Rattle.local_moves.proofs.draft.Draft.duties_of.Given as goal
 

@@ -1,8 +1,4 @@
-use Rattle.std.proofs.Common.{◌≡◌, ◌∙◌, List, true, sym, subst}
-use Rattle.shift_instance.specs.declared.Row.{Row}
-use Rattle.shift_instance.specs.Problem.{Problem}
-use Rattle.shift_instance.specs.Rota.{are_legal_rows, rota_of}
-use Rattle.local_moves.specs.Drafting.{IsExchanged}
+use Rattle.local_moves.proofs.Common.{◌≡◌, ◌∙◌, List, true, sym, subst, Row, Problem, are_legal_rows, rota_of, IsExchanged}
 use Rattle.local_moves.proofs.DraftFacts.{draft_legal}
 use Rattle.local_moves.proofs.Exchanges.{exchange_there, exchange_heads, exchange_all}
 use Rattle.local_moves.proofs.draft.Draft.exchange.Goals as goal

@@ -1,5 +1,4 @@
-use Rattle.std.proofs.Common.{◌≡◌, ◌+◌, ◌*◌, ◌∙◌, rules}
-use Rattle.std.proofs.lemmas.List.{get_or_read}
+use Rattle.local_moves.proofs.Common.{◌≡◌, ◌+◌, ◌*◌, ◌∙◌, rules, get_or_read}
 use Rattle.local_moves.proofs.DraftFacts.{view_heads}
 use Rattle.local_moves.proofs.draft.Draft.heads_on.Goals as goal
 

@@ -1,10 +1,5 @@
-use Rattle.std.proofs.Common.{◌≡◌, ◌*◌, ◌∙◌, ℕ, List, length, sym, ap, subst, rules}
-use Rattle.shift_instance.specs.Problem.{shift_list}
-use Rattle.shift_instance.specs.declared.Row.{Row}
-use Rattle.shift_instance.specs.Rota.{heads_on, rota_of}
-use Rattle.rota_cost.specs.Cover.{Covering}
+use Rattle.local_moves.proofs.Common.{◌≡◌, ◌*◌, ◌∙◌, ℕ, List, length, sym, ap, subst, rules, shift_list, Row, heads_on, rota_of, Covering, IsDraft}
 use Rattle.rota_cost.proofs.Counts.{written_back}
-use Rattle.greedy.specs.Drafts.{IsDraft}
 use Rattle.local_moves.proofs.CountedRows.{draft_new}
 use Rattle.local_moves.proofs.draft.Draft.new.Goals as goal
 

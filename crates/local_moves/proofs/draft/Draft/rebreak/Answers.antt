@@ -1,12 +1,4 @@
-use Rattle.std.proofs.Common.{◌≡◌, ◌+◌, ◌≤◌, ◌∷◌, [], ◌∙◌, List, not, refl, sym, ap, subst}
-use Rattle.std.specs.List.{count_by}
-use Rattle.break_rules.proofs.Causes.{no_cause}
-use Rattle.shift_instance.specs.declared.Duty.{Duty}
-use Rattle.shift_instance.specs.Rota.{count_of, heads_on, is_legal_duty, rota_of}
-use Rattle.greedy.specs.Greedy.{duty}
-use Rattle.local_moves.specs.declared.moves.Move.TheVariants.{Rebreak}
-use Rattle.local_moves.specs.Drafting.{IsExchanged}
-use Rattle.local_moves.specs.Moves.{move_causes}
+use Rattle.local_moves.proofs.Common.{◌≡◌, ◌+◌, ◌≤◌, ◌∷◌, [], ◌∙◌, List, not, refl, sym, ap, subst, count_by, no_cause, Duty, count_of, heads_on, is_legal_duty, rota_of, duty, Rebreak, IsExchanged, move_causes}
 use Rattle.local_moves.proofs.Applied.{now_legal, one_legal, one_there, no_more_heads, same_place_heads, rebroken}
 use Rattle.local_moves.proofs.draft.Draft.rebreak.Goals as goal
 

@@ -1,9 +1,4 @@
-use Rattle.std.proofs.Common.{◌≡◌, ◌<◌, ◌==◌, ◌∙◌, ℕ, List, Some, filter, map, length, get_or, sym, ap, subst}
-use Rattle.std.specs.Prelude.{slice_get}
-use Rattle.break_rules.proofs.Causes.{no_cause}
-use Rattle.shift_instance.specs.declared.Duty.{Duty}
-use Rattle.shift_instance.specs.Rota.{lists_of, rota_of}
-use Rattle.local_moves.specs.Moves.{heads_causes, reshifted}
+use Rattle.local_moves.proofs.Common.{◌≡◌, ◌<◌, ◌==◌, ◌∙◌, ℕ, List, Some, filter, map, length, get_or, sym, ap, subst, slice_get, no_cause, Duty, lists_of, rota_of, heads_causes, reshifted}
 use Rattle.local_moves.proofs.Applied.{now_legal}
 use Rattle.local_moves.proofs.Reshifts.{own_at, pair_parts, own_there, reshifted_legal, reshifted_heads, reshifted_all}
 use Rattle.local_moves.proofs.draft.Draft.reshift.Goals as goal

@@ -1,10 +1,4 @@
-use Rattle.std.proofs.Common.{◌≡◌, ◌∙◌, ◌+◌, ◌≤◌, ℕ, List, sym, subst, rules}
-use Rattle.break_rules.specs.Lists.{Sorted}
-use Rattle.shift_instance.specs.declared.Duty.{Duty}
-use Rattle.shift_instance.specs.declared.Row.{Row}
-use Rattle.shift_instance.specs.Rota.{count_of, heads_on, rota_of}
-use Rattle.local_moves.specs.Drafting.{IsExchanged}
-use Rattle.local_moves.specs.Places.{IsBefore}
+use Rattle.local_moves.proofs.Common.{◌≡◌, ◌∙◌, ◌+◌, ◌≤◌, ℕ, List, sym, subst, rules, Sorted, Duty, Row, count_of, heads_on, rota_of, IsExchanged, IsBefore}
 use Rattle.local_moves.proofs.Balance.{made_changes}
 use Rattle.local_moves.proofs.OwnRows.{legal_sorted}
 use Rattle.local_moves.proofs.draft.Draft.swap.Goals as goal

@@ -1,11 +1,4 @@
-use Rattle.std.proofs.Common.{◌≡◌, ◌∙◌, ◌+◌, ◌≤◌, List, true, sym, subst}
-use Rattle.shift_instance.specs.declared.Duty.{Duty}
-use Rattle.shift_instance.specs.Problem.{Problem}
-use Rattle.shift_instance.specs.Rota.{count_of, heads_on, rota_of, are_legal_rows}
-use Rattle.rota_cost.proofs.Counting.{legal_rows_parts}
-use Rattle.local_moves.specs.declared.changes.Change.{Change}
-use Rattle.local_moves.specs.Changes.{IsDone}
-use Rattle.local_moves.specs.Drafting.{IsExchanged}
+use Rattle.local_moves.proofs.Common.{◌≡◌, ◌∙◌, ◌+◌, ◌≤◌, List, true, sym, subst, Duty, Problem, count_of, heads_on, rota_of, are_legal_rows, legal_rows_parts, Change, IsDone, IsExchanged}
 use Rattle.local_moves.proofs.Undone.{back_there, back_legal, back_heads, back_rows}
 use Rattle.local_moves.proofs.draft.Draft.undo.Goals as goal
 

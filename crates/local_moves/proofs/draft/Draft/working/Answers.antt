@@ -1,4 +1,4 @@
-use Rattle.std.proofs.Common.{◌∙◌}
+use Rattle.local_moves.proofs.Common.{◌∙◌}
 use Rattle.local_moves.proofs.DraftFacts.{view_cover}
 use Rattle.local_moves.proofs.draft.Draft.working.Goals as goal
 

@@ -1,5 +1,4 @@
-use Rattle.std.proofs.Common.{◌≡◌, ◌+◌, ◌-◌, ◌<◌, ◌≤◌, ap, sym, ◌∙◌, subst, false, length, arith, heap_items}
-use Rattle.open_nodes.specs.Listed.{has_node, with_entry, OpenView}
+use Rattle.open_nodes.proofs.Common.{◌≡◌, ◌+◌, ◌-◌, ◌<◌, ◌≤◌, ap, sym, ◌∙◌, subst, false, length, arith, heap_items, has_node, with_entry, OpenView}
 use Rattle.open_nodes.proofs.Heaps.{pushed_once, pushed_order}
 use Rattle.open_nodes.proofs.nodes.OpenNodes.add.Goals as goal
 

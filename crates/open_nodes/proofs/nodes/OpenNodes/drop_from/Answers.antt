@@ -1,7 +1,5 @@
-use Rattle.std.proofs.Common.{◌≡◌, ◌+◌, ◌-◌, ◌≤◌, ap, sym, ◌∙◌, length, arith, rules, nat_lt, heap_items}
+use Rattle.open_nodes.proofs.Common.{◌≡◌, ◌+◌, ◌-◌, ◌≤◌, ap, sym, ◌∙◌, length, arith, rules, nat_lt, heap_items, filter, Entry, OpenView}
 use Rattle.std.proofs.lemmas.Fn.{filter_same}
-use Rattle.std.specs.List.{filter}
-use Rattle.open_nodes.specs.Listed.{Entry, OpenView}
 use Rattle.open_nodes.proofs.Heaps.{kept_once, kept_order}
 use Rattle.open_nodes.proofs.nodes.OpenNodes.drop_from.Goals as goal
 

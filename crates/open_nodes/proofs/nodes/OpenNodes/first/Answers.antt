@@ -1,6 +1,4 @@
-use Rattle.std.proofs.Common.{◌≡◌, ◌<◌, ap, sym, ◌∙◌, refl, subst, arith, length, heap_items}
-use Rattle.std.specs.Prelude.{slice_get}
-use Rattle.open_nodes.specs.Listed.{OpenView, Rises}
+use Rattle.open_nodes.proofs.Common.{◌≡◌, ◌<◌, ap, sym, ◌∙◌, refl, subst, arith, length, heap_items, slice_get, OpenView, Rises}
 use Rattle.open_nodes.proofs.Heaps.{order_rises, peeked_first}
 use Rattle.open_nodes.proofs.nodes.OpenNodes.first.Goals as goal
 

@@ -1,5 +1,4 @@
-use Rattle.std.proofs.Common.{◌≡◌, ◌+◌, ◌≤◌, ap, sym, ◌∙◌, ◌∷◌, length, arith, heap_items}
-use Rattle.open_nodes.specs.Listed.{OpenView}
+use Rattle.open_nodes.proofs.Common.{◌≡◌, ◌+◌, ◌≤◌, ap, sym, ◌∙◌, ◌∷◌, length, arith, heap_items, OpenView}
 use Rattle.open_nodes.proofs.Heaps.{popped_once, popped_order}
 use Rattle.open_nodes.proofs.nodes.OpenNodes.take_first.Goals as goal
 

@@ -1,6 +1,4 @@
-use Rattle.std.proofs.Common.{ap, sym, ◌∙◌, subst, ◌+◌, ◌<◌, ◌^◌, ℤ, List}
-use Rattle.break_rules.specs.declared.Break.{Break}
-use Rattle.patterns.specs.Bonuses.{Bonuses, with_added, AreSmall}
+use Rattle.patterns.proofs.Common.{ap, sym, ◌∙◌, subst, ◌+◌, ◌<◌, ◌^◌, ℤ, List, Break, Bonuses, with_added, AreSmall}
 use Rattle.patterns.proofs.Additions.{shown, read, widened, added, added_fits, small_more}
 use Rattle.patterns.proofs.trie.Trie.add.Goals as goal
 

@@ -1,8 +1,4 @@
-use Rattle.std.proofs.Common.{refl, ap, sym, ◌∙◌, ◌≤◌, arith, length}
-use mir.Syntax.{w128}
-use Rattle.std.proofs.lemmas.Int.{to_z-of_z}
-use Rattle.std.proofs.lemmas.List.{take_all}
-use Rattle.break_rules.specs.Bonuses.{bonus_of}
+use Rattle.patterns.proofs.Common.{refl, ap, sym, ◌∙◌, ◌≤◌, arith, length, w128, to_z-of_z, take_all, bonus_of}
 use Rattle.patterns.proofs.Additions.{sum_more, sum_fits, all_small}
 use Rattle.patterns.proofs.trie.Trie.bonus_of.Goals as goal
 

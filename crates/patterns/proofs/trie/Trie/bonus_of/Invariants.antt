@@ -1,5 +1,4 @@
-use Rattle.std.proofs.Common.{◌≡◌, take}
-use Rattle.break_rules.specs.Bonuses.{bonus_of}
+use Rattle.patterns.proofs.Common.{◌≡◌, take, bonus_of}
 use Rattle.patterns.proofs.trie.Trie.bonus_of.Given as goal
 
 abbrev pub invariant-loop-end : goal.invariant-loop-end

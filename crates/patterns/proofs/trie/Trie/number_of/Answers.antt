@@ -1,7 +1,4 @@
-use Rattle.std.proofs.Common.{ap, sym, ◌∙◌, to_z, of_z, ◌≡◌, ◌+ℤ◌, ℤ, ◌++◌, ◌∷◌, []}
-use mir.Syntax.{w128}
-use Rattle.patterns.specs.Bonuses.{Bonuses}
-use Rattle.break_rules.specs.Bonuses.{bonus_of}
+use Rattle.patterns.proofs.Common.{ap, sym, ◌∙◌, to_z, of_z, ◌≡◌, ◌+ℤ◌, ℤ, ◌++◌, ◌∷◌, [], w128, Bonuses, bonus_of}
 use Rattle.patterns.proofs.Additions.{bonus_empty, bonus_more, number_in, read, shown}
 use Rattle.patterns.proofs.trie.Trie.number_of.Goals as goal
 use Rattle.patterns.proofs.trie.Trie.number_of.Goals.{After-unwrap_or}

@@ -1,8 +1,6 @@
-use Rattle.std.proofs.Common.{◌≡◌, List, ℕ, length, reverse, sym, ◌∙◌, ap, subst, arith}
+use Rattle.plan_base.proofs.Common.{◌≡◌, List, ℕ, length, reverse, sym, ◌∙◌, ap, subst, arith, content, image_of, mask_of, mask_kept, painted, reads_image}
 use Rattle.std.proofs.lemmas.Option.{same_Some}
 use Rattle.std.proofs.lemmas.Grind.{common_steps}
-use Rattle.plan_base.specs.Replay.{content, image_of, mask_of, mask_kept, painted}
-use Rattle.plan_base.specs.ReplayLaws.{reads_image}
 use Rattle.plan_base.proofs.Painted.{painted_image}
 use Rattle.plan_base.proofs.mem_disk.MemDisk.image.Goals as goal
 

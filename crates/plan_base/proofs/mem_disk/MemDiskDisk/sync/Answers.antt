@@ -1,5 +1,4 @@
-use Rattle.std.proofs.Common.{◌+◌, refl}
-use Rattle.plan_base.specs.declared.disk_event.DiskAct.TheVariants.{Sync}
+use Rattle.plan_base.proofs.Common.{◌+◌, refl, Sync}
 use Rattle.plan_base.proofs.Replays.{moment_noted, synced_image}
 use Rattle.plan_base.proofs.mem_disk.MemDiskDisk.sync.Goals as goal
 

@@ -1,5 +1,4 @@
-use Rattle.std.proofs.Common.{◌+◌, refl, ap, sym, ◌∙◌, length, reverse}
-use Rattle.plan_base.specs.declared.disk_event.DiskAct.TheVariants.{Write}
+use Rattle.plan_base.proofs.Common.{◌+◌, refl, ap, sym, ◌∙◌, length, reverse, Write}
 use Rattle.plan_base.proofs.Painted.{length_mask}
 use Rattle.plan_base.proofs.Replays.{moment_noted}
 use Rattle.plan_base.proofs.mem_disk.MemDiskDisk.write_at.Goals as goal

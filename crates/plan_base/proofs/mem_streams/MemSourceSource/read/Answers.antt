@@ -1,6 +1,4 @@
-use Rattle.std.proofs.Common.{ℕ, List, ap, subst, sym, ◌∙◌}
-use Rattle.plan_base.specs.Disk.{ReadsAt}
-use Rattle.plan_base.specs.Streams.{MemSourceView}
+use Rattle.plan_base.proofs.Common.{ℕ, List, ap, subst, sym, ◌∙◌, ReadsAt, MemSourceView}
 use Rattle.plan_base.proofs.Taking.{read_on}
 use Rattle.plan_base.proofs.mem_streams.MemSourceSource.read.Goals as goal
 

@@ -1,7 +1,5 @@
-use Rattle.std.proofs.Common.{◌≡◌, ◌+◌, ap, ◌∙◌, rules, arith}
-use Rattle.shift_instance.specs.Rota.{rota_of}
+use Rattle.plan_tables.proofs.Common.{◌≡◌, ◌+◌, ap, ◌∙◌, rules, arith, rota_of, excess_part, shifts_part, shortage_part}
 use Rattle.plan_tables.specs.declared.summary.CostPart.{CostPart}
-use Rattle.plan_tables.specs.Tallies.{excess_part, shifts_part, shortage_part}
 use Rattle.plan_tables.proofs.SlotSums.{cost_parts}
 use Rattle.plan_tables.proofs.summary.Summary.new.Goals as goal
 

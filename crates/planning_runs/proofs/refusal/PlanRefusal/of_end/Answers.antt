@@ -1,6 +1,4 @@
-use Rattle.std.proofs.Common.{ap}
-use Rattle.planning_runs.specs.declared.refusal.Cause.TheVariants.{Journal, System, Words}
-use Rattle.planning_runs.specs.Causes.{end_cause}
+use Rattle.planning_runs.proofs.Common.{ap, Journal, System, Words, end_cause}
 use Rattle.planning_runs.proofs.Causes.{said_for}
 use Rattle.planning_runs.proofs.refusal.PlanRefusal.of_end.Goals as goal
 

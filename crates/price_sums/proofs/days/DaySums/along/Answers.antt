@@ -1,12 +1,5 @@
-use Rattle.std.proofs.Common.{◌≡◌, ℕ, ◌+◌, ◌-◌, ◌*◌, ◌%◌, ◌<◌, ◌≤◌, ℤ, List, take, drop, sym, ap, ◌∙◌, subst, arith}
-use Rattle.std.specs.Int.RustNames.{unsigned_abs}
-use Rattle.std.proofs.lemmas.Nat.{mod_below}
-use Rattle.shift_instance.specs.declared.Shift.{Shift}
-use Rattle.shift_instance.specs.Problem.{Problem, day_slots, slots, slot_of}
+use Rattle.price_sums.proofs.Common.{◌≡◌, ℕ, ◌+◌, ◌-◌, ◌*◌, ◌%◌, ◌<◌, ◌≤◌, ℤ, List, take, drop, sym, ap, ◌∙◌, subst, arith, unsigned_abs, mod_below, Shift, Problem, day_slots, slots, slot_of, price_of, ArePricesOf, Priced, sums_on, AreDaySums, AreSumsByDay}
 use Rattle.shift_instance.specs.Valid.{IsShift, IsValid}
-use Rattle.shift_instance.specs.Worth.{price_of}
-use Rattle.price_sums.specs.Along.{ArePricesOf}
-use Rattle.price_sums.specs.Days.{Priced, sums_on, AreDaySums, AreSumsByDay}
 use Rattle.price_sums.proofs.Prices.{price_small, some_at}
 use Rattle.price_sums.proofs.Windows.{window_price, window_size}
 use Rattle.price_sums.proofs.days.DaySums.along.Goals as goal

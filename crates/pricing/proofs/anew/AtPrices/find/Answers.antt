@@ -1,18 +1,6 @@
-use Rattle.std.proofs.Common.{◌≡◌, ◌∙◌, sym, ap, subst, List, ℕ, ℤ, Some, Result, Ok, Err, IfOk, length}
-use Rattle.std.specs.Arc.{arc_value}
-use Rattle.std.specs.Prelude.{slice_get}
-use Rattle.break_rules.specs.declared.Rule.{Rule}
-use Rattle.break_graph.specs.declared.Node.{Node}
-use Rattle.break_graph.specs.Graph.{IsGraph}
-use Rattle.shift_instance.specs.declared.Shift.{Shift}
-use Rattle.shift_instance.specs.Problem.{shift_list}
-use Rattle.price_sums.specs.Along.{AreSums}
-use Rattle.price_sums.proofs.Prices.{some_at}
+use Rattle.pricing.proofs.Common.{◌≡◌, ◌∙◌, sym, ap, subst, List, ℕ, ℤ, Some, Result, Ok, Err, length, arc_value, slice_get, Rule, Node, IsGraph, Shift, shift_list, AreSums, some_at, AreValues, IsBestFound, IsShiftOf, AreValuesAbove, AreKeptAbove, AreRestsKept, IsFoundAt, IsGraphKept}
+use Rattle.std.proofs.Common.{IfOk}
 use Rattle.pricing.specs.declared.anew.AtPrices.{AtPrices}
-use Rattle.pricing.specs.Values.{AreValues}
-use Rattle.pricing.specs.Found.{IsBestFound}
-use Rattle.pricing.specs.Tables.{IsShiftOf}
-use Rattle.pricing.specs.Keeping.{AreValuesAbove, AreKeptAbove, AreRestsKept, IsFoundAt, IsGraphKept}
 use Rattle.pricing.proofs.Worths.{some_of}
 use Rattle.pricing.proofs.anew.AtPrices.find.Given.{Over}
 use Rattle.pricing.proofs.anew.AtPrices.find.Goals as goal

@@ -1,7 +1,4 @@
-use Rattle.std.proofs.Common.{ap, subst}
-use Rattle.break_layers.specs.Rests.{Priced}
-use Rattle.pricing.specs.Values.{priced_of}
-use Rattle.pricing.specs.Found.{IsBestFound}
+use Rattle.pricing.proofs.Common.{ap, subst, Priced, priced_of, IsBestFound}
 use Rattle.pricing.proofs.anew.AtPrices.over_graph.Goals as goal
 
 pub returns-clause-best : goal.returns-clause-best

@@ -1,8 +1,4 @@
-use Rattle.std.proofs.Common.{◌≡◌, ◌⊎◌, map, sym, subst}
-use Rattle.break_rules.specs.Breaks.{same_list}
-use Rattle.break_rules.specs.Lists.{Has}
-use Rattle.break_rules.proofs.LegalLists.{same_list_decides}
-use Rattle.indexmap.specs.IndexSet.{insert_key}
+use Rattle.pricing.proofs.Common.{◌≡◌, ◌⊎◌, map, sym, subst, same_list, Has, same_list_decides, insert_key}
 use Rattle.pricing.proofs.Firsts.{has_inserted, keeps_inserted, only_inserted}
 use Rattle.pricing.proofs.beginnings.Beginnings.add.Goals as goal
 

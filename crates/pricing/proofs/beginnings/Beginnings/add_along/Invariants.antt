@@ -1,7 +1,4 @@
-use Rattle.std.proofs.Common.{◌⊎◌, List}
-use Rattle.break_rules.specs.declared.Break.{Break}
-use Rattle.break_rules.specs.Lists.{Has}
-use Rattle.pricing.specs.Keeping.{HaveFirst, IsBeginning}
+use Rattle.pricing.proofs.Common.{◌⊎◌, List, Break, Has, HaveFirst, IsBeginning}
 use Rattle.pricing.proofs.beginnings.Beginnings.add_along.Given as goal
 
 abbrev pub invariant-loop-end : goal.invariant-loop-end

@@ -1,7 +1,4 @@
-use Rattle.std.proofs.Common.{List, ap, ◌∙◌}
-use Rattle.break_rules.specs.declared.Break.{Break}
-use Rattle.break_rules.specs.Breaks.{same_list}
-use Rattle.pricing.specs.Keeping.{is_named}
+use Rattle.pricing.proofs.Common.{List, ap, ◌∙◌, Break, same_list, is_named}
 use Rattle.pricing.proofs.Firsts.{any_map}
 use Rattle.pricing.proofs.beginnings.Beginnings.has.Goals as goal
 

@@ -1,6 +1,4 @@
-use Rattle.std.proofs.Common.{subst}
-use Rattle.std.specs.List.{IsDistinct}
-use Rattle.break_rules.specs.Breaks.{same_list}
+use Rattle.pricing.proofs.Common.{subst, IsDistinct, same_list}
 use Rattle.pricing.proofs.Firsts.{distinct_map}
 use Rattle.pricing.proofs.beginnings.Beginnings.lists.Goals as goal
 

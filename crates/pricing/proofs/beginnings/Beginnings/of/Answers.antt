@@ -1,6 +1,4 @@
-use Rattle.std.proofs.Common.{◌≡◌, inl, inr, ◌≤◌, ℕ, ℤ, pos, List, [], length, get_or, sym, ap, subst, ◌∙◌, arith}
-use Rattle.break_rules.specs.declared.Break.{Break}
-use Rattle.pricing.specs.Keeping.{HaveFirst, IsBeginning}
+use Rattle.pricing.proofs.Common.{◌≡◌, inl, inr, ◌≤◌, ℕ, ℤ, pos, List, [], length, get_or, sym, ap, subst, ◌∙◌, arith, Break, HaveFirst, IsBeginning}
 use Rattle.pricing.proofs.Beyond.{any_default, below_or_at}
 use Rattle.pricing.proofs.Firsts.{beginnings_of}
 use Rattle.pricing.proofs.beginnings.Beginnings.of.Goals as goal

@@ -1,11 +1,4 @@
-use Rattle.std.proofs.Common.{◌≡◌, ◌∷◌, [], true, false, sym, ap, subst, ◌∙◌}
-use Rattle.std.specs.Prelude.{IfOk}
-use Rattle.break_rules.specs.Breaks.{is_legal, is_live}
-use Rattle.break_rules.specs.Ranges.{IsRule}
-use Rattle.break_rules.specs.Walk.{spot_of}
-use Rattle.break_rules.proofs.Reaching.{live_walks}
-use Rattle.break_layers.specs.Rests.{Priced}
-use Rattle.pricing.specs.Keeping.{AreEnoughAround}
+use Rattle.pricing.proofs.Common.{◌≡◌, ◌∷◌, [], true, false, sym, ap, subst, ◌∙◌, IfOk, is_legal, is_live, IsRule, spot_of, live_walks, Priced, AreEnoughAround}
 use Rattle.pricing.proofs.Beyond.{ok_map}
 use Rattle.pricing.proofs.Onward.{around_dead, around_legal}
 use Rattle.pricing.proofs.Ways.{enough_of_all}

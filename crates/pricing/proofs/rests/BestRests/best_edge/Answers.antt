@@ -1,15 +1,4 @@
-use Rattle.std.proofs.Common.{◌≡◌, ◌+◌, ◌++◌, [], ◌∷◌, List, map, take, get_or, sym, ap, subst, ◌∙◌}
-use Rattle.std.specs.Int.{w64}
-use Rattle.std.proofs.lemmas.Int.{to_z-of_z}
-use Rattle.std.proofs.lemmas.List.{take_more}
-use Rattle.break_rules.specs.declared.Break.{Break}
-use Rattle.break_rules.specs.Walk.{spot_of}
-use Rattle.break_rules.specs.Lists.{Has, Sorted}
-use Rattle.break_rules.proofs.Ordered.{Sorted-filter, Sorted-breaks, IsLessBreak}
-use Rattle.break_graph.specs.declared.Edge.{Edge}
-use Rattle.break_graph.specs.Graph.{StandsAt, node_at}
-use Rattle.pricing.specs.Keeping.{IsBestEdge, better_way, is_named}
-use Rattle.pricing.specs.Values.{priced_of}
+use Rattle.pricing.proofs.Common.{◌≡◌, ◌+◌, ◌++◌, [], ◌∷◌, List, map, take, get_or, sym, ap, subst, ◌∙◌, w64, to_z-of_z, take_more, Break, spot_of, Has, Sorted, Sorted-filter, Sorted-breaks, IsLessBreak, Edge, StandsAt, node_at, IsBestEdge, better_way, is_named, priced_of}
 use Rattle.pricing.proofs.Most.{has_at}
 use Rattle.pricing.proofs.ByEdges.{behind_node, map-append}
 use Rattle.pricing.proofs.Ways.{sorted_before, way_more, way_named}

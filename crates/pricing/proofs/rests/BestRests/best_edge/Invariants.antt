@@ -1,5 +1,4 @@
-use Rattle.std.proofs.Common.{map, take}
-use Rattle.pricing.specs.Keeping.{IsBestEdge}
+use Rattle.pricing.proofs.Common.{map, take, IsBestEdge}
 use Rattle.pricing.proofs.rests.BestRests.best_edge.Given as goal
 
 abbrev pub invariant-loop-edge : goal.invariant-loop-edge

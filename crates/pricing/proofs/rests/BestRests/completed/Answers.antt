@@ -1,8 +1,4 @@
-use Rattle.std.proofs.Common.{◌≡◌, ◌++◌, [], ◌∷◌, List, sym, ap, subst, ◌∙◌, append_assoc, append-nil}
-use Rattle.break_rules.specs.declared.Break.{Break}
-use Rattle.break_graph.specs.Graph.{StandsAt}
-use Rattle.pricing.specs.Values.{LeadsOn}
-use Rattle.break_layers.specs.Rests.{IsBestTail}
+use Rattle.pricing.proofs.Common.{◌≡◌, ◌++◌, [], ◌∷◌, List, sym, ap, subst, ◌∙◌, append_assoc, append-nil, Break, StandsAt, LeadsOn, IsBestTail}
 use Rattle.pricing.proofs.Walks.{leads_on, leads_end}
 use Rattle.pricing.proofs.rests.BestRests.completed.Goals as goal
 

@@ -1,7 +1,4 @@
-use Rattle.std.proofs.Common.{◌≡◌, ◌++◌, List}
-use Rattle.break_rules.specs.declared.Break.{Break}
-use Rattle.break_graph.specs.Graph.{StandsAt}
-use Rattle.break_layers.specs.Rests.{IsBestTail}
+use Rattle.pricing.proofs.Common.{◌≡◌, ◌++◌, List, Break, StandsAt, IsBestTail}
 use Rattle.pricing.proofs.rests.BestRests.completed.Given as goal
 
 abbrev pub invariant-loop-edge : goal.invariant-loop-edge

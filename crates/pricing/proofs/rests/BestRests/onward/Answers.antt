@@ -1,9 +1,4 @@
-use Rattle.std.proofs.Common.{◌≡◌, ◌++◌, [], ◌∷◌, List, ℤ, map, sym, ap, subst, ◌∙◌, Some}
-use Rattle.break_rules.specs.declared.Break.{Break}
-use Rattle.break_graph.specs.declared.Edge.{Edge}
-use Rattle.break_graph.specs.Graph.{StandsAt, node_at}
-use Rattle.pricing.specs.Values.{priced_of}
-use Rattle.pricing.specs.Keeping.{IsBestEdge}
+use Rattle.pricing.proofs.Common.{◌≡◌, ◌++◌, [], ◌∷◌, List, ℤ, map, sym, ap, subst, ◌∙◌, Some, Break, Edge, StandsAt, node_at, priced_of, IsBestEdge}
 use Rattle.pricing.proofs.Ways.{enough_none, enough_onward}
 use Rattle.pricing.proofs.rests.BestRests.onward.Goals as goal
 

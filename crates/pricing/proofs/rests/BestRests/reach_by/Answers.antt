@@ -1,9 +1,4 @@
-use Rattle.std.proofs.Common.{◌++◌, ◌∷◌, [], List, ℤ, ap, subst, ◌∙◌, to_z, of_z, Some}
-use Rattle.std.specs.Int.{w64}
-use Rattle.std.proofs.lemmas.Int.{to_z-of_z}
-use Rattle.break_rules.specs.Ranges.{IsRule}
-use Rattle.price_sums.specs.Along.{AreSums, sum_at}
-use Rattle.pricing.specs.Values.{PricedNodes, priced_of}
+use Rattle.pricing.proofs.Common.{◌++◌, ◌∷◌, [], List, ℤ, ap, subst, ◌∙◌, to_z, of_z, Some, w64, to_z-of_z, IsRule, AreSums, sum_at, PricedNodes, priced_of}
 use Rattle.pricing.proofs.Ways.{reach_made}
 use Rattle.pricing.proofs.rests.BestRests.reach_by.Goals as goal
 

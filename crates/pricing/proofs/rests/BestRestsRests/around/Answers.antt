@@ -1,8 +1,4 @@
-use Rattle.std.proofs.Common.{◌≡◌, ◌==◌, ◌∷◌, [], List, true, length, sym, ap, ◌∙◌}
-use Rattle.break_rules.specs.Breaks.{is_legal}
-use Rattle.break_graph.specs.declared.Edge.{Edge}
-use Rattle.pricing.specs.Values.{priced_of}
-use Rattle.pricing.specs.Keeping.{AreEnoughAround}
+use Rattle.pricing.proofs.Common.{◌≡◌, ◌==◌, ◌∷◌, [], List, true, length, sym, ap, ◌∙◌, is_legal, Edge, priced_of, AreEnoughAround}
 use Rattle.pricing.proofs.Beyond.{ok_map}
 use Rattle.pricing.proofs.Onward.{around_dead, around_legal}
 use Rattle.pricing.proofs.Ways.{enough_of_all}

@@ -1,8 +1,4 @@
-use Rattle.std.proofs.Common.{◌≡◌, ℤ, List, [], sym, subst, to_z, of_z}
-use Rattle.std.specs.Int.{w64}
-use Rattle.std.proofs.lemmas.Int.{to_z-of_z}
-use Rattle.break_rules.specs.declared.Break.{Break}
-use Rattle.break_layers.specs.Rests.{IsBestList}
+use Rattle.pricing.proofs.Common.{◌≡◌, ℤ, List, [], sym, subst, to_z, of_z, w64, to_z-of_z, Break, IsBestList}
 use Rattle.pricing.proofs.Beyond.{none_legal}
 use Rattle.pricing.proofs.Layered.{best_of_value}
 use Rattle.pricing.proofs.rests.BestRestsRests.best.Goals as goal

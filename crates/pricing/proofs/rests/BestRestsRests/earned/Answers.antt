@@ -1,8 +1,4 @@
-use Rattle.std.proofs.Common.{◌≡◌, ℤ, List, ap, subst, ◌∙◌, to_z, of_z}
-use Rattle.std.specs.Int.{w64}
-use Rattle.std.proofs.lemmas.Int.{to_z-of_z}
-use Rattle.price_sums.specs.Along.{earned_from, price_in}
-use Rattle.pricing.specs.Values.{PricedNodes}
+use Rattle.pricing.proofs.Common.{◌≡◌, ℤ, List, ap, subst, ◌∙◌, to_z, of_z, w64, to_z-of_z, earned_from, price_in, PricedNodes}
 use Rattle.pricing.proofs.rests.BestRestsRests.earned.Goals as goal
 
 pub returns-clause-earned : goal.returns-clause-earned

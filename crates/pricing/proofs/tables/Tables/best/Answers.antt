@@ -1,10 +1,4 @@
-use Rattle.std.proofs.Common.{rules, ◌≡◌, List, sym, subst, FitsSigned, false}
-use mir.Syntax.{w128}
-use Rattle.std.proofs.lemmas.Int.{to_z-of_z}
-use Rattle.break_rules.specs.declared.Break.{Break}
-use Rattle.shift_instance.specs.Rota.{is_list_of}
-use Rattle.shift_instance.specs.Worth.{IsBest}
-use Rattle.pricing.specs.Tables.{Tabled}
+use Rattle.pricing.proofs.Common.{rules, ◌≡◌, List, sym, subst, FitsSigned, false, w128, to_z-of_z, Break, is_list_of, IsBest, Tabled}
 use Rattle.pricing.proofs.Tabling.{best_some, best_none, best_at_same}
 use Rattle.pricing.proofs.tables.Tables.best.Goals as goal
 

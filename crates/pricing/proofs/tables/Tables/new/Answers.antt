@@ -1,12 +1,4 @@
-use Rattle.std.proofs.Common.{◌≡◌, ◌<◌, ◌∙◌, sym, ap, subst, List, ℕ, ℤ, length, ◌-◌, arith}
-use Rattle.break_rules.specs.declared.Rule.{Rule}
-use Rattle.shift_instance.specs.declared.Shift.{Shift}
-use Rattle.shift_instance.specs.Problem.{Problem, shift_list}
-use Rattle.shift_instance.specs.Valid.{IsShift}
-use Rattle.price_sums.specs.Along.{AreSmallPrices}
-use Rattle.price_sums.proofs.Prices.{some_at}
-use Rattle.pricing.specs.Tables.{IsShiftOf, AreStepsUpTo}
-use Rattle.pricing.specs.Keeping.{AreTables, AreKeptAbove, IsFoundAt}
+use Rattle.pricing.proofs.Common.{◌≡◌, ◌<◌, ◌∙◌, sym, ap, subst, List, ℕ, ℤ, length, ◌-◌, arith, Rule, Shift, Problem, shift_list, IsShift, AreSmallPrices, some_at, IsShiftOf, AreStepsUpTo, AreTables, AreKeptAbove, IsFoundAt}
 use Rattle.pricing.proofs.Reached.{steps_within}
 use Rattle.pricing.proofs.Tabling.{none_kept_above}
 use Rattle.pricing.proofs.Worths.{short_shift}

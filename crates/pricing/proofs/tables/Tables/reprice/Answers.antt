@@ -1,12 +1,4 @@
-use Rattle.std.proofs.Common.{◌≡◌, ◌-◌, ◌∙◌, sym, ap, subst, List, ℕ, ℤ, length, Some, None, Option}
-use Rattle.break_rules.specs.declared.Rule.{Rule}
-use Rattle.shift_instance.specs.declared.Shift.{Shift}
-use Rattle.shift_instance.specs.Problem.{Problem}
-use Rattle.price_sums.specs.Along.{AreSmallPrices, ArePricesOf}
-use Rattle.pricing.specs.declared.found.Found.{Found}
-use Rattle.pricing.specs.declared.anew.Kept.{Kept}
-use Rattle.pricing.specs.Tables.{Tabled, IsShiftOf, repriced, NameNone, NameNoneAbove, AreStepsUpTo}
-use Rattle.pricing.specs.Keeping.{AreTables, IsFoundAt, IsLastChange}
+use Rattle.pricing.proofs.Common.{◌≡◌, ◌-◌, ◌∙◌, sym, ap, subst, List, ℕ, ℤ, length, Some, None, Option, Rule, Shift, Problem, AreSmallPrices, ArePricesOf, Found, KeptSearch, Tabled, IsShiftOf, repriced, NameNone, NameNoneAbove, AreStepsUpTo, AreTables, IsFoundAt, IsLastChange}
 use Rattle.pricing.proofs.Tabling.{count_after, small_after, graph_after, kept_after, same_after, anew_after, none_named, steps_after}
 use Rattle.pricing.proofs.tables.Tables.reprice.Given.{Over}
 use Rattle.pricing.proofs.tables.Tables.reprice.Goals as goal
@@ -37,7 +29,7 @@ module _ (g : Over) (c : In_ok-prices g) where
   new_prices = c.in_ok-prices.ensures ∙ ap (λ (l : List ℤ). repriced l c.args.changes.now) c.deref.ensures.value
 
   -- tables at the new prices, with the instance and the prices that are kept
-  back_inside : (kept : Kept) (best : Option Found)
+  back_inside : (kept : KeptSearch) (best : Option Found)
       → AreTables (record { instance = c.args.instance.now; shift = c.self.inside.subject.shift; day = c.self.inside.subject.day; prices = repriced c.self.inside.prices.items c.args.changes.now; bonus = c.self.inside.subject.trie.entries })
       c.self.inside.subject.beginnings kept best
       → AreTables (record { instance = c.self.inside.instance.value; shift = c.self.inside.subject.shift; day = c.self.inside.subject.day; prices = c.in_ok-prices.prices.items; bonus = c.self.inside.subject.trie.entries })

@@ -1,7 +1,4 @@
-use Rattle.std.proofs.Common.{◌≡◌, ◌<◌, ◌-◌, ◌/◌, ◌%◌, ◌==◌, List, ◌++◌, ◌∷◌, [], length, arith, refl, subst, sym}
-use Rattle.std.proofs.lemmas.Option.{slice_get_read}
-use Rattle.head_splits.specs.declared.Cut.{Cut}
-use Rattle.recovery.specs.NodeCuts.{cuts_at}
+use Rattle.recovery.proofs.Common.{◌≡◌, ◌<◌, ◌-◌, ◌/◌, ◌%◌, ◌==◌, List, ◌++◌, ◌∷◌, [], length, arith, refl, subst, sym, slice_get_read, Cut, cuts_at}
 use Rattle.recovery.proofs.CutTrees.{above_is, place_there}
 use Rattle.recovery.proofs.cut_tree.CutTree.cut_above.Goals as goal
 

@@ -1,6 +1,4 @@
-use Rattle.std.proofs.Common.{◌≡◌, List, [], arith, rules, subst}
-use Rattle.head_splits.specs.declared.Cut.{Cut}
-use Rattle.recovery.specs.NodeCuts.{cuts_at}
+use Rattle.recovery.proofs.Common.{◌≡◌, List, [], arith, rules, subst, Cut, cuts_at}
 use Rattle.recovery.proofs.CutTrees.{root_is, whole_cuts}
 use Rattle.recovery.proofs.cut_tree.CutTree.cuts_of.Goals as goal
 

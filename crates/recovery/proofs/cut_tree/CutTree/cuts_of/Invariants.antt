@@ -1,5 +1,4 @@
-use Rattle.std.proofs.Common.{◌≡◌, ◌+◌, ◌<◌, ◌≤◌, ◌++◌, length, reverse}
-use Rattle.recovery.specs.NodeCuts.{cuts_at}
+use Rattle.recovery.proofs.Common.{◌≡◌, ◌+◌, ◌<◌, ◌≤◌, ◌++◌, length, reverse, cuts_at}
 use Rattle.recovery.proofs.cut_tree.CutTree.cuts_of.Given as goal
 
 abbrev pub invariant-loop-at : goal.invariant-loop-at

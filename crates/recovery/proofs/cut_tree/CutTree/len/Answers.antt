@@ -1,5 +1,4 @@
-use Rattle.std.proofs.Common.{List, length, ap, arith}
-use Rattle.head_splits.specs.declared.Cut.{Cut}
+use Rattle.recovery.proofs.Common.{List, length, ap, arith, Cut}
 use Rattle.recovery.proofs.CutTrees.{count_is}
 use Rattle.recovery.proofs.cut_tree.CutTree.len.Goals as goal
 

@@ -1,9 +1,4 @@
-use Rattle.std.proofs.Common.{◌≡◌, ◌∙◌, ◌<◌, List, length, ap, arith, sym}
-use Rattle.head_splits.specs.declared.Class.{Class}
-use Rattle.head_splits.specs.declared.Cut.{Cut}
-use Rattle.recovery.specs.declared.cut_tree.Division.{Division}
-use Rattle.recovery.specs.CutTree.{nodes_in}
-use Rattle.recovery.specs.NodeCuts.{divided}
+use Rattle.recovery.proofs.Common.{◌≡◌, ◌∙◌, ◌<◌, List, length, ap, arith, sym, Class, Cut, Division, nodes_in, divided}
 use Rattle.recovery.proofs.Copies.{same_class, same_items}
 use Rattle.recovery.proofs.CutTrees.{divided_is, older_after}
 use Rattle.recovery.proofs.cut_tree.CutTree.split.Goals as goal

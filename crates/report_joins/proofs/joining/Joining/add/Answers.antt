@@ -1,12 +1,4 @@
-use Rattle.std.proofs.Common.{◌≡◌, ◌==◌, ◌+◌, ◌^◌, ◌<◌, ◌≤◌, ◌∙◌, true, false, length, refl, ap, arith, rules, subst, sym}
-use Rattle.std.proofs.lemmas.Option.{slice_get_within}
-use Rattle.std.specs.List.{list_any}
-use Rattle.std.proofs.lemmas.Result.{err_from_is_err_and}
-use Rattle.shift_instance.specs.Problem.{Problem}
-use Rattle.report_joins.specs.Faults.{IsPartFault, IsReadFault}
-use Rattle.report_joins.specs.Joined.{Joined, JoinsPart, with_part}
-use Rattle.report_joins.specs.Runs.{IsReadPart}
-use Rattle.report_joins.specs.declared.fault.PartFault.TheVariants.{OtherPlan, SameNode, TooMany}
+use Rattle.report_joins.proofs.Common.{◌≡◌, ◌==◌, ◌+◌, ◌^◌, ◌<◌, ◌≤◌, ◌∙◌, true, false, length, refl, ap, arith, rules, subst, sym, slice_get_within, list_any, err_from_is_err_and, Problem, IsPartFault, IsReadFault, Joined, JoinsPart, with_part, IsReadPart, OtherPlan, SameNode, TooMany}
 use Rattle.report_joins.proofs.Accepting.{not_both}
 use Rattle.report_joins.proofs.Joins.{has_of, joining_with, not_has, other_plan, part_is, part_top, read_fault}
 use Rattle.report_joins.proofs.Sized.{joined_fits, read_within, tree_counted, tree_small}

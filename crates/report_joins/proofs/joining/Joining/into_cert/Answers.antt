@@ -1,7 +1,4 @@
-use Rattle.std.proofs.Common.{◌∙◌, refl}
-use Rattle.certificate.specs.declared.Cert.{Cert}
-use Rattle.report_grafts.proofs.Plans.{accepted_agrees}
-use Rattle.report_joins.specs.Joined.{Joined}
+use Rattle.report_joins.proofs.Common.{◌∙◌, refl, Cert, accepted_agrees, Joined}
 use Rattle.report_joins.proofs.Joins.{joined_cert}
 use Rattle.report_joins.proofs.joining.Joining.into_cert.Goals as goal
 

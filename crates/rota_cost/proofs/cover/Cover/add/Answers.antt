@@ -1,5 +1,4 @@
-use Rattle.std.proofs.Common.{◌≡◌, ◌<◌, ◌∷◌, [], ◌++◌, ◌∙◌, length, ap, arith, refl, rules, subst, sym}
-use Rattle.rota_cost.specs.Cover.{Covering}
+use Rattle.rota_cost.proofs.Common.{◌≡◌, ◌<◌, ◌∷◌, [], ◌++◌, ◌∙◌, length, ap, arith, refl, rules, subst, sym, Covering}
 use Rattle.rota_cost.proofs.Counts.{counted_more, moved, put_back, shift_paid, used_most}
 use Rattle.rota_cost.proofs.cover.Cover.add.Goals as goal
 

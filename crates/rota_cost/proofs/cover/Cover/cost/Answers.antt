@@ -1,6 +1,4 @@
-use Rattle.std.proofs.Common.{◌≤◌, ◌+◌, ◌∙◌, ap, arith}
-use Rattle.shift_instance.specs.Rota.{cost}
-use Rattle.rota_cost.specs.Cover.{Covering}
+use Rattle.rota_cost.proofs.Common.{◌≤◌, ◌+◌, ◌∙◌, ap, arith, cost, Covering}
 use Rattle.rota_cost.proofs.Counts.{counted_cost, parts_fit}
 use Rattle.rota_cost.proofs.cover.Cover.cost.Goals as goal
 

@@ -1,4 +1,4 @@
-use Rattle.std.proofs.Common.{rules}
+use Rattle.rota_cost.proofs.Common.{rules}
 use Rattle.rota_cost.proofs.Counts.{counted_new}
 use Rattle.rota_cost.proofs.cover.Cover.new.Goals as goal
 

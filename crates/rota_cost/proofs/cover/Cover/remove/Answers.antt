@@ -1,6 +1,4 @@
-use Rattle.std.proofs.Common.{◌≡◌, ◌<◌, ◌∙◌, ap, arith, refl, rules, subst, sym}
-use Rattle.shift_instance.specs.Rota.{count_of}
-use Rattle.rota_cost.specs.Cover.{Covering, without}
+use Rattle.rota_cost.proofs.Common.{◌≡◌, ◌<◌, ◌∙◌, ap, arith, refl, rules, subst, sym, count_of, Covering, without}
 use Rattle.rota_cost.proofs.Counts.{counted_less, moved, put_back, shift_paid, used_most}
 use Rattle.rota_cost.proofs.cover.Cover.remove.Goals as goal
 

@@ -1,25 +1,8 @@
 -- `with` makes a value of no bytes from another one. What it tells is set here, as its clause says.
-use Rattle.std.proofs.Common.{List, [], ◌∷◌, ◌++◌, refl}
-use Rattle.std.proofs.raw_atomic.Walks.{proved}
-use mir.Syntax.{named}
-use mir.Val.{Val, vstruct, vnil}
-use types.Kit.{‵, raw, ◌⊛◌, ◌$◌, ◌∵◌, !, qed, done, keep, move, split, fjoin, fpack, feq_i, suffices}
-use types.Run.{enter, no_more, returns}
-use types.Part.{agg}
-use types.ByLocal.{alloc_all, pass_all, free_all, look_at, sets}
-use denote.Builtin.{RefOf}
-use denote.Exit.{yes}
-use denote.Signature.{plain, types_at}
-use denote.Ref.{shr_vals, shr_Tells}
-use denote.Steps.{nothing}
-use denote.RattleType.{Valss, owns}
-use denote.Struct.Struct.{within}
-use denote.Triple.Entry.{alive}
-use denote.Triple.Walked.{Stays, walk_of, says, stay_dropped, Goes-dropped, ends_at}
-use base.Fml.{ftrue}
-use Rattle.rota_cost.specs.contracts.covered.Covered.with as f
+use Rattle.rota_cost.proofs.Common.{List, [], ◌∷◌, ◌++◌, refl, proved, named, Val, vstruct, vnil, ‵, raw, ◌⊛◌, ◌$◌, ◌∵◌, !, qed, done, keep, move, split, fjoin, fpack, feq_i, suffices, enter, no_more, returns, agg, alloc_all, pass_all, free_all, look_at, sets, RefOf, yes, plain, types_at, shr_vals, shr_Tells, nothing, Valss, owns, within, alive, Stays, walk_of, says, stay_dropped, Goes-dropped, ends_at, ftrue}
 use Rattle.rota_cost.specs.contracts.covered.Covered.{the_row as R}
 use Rattle.shift_instance.specs.contracts.Duty.{the_row as D}
+use Rattle.rota_cost.specs.contracts.covered.Covered.with as f
 use Rattle.rota_cost.proofs.covered.Covered.with.Statement.{statement}
 use Rattle.rota_cost.proofs.covered.Covered.with.Code as code
 

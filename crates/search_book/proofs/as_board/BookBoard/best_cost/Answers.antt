@@ -1,6 +1,4 @@
-use Rattle.std.proofs.Common.{ap, sym, ◌∙◌}
-use Rattle.search_core.specs.Book.{Book}
-use Rattle.search_core.proofs.Outlines.{book_is}
+use Rattle.search_book.proofs.Common.{ap, sym, ◌∙◌, Book, book_is}
 use Rattle.search_book.proofs.as_board.BookBoard.best_cost.Goals as goal
 
 pub returns : goal.returns

@@ -1,9 +1,4 @@
-use Rattle.std.proofs.Common.{◌≡◌, ℕ, Some, sym, subst}
-use Rattle.std.specs.Prelude.{IfOk}
-use Rattle.search_core.specs.Book.{Book}
-use Rattle.search_core.specs.Core.{hand}
-use Rattle.search_core.specs.Kept.{cuts_in}
-use Rattle.search_core.proofs.Outlines.{book_is}
+use Rattle.search_book.proofs.Common.{◌≡◌, ℕ, Some, sym, subst, IfOk, Book, hand, cuts_in, book_is}
 use Rattle.search_book.proofs.as_board.BookBoard.cuts.Goals as goal
 
 pub returns-clause-cuts : goal.returns-clause-cuts

@@ -1,6 +1,5 @@
 -- It owns nothing, so it may go to another thread.
-use denote.Param.Send.{IsSend, owning_send}
-use Rattle.search_book.specs.contracts.batched.Batched.{the_row, the_type}
+use Rattle.search_book.proofs.Common.{IsSend, owning_send, the_row, the_type}
 
 pub send : IsSend the_row
 send = owning_send the_type tt (λ d. tt) (λ k x w. tt)

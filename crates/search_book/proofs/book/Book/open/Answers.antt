@@ -1,11 +1,5 @@
-use Rattle.std.proofs.Common.{◌≡◌, ◌⊎◌, inl, inr, ℕ, List, [], ◌∷◌, refl, ap, sym, subst}
-use Rattle.std.specs.Prelude.{Option, None, Some, IfSome}
-use Rattle.plan_base.specs.Disk.{TellsAlike}
-use Rattle.gated_journal.specs.Format.{fresh}
-use Rattle.instance_json.specs.Canonical.{canonical_text}
-use Rattle.post_codec.specs.declared.post.Post.{Post}
-use Rattle.shift_instance.specs.Problem.{Problem}
-use Rattle.search_book.specs.Opening.{IsOpenedFrom}
+use Rattle.search_book.proofs.Common.{◌≡◌, ◌⊎◌, inl, inr, ℕ, List, [], ◌∷◌, refl, ap, sym, subst, IfSome, TellsAlike, fresh, canonical_text, Post, Problem, IsOpenedFrom}
+use Rattle.std.specs.Prelude.{Option, None, Some}
 use Rattle.search_book.proofs.book.Book.open.Goals as goal
 
 -- what a disk holds once a log of posts is opened there

@@ -1,18 +1,5 @@
-use Rattle.std.proofs.Common.{◌≡◌, ◌+◌, ◌≤◌, ◌++◌, ◌∷◌, [], List, ap, sym, ◌∙◌, subst, arith, None, Some, Vec, Global}
-use Rattle.std.specs.Prelude.{All}
-use Rattle.plan_base.specs.Causes.{Rose}
+use Rattle.search_book.proofs.Common.{◌≡◌, ◌+◌, ◌≤◌, ◌++◌, ◌∷◌, [], List, ap, sym, ◌∙◌, subst, arith, None, Some, Vec, Global, All, Rose, Post, CanSpellPost, Spells, bytes_of, book_after, Makes, DiskFault, Full, makes_fit, makes_fold, PostLogView, batches_told, bytes_used, posts_told, IsPostLogInside, RecordFails, Records, AddFails, LogView}
 use Rattle.gated_journal.specs.declared.fault.JournalFault.TheVariants.{DiskFault as DiskFails, Full as IsFull}
-use Rattle.post_codec.specs.declared.post.Post.{Post}
-use Rattle.post_codec.specs.Spelling.{CanSpellPost, Spells}
-use Rattle.search_core.specs.Board.{bytes_of}
-use Rattle.search_core.specs.Book.{book_after}
-use Rattle.search_core.specs.Drafting.{Makes}
-use Rattle.search_core.specs.declared.board.Shutting.TheVariants.{DiskFault, Full}
-use Rattle.search_core.proofs.Appends.{makes_fit, makes_fold}
-use Rattle.search_book.specs.PostLog.{PostLogView}
-use Rattle.search_book.specs.Posts.{batches_told, bytes_used, posts_told}
-use Rattle.search_book.specs.Recorded.{IsPostLogInside, RecordFails, Records}
-use Rattle.search_book.specs.Records.{AddFails, LogView}
 use Rattle.search_book.proofs.Commits.{as_told, ends_at, fault_inside, full_inside, log_added, log_failed, log_same, makes_back, makes_forth, makes_in, none_flies, ok_inside, state_added, view_of}
 use Rattle.search_book.proofs.Outcomes.{filled, recorded, stopped}
 use Rattle.search_book.proofs.post_log.PostLog.commit.Goals as goal

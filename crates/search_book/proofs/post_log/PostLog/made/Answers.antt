@@ -1,15 +1,4 @@
-use Rattle.std.proofs.Common.{◌≡◌, ◌++◌, List, length, ap, sym, ◌∙◌, subst, arith, refl}
-use Rattle.std.specs.Prelude.{IsSome}
-use Rattle.std.proofs.lemmas.List.{append_assoc}
-use Rattle.post_codec.specs.declared.post.Post.{Post}
-use Rattle.post_codec.specs.Spelling.{Spells}
-use Rattle.search_core.specs.Book.{book_of}
-use Rattle.search_book.specs.Keeping.{IsPostLog}
-use Rattle.search_book.specs.PostLog.{PostLogView}
-use Rattle.search_book.specs.Posts.{batches_told, posts_told}
-use Rattle.post_codec.specs.Batches.{joined, SpellPosts}
-use Rattle.search_book.specs.Records.{journal_of}
-use Rattle.post_codec.proofs.Batches.{zip_left}
+use Rattle.search_book.proofs.Common.{◌≡◌, ◌++◌, List, length, ap, sym, ◌∙◌, subst, arith, refl, IsSome, append_assoc, Post, Spells, book_of, IsPostLog, PostLogView, batches_told, posts_told, joined, SpellPosts, journal_of, zip_left}
 use Rattle.search_book.proofs.Commits.{view_of}
 use Rattle.search_book.proofs.Recording.{joined_both, kept_posts, posts_last, recorded_count, recorded_spells, shut_of}
 use Rattle.search_book.proofs.post_log.PostLog.made.Goals as goal

@@ -1,6 +1,4 @@
-use Rattle.std.proofs.Common.{◌≡◌, ap, arith, ◌∙◌}
-use Rattle.search_book.specs.Posts.{bytes_used}
-use Rattle.search_book.specs.Records.{LogView}
+use Rattle.search_book.proofs.Common.{◌≡◌, ap, arith, ◌∙◌, bytes_used, LogView}
 use Rattle.search_book.proofs.Commits.{opened_inside}
 use Rattle.search_book.proofs.post_log.PostLog.over.Goals as goal
 

@@ -1,9 +1,4 @@
-use Rattle.std.proofs.Common.{rules, ◌≡◌, ◌+◌, ◌++◌, ◌∷◌, [], List, ℕ, ap, subst, sym, ◌∙◌, arith, length, length-append}
-use Rattle.std.specs.Prelude.{OnSome}
-use Rattle.plan_base.specs.Causes.{Rose}
-use Rattle.gated_journal.specs.View.{JournalView, IsSettled}
-use Rattle.search_book.specs.Records.{LogView}
-use Rattle.search_book.specs.Records.{flight_of}
+use Rattle.search_book.proofs.Common.{rules, ◌≡◌, ◌+◌, ◌++◌, ◌∷◌, [], List, ℕ, ap, subst, sym, ◌∙◌, arith, length, length-append, OnSome, Rose, JournalView, IsSettled, LogView, flight_of}
 use Rattle.search_book.proofs.Adds.{Each, faulted, acknowledged}
 use Rattle.search_book.proofs.Sizes.{few_records}
 use Rattle.search_book.proofs.Telling.{tells_on}

@@ -1,6 +1,4 @@
-use Rattle.std.proofs.Common.{ap, ◌∙◌}
-use Rattle.search_book.specs.Posts.{bytes_used}
-use Rattle.search_book.specs.Records.{LogView}
+use Rattle.search_book.proofs.Common.{ap, ◌∙◌, bytes_used, LogView}
 use Rattle.search_book.proofs.record_log.RecordLog.end.Goals as goal
 
 pub returns-clause-end : goal.returns-clause-end

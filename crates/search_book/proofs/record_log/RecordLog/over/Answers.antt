@@ -1,5 +1,4 @@
-use Rattle.std.proofs.Common.{refl, ap, arith, subst, sym}
-use Rattle.plan_base.specs.Disk.{TellsAlike}
+use Rattle.search_book.proofs.Common.{refl, ap, arith, subst, sym, TellsAlike}
 use Rattle.search_book.proofs.Adds.{started}
 use Rattle.search_book.proofs.Telling.{tells_like_itself}
 use Rattle.search_book.proofs.record_log.RecordLog.over.Goals as goal

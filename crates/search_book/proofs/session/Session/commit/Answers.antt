@@ -1,15 +1,4 @@
-use Rattle.std.proofs.Common.{◌≡◌, ℕ, ◌+◌, ◌<◌, ◌≤◌, ◌^◌, false, true, not, List, length, Option, None, ap, sym, ◌∙◌, subst, arith}
-use Rattle.std.specs.Prelude.{slice_set}
-use Rattle.shift_instance.specs.Problem.{Problem}
-use Rattle.search_core.specs.Board.{leaves_open, Commits}
-use Rattle.search_core.specs.Book.{Book, is_node_and}
-use Rattle.search_core.specs.Calls.{full_hands}
-use Rattle.search_core.specs.Drafting.{LeavesOpen}
-use Rattle.search_core.specs.Kept.{cuts_in}
-use Rattle.search_core.specs.Steps.{Fits}
-use Rattle.open_nodes.specs.Listed.{Entry, OpenView}
-use Rattle.search_book.specs.Listing.{ListsFree}
-use Rattle.search_book.specs.Search.{board_at, KeepsSearch}
+use Rattle.search_book.proofs.Common.{◌≡◌, ℕ, ◌+◌, ◌<◌, ◌≤◌, ◌^◌, false, true, not, List, length, Option, None, ap, sym, ◌∙◌, subst, arith, slice_set, Problem, leaves_open, Commits, Book, is_node_and, full_hands, LeavesOpen, cuts_in, Fits, Entry, OpenView, ListsFree, board_at, KeepsSearch}
 use Rattle.search_book.proofs.Committed.{commit_keeps, commits, may_refuses, open_refuses, record_refuses, recorded_closed, recorded_follows, refusal_book, refusal_keeps}
 use Rattle.search_book.proofs.Listings.{empty_fills, followed, followed_as, followed_lists, listed_as, listed_low, most_full, AreLow}
 use Rattle.search_book.proofs.session.Session.commit.Goals as goal

@@ -1,6 +1,4 @@
-use Rattle.std.proofs.Common.{◌≡◌, ◌<◌, length, Some, sym, ◌∙◌, subst, arith}
-use Rattle.search_core.specs.Book.{Book}
-use Rattle.search_core.specs.Core.{hand}
+use Rattle.search_book.proofs.Common.{◌≡◌, ◌<◌, length, Some, sym, ◌∙◌, subst, arith, Book, hand}
 use Rattle.search_book.proofs.Handing.{cuts_few, cuts_held, is_there}
 use Rattle.search_book.proofs.session.Session.cuts.Goals as goal
 

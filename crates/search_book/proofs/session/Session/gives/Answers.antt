@@ -1,11 +1,4 @@
-use Rattle.std.proofs.Common.{◌≡◌, Bool, true, false, List, Option, Some, None, ap, sym, ◌∙◌}
-use Rattle.std.proofs.lemmas.Bool.{lt-ltb, ltb-true}
-use Rattle.std.specs.Prelude.{is_some, ◌↔◌, IsTrue}
-use Rattle.shift_instance.specs.Problem.{Problem}
-use Rattle.post_codec.specs.declared.post.Post.{Post}
-use Rattle.search_core.specs.Book.{Book, book_of, is_finished}
-use Rattle.search_core.specs.State.{book_or_opening}
-use Rattle.search_core.proofs.Outlines.{book_is}
+use Rattle.search_book.proofs.Common.{◌≡◌, Bool, true, false, List, Option, Some, None, ap, sym, ◌∙◌, lt-ltb, ltb-true, is_some, ◌↔◌, IsTrue, Problem, Post, Book, book_of, is_finished, book_or_opening, book_is}
 use Rattle.search_book.proofs.session.Session.gives.Goals as goal
 
 none_of : {X : Type 0} (o : Option X) → is_some o ≡ false → o ≡ None

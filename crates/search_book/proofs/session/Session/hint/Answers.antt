@@ -1,6 +1,4 @@
-use Rattle.std.proofs.Common.{◌≡◌, ◌<◌, length, Some, sym, ◌∙◌, subst}
-use Rattle.search_core.specs.Book.{Book}
-use Rattle.search_core.specs.Core.{hand}
+use Rattle.search_book.proofs.Common.{◌≡◌, ◌<◌, length, Some, sym, ◌∙◌, subst, Book, hand}
 use Rattle.search_book.proofs.Handing.{is_there}
 use Rattle.search_book.proofs.session.Session.hint.Goals as goal
 

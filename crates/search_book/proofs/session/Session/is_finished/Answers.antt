@@ -1,6 +1,4 @@
-use Rattle.std.proofs.Common.{◌≡◌, ap, not, sym, ◌∙◌, subst}
-use Rattle.search_core.specs.Book.{Book}
-use Rattle.search_book.specs.Listing.{HoldsOpen}
+use Rattle.search_book.proofs.Common.{◌≡◌, ap, not, sym, ◌∙◌, subst, Book, HoldsOpen}
 use Rattle.search_book.proofs.Listings.{finished_else, first_listed}
 use Rattle.search_book.proofs.session.Session.is_finished.Goals as goal
 

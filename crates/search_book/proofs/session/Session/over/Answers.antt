@@ -1,8 +1,4 @@
-use Rattle.std.proofs.Common.{◌≡◌, ℕ, ◌≤◌, length, List, Option, None, Some, ap, sym, ◌∙◌, subst, arith}
-use Rattle.search_core.specs.Calls.{full_hands}
-use Rattle.search_core.specs.Core.{empty_hands, hand}
-use Rattle.search_core.proofs.Runs.{no_hand}
-use Rattle.search_book.specs.Listing.{ListsFree}
+use Rattle.search_book.proofs.Common.{◌≡◌, ℕ, ◌≤◌, length, List, Option, None, Some, ap, sym, ◌∙◌, subst, arith, full_hands, empty_hands, hand, no_hand, ListsFree}
 use Rattle.search_book.proofs.session.Session.over.Goals as goal
 
 pub invariant_of-result : goal.invariant_of-result

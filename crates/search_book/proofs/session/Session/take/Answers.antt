@@ -1,17 +1,4 @@
-use Rattle.std.proofs.Common.{◌≡◌, ◌+◌, ◌<◌, ◌≤◌, ℕ, Bool, true, false, List, length, length-set, Option, Some, None, ap, sym, ◌∙◌, subst, refl, arith}
-use Rattle.std.specs.Prelude.{is_some}
-use Rattle.shift_instance.specs.Problem.{Problem}
-use Rattle.post_codec.specs.declared.post.Post.{Post}
-use Rattle.open_nodes.specs.Listed.{Entry}
-use Rattle.search_core.specs.Board.{floor_of_node, is_free, IsNext, NoneIsFree}
-use Rattle.search_core.specs.Book.{Book, book_of, is_finished}
-use Rattle.search_core.specs.Calls.{full_hands}
-use Rattle.search_core.specs.Core.{AreApart}
-use Rattle.search_core.specs.State.{book_or_opening}
-use Rattle.search_core.proofs.Outlines.{book_is}
-use Rattle.search_core.proofs.Runs.{taken_apart}
-use Rattle.search_book.specs.Listing.{ListsAllFree, ListsFree, ListsOnlyFree}
-use Rattle.search_book.specs.Search.{board_at}
+use Rattle.search_book.proofs.Common.{◌≡◌, ◌+◌, ◌<◌, ◌≤◌, ℕ, Bool, true, false, List, length, length-set, Option, Some, None, ap, sym, ◌∙◌, subst, refl, arith, is_some, Problem, Post, Entry, floor_of_node, is_free, IsNext, NoneIsFree, Book, book_of, is_finished, full_hands, AreApart, book_or_opening, book_is, taken_apart, ListsAllFree, ListsFree, ListsOnlyFree, board_at}
 use Rattle.search_book.proofs.Handing.{free_alone, taken_unsplit, AreUnsplit}
 use Rattle.search_book.proofs.Listings.{first_floor, first_free, first_next, none_free, take_fills, taken_lists}
 use Rattle.search_book.proofs.session.Session.take.Goals as goal

@@ -1,11 +1,4 @@
-use Rattle.std.proofs.Common.{◌≡◌, ◌<◌, ◌≤◌, ℕ, List, length, length-set, Option, None, Some, ap, sym, ◌∙◌, subst, arith}
-use Rattle.std.specs.Prelude.{MatchOption}
-use Rattle.open_nodes.specs.Listed.{Entry}
-use Rattle.search_core.specs.Book.{Book}
-use Rattle.search_core.specs.Calls.{full_hands}
-use Rattle.search_core.specs.Core.{AreApart}
-use Rattle.search_core.proofs.Runs.{emptied_apart}
-use Rattle.search_book.specs.Listing.{with_open, ListsFree}
+use Rattle.search_book.proofs.Common.{◌≡◌, ◌<◌, ◌≤◌, ℕ, List, length, length-set, Option, None, Some, ap, sym, ◌∙◌, subst, arith, MatchOption, Entry, Book, full_hands, AreApart, emptied_apart, with_open, ListsFree}
 use Rattle.search_book.proofs.Handing.{emptied_counted, emptied_unsplit, AreCounted, AreUnsplit}
 use Rattle.search_book.proofs.Listings.{hand_absent, hand_room, yielded_all, yielded_room}
 use Rattle.search_book.proofs.session.Session.yield_node.Goals as goal

@@ -1,6 +1,4 @@
-use Rattle.std.proofs.Common.{List, Option, ℕ, false, subst, sym, ◌≡◌}
-use Rattle.std.specs.List.{list_any}
-use Rattle.search_core.specs.Core.{is_node}
+use Rattle.search_core.proofs.Common.{List, Option, ℕ, false, subst, sym, ◌≡◌, list_any, is_node}
 use Rattle.search_core.proofs.Runs.{taken_apart}
 use Rattle.search_core.proofs.hands.Hands.take.Goals as goal
 

@@ -1,8 +1,4 @@
-use Rattle.std.proofs.Common.{◌≡◌, ◌-◌, ◌<◌, Some, ap, arith, rules, sym, subst, ◌∙◌}
-use Rattle.std.specs.Prelude.{IsSome}
-use Rattle.search_core.specs.Book.{step}
-use Rattle.search_core.specs.Outline.{OutlineView}
-use Rattle.search_core.specs.State.{StateView, value_of, book_or_opening}
+use Rattle.search_core.proofs.Common.{◌≡◌, ◌-◌, ◌<◌, Some, ap, arith, rules, sym, subst, ◌∙◌, IsSome, step, OutlineView, StateView, value_of, book_or_opening}
 use Rattle.search_core.proofs.Outlines.{appended, spare_less}
 use Rattle.search_core.proofs.state.State.append.Goals as goal
 

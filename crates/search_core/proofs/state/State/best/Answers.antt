@@ -1,6 +1,4 @@
-use Rattle.std.proofs.Common.{subst}
-use Rattle.search_core.specs.Book.{IsSound}
-use Rattle.search_core.specs.State.{StateView, book_or_opening}
+use Rattle.search_core.proofs.Common.{subst, IsSound, StateView, book_or_opening}
 use Rattle.search_core.proofs.Sound.{fold_sound}
 use Rattle.search_core.proofs.state.State.best.Goals as goal
 

@@ -1,9 +1,5 @@
-use Rattle.std.proofs.Common.{◌≡◌, ◌<◌, ℕ, ◌-◌, ◌/◌, ◌%◌, ◌==◌, ◌++◌, ◌∷◌, [], Some, get_or, length, rules, subst, sym}
-use Rattle.std.specs.Prelude.{vec_len}
+use Rattle.search_core.proofs.Common.{◌≡◌, ◌<◌, ℕ, ◌-◌, ◌/◌, ◌%◌, ◌==◌, ◌++◌, ◌∷◌, [], Some, get_or, length, rules, subst, sym, vec_len, Cut, cuts_in, part_of, StateView, book_or_opening}
 use Rattle.std.proofs.lemmas.Result.{IfOk-weaker}
-use Rattle.head_splits.specs.declared.Cut.{Cut}
-use Rattle.search_core.specs.Kept.{cuts_in, part_of}
-use Rattle.search_core.specs.State.{StateView, book_or_opening}
 use Rattle.search_core.proofs.Outlines.{made_part, part_is, part_small, place_there}
 use Rattle.search_core.proofs.state.State.cut_above.Goals as goal
 

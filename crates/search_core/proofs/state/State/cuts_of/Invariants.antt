@@ -1,5 +1,4 @@
-use Rattle.std.proofs.Common.{◌≡◌, ◌+◌, ◌<◌, ◌≤◌, ◌++◌, length, reverse}
-use Rattle.search_core.specs.Kept.{cuts_in}
+use Rattle.search_core.proofs.Common.{◌≡◌, ◌+◌, ◌<◌, ◌≤◌, ◌++◌, length, reverse, cuts_in}
 use Rattle.search_core.proofs.state.State.cuts_of.Given as goal
 
 abbrev pub invariant-loop-at : goal.invariant-loop-at

@@ -1,6 +1,4 @@
-use Rattle.std.proofs.Common.{subst}
-use Rattle.shift_instance.specs.Valid.{IsValid}
-use Rattle.search_core.specs.State.{StateView}
+use Rattle.search_core.proofs.Common.{subst, IsValid, StateView}
 use Rattle.search_core.proofs.state.State.floor_and_best.Goals as goal
 
 pub returns-clause-valid : goal.returns-clause-valid

@@ -1,6 +1,5 @@
-use Rattle.std.proofs.Common.{◌≤◌, ◌+◌, ◌*◌, length, subst}
-use Rattle.search_core.specs.State.{StateView, book_or_opening}
-use Rattle.search_core.proofs.NextNode.{nodes_by_posts}
+use Rattle.search_core.proofs.Common.{◌≤◌, ◌+◌, ◌*◌, length, subst, StateView, book_or_opening}
+use Rattle.search_core.proofs.FewNodes.{nodes_by_posts}
 use Rattle.search_core.proofs.state.State.history.Goals as goal
 
 pub returns-clause-few : goal.returns-clause-few

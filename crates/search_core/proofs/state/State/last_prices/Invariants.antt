@@ -1,4 +1,4 @@
-use Rattle.std.proofs.Common.{◌+◌, ◌<◌, ◌≤◌, length}
+use Rattle.search_core.proofs.Common.{◌+◌, ◌<◌, ◌≤◌, length}
 use Rattle.search_core.proofs.state.State.last_prices.Given as goal
 
 abbrev pub invariant-loop-at : goal.invariant-loop-at

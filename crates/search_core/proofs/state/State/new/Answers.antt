@@ -1,5 +1,4 @@
-use Rattle.std.proofs.Common.{◌≡◌, ◌∙◌, rules, subst, sym}
-use Rattle.shift_instance.specs.Valid.{IsValid}
+use Rattle.search_core.proofs.Common.{◌≡◌, ◌∙◌, rules, subst, sym, IsValid}
 use Rattle.search_core.proofs.Outlines.{opened_view, opening_kept}
 use Rattle.search_core.proofs.state.State.new.Goals as goal
 

@@ -1,5 +1,4 @@
-use Rattle.std.proofs.Common.{◌<◌, sym, subst, ℕ}
-use Rattle.shift_instance.specs.declared.TheConstants.{TOP}
+use Rattle.search_core.proofs.Common.{◌<◌, sym, subst, ℕ, TOP}
 use Rattle.search_core.proofs.Closing.{before_of, cost_below, still_open, unsplit_there}
 use Rattle.search_core.proofs.state.State.stays_open.Goals as goal
 

@@ -1,10 +1,4 @@
-use Rattle.std.proofs.Common.{◌≡◌, Some, None, ap, rules, subst, sym, ◌∙◌, max}
-use Rattle.std.specs.Prelude.{IsSome}
-use Rattle.shift_instance.specs.Problem.{Problem}
-use Rattle.post_codec.specs.declared.post.Post.TheVariants.{Plan}
-use Rattle.search_core.specs.Book.{step}
-use Rattle.search_core.specs.Faults.{plan_fault}
-use Rattle.search_core.specs.State.{StateView}
+use Rattle.search_core.proofs.Common.{◌≡◌, Some, None, ap, rules, subst, sym, ◌∙◌, max, IsSome, Problem, Plan, step, plan_fault, StateView}
 use Rattle.search_core.proofs.Allowed.{plan_allowed, refuses}
 use Rattle.search_core.proofs.state.State.step_plan.Goals as goal
 

@@ -1,9 +1,6 @@
-use Rattle.std.proofs.Common.{◌≡◌, max, rules, subst, sym}
-use Rattle.std.specs.Prelude.{IsSomeAnd, slice_get}
-use Rattle.head_splits.specs.Nodes.{Node, settled_floor}
+use Rattle.search_core.proofs.Common.{◌≡◌, max, rules, subst, sym, IsSomeAnd, slice_get, Node, settled_floor, StateView, number_at}
 use Rattle.dual_bound.specs.Fixing.{IsFixing}
 use Rattle.dual_bound.specs.declared.settling.Fixing.TheVariants.{Done}
-use Rattle.search_core.specs.State.{StateView, number_at}
 use Rattle.search_core.proofs.Allowed.{settled_value}
 use Rattle.search_core.proofs.state.State.step_settled.Goals as goal
 

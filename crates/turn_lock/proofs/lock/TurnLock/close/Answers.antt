@@ -1,6 +1,4 @@
-use Rattle.std.proofs.Common.{arith, ◌++◌, ap, sym, ◌∙◌}
-use Rattle.std.specs.Prelude.{option_to_list}
-use Rattle.turn_lock.specs.Turning.{first_of}
+use Rattle.turn_lock.proofs.Common.{arith, ◌++◌, ap, sym, ◌∙◌, option_to_list, first_of}
 use Rattle.turn_lock.proofs.Closing.{closed_all, never_empty, nothing_left}
 use Rattle.turn_lock.proofs.Seated.{agree_known, agree_mine, agree_root, gather_first, gather_next_as, part_is, popped_lock}
 use Rattle.turn_lock.proofs.Steps.{gathers_in}

@@ -1,4 +1,4 @@
-use Rattle.std.proofs.Common.{◌≡◌, []}
+use Rattle.turn_lock.proofs.Common.{◌≡◌, []}
 use Rattle.turn_lock.proofs.Seated.{IsGathered}
 use Rattle.turn_lock.proofs.lock.TurnLock.close.Given as goal
 

@@ -1,6 +1,4 @@
-use Rattle.std.proofs.Common.{arith, ◌∷◌, [], ◌+◌, ◌-◌, ◌^◌, ap, sym, ◌∙◌}
-use Rattle.turn_lock.specs.Seats.{new_seats}
-use Rattle.turn_lock.specs.Turning.{dealer, first_of}
+use Rattle.turn_lock.proofs.Common.{arith, ◌∷◌, [], ◌+◌, ◌-◌, ◌^◌, ap, sym, ◌∙◌, new_seats, dealer, first_of}
 use Rattle.turn_lock.proofs.Seated.{dealt_on, dealt_outside, dealt_seen, last_seen, made_more, seen_at}
 use Rattle.turn_lock.proofs.Steps.{deals_as}
 use Rattle.turn_lock.proofs.lock.TurnLock.deal.Goals as goal

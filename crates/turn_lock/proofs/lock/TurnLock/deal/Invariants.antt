@@ -1,6 +1,4 @@
-use Rattle.std.proofs.Common.{◌≡◌, ◌≤◌, ◌-◌, [], vec_capacity, vec_len}
-use Rattle.turn_lock.specs.Seats.{new_seats}
-use Rattle.turn_lock.specs.Turning.{making}
+use Rattle.turn_lock.proofs.Common.{◌≡◌, ◌≤◌, ◌-◌, [], vec_capacity, vec_len, new_seats, making}
 use Rattle.turn_lock.proofs.lock.TurnLock.deal.Given as goal
 
 abbrev pub invariant-loop-number : goal.invariant-loop-number

@@ -1,6 +1,4 @@
-use Rattle.std.proofs.Common.{arith, ◌∷◌, Some, ap, sym, ◌∙◌}
-use Rattle.atomic_table.specs.Table.{rest}
-use Rattle.turn_lock.specs.Turning.{first_of}
+use Rattle.turn_lock.proofs.Common.{arith, ◌∷◌, Some, ap, sym, ◌∙◌, rest, first_of}
 use Rattle.turn_lock.proofs.Steps.{draws_as, looks_as}
 use Rattle.turn_lock.proofs.lock.TurnLock.enter.Goals as goal
 

@@ -1,5 +1,4 @@
-use Rattle.std.proofs.Common.{arith, ap, sym, ◌∙◌}
-use Rattle.atomic_table.specs.Table.{rest}
+use Rattle.turn_lock.proofs.Common.{arith, ap, sym, ◌∙◌, rest}
 use Rattle.turn_lock.proofs.Histories.{added}
 use Rattle.turn_lock.proofs.Seated.{leave_adds}
 use Rattle.turn_lock.proofs.Steps.{advances_as}

@@ -1,5 +1,4 @@
-use Rattle.std.proofs.Common.{arith, ap, sym, ◌∙◌}
-use Rattle.turn_lock.specs.Turning.{first_of, hears}
+use Rattle.turn_lock.proofs.Common.{arith, ap, sym, ◌∙◌, first_of, hears}
 use Rattle.turn_lock.proofs.Steps.{compares_as, joins_as, notes}
 use Rattle.turn_lock.proofs.lock.TurnLock.meet.Goals as goal
 

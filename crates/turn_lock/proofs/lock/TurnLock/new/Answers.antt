@@ -1,4 +1,4 @@
-use Rattle.std.proofs.Common.{rules}
+use Rattle.turn_lock.proofs.Common.{rules}
 use Rattle.turn_lock.proofs.Steps.{opens_as}
 use Rattle.turn_lock.proofs.lock.TurnLock.new.Goals as goal
 

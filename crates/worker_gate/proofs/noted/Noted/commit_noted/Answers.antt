@@ -1,4 +1,4 @@
-use Rattle.std.proofs.Common.{arith, ap, refl}
+use Rattle.worker_gate.proofs.Common.{arith, ap, refl}
 use Rattle.worker_gate.proofs.Appended.{appends_of}
 use Rattle.worker_gate.proofs.Passes.{pushed_on}
 use Rattle.worker_gate.proofs.noted.Noted.commit_noted.Goals as goal

@@ -1,4 +1,4 @@
-use Rattle.std.proofs.Common.{ap, refl}
+use Rattle.worker_gate.proofs.Common.{ap, refl}
 use Rattle.worker_gate.proofs.Appended.{take_posts}
 use Rattle.worker_gate.proofs.Passes.{kept_on}
 use Rattle.worker_gate.proofs.noted.Noted.take.Goals as goal

@@ -1,4 +1,4 @@
-use Rattle.std.proofs.Common.{ap, refl}
+use Rattle.worker_gate.proofs.Common.{ap, refl}
 use Rattle.worker_gate.proofs.Passes.{kept_on}
 use Rattle.worker_gate.proofs.noted.Noted.work_of.Goals as goal
 

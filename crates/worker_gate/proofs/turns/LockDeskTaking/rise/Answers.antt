@@ -1,4 +1,4 @@
-use Rattle.std.proofs.Common.{◌∙◌, refl}
+use Rattle.worker_gate.proofs.Common.{◌∙◌, refl}
 use Rattle.worker_gate.proofs.turns.LockDeskTaking.rise.Goals as goal
 
 pub returns : goal.returns

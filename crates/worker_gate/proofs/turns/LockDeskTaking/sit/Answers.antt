@@ -1,4 +1,4 @@
-use Rattle.std.proofs.Common.{◌≡◌, ◌∙◌, ap}
+use Rattle.worker_gate.proofs.Common.{◌≡◌, ◌∙◌, ap}
 use Rattle.worker_gate.proofs.turns.LockDeskTaking.sit.Goals as goal
 
 pub into_seat-requires : goal.into_seat-requires

@@ -1,6 +1,0 @@
-use Rattle.std.proofs.Common.{◌≡◌, ℕ, ◌<◌}
-use Rattle.shift_instance.specs.Rota.{heads_on}
-use Rattle.greedy.proofs.draft.Draft.is_used.Given as goal
-
-abbrev pub invariant-loop-day : goal.invariant-loop-day
-invariant-loop-day l = (day : ℕ) → day < l.day → heads_on l.self.cover.duties l.shift day ≡ 0

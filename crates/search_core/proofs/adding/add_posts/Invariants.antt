@@ -1,5 +1,0 @@
-use Rattle.search_core.proofs.Taking.{Taking}
-use Rattle.search_core.proofs.adding.add_posts.Given as goal
-
-abbrev pub invariant-loop-post : goal.invariant-loop-post
-invariant-loop-post l = Taking l.fn.posts.items l.initial.state l.yielded l.post-iterator.rest.items l.at l.state
