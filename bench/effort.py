@@ -1,16 +1,20 @@
 #!/usr/bin/env python3
 """Measures what the law of effort does: `shift_plan` beside a copy of it in which no step gets more work than a usual one.
 
-    bench/effort.py [--seconds N] [--workers W] [--seed S] [--programs FOLDER] [--] [DOCUMENT..]
+    bench/effort.py [--seconds N] [--of M] [--workers W] [--seeds K] [--programs FOLDER] [--] [DOCUMENT..]
 
 The copy is made of the program's bytes: the most hundredths that count of those by which the bytes are ahead of the time, 10, are 0 there, in each place where
-the adviser's code stands. A program that is built otherwise may have other bytes in those places; then the script says so. Of each run the steps, the bound, the cost, the bytes of the journal, the seconds
-and the load before it are printed. N is 60, W and S are 1, and the document is the call week where none is named."""
+the adviser's code stands. A program that is built otherwise may have other bytes in those places; then the script says so. A search is told
+that it may last M seconds, for which the law spends its journal, and is asked to end after N. Both searches are made with each seed: 1, W + 1, 2 W + 1 and so on. Of each
+the steps, the bound, the cost, the bytes of the journal, its processor seconds and the load before it are printed. N is 60, M is N, W and K are 1, and the document is the call
+week where none is named."""
 import os
 import pathlib
 import re
+import subprocess
 import sys
 import tempfile
+import time
 
 import instances
 import journals
@@ -32,18 +36,30 @@ def without_effort(plan, folder):
     return path
 
 
-def searched(asked, program, name, law, folder):
+def ended(words, seconds):
+    """Runs a search, asks for its end after so many seconds, and gives its processor seconds."""
+    begun = os.times()
+    run = subprocess.Popen([str(word) for word in words], stdin=subprocess.PIPE, stdout=subprocess.DEVNULL, stderr=subprocess.PIPE)
+    time.sleep(seconds)
+    said = run.communicate()[1].decode()
+    if run.returncode != 0:
+        sys.exit("shift_plan ends with %d: %s" % (run.returncode, said))
+    now = os.times()
+    return now.children_user + now.children_system - begun.children_user - begun.children_system
+
+
+def searched(asked, program, name, seed, law, folder):
     document, journal, out = instances.path_of(name, folder), measured.fresh(folder / "journal"), folder / "plan"
-    words = [program, "plan", document, "--journal", journal, "--out", out, "--seconds", asked.seconds, "--workers", asked.workers, "--seed", asked.seed]
-    load, run = os.getloadavg()[0], measured.run(words)
+    words = [program, "plan", document, "--journal", journal, "--out", out, "--seconds", asked.of or asked.seconds, "--stop-on", "line"]
+    load, took = os.getloadavg()[0], ended([*words, "--workers", asked.workers, "--seed", seed], asked.seconds)
     steps = sum(1 for _ in journals.records(journal.read_bytes()))
-    print("%s, %s: %d steps, %s, journal %d bytes; %s, load %.1f"
-          % (instances.name_of(name), law, steps, measured.told(out / "report"), os.path.getsize(journal), run, load), flush=True)
+    print("%s, seed %d, %s: %d steps, %s, journal %d bytes; %.1f processor seconds, load %.1f"
+          % (instances.name_of(name), seed, law, steps, measured.told(out / "report"), os.path.getsize(journal), took, load), flush=True)
 
 
 def main():
     parser = measured.words_of(__doc__)
-    for name, number in (("seconds", 60), ("workers", 1), ("seed", 1)):
+    for name, number in (("seconds", 60), ("of", None), ("workers", 1), ("seeds", 1)):
         parser.add_argument("--" + name, type=int, default=number)
     parser.add_argument("documents", nargs="*", default=["call_week"])
     asked = parser.parse_args()
@@ -51,9 +67,11 @@ def main():
     with tempfile.TemporaryDirectory() as name:
         folder = pathlib.Path(name)
         plain = without_effort(plan, folder)
-        for document in asked.documents:
-            searched(asked, plan, document, "with the law", folder)
-            searched(asked, plain, document, "effort 1", folder)
+        for number in range(asked.seeds):
+            seed = 1 + number * asked.workers
+            for document in asked.documents:
+                searched(asked, plan, document, seed, "with the law", folder)
+                searched(asked, plain, document, seed, "effort 1", folder)
 
 
 if __name__ == "__main__":
