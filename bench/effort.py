@@ -5,7 +5,7 @@
 
 The copy is made of the program's bytes: the most hundredths that count of those by which the bytes are ahead of the time, 10, are 0 there, in each place where
 the adviser's code stands. A program that is built otherwise may have other bytes in those places; then the script says so. A search is told
-that it may last M seconds, for which the law spends its journal, and is asked to end after N. Both searches are made with each seed: 1, W + 1, 2 W + 1 and so on. Of each
+that it may last M seconds, for which the law spends its journal, and is asked to end once each worker had N processor seconds. Both searches are made with each seed: 1, W + 1, 2 W + 1 and so on. Of each
 the steps, the bound, the cost, the bytes of the journal, its processor seconds and the load before it are printed. N is 60, M is N, W and K are 1, and the document is the call
 week where none is named."""
 import os
@@ -14,7 +14,6 @@ import re
 import subprocess
 import sys
 import tempfile
-import time
 
 import instances
 import journals
@@ -37,21 +36,19 @@ def without_effort(plan, folder):
 
 
 def ended(words, seconds):
-    """Runs a search, asks for its end after so many seconds, and gives its processor seconds."""
-    begun = os.times()
+    """Runs a search, asks for its end after so many processor seconds, and gives how many it had."""
     run = subprocess.Popen([str(word) for word in words], stdin=subprocess.PIPE, stdout=subprocess.DEVNULL, stderr=subprocess.PIPE)
-    time.sleep(seconds)
+    spent = measured.awaited(run, seconds)
     said = run.communicate()[1].decode()
     if run.returncode != 0:
         sys.exit("shift_plan ends with %d: %s" % (run.returncode, said))
-    now = os.times()
-    return now.children_user + now.children_system - begun.children_user - begun.children_system
+    return spent
 
 
 def searched(asked, program, name, seed, law, folder):
     document, journal, out = instances.path_of(name, folder), measured.fresh(folder / "journal"), folder / "plan"
     words = [program, "plan", document, "--journal", journal, "--out", out, "--seconds", asked.of or asked.seconds, "--stop-on", "line"]
-    load, took = os.getloadavg()[0], ended([*words, "--workers", asked.workers, "--seed", seed], asked.seconds)
+    load, took = os.getloadavg()[0], ended([*words, "--workers", asked.workers, "--seed", seed], asked.workers * asked.seconds)
     steps = sum(1 for _ in journals.records(journal.read_bytes()))
     print("%s, seed %d, %s: %d steps, %s, journal %d bytes; %.1f processor seconds, load %.1f"
           % (instances.name_of(name), seed, law, steps, measured.told(out / "report"), os.path.getsize(journal), took, load), flush=True)

@@ -9,6 +9,7 @@ import time
 
 TOP = pathlib.Path(__file__).resolve().parent.parent
 BENCH = TOP / "bench"
+TICKS = os.sysconf("SC_CLK_TCK")
 
 
 def words_of(about, **more):
@@ -55,6 +56,26 @@ def run(words, source=os.devnull, target=None, ends=(0,), **more):
     if ends and child.returncode not in ends:
         sys.exit("%s ends with %d: %s" % (" ".join(words[:4]), child.returncode, (said or wrote).strip()[:400]))
     return Run(child.returncode, elapsed, usage, wrote, said)
+
+
+def processor_seconds(pid):
+    """The processor time of a process that runs, of all its threads; None where it has ended."""
+    try:
+        words = pathlib.Path("/proc/%d/stat" % pid).read_text().rpartition(")")[2].split()
+    except FileNotFoundError:
+        return None
+    return None if words[0] == "Z" else (int(words[11]) + int(words[12])) / TICKS
+
+
+def awaited(run, seconds):
+    """Asks a search for its end once it has had so many processor seconds, and tells how many it had; its judgement and its files come after."""
+    spent = 0.0
+    while True:
+        now = processor_seconds(run.pid)
+        spent = spent if now is None else now
+        if now is None or seconds <= now:
+            return spent
+        time.sleep(0.02)
 
 
 def quickest(count, once):

@@ -10,29 +10,17 @@ line for each instance has the least cost known (of `best_known.json`, by the na
 cost over the best, means of the steps, the bound, the gap (the part of the cost by which the bound lies below it) and the processor seconds,
 and the costs by seed. Then come the means over the instances and the worst of them, and in how many steps the advised prices weren't lawful."""
 import json
-import os
 import pathlib
 import statistics
 import subprocess
 import sys
 import tempfile
-import time
 
 import instances
 import measured
 
-TICKS = os.sysconf("SC_CLK_TCK")
 SCALE = "10000"  # of the prices that are advised; a step whose prices aren't lawful has the price 0 at scale 1
 COLUMNS = "%-16s %6s %6s %6s %6s %8s %8s %7s %8s  %s"
-
-
-def processor_seconds(pid):
-    """The processor time of a process that runs, of all its threads; None where it has ended."""
-    try:
-        words = pathlib.Path("/proc/%d/stat" % pid).read_text().rpartition(")")[2].split()
-    except FileNotFoundError:
-        return None
-    return None if words[0] == "Z" else (int(words[11]) + int(words[12])) / TICKS
 
 
 class Search:
@@ -43,7 +31,7 @@ class Search:
             (pathlib.Path(folder) / "week.json").write_text(text)
             words = ["plan", "week.json", "--seconds", "4000000", "--stop-on", "line", "--workers", str(workers), "--seed", str(seed)]
             run = subprocess.Popen([program, *words], cwd=folder, stdin=subprocess.PIPE, stdout=subprocess.DEVNULL, stderr=subprocess.PIPE)
-            self.seconds = awaited(run, workers * seconds)
+            self.seconds = measured.awaited(run, workers * seconds)
             said = run.communicate()[1].decode()
             if run.returncode != 0:
                 sys.exit("shift_plan ends with %d: %s" % (run.returncode, said))
@@ -54,17 +42,6 @@ class Search:
         scales = [line.split(" ")[2] for line in lines if line.startswith("priced ")]
         self.steps, self.unlawful = len(scales), sum(scale != SCALE for scale in scales)
         self.gap = 1 - self.bound / self.cost if self.cost else 0.0
-
-
-def awaited(run, seconds):
-    """Asks a search for its end once it has had so many processor seconds, and tells how many it had; its judgement and its files come after."""
-    spent = 0.0
-    while True:
-        now = processor_seconds(run.pid)
-        spent = spent if now is None else now
-        if now is None or seconds <= now:
-            return spent
-        time.sleep(0.02)
 
 
 def over(cost, least):
