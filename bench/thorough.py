@@ -10,6 +10,7 @@ line for each instance has the least cost known (of `best_known.json`, by the na
 cost over the best, means of the steps, the bound, the gap (the part of the cost by which the bound lies below it) and the processor seconds,
 and the costs by seed. Then come the means over the instances and the worst of them, and in how many steps the advised prices weren't lawful."""
 import json
+import math
 import pathlib
 import statistics
 import subprocess
@@ -19,6 +20,7 @@ import tempfile
 import instances
 import measured
 
+ELAPSED = 4  # a search may last so many times as long as its processor seconds, since other programs run too; for a longer one steps would get more work
 SCALE = "10000"  # of the prices that are advised; a step whose prices aren't lawful has the price 0 at scale 1
 COLUMNS = "%-16s %6s %6s %6s %6s %8s %8s %7s %8s  %s"
 
@@ -29,7 +31,7 @@ class Search:
     def __init__(self, program, text, seed, workers, seconds):
         with tempfile.TemporaryDirectory() as folder:
             (pathlib.Path(folder) / "week.json").write_text(text)
-            words = ["plan", "week.json", "--seconds", "4000000", "--stop-on", "line", "--workers", str(workers), "--seed", str(seed)]
+            words = ["plan", "week.json", "--seconds", str(ELAPSED * math.ceil(seconds)), "--stop-on", "line", "--workers", str(workers), "--seed", str(seed)]
             run = subprocess.Popen([program, *words], cwd=folder, stdin=subprocess.PIPE, stdout=subprocess.DEVNULL, stderr=subprocess.PIPE)
             self.seconds = measured.awaited(run, workers * seconds)
             said = run.communicate()[1].decode()
