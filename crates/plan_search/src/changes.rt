@@ -299,14 +299,15 @@ impl<S: Stop + Drop> PlanSearch<S> {
     /// Changes the set of used shifts in one of the ways, as a number from 0 to 44 tells.
     fn change_set(&mut self, tables: &ShiftTables, shift: u16, way: usize) -> Result<(), NoMemory> {
         match way {
-            0..=21 => self.move_boundary(tables, shift),
-            22..=33 => self.become_other(tables, shift),
-            34..=36 => {
+            0..=17 => self.move_boundary(tables, shift),
+            18..=27 => self.become_other(tables, shift),
+            28..=30 => {
                 let _ = self.drop_shift(tables, shift)?;
                 Ok(())
             }
-            37..=39 => self.add_candidate(tables, shift),
-            40..=41 => self.exchange_ends(tables, shift),
+            31..=33 => self.add_candidate(tables, shift),
+            34..=35 => self.exchange_ends(tables, shift),
+            36..=40 => self.grow_some(tables),
             _ => self.join_or_split(tables, shift),
         }
     }

@@ -131,13 +131,19 @@ impl<S: Stop + Drop> PlanSearch<S> {
         self.put_heads(tables, other, &heads, false)
     }
 
-    /// Grows the running plan by one to three shifts, and prunes it again, to at most one shift more than before.
-    pub(crate) fn grow(&mut self, tables: &ShiftTables) -> Result<(), NoMemory> {
-        let size = self.plan.used.len();
+    /// One to three shifts that aren't used come in at once, since one alone may gain less than it costs.
+    pub(crate) fn grow_some(&mut self, tables: &ShiftTables) -> Result<(), NoMemory> {
         let times = self.chance.below(3).saturating_add(1);
         for _ in 0..times {
             self.grow_once(tables)?;
         }
+        Ok(())
+    }
+
+    /// Grows the running plan by one to three shifts, and prunes it again, to at most one shift more than before.
+    pub(crate) fn grow(&mut self, tables: &ShiftTables) -> Result<(), NoMemory> {
+        let size = self.plan.used.len();
+        self.grow_some(tables)?;
         self.polish(tables, MIXED, f64::INFINITY)?;
         let more = self.chance.below(2);
         self.prune(size.saturating_add(more))

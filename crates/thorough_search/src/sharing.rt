@@ -46,7 +46,7 @@ impl Sharing {
     }
 
     /// Allows work on plans for the climbs since the last time, and gives how much of all that was allowed is due, after so much work of
-    /// climbs and on plans. Plans may have three times as long as climbs while they get cheaper, and as long as climbs later; at one
+    /// climbs and on plans. Plans may have three times as long as climbs while they get cheaper, and twice as long later; at one
     /// time they get at most as long as the climbs since the last time took, or a slice. A greater effort than 1 gets as many slices,
     /// and a slice less at least.
     pub(crate) fn due(&mut self, climbed: u64, planned: u64, effort: u32) -> u64 {
@@ -55,7 +55,7 @@ impl Sharing {
         let share = if self.is_gaining(planned) {
             climb.saturating_mul(3)
         } else {
-            climb
+            climb.saturating_mul(2)
         };
         self.allowed = self.allowed.saturating_add(share);
         let slices = SLICE.saturating_mul(u64::from(effort));
